@@ -79,7 +79,8 @@ shorter : (scope : Scope) (rest : List Piece) (piece tail : Piece) (front : List
     → ((to : Event) (back : List Event) → front ≡ to ∷ back
     → MayCome piece (position_of scope rest) (last_of (events_of rest)) to
     → MayCome tail (position_of scope rest) (last_of (events_of rest)) to)
-    → PieceFitsLevels (levels_of rest) tail → MayStand scope rest piece → MayStand scope rest tail
+    → PieceFitsLevels (levels_of scope.levels rest) tail → MayStand scope rest piece
+    → MayStand scope rest tail
 shorter scope rest piece tail front row some long short may levels stands =
     let kept = first_stays front row stands.first stands.others some (sym long ∙ stands.begins) in
     record {
@@ -113,14 +114,16 @@ fresh : (scope : Scope) (rest : List Piece) (row : Event) (line : Line) (word : 
     (piece : List Event → Piece)
     → ArePieces scope rest → position_of scope rest ≡ position → IsSettled position
     → said_by row ≡ Some (line, word)
-    → WordLeads scope position (last_of (events_of rest)) (levels_of rest) row line word next
+    → WordLeads scope position (last_of (events_of rest)) (levels_of scope.levels rest) row line
+    word next
     → pieces_after scope rest row next ≡ grown rest row (piece_after (position_of scope rest) next)
     → piece_after position next ≡ piece
     → Before scope (piece (row ∷ []) ∷ rest) (events_of rest) row
 fresh scope rest row line word position next piece earlier at settled said leads same made =
     let Settled : Position → Type 0 = λ p. IsSettled p in
-    let Led : Position → Type 0 = λ p. WordLeads scope p (last_of (events_of rest)) (levels_of rest) row
-    line word next in
+    let Led : Position → Type 0 =
+    λ p. WordLeads scope p (last_of (events_of rest)) (levels_of scope.levels rest) row line word
+    next in
     let new : piece_after (position_of scope rest) next ≡ piece = ap (λ p. piece_after p next) at
     ∙ made in
     record {
@@ -231,7 +234,8 @@ marked_not_foreign (Break at length) byte said foreign = foreign
 -- a further word of foreign traffic
 foreign_word : (scope : Scope) (rest : List Piece) (row : Event) → ArePieces scope rest → position_of scope rest ≡ InForeign
     → IsForeignWord row
-    → WordLeads scope InForeign (last_of (events_of rest)) (levels_of rest) row Peripheral 0 step.Foreign
+    → WordLeads scope InForeign (last_of (events_of rest)) (levels_of scope.levels rest) row
+    Peripheral 0 step.Foreign
     → Before scope (Whole acts.Foreign (row ∷ []) ∷ rest) (events_of rest) row
 foreign_word scope rest (Word at Controller word) earlier position foreign may =
     fresh scope rest (Word at Controller word) Controller word InForeign step.Foreign (Whole acts.Foreign)
@@ -257,8 +261,8 @@ foreign_block scope (byte ∷ []) rest row earlier opening says may =
     earlier refl
     (block_settled (position_of scope rest) (last_of (events_of rest)) row may)
     (said_alone Controller (256 + byte) row says)
-    (foreign_opens scope (position_of scope rest) (last_of (events_of rest)) (levels_of rest) row (256 + byte)
-    byte refl
+    (foreign_opens scope (position_of scope rest) (last_of (events_of rest))
+    (levels_of scope.levels rest) row (256 + byte) byte refl
     opening may)
     refl (foreign_made (position_of scope rest))
 foreign_block scope (byte ∷ next ∷ bytes) rest row earlier opening says may =
@@ -426,8 +430,8 @@ alone scope (AskTail bytes events) rest row right stands earlier is =
         (AskTail (byte ∷ [])) earlier refl
         settled
         (said_alone Controller (256 + byte) row right.said.1)
-        (ask_opens scope (position_of scope rest) (last_of (events_of rest)) (levels_of rest) row (256 + byte)
-        byte refl
+        (ask_opens scope (position_of scope rest) (last_of (events_of rest))
+        (levels_of scope.levels rest) row (256 + byte) byte refl
         right.said.0 may)
         refl (ask_made (position_of scope rest) byte settled)
     one (byte ∷ next ∷ more) right stands =

@@ -52,8 +52,9 @@ same_situation bus pieces stands =
       last = l;
       levels = v;
     } in
-    ap (λ p. make p (last_of (events_of pieces)) (levels_of pieces)) stands.position
-    ∙ (ap (λ l. make (position_at bus.place) l (levels_of pieces)) stands.last
+    ap (λ p. make p (last_of (events_of pieces)) (levels_of bus.scope.levels pieces))
+    stands.position
+    ∙ (ap (λ l. make (position_at bus.place) l (levels_of bus.scope.levels pieces)) stands.last
     ∙ ap (λ v. make (position_at bus.place) bus.last v) stands.levels)
 
 -- and its position is sound
@@ -127,7 +128,9 @@ stands_by old new pieces row next act stands leads gone =
             ∙ more.position ∙ (ap (λ p. position_after p next) stands.position
             ∙ sym went.advanced.position);
         last = ap last_of more.rows ∙ (last_push (events_of pieces) row ∙ sym went.last);
-        levels = more.levels ∙ (ap (λ l. levels_after_step l next) stands.levels ∙ sym went.levels);
+        levels = ap (λ (s : Scope). levels_of s.levels (pieces_after old.scope pieces row next))
+            went.scope
+            ∙ (more.levels ∙ (ap (λ l. levels_after_step l next) stands.levels ∙ sym went.levels));
         asked = more.asked ∙ (ap (λ a. asked_after a next) stands.asked ∙ sym went.asked);
       };
       rows = more.rows;

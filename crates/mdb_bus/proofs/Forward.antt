@@ -22,6 +22,7 @@ use Rattle.mdb_bus.specs.inner.Steps.{Answers, AnswersReply, BeginsRepeat, GoesO
 use Rattle.mdb_bus.proofs.Rows.{begins_block, say_byte, say_sum, say_word, spaced_more}
 use Rattle.mdb_bus.specs.Scopes.{Asks}
 use Rattle.mdb_bus.specs.declared.scope.Beginning.{Beginning}
+use Rattle.mdb_bus.specs.declared.levels.Levels.{Levels}
 use Rattle.mdb_bus.specs.declared.scope.Beginning.TheVariants.{PowerOn, Joined}
 use Rattle.mdb_bus.specs.declared.scope.Scope.{Scope}
 
@@ -33,7 +34,8 @@ pub record Extended (scope : Scope) (pieces : List Piece) (row : Event) (next : 
       (acts_of pieces)
   pub position : position_of scope (pieces_after scope pieces row next) ≡ position_after (position_of scope pieces)
       next
-  pub levels : levels_of (pieces_after scope pieces row next) ≡ levels_after_step (levels_of pieces) next
+  pub levels : levels_of scope.levels (pieces_after scope pieces row next)
+      ≡ levels_after_step (levels_of scope.levels pieces) next
   pub asked : asked_device (pieces_after scope pieces row next) ≡ asked_after (asked_device pieces) next
   pub grown : Grown pieces row (act_after (position_of scope pieces) next) (pieces_after scope pieces row next)
 
@@ -46,7 +48,8 @@ record Adds (scope : Scope) (next : Step) (piece : List Event → Piece) : Type 
   position : (events : List Event) (pieces : List Piece)
       → position_of scope (piece events ∷ pieces) ≡ position_of scope (piece [] ∷ [])
   levels : (events : List Event) (pieces : List Piece)
-      → levels_of (piece events ∷ pieces) ≡ levels_after_step (levels_of pieces) next
+      → levels_of scope.levels (piece events ∷ pieces)
+      ≡ levels_after_step (levels_of scope.levels pieces) next
   asked : (events : List Event) (pieces : List Piece)
       → asked_device (piece events ∷ pieces) ≡ asked_after (asked_device pieces) next
 
@@ -199,7 +202,8 @@ extended : (scope : Scope) (pieces rest : List Piece) (begun events : List Event
     → Adds scope next piece → piece_after (position_of scope pieces) next ≡ piece
     → pieces_after scope pieces row next ≡ piece events ∷ rest → ArePieces scope (piece events ∷ rest)
     → events_of rest ++ events ≡ events_of pieces ++ row ∷ [] → acts_of pieces ≡ acts_of rest
-    → levels_of pieces ≡ levels_of rest → asked_device pieces ≡ asked_device rest
+    → levels_of scope.levels pieces ≡ levels_of scope.levels rest
+    → asked_device pieces ≡ asked_device rest
     → events ≡ begun ++ row ∷ [] → GoesOnFromPieces pieces begun rest → Extended scope pieces row next
 extended scope pieces rest begun events row next piece adds added made are rows same_acts same_levels
     same_asked begins from =
@@ -217,7 +221,7 @@ extended scope pieces rest begun events row next piece adds added made are rows 
       position = ap (position_of scope) made
           ∙ (adds.position events rest ∙ ap (λ (p : List Event → Piece). (position_of scope) (p [] ∷ []))
           (sym added));
-      levels = ap levels_of made
+      levels = ap (levels_of scope.levels) made
           ∙ (adds.levels events rest ∙ ap (λ ls. levels_after_step ls next) (sym same_levels));
       asked = ap asked_device made
           ∙ (adds.asked events rest ∙ ap (λ a. asked_after a next) (sym same_asked));
@@ -238,7 +242,8 @@ fresh : (scope : Scope) (pieces : List Piece) (row : Event) (next : Step) (piece
     → pieces_after scope pieces row next ≡ piece (row ∷ []) ∷ pieces → ArePieces scope pieces
     → IsSaid scope (piece (row ∷ []))
     → MayCome (piece (row ∷ [])) (position_of scope pieces) (last_of (events_of pieces)) row
-    → PieceFitsLevels (levels_of pieces) (piece (row ∷ [])) → Extended scope pieces row next
+    → PieceFitsLevels (levels_of scope.levels pieces) (piece (row ∷ []))
+    → Extended scope pieces row next
 fresh scope pieces row next piece adds added made are said comes levels =
     let Spaced : List Event → Type 0 = λ es. AreSpaced es in
     let right : IsPiece scope (piece (row ∷ [])) =
@@ -259,7 +264,8 @@ fresh scope pieces row next piece adds added made are said comes levels =
 record HasNoEffect (tail : Piece) : Type 0 where
   open_end : IsTail tail
   acts : (pieces : List Piece) → acts_of (tail ∷ pieces) ≡ acts_of pieces
-  levels : (pieces : List Piece) → levels_of (tail ∷ pieces) ≡ levels_of pieces
+  levels : (told : Levels) (pieces : List Piece)
+      → levels_of told (tail ∷ pieces) ≡ levels_of told pieces
   asked : (pieces : List Piece) → asked_device (tail ∷ pieces) ≡ asked_device pieces
 
 -- a tail at the head goes on, or ends
@@ -272,7 +278,7 @@ longer : (scope : Scope) (tail : Piece) (pieces : List Piece) (row : Event) (nex
     → MayCome tail (position_of scope pieces) (last_of (events_of pieces)) first
     → MayCome (piece (piece_events tail ++ row ∷ [])) (position_of scope pieces)
     (last_of (events_of pieces)) first)
-    → PieceFitsLevels (levels_of pieces) (piece (piece_events tail ++ row ∷ []))
+    → PieceFitsLevels (levels_of scope.levels pieces) (piece (piece_events tail ++ row ∷ []))
     → InTime BLOCK_GAP_MAX (last_of (events_of (tail ∷ pieces))) row
     → Extended scope (tail ∷ pieces) row next
 longer scope tail pieces row next piece is_tail adds added made are said comes levels gap =
@@ -298,7 +304,7 @@ longer scope tail pieces row next piece is_tail adds added made are said comes l
     extended scope (tail ∷ pieces) pieces old (old ++ row ∷ []) row next piece adds added made
     (right, stands, are.2)
     (sym (append_assoc (events_of pieces) old (row ∷ []))) (is_tail.acts pieces)
-    (is_tail.levels pieces)
+    (is_tail.levels scope.levels pieces)
     (is_tail.asked pieces) refl (inr (tail, is_tail.open_end, refl, refl))
 
 -- a position where no tail is open
@@ -389,7 +395,8 @@ begun : (scope : Scope) (position : Position) (pieces : List Piece) (row : Event
     → pieces_after scope pieces row next ≡ grown pieces row (piece_after (position_of scope pieces) next)
     → piece_after position next ≡ piece → IsSaid scope (piece (row ∷ []))
     → MayCome (piece (row ∷ [])) (position_of scope pieces) (last_of (events_of pieces)) row
-    → PieceFitsLevels (levels_of pieces) (piece (row ∷ [])) → Extended scope pieces row next
+    → PieceFitsLevels (levels_of scope.levels pieces) (piece (row ∷ []))
+    → Extended scope pieces row next
 begun scope position pieces row next piece adds are closed here grows gives said comes levels =
     let added : piece_after (position_of scope pieces) next ≡ piece = ap (λ p. piece_after p next) here
     ∙ gives in
@@ -475,8 +482,8 @@ returned scope command reply pieces at word next are closed here leads = absurd 
 foreign_word : (scope : Scope) (pieces : List Piece) (at : ℕ) (line : Line) (word : ℕ) (next : Step)
     → ArePieces scope pieces
     → AreClosed pieces → position_of scope pieces ≡ InForeign
-    → WordLeads scope InForeign (last_of (events_of pieces)) (levels_of pieces) (Word at line word) line
-    word next
+    → WordLeads scope InForeign (last_of (events_of pieces)) (levels_of scope.levels pieces)
+    (Word at line word) line word next
     → Extended scope pieces (Word at line word) next
 foreign_word scope pieces at Controller word next are closed here (inl leads) =
     opens_at scope InForeign pieces at word next are closed here tt leads
@@ -495,8 +502,8 @@ foreign_word scope pieces at Peripheral word next are closed here leads = absurd
 after_closed : (scope : Scope) (position : Position) (pieces : List Piece) (at : ℕ) (line : Line) (word : ℕ)
     (next : Step)
     → ArePieces scope pieces → AreClosed pieces → position_of scope pieces ≡ position → IsFree position
-    → WordLeads scope position (last_of (events_of pieces)) (levels_of pieces) (Word at line word) line
-    word next
+    → WordLeads scope position (last_of (events_of pieces)) (levels_of scope.levels pieces)
+    (Word at line word) line word next
     → Extended scope pieces (Word at line word) next
 after_closed scope Quiet pieces at Controller word next are closed here is leads =
     opens_at scope Quiet pieces at word next are closed here tt leads
@@ -533,7 +540,7 @@ in_ask scope bytes events pieces at word (step.AskByte byte) are leads =
     let says : Say Controller (controller_words (bytes ++ byte ∷ [])) (events ++ row ∷ []) =
     subst Spoken leads.0 (say_byte bytes events at word said.0.some said.1) in
     longer scope (AskTail bytes events) pieces row (step.AskByte byte) (AskTail (bytes ++ byte ∷ []))
-    (record { open_end = tt; acts = λ ps. refl; levels = λ ps. refl; asked = λ ps. refl })
+    (record { open_end = tt; acts = λ ps. refl; levels = λ told ps. refl; asked = λ ps. refl })
     (adds_ask_byte scope byte (bytes ++ byte ∷ [])) refl refl are (leads.2, says)
     (λ first others is comes. comes) tt leads.3
 in_ask scope bytes events pieces at word (step.Ask command) are leads =
@@ -547,7 +554,7 @@ in_ask scope bytes events pieces at word (step.Ask command) are leads =
     (events ++ row ∷ []) =
     subst Spoken spells.spells.bytes (say_byte bytes events at word said.0.some said.1) in
     longer scope (AskTail bytes events) pieces row (step.Ask command) (Whole (acts.Ask command))
-    (record { open_end = tt; acts = λ ps. refl; levels = λ ps. refl; asked = λ ps. refl })
+    (record { open_end = tt; acts = λ ps. refl; levels = λ told ps. refl; asked = λ ps. refl })
     (adds_ask scope command) refl refl are (subst Spelled spells.spells.bytes spells, says)
     (λ first others is comes. comes) tt leads.2
 in_ask scope bytes events pieces at word step.Foreign are leads =
@@ -557,7 +564,7 @@ in_ask scope bytes events pieces at word step.Foreign are leads =
     say_byte bytes events at word said.0.some said.1 in
     let Spoken : List Event → Type 0 = λ es. Say Controller (controller_words bytes) es in
     longer scope (AskTail bytes events) pieces row step.Foreign (Whole acts.Foreign)
-    (record { open_end = tt; acts = λ ps. refl; levels = λ ps. refl; asked = λ ps. refl })
+    (record { open_end = tt; acts = λ ps. refl; levels = λ told ps. refl; asked = λ ps. refl })
     (adds_foreign scope) refl refl are (inl (bytes ++ word ∷ [], leads.1, says))
     (λ first others is comes. inl
     (begins_block bytes first others said.0.some (subst Spoken is said.1), comes))
@@ -568,9 +575,8 @@ in_ask scope bytes events pieces at word next are leads = absurd leads
 in_reply : (scope : Scope) (command : Command) (bytes : List ℕ) (events : List Event) (pieces : List Piece)
     (at word : ℕ) (next : Step)
     → ArePieces scope (ReplyTail command bytes events ∷ pieces)
-    → GoesOnReplying command bytes (last_of (events_of pieces ++ events)) (levels_of pieces)
-    (Word at Peripheral word)
-    word next
+    → GoesOnReplying command bytes (last_of (events_of pieces ++ events))
+    (levels_of scope.levels pieces) (Word at Peripheral word) word next
     → Extended scope (ReplyTail command bytes events ∷ pieces) (Word at Peripheral word) next
 in_reply scope command bytes events pieces at word (step.ReplyByte byte) are leads =
     let said = are.0.said in
@@ -586,7 +592,7 @@ in_reply scope command bytes events pieces at word (step.ReplyByte byte) are lea
     let Spoken : ℕ → Type 0 = λ w. Say Peripheral (bytes ++ w ∷ []) (events ++ row ∷ []) in
     longer scope (ReplyTail command bytes events) pieces row (step.ReplyByte byte)
     (ReplyTail command (bytes ++ byte ∷ []))
-    (record { open_end = tt; acts = λ ps. refl; levels = λ ps. refl; asked = λ ps. refl })
+    (record { open_end = tt; acts = λ ps. refl; levels = λ told ps. refl; asked = λ ps. refl })
     (adds_reply_byte scope command byte (bytes ++ byte ∷ [])) refl refl are
     (front, subst Spoken leads.0 (say_word Peripheral bytes events at word said.1))
     (λ first others is comes. comes) tt leads.3
@@ -597,7 +603,7 @@ in_reply scope command bytes events pieces at word (step.Reply reply) are leads 
     (events ++ row ∷ []) in
     longer scope (ReplyTail command bytes events) pieces row (step.Reply reply)
     (Whole (acts.Reply command reply))
-    (record { open_end = tt; acts = λ ps. refl; levels = λ ps. refl; asked = λ ps. refl })
+    (record { open_end = tt; acts = λ ps. refl; levels = λ told ps. refl; asked = λ ps. refl })
     (adds_reply scope command reply) refl refl are
     (leads.1, subst Spoken leads.2 (say_sum bytes events at word leads.0 said.1))
     (λ first others is comes. comes) leads.3 leads.4
@@ -616,7 +622,7 @@ in_repeat scope command reply words events pieces at word (step.RepeatWord told)
     → Type 0 = λ w. IsSaid scope (RepeatTail command reply (words ++ w ∷ []) (events ++ row ∷ [])) in
     longer scope (RepeatTail command reply words events) pieces row (step.RepeatWord told)
     (RepeatTail command reply (words ++ told ∷ []))
-    (record { open_end = tt; acts = λ ps. refl; levels = λ ps. refl; asked = λ ps. refl })
+    (record { open_end = tt; acts = λ ps. refl; levels = λ told ps. refl; asked = λ ps. refl })
     (adds_repeat_word scope command reply told (words ++ told ∷ [])) refl refl are
     (subst Front leads.0 (leads.1, say_word Peripheral words events at word are.0.said.1))
     (λ first others is comes. comes) tt leads.2
@@ -625,7 +631,7 @@ in_repeat scope command reply words events pieces at word step.Repeat are leads 
     let Spoken : List ℕ → Type 0 = λ ws. Say Peripheral ws (events ++ row ∷ []) in
     longer scope (RepeatTail command reply words events) pieces row step.Repeat
     (Whole (acts.Repeat command reply))
-    (record { open_end = tt; acts = λ ps. refl; levels = λ ps. refl; asked = λ ps. refl })
+    (record { open_end = tt; acts = λ ps. refl; levels = λ told ps. refl; asked = λ ps. refl })
     (adds_repeat scope command reply) refl refl are
     (subst Spoken leads.0 (say_word Peripheral words events at word are.0.said.1))
     (λ first others is comes. comes) tt leads.1

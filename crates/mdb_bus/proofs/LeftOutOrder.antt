@@ -405,47 +405,51 @@ same_after (commands.Reader Second command) (commands.Reader First asked) one ot
 same_after (commands.Reader unit command) asked one other same = same
 
 -- foreign acts tell no level
-foreign_levels : (events : List Event) (pieces : List Piece)
-    → levels_of (with_foreign events pieces) ≡ levels_of pieces
-foreign_levels [] pieces = refl
-foreign_levels (event ∷ events) pieces =
-    foreign_levels events (Whole acts.Foreign (event ∷ []) ∷ pieces)
+foreign_levels : (told : Levels) (events : List Event) (pieces : List Piece)
+    → levels_of told (with_foreign events pieces) ≡ levels_of told pieces
+foreign_levels told [] pieces = refl
+foreign_levels told (event ∷ events) pieces =
+    foreign_levels told events (Whole acts.Foreign (event ∷ []) ∷ pieces)
 
 -- a piece goes on from levels that are the same for a command
-levels_go_on : (command : Command) (piece : Piece) (one other : List Piece)
-    → level_for command (levels_of one) ≡ level_for command (levels_of other)
-    → level_for command (levels_of (piece ∷ one)) ≡ level_for command (levels_of (piece ∷ other))
-levels_go_on command (Whole (acts.Ask asked) events) one other same =
-    same_after command asked (levels_of one) (levels_of other) same
-levels_go_on command piece one other same = same
+levels_go_on : (told : Levels) (command : Command) (piece : Piece) (one other : List Piece)
+    → level_for command (levels_of told one) ≡ level_for command (levels_of told other)
+    → level_for command (levels_of told (piece ∷ one))
+    ≡ level_for command (levels_of told (piece ∷ other))
+levels_go_on told command (Whole (acts.Ask asked) events) one other same =
+    same_after command asked (levels_of told one) (levels_of told other) same
+levels_go_on told command piece one other same = same
 
 -- a piece of a device that is left out tells another reader nothing
 levels_stay : (scope : Scope) (command : Command) (piece : Piece) (pieces : List Piece)
     → IsFollowed scope (device_of command) → is_left_out scope piece ≡ true
-    → level_for command (levels_of (piece ∷ pieces)) ≡ level_for command (levels_of pieces)
+    → level_for command (levels_of scope.levels (piece ∷ pieces))
+    ≡ level_for command (levels_of scope.levels pieces)
 levels_stay scope command (Whole (acts.Ask asked) events) pieces followed out =
-    told_another scope.without command asked (levels_of pieces) followed out
+    told_another scope.without command asked (levels_of scope.levels pieces) followed out
 levels_stay scope command piece pieces followed out = refl
 
 -- so a reader that is followed was told the same
 same_level : (scope : Scope) (command : Command) (pieces : List Piece)
     → IsFollowed scope (device_of command)
-    → level_for command (levels_of (leave_out scope pieces))
-    ≡ level_for command (levels_of pieces)
+    → level_for command (levels_of scope.levels (leave_out scope pieces))
+    ≡ level_for command (levels_of scope.levels pieces)
 same_level scope command [] followed = refl
 same_level scope command (piece ∷ pieces) followed =
     let same = same_level scope command pieces followed in
     cond_both (is_left_out scope piece)
     (with_foreign (piece_events piece) (leave_out scope pieces)) (piece ∷ leave_out scope pieces)
-    (λ ps. level_for command (levels_of ps) ≡ level_for command (levels_of (piece ∷ pieces)))
-    (λ out. ap (level_for command) (foreign_levels (piece_events piece) (leave_out scope pieces))
+    (λ ps. level_for command (levels_of scope.levels ps)
+    ≡ level_for command (levels_of scope.levels (piece ∷ pieces)))
+    (λ out. ap (level_for command)
+    (foreign_levels scope.levels (piece_events piece) (leave_out scope pieces))
     ∙ (same ∙ sym (levels_stay scope command piece pieces followed out)))
-    (λ kept. levels_go_on command piece (leave_out scope pieces) pieces same)
+    (λ kept. levels_go_on scope.levels command piece (leave_out scope pieces) pieces same)
 
 -- and its replies fit the levels as they did
 levels_fit : (scope : Scope) (piece : Piece) (pieces : List Piece)
-    → is_left_out scope piece ≡ false → PieceFitsLevels (levels_of pieces) piece
-    → PieceFitsLevels (levels_of (leave_out scope pieces)) piece
+    → is_left_out scope piece ≡ false → PieceFitsLevels (levels_of scope.levels pieces) piece
+    → PieceFitsLevels (levels_of scope.levels (leave_out scope pieces)) piece
 levels_fit scope (Whole (acts.Reply command reply) events) pieces kept fits =
     λ high. subst IsLow (sym (same_level scope command pieces kept)) (fits high)
 levels_fit scope piece pieces kept fits = fits
@@ -467,6 +471,7 @@ in_order law less more wider (piece ∷ pieces) order =
     let Come : Option Event → Type 0 =
     λ from. Becomes more (position_of more rest) from stands.first stands.others in
     let Pieces : List Event → Type 0 = λ events. ArePieces more (with_foreign events rest) in
+    let Fits : Levels → Type 0 = λ told. PieceFitsLevels (levels_of told pieces) piece in
     cond_both (is_left_out more piece) (with_foreign (piece_events piece) rest) (piece ∷ rest)
     (ArePieces more)
     (λ out. subst Pieces (sym stands.begins)
@@ -485,7 +490,7 @@ in_order law less more wider (piece ∷ pieces) order =
         comes = subst Comes (sym last)
             (comes_as_it_did more piece (position_of less pieces) (position_of more rest)
             (last_of (events_of pieces)) stands.first moved kept stands.comes);
-        levels = levels_fit more piece pieces kept stands.levels;
+        levels = levels_fit more piece pieces kept (subst Fits wider.levels stands.levels);
       },
       before,
     ))

@@ -245,11 +245,13 @@ levels_after (commands.Reader Second (readers.SetupConfig level columns rows dis
     record levels { second = Some level }
 levels_after _ levels = levels
 
--- the same after pieces: the level of the last whole SETUP config ask to each reader
-abbrev pub levels_of : List Piece → Levels
-levels_of [] = record { first = None; second = None }
-levels_of (Whole (acts.Ask command) events ∷ pieces) = levels_after command (levels_of pieces)
-levels_of (piece ∷ pieces) = levels_of pieces
+-- the same after pieces: the level of the last whole SETUP config ask to each reader, and what was
+-- told before the first piece where there is none
+abbrev pub levels_of : Levels → List Piece → Levels
+levels_of told [] = told
+levels_of told (Whole (acts.Ask command) events ∷ pieces) =
+    levels_after command (levels_of told pieces)
+levels_of told (piece ∷ pieces) = levels_of told pieces
 
 -- what was told to the reader of a command
 abbrev pub level_for : Command → Levels → Option ℕ
@@ -283,7 +285,7 @@ pub record MayStand (scope : Scope) (pieces : List Piece) (piece : Piece) : Type
   pub others : List Event
   pub begins : piece_events piece ≡ first ∷ others
   pub comes : MayCome piece (position_of scope pieces) (last_of (events_of pieces)) first
-  pub levels : PieceFitsLevels (levels_of pieces) piece
+  pub levels : PieceFitsLevels (levels_of scope.levels pieces) piece
 
 -- pieces, each right by itself and after those before it
 abbrev pub ArePieces : Scope → List Piece → Type 0

@@ -38,7 +38,7 @@ pub record StandsFor (bus : Bus) (pieces : List Piece) : Type 0 where
   pub in_order : ArePieces (scope_of bus) pieces
   pub position : position_of (scope_of bus) pieces ≡ position_at bus.place
   pub last : last_of (events_of pieces) ≡ bus.last
-  pub levels : levels_of pieces ≡ bus.levels
+  pub levels : levels_of (scope_of bus).levels pieces ≡ bus.levels
   pub asked : asked_device pieces ≡ bus.asked
 
 -- the act, if one was ended

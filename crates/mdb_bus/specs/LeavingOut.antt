@@ -20,10 +20,12 @@ use Rattle.mdb_bus.specs.ActLists.{Piece, Whole, AskTail, ReplyTail, RepeatTail,
 use Rattle.mdb_bus.specs.Loss.{Loss, FitsNext}
 use Rattle.mdb_bus.specs.Scopes.{IsLeftOut}
 
--- A recording is taken twice, and once without further devices: it begins alike, and each device
--- that the one scope leaves out the other leaves out too.
+-- A recording is taken twice, and once without further devices: it begins alike, the readers were
+-- told the same levels before it, and each device that the one scope leaves out the other leaves
+-- out too.
 pub record LeavesOutMore (less more : Scope) : Type 0 where
   pub begins : less.begins ≡ more.begins
+  pub levels : less.levels ≡ more.levels
   pub left_out : (device : Device) → IsLeftOut less device → IsLeftOut more device
 
 -- the device that an act names, by its command

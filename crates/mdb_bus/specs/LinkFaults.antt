@@ -46,7 +46,7 @@ situation_of scope pieces = record {
   scope = scope;
   position = position_of scope pieces;
   last = last_of (events_of pieces);
-  levels = levels_of pieces;
+  levels = levels_of scope.levels pieces;
 }
 
 -- the device of the last whole ask, unless a break or a foreign block came since

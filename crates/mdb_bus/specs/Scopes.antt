@@ -1,5 +1,5 @@
 -- How a recording is taken (this profile): what is followed of it.
-use Rattle.std.specs.Prelude.{◌≡◌, ℕ, List, false, true}
+use Rattle.std.specs.Prelude.{◌≡◌, ℕ, List, None, false, true}
 use Rattle.mdb_msgs.specs.declared.command.Command.{Command}
 use Rattle.mdb_msgs.specs.declared.command.Device.{Device}
 use Rattle.mdb_msgs.specs.declared.device_set.DeviceSet.{DeviceSet}
@@ -10,12 +10,17 @@ use Rattle.mdb_msgs.specs.DeviceSets.{has}
 use Rattle.mdb_msgs.specs.Needs.{needed_without}
 use Rattle.mdb_msgs.specs.declared.setups.Setups.{Setups}
 use Rattle.mdb_msgs.specs.Setups.{nothing_known}
+use Rattle.mdb_bus.specs.declared.levels.Levels.{Levels}
 use Rattle.mdb_bus.specs.declared.scope.Beginning.TheVariants.{PowerOn, Joined}
 use Rattle.mdb_bus.specs.declared.scope.Scope.{Scope}
 
+-- no feature level told to a reader
+abbrev pub no_levels : Levels
+no_levels = record { first = None; second = None }
+
 -- from power-on, with these devices left out
 abbrev pub leaving_out : DeviceSet → Scope
-leaving_out devices = record { begins = PowerOn; without = devices }
+leaving_out devices = record { begins = PowerOn; without = devices; levels = no_levels }
 
 -- from power-on, with all devices
 abbrev pub power_on : Scope
@@ -23,11 +28,16 @@ power_on = leaving_out NONE
 
 -- in mid-session, with these setup data known, and with these devices left out
 abbrev pub joined : Setups → DeviceSet → Scope
-joined setups devices = record { begins = Joined setups; without = devices }
+joined setups devices =
+    record { begins = Joined setups; without = devices; levels = no_levels }
 
 -- in mid-session, with no setup data known, and with all devices
 abbrev pub all_joined : Scope
 all_joined = joined nothing_known NONE
+
+-- the same, with these feature levels told to the readers before the recording began
+abbrev pub told : Levels → Scope → Scope
+told levels scope = record scope { levels = levels }
 
 -- a device is followed, or left out
 abbrev pub IsFollowed : Scope → Device → Type 0

@@ -76,7 +76,7 @@ impl Bus {
                 last_reply: Spelled::placeholder(),
             },
             last: None,
-            levels: Levels::NONE,
+            levels: scope.levels,
             asked: None,
         }
     }

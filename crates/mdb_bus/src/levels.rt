@@ -21,13 +21,13 @@ impl Levels {
     ghost use Rattle.mdb_bus.specs.ActLists.{IsLow, level_for, levels_after};
 
     /// No level told yet.
-    pub(crate) const NONE: Levels = Levels {
+    pub const NONE: Levels = Levels {
         first: None,
         second: None,
     };
 
     /// The levels after a whole ask.
-    pub(crate) fn after(self, command: Command) -> Levels
+    pub fn after(self, command: Command) -> Levels
         ensures { result ≡ levels_after command self }
     {
         match command {

@@ -1,8 +1,9 @@
 //! The scope of a check.
 
 ghost use Rattle.std.specs.Prelude.{◌≡◌};
-ghost use Rattle.mdb_bus.specs.Scopes.{joined, leaving_out};
+ghost use Rattle.mdb_bus.specs.Scopes.{joined, leaving_out, told};
 
+use super::levels::Levels;
 use mdb_msgs::{DeviceSet, Setups};
 
 /// Where a recording begins (this profile).
@@ -28,7 +29,8 @@ impl Beginning {
     }
 }
 
-/// The scope of a check: where the recording begins, and which devices are left out (this profile).
+/// The scope of a check: where the recording begins, which devices are left out, and what the
+/// readers were told before (this profile).
 ///
 /// A device that is left out isn't followed. All words to it and from it are foreign traffic.
 #[derive(PartialEq, Eq, Debug, Drop)]
@@ -37,6 +39,9 @@ pub struct Scope {
     pub begins: Beginning,
     /// The devices that are left out.
     pub without: DeviceSet,
+    /// The feature levels (Y2 of SETUP config) that the controller had reported to the readers
+    /// before the recording began, where they are known.
+    pub levels: Levels,
 }
 
 impl Scope {
@@ -44,6 +49,7 @@ impl Scope {
     pub const POWER_ON: Scope = Scope {
         begins: Beginning::PowerOn,
         without: DeviceSet::NONE,
+        levels: Levels::NONE,
     };
 
     /// A recording from power-on, with these devices left out.
@@ -53,6 +59,7 @@ impl Scope {
         Scope {
             begins: Beginning::PowerOn,
             without: devices,
+            levels: Levels::NONE,
         }
     }
 
@@ -64,6 +71,18 @@ impl Scope {
         Scope {
             begins: Beginning::Joined(setups),
             without,
+            levels: Levels::NONE,
+        }
+    }
+
+    /// The same scope, with these feature levels reported before the recording began.
+    pub fn told(self, levels: Levels) -> Scope
+        ensures { result ≡ told levels self }
+    {
+        Scope {
+            begins: self.begins,
+            without: self.without,
+            levels,
         }
     }
 
@@ -74,6 +93,7 @@ impl Scope {
         Scope {
             begins: self.begins.copy(),
             without: self.without,
+            levels: self.levels,
         }
     }
 }

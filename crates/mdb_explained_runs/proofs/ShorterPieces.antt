@@ -146,7 +146,7 @@ as_tail : (scope : Scope) (rest : List Piece) (piece tail : Piece) (front : List
     → piece_events tail ≡ front → IsSaid scope tail
     → ((to : Event) → MayCome piece (position_of scope rest) (last_of (events_of rest)) to
     → MayCome tail (position_of scope rest) (last_of (events_of rest)) to)
-    → PieceFitsLevels (levels_of rest) tail → AreSpaced (piece_events piece)
+    → PieceFitsLevels (levels_of scope.levels rest) tail → AreSpaced (piece_events piece)
     → MayStand scope rest piece → TailOf scope rest front
 as_tail scope rest piece tail front row some long is short said may levels spaced stands =
     let kept = first_stays front row stands.first stands.others some (sym long ∙ stands.begins) in

@@ -14,12 +14,17 @@ use Rattle.mdb_msgs.specs.declared.command.ReaderUnit.TheVariants.{First, Second
 use Rattle.mdb_msgs.specs.declared.setups.Setups.{Setups}
 use Rattle.mdb_bus.specs.declared.act.Act.TheVariants as acts
 use Rattle.mdb_bus.specs.declared.levels.Levels.{Levels}
+use Rattle.mdb_bus.specs.declared.scope.Beginning.TheVariants.{Joined}
 use Rattle.mdb_bus.specs.declared.scope.Scope.{Scope}
-use Rattle.mdb_bus.specs.Acts.{IsBlockWord, IsForeign, IsForeignOpening, IsForeignWord}
-use Rattle.mdb_bus.specs.ActLists.{Piece, Whole, AskTail, ReplyTail, RepeatTail, Position, Quiet, InAsk, Asked, InReply, Replied, Returned, InRepeat, InForeign, ArePieces, AreSpaced, BlockMayCome, ForeignMayCome, IsActList, IsLow, IsPiece, IsSaid, MayCome, MayStand, NotBefore, PieceFitsLevels, events_of, last_of, left_by, level_for, levels_after, levels_of, piece_events, position_of}
+use Rattle.mdb_bus.specs.Acts.{IsBlockWord, IsForeignWord}
+use Rattle.mdb_bus.specs.ActLists.{Piece, Whole, AskTail, ReplyTail, RepeatTail, Position, Quiet, InAsk, Asked, InReply, Replied, Returned, InRepeat, InForeign, ArePieces, AreSpaced, BlockMayCome, ForeignMayCome, IsActList, IsLow, IsPiece, MayCome, MayStand, NotBefore, PieceFitsLevels, events_of, last_of, left_by, level_for, levels_after, levels_of, piece_events, position_of}
 use Rattle.mdb_bus.specs.LeavingOut.{with_foreign}
+use Rattle.mdb_bus.specs.Scopes.{no_levels}
 use Rattle.mdb_late_start.specs.Cuts.{BeginAnew, IsBreakEvent, IsCut, from_later}
+use Rattle.mdb_late_start.specs.MidSession.{IsNothingOr}
+use Rattle.mdb_late_start.specs.Told.{IsLessTold}
 use Rattle.mdb_late_start.proofs.CutWords.{AreForeignWords, Kind, foreign_both, foreign_end, kind_of}
+use Rattle.mdb_late_start.proofs.Said.{said_stays}
 
 -- A list of two parts is divided at another place: in the first part, or after an element of the
 -- second.
@@ -55,18 +60,13 @@ last_push [] event = refl
 last_push (x ∷ []) event = refl
 last_push (x ∷ y ∷ ys) event = last_push (y ∷ ys) event
 
--- nothing, or what is there
-abbrev IsNoneOr : {X : Type 0} → Option X → Option X → Type 0
-IsNoneOr None there = Unit {0}
-IsNoneOr (Some here) there = there ≡ Some here
-
 -- what is the same is none or the same
-none_or_same : {X : Type 0} (one other : Option X) → other ≡ one → IsNoneOr one other
+none_or_same : {X : Type 0} (one other : Option X) → other ≡ one → IsNothingOr one other
 none_or_same None other same = tt
 none_or_same (Some here) other same = same
 
 -- the last row of an end is none, or that of the whole
-last_in_end : (front end : List Event) → IsNoneOr (last_of end) (last_of (front ++ end))
+last_in_end : (front end : List Event) → IsNothingOr (last_of end) (last_of (front ++ end))
 last_in_end [] end = none_or_same (last_of end) (last_of end) refl
 last_in_end (x ∷ []) [] = tt
 last_in_end (x ∷ []) (e ∷ end) = none_or_same (last_of (e ∷ end)) (last_of (e ∷ end)) refl
@@ -117,13 +117,13 @@ comes_first (RepeatTail command reply words events) position from to comes = (co
 
 -- so it may come after no row, or the same
 comes_after : (piece : Piece) (position : Position) (here there : Option Event) (to : Event)
-    → IsNoneOr here there → MayCome piece position there to → MayCome piece position here to
+    → IsNothingOr here there → MayCome piece position there to → MayCome piece position here to
 comes_after piece position None there to less comes = comes_first piece position there to comes
 comes_after piece position (Some here) there to less comes =
     subst (λ (from : Option Event). MayCome piece position from to) less comes
 
 -- and a word in time is in time after no row, or the same
-late_after : (here there : Option Event) (to : Event) → IsNoneOr here there
+late_after : (here there : Option Event) (to : Event) → IsNothingOr here there
     → NotBefore WORD_GAP_MIN there to → NotBefore WORD_GAP_MIN here to
 late_after None there to less late = tt
 late_after (Some here) there to less late =
@@ -193,43 +193,42 @@ foreign_joined (event ∷ events) others pieces =
     foreign_joined events others (Whole acts.Foreign (event ∷ []) ∷ pieces)
 
 -- foreign acts tell no level
-foreign_levels : (events : List Event) (pieces : List Piece)
-    → levels_of (with_foreign events pieces) ≡ levels_of pieces
-foreign_levels [] pieces = refl
-foreign_levels (event ∷ events) pieces =
-    foreign_levels events (Whole acts.Foreign (event ∷ []) ∷ pieces)
+foreign_levels : (told : Levels) (events : List Event) (pieces : List Piece)
+    → levels_of told (with_foreign events pieces) ≡ levels_of told pieces
+foreign_levels told [] pieces = refl
+foreign_levels told (event ∷ events) pieces =
+    foreign_levels told events (Whole acts.Foreign (event ∷ []) ∷ pieces)
 
--- each reader was told nothing, or the same
-abbrev LessTold : Levels → Levels → Type 0
-LessTold one other = IsNoneOr one.first other.first × IsNoneOr one.second other.second
-
--- that stays so with a command
-told_after : (asked : Command) (one other : Levels) → LessTold one other
-    → LessTold (levels_after asked one) (levels_after asked other)
+-- less told stays so with a command
+told_after : (asked : Command) (one other : Levels) → IsLessTold one other
+    → IsLessTold (levels_after asked one) (levels_after asked other)
 told_after (commands.Reader First (readers.SetupConfig level columns rows display)) one other less =
     (refl, less.1)
 told_after (commands.Reader Second (readers.SetupConfig level columns rows display)) one other
     less = (less.0, refl)
 told_after asked one other less = less
 
--- so it is in the end of pieces
-less_told : (later : List Piece) (words : List Event) (before : List Piece)
-    → LessTold (levels_of (later ++ with_foreign words [])) (levels_of (later ++ before))
-less_told [] words before =
-    subst (λ (levels : Levels). LessTold levels (levels_of before)) (sym (foreign_levels words []))
-    (tt, tt)
-less_told (Whole (acts.Ask asked) events ∷ later) words before =
-    told_after asked (levels_of (later ++ with_foreign words [])) (levels_of (later ++ before))
-    (less_told later words before)
-less_told (piece ∷ later) words before = less_told later words before
+-- so it is in the end of pieces, where it is so in front of the end
+pub less_told : (less more : Levels) (later : List Piece) (words : List Event) (before : List Piece)
+    → IsLessTold less (levels_of more before)
+    → IsLessTold (levels_of less (later ++ with_foreign words []))
+    (levels_of more (later ++ before))
+less_told less more [] words before told =
+    subst (λ (levels : Levels). IsLessTold levels (levels_of more before))
+    (sym (foreign_levels less words [])) told
+less_told less more (Whole (acts.Ask asked) events ∷ later) words before told =
+    told_after asked (levels_of less (later ++ with_foreign words []))
+    (levels_of more (later ++ before)) (less_told less more later words before told)
+less_told less more (piece ∷ later) words before told =
+    less_told less more later words before told
 
 -- a level that is none or the same is low if it was
-is_low : (one other : Option ℕ) → IsNoneOr one other → IsLow other → IsLow one
+is_low : (one other : Option ℕ) → IsNothingOr one other → IsLow other → IsLow one
 is_low None other less low = tt
 is_low (Some level) other less low = subst IsLow less low
 
 -- and so is that of a command's reader
-low_for : (command : Command) (one other : Levels) → LessTold one other
+low_for : (command : Command) (one other : Levels) → IsLessTold one other
     → IsLow (level_for command other) → IsLow (level_for command one)
 low_for (commands.Reader First command) one other less low =
     is_low one.first other.first less.0 low
@@ -238,49 +237,11 @@ low_for (commands.Reader Second command) one other less low =
 low_for command one other less low = low
 
 -- so what a piece says of levels fits as it did
-levels_fit : (piece : Piece) (one other : Levels) → LessTold one other
+pub levels_fit : (piece : Piece) (one other : Levels) → IsLessTold one other
     → PieceFitsLevels other piece → PieceFitsLevels one piece
 levels_fit (Whole (acts.Reply command reply) events) one other less fits =
     λ high. low_for command one other less (fits high)
 levels_fit piece one other less fits = fits
-
--- a foreign opening is one in a recording that begins later, too
-opening_stays : (setups : Setups) (scope : Scope) (bytes : List ℕ) → IsForeignOpening scope bytes
-    → IsForeignOpening (from_later setups scope) bytes
-opening_stays setups scope [] opening = opening
-opening_stays setups scope (first ∷ []) opening = opening
-opening_stays setups scope (first ∷ second ∷ []) opening = opening
-opening_stays setups scope (first ∷ second ∷ third ∷ bytes) opening = opening
-
--- so is a foreign act
-foreign_stays : (setups : Setups) (scope : Scope) (events : List Event) → IsForeign scope events
-    → IsForeign (from_later setups scope) events
-foreign_stays setups scope events (inl opens) =
-    inl (opens.0, opening_stays setups scope opens.0 opens.1, opens.2)
-foreign_stays setups scope events (inr further) = inr further
-
--- and all that is said
-pub said_stays : (setups : Setups) (scope : Scope) (piece : Piece) → IsSaid scope piece
-    → IsSaid (from_later setups scope) piece
-said_stays setups scope (Whole (acts.Ask command) events) said =
-    (record { spells = said.0.spells; followed = said.0.followed }, said.1)
-said_stays setups scope (Whole acts.Foreign events) said =
-    foreign_stays setups scope events said
-said_stays setups scope (AskTail bytes events) said =
-    let front = said.0 in (
-      record {
-        some = front.some;
-        command = front.command;
-        rest = front.rest;
-        open_end = front.open_end;
-        spelled = record {
-          spells = front.spelled.spells;
-          followed = front.spelled.followed;
-        };
-      },
-      said.1,
-    )
-said_stays setups scope piece said = said
 
 -- What a cut leaves of a transcript, and that what goes on of the pieces in front of it are foreign
 -- words.
@@ -299,11 +260,12 @@ record Cutting (scope : Scope) (setups : Setups) (front end : List Event) (piece
 -- the last row in the end, before a piece, is none, or the one that is there
 last_before : (scope : Scope) (setups : Setups) (front middle : List Event) (pieces : List Piece)
     → events_of pieces ≡ front ++ middle → (cut : Cutting scope setups front middle pieces)
-    → IsNoneOr (last_of (events_of (cut.later ++ with_foreign cut.words [])))
+    → IsNothingOr (last_of (events_of (cut.later ++ with_foreign cut.words [])))
     (last_of (events_of pieces))
 last_before scope setups front middle pieces are cut =
-    let Here : List Event → Type 0 = λ rows. IsNoneOr (last_of rows) (last_of (events_of pieces)) in
-    let There : List Event → Type 0 = λ rows. IsNoneOr (last_of middle) (last_of rows) in
+    let Here : List Event → Type 0 =
+    λ rows. IsNothingOr (last_of rows) (last_of (events_of pieces)) in
+    let There : List Event → Type 0 = λ rows. IsNothingOr (last_of middle) (last_of rows) in
     subst Here (sym cut.whole) (subst There (sym are) (last_in_end front middle))
 
 -- a piece in the end stands after what is in the end
@@ -316,7 +278,8 @@ stands_on : (scope : Scope) (setups : Setups) (front middle end : List Event) (p
     → Cutting scope setups front end (piece ∷ pieces)
 stands_on scope setups front middle end piece pieces is stands ends cut comes =
     let Told : List Piece → Type 0 =
-    λ ps. LessTold (levels_of (cut.later ++ with_foreign cut.words [])) (levels_of ps) in
+    λ ps. IsLessTold (levels_of no_levels (cut.later ++ with_foreign cut.words []))
+    (levels_of scope.levels ps) in
     record {
       later = piece ∷ cut.later;
       words = cut.words;
@@ -325,15 +288,19 @@ stands_on scope setups front middle end piece pieces is stands ends cut comes =
       in_front = cut.in_front;
       rows = cut.rows;
       stand = (
-        record { said = said_stays setups scope piece is.said; spaced = is.spaced },
+        record {
+          said = said_stays (Joined setups) no_levels scope piece is.said;
+          spaced = is.spaced;
+        },
         record {
           first = stands.first;
           others = stands.others;
           begins = stands.begins;
           comes = comes;
-          levels = levels_fit piece (levels_of (cut.later ++ with_foreign cut.words []))
-              (levels_of pieces)
-              (subst Told (sym cut.order) (less_told cut.later cut.words cut.before))
+          levels = levels_fit piece (levels_of no_levels (cut.later ++ with_foreign cut.words []))
+              (levels_of scope.levels pieces)
+              (subst Told (sym cut.order)
+              (less_told no_levels scope.levels cut.later cut.words cut.before (tt, tt)))
               stands.levels;
         },
         cut.stand,
@@ -390,7 +357,7 @@ stands_first : (scope : Scope) (setups : Setups) (front middle end : List Event)
     (others : List Event) → piece_events piece ≡ first ∷ others
     → end ≡ middle ++ piece_events piece → (cut : Cutting scope setups front middle pieces)
     → cut.later ≡ [] → AreForeignWords others
-    → IsNoneOr (last_of middle) (last_of (events_of pieces))
+    → IsNothingOr (last_of middle) (last_of (events_of pieces))
     → (IsForeignWord first × NotBefore WORD_GAP_MIN (last_of (events_of pieces)) first)
     → Cutting scope setups front end (piece ∷ pieces)
 stands_first scope setups front middle end piece pieces are first others begins ends cut none words
@@ -436,7 +403,7 @@ stands_in_end scope setups front middle end piece pieces are rows ends cut [] no
     (last_of (events_of (cut.later ++ with_foreign cut.words []))) stands.first in
     let less = last_before scope setups front middle pieces rows cut in
     let Less : List Event → Type 0 =
-    λ rows. IsNoneOr (last_of rows) (last_of (events_of pieces)) in
+    λ rows. IsNothingOr (last_of rows) (last_of (events_of pieces)) in
     elim kind.way [
       | inl way ↦ stands_first scope setups front middle end piece pieces are stands.first
           stands.others stands.begins ends cut none kind.words (subst Less cut.whole less) way

@@ -4,19 +4,22 @@ use Rattle.std.proofs.lemmas.List.{append-nil, append_cancel_right}
 use Rattle.mdb_words.specs.declared.event.Event.{Event}
 use Rattle.mdb_msgs.specs.declared.command.Device.{Device}
 use Rattle.mdb_msgs.specs.declared.setups.Setups.{Setups}
+use Rattle.mdb_bus.specs.declared.levels.Levels.{Levels}
 use Rattle.mdb_bus.specs.declared.scope.Beginning.{Beginning}
 use Rattle.mdb_bus.specs.declared.scope.Beginning.TheVariants.{Joined}
 use Rattle.mdb_bus.specs.declared.scope.Scope.{Scope}
 use Rattle.mdb_bus.specs.ActLists.{Piece, Whole, AskTail, ReplyTail, RepeatTail, ArePieces, IsActList, acts_of}
 use Rattle.mdb_bus.specs.LeavingOut.{with_foreign}
+use Rattle.mdb_bus.specs.Scopes.{no_levels}
 use Rattle.mdb_follow.specs.Arrivals.{Arrives, EachArrives}
 use Rattle.mdb_follow.specs.Machines.{machine_of}
 use Rattle.mdb_follow.specs.Report.{unvalued_of}
 use Rattle.mdb_follow.specs.Runs.{AllSums, IsReached, IsWay, Run, States}
 use Rattle.mdb_follow.specs.Sums.{Sums}
-use Rattle.mdb_late_start.specs.Cuts.{BeginAnew, from_later}
+use Rattle.mdb_late_start.specs.Cuts.{BeginAnew}
 use Rattle.mdb_late_start.specs.Ends.{Passes, both_sums}
 use Rattle.mdb_late_start.specs.MidSession.{AreOf}
+use Rattle.mdb_late_start.specs.Told.{AreToldBy, WereTold, told_later}
 use Rattle.mdb_late_start.proofs.Answering.{AllAnswer, all_answer}
 use Rattle.mdb_late_start.proofs.Foreign.{after_foreign}
 use Rattle.mdb_late_start.proofs.InEnds.{AllName, InEnd, holds_there, in_end, name_later}
@@ -42,7 +45,7 @@ front_in_order scope [] before are = are
 front_in_order scope (piece ∷ later) before are = front_in_order scope later before are.2
 
 -- a run of an act list, by ways of each device
-run_by : EndLaws → (scope : Scope) (rows : List Event) (pieces : List Piece) (states : States)
+pub run_by : EndLaws → (scope : Scope) (rows : List Event) (pieces : List Piece) (states : States)
     (sums : AllSums) → IsActList scope pieces rows
     → EachArrives scope.begins (acts_of pieces) states sums → Run scope rows sums
 run_by laws scope rows pieces states sums list ways =
@@ -81,27 +84,41 @@ its_way laws begins setups device later before words states sums name ways =
           (after_foreign setups device words (acts_of later) (states device) end.gained end.way),
     )
 
+-- no levels were told, in front of any end of rows that are reached
+pub none_told : EndLaws → (scope : Scope) (setups : Setups) (front end : List Event)
+    → IsReached scope (front ++ end) → WereTold scope setups no_levels front end
+none_told laws scope setups front end reached = record {
+  pieces = reached.1.pieces;
+  act_list = reached.1.act_list;
+  cut = laws.cut scope setups front end reached.1.pieces reached.1.act_list;
+  in_front = (tt, tt);
+}
+
 -- where rows are reached, each end of them is
-pub end_reached : EndLaws → (scope : Scope) (setups : Setups) (front end : List Event)
-    → IsReached scope (front ++ end) → IsReached (from_later setups scope) end
-end_reached laws scope setups front end reached =
+pub end_reached : EndLaws → (scope : Scope) (setups : Setups) (levels : Levels)
+    (front end : List Event) → IsReached scope (front ++ end)
+    → WereTold scope setups levels front end → IsReached (told_later setups levels scope) end
+end_reached laws scope setups levels front end reached told =
     let run = reached.1 in
-    let cut = laws.cut scope setups front end run.pieces run.act_list in
+    let cut = told.cut in
+    let same : run.pieces ≡ told.pieces =
+    laws.one scope (front ++ end) run.pieces told.pieces run.act_list told.act_list in
     let ways : EachArrives scope.begins (acts_of (cut.later ++ cut.before)) run.states reached.0 =
-    subst (λ ps. EachArrives scope.begins (acts_of ps) run.states reached.0) cut.order
+    subst (λ ps. EachArrives scope.begins (acts_of ps) run.states reached.0) (same ∙ cut.order)
     (laws.splits scope.begins run.loss run.pieces run.states reached.0 run.way) in
-    let list = cut.act_list in
+    let list =
+    laws.told scope setups levels front end told.pieces told.act_list cut told.in_front in
     let foreign = with_foreign cut.words [] in
     let name : AllName (acts_of cut.later) =
     name_later (acts_of cut.later) (acts_of foreign)
     (subst AllName (acts_in_two cut.later foreign)
-    (all_name laws (from_later setups scope) (cut.later ++ foreign) list.in_order)) in
+    (all_name laws (told_later setups levels scope) (cut.later ++ foreign) list.in_order)) in
     let each : (device : Device) → (gained : Sums) × Arrives (machine_of (Joined setups) device)
     (acts_of (cut.later ++ foreign)) (run.states device) gained =
     λ device. its_way laws scope.begins setups device cut.later cut.before cut.words run.states
     reached.0 name ways in (
       (λ device. (each device).0),
-      run_by laws (from_later setups scope) end (cut.later ++ foreign) run.states
+      run_by laws (told_later setups levels scope) end (cut.later ++ foreign) run.states
           (λ device. (each device).0) list (λ device. (each device).1),
     )
 
@@ -126,11 +143,12 @@ passes_front laws scope setups front end sums run anew =
     }
 
 -- the pieces that a run goes on through from there are an act list of the end
-pub later_pieces : EndLaws → (scope : Scope) (setups : Setups) (front end : List Event)
-    (sums : AllSums) (run : Run scope (front ++ end) sums) → BeginAnew end
-    → (passes : Passes scope (front ++ end) sums run front)
-    → IsActList (from_later setups scope) passes.later end
-later_pieces laws scope setups front end sums run anew passes =
+pub later_pieces : EndLaws → (scope : Scope) (setups : Setups) (levels : Levels)
+    (front end : List Event) (sums : AllSums) (run : Run scope (front ++ end) sums)
+    → BeginAnew end → (passes : Passes scope (front ++ end) sums run front)
+    → AreToldBy scope passes.before levels
+    → IsActList (told_later setups levels scope) passes.later end
+later_pieces laws scope setups levels front end sums run anew passes told =
     let cut = laws.cut scope setups front end run.pieces run.act_list in
     let none = cut.clean anew in
     let mine : IsActList scope passes.before front = record {
@@ -147,26 +165,30 @@ later_pieces laws scope setups front end sums run anew passes =
     let later : cut.later ≡ passes.later =
     append_cancel_right cut.later passes.later cut.before
     (sym cut.order ∙ passes.order ∙ ap (λ ps. passes.later ++ ps) before) in
-    let clean : IsActList (from_later setups scope) (cut.later ++ []) end =
-    subst (λ ws. IsActList (from_later setups scope) (cut.later ++ with_foreign ws []) end) none
-    cut.act_list in
-    subst (λ ps. IsActList (from_later setups scope) ps end)
+    let clean : IsActList (told_later setups levels scope) (cut.later ++ []) end =
+    subst
+    (λ ws. IsActList (told_later setups levels scope) (cut.later ++ with_foreign ws []) end) none
+    (laws.told scope setups levels front end run.pieces run.act_list cut
+    (subst (λ ps. AreToldBy scope ps levels) before told)) in
+    subst (λ ps. IsActList (told_later setups levels scope) ps end)
     (append-nil cut.later ∙ later) clean
 
 -- one run of the end gains what the whole run gains there
-pub gained_there : EndLaws → (scope : Scope) (setups : Setups) (front end : List Event)
-    (sums : AllSums) (run : Run scope (front ++ end) sums) → BeginAnew end
-    → (passes : Passes scope (front ++ end) sums run front) → (gained : AllSums)
-    × Run (from_later setups scope) end gained
+pub gained_there : EndLaws → (scope : Scope) (setups : Setups) (levels : Levels)
+    (front end : List Event) (sums : AllSums) (run : Run scope (front ++ end) sums)
+    → BeginAnew end → (passes : Passes scope (front ++ end) sums run front)
+    → AreToldBy scope passes.before levels → (gained : AllSums)
+    × Run (told_later setups levels scope) end gained
     × ((device : Device) → AreOf setups scope.begins device (acts_of passes.before)
     → unvalued_of (Joined setups) device (acts_of passes.later) ≡ 0
     → sums device ≡ both_sums (passes.sums_then device) (gained device))
-gained_there laws scope setups front end sums run anew passes =
+gained_there laws scope setups levels front end sums run anew passes levels_told =
     let begins : Beginning = scope.begins in
-    let list = later_pieces laws scope setups front end sums run anew passes in
-    let name = all_name laws (from_later setups scope) passes.later list.in_order in
+    let list =
+    later_pieces laws scope setups levels front end sums run anew passes levels_told in
+    let name = all_name laws (told_later setups levels scope) passes.later list.in_order in
     let answer : AllAnswer (acts_of passes.later) =
-    all_answer (from_later setups scope) passes.later list.in_order in
+    all_answer (told_later setups levels scope) passes.later list.in_order in
     let fronts = laws.splits begins run.loss passes.before passes.states_then passes.sums_then
     passes.way in
     let each : (device : Device) → InEnd begins setups device (acts_of passes.later)
@@ -179,7 +201,7 @@ gained_there laws scope setups front end sums run anew passes =
     (each_goes_on begins run.loss passes.before passes.later passes.states_then passes.sums_then
     run.states sums passes.onward device) in (
       (λ device. (each device).gained),
-      run_by laws (from_later setups scope) end passes.later run.states
+      run_by laws (told_later setups levels scope) end passes.later run.states
           (λ device. (each device).gained) list (λ device. (each device).way),
       (λ device told none. (each device).same answer told none),
     )

@@ -4,7 +4,6 @@ use Rattle.std.proofs.lemmas.List.{append_assoc, length-append}
 use Rattle.mdb_words.specs.declared.event.Event.{Event}
 use Rattle.mdb_words.specs.declared.row.RowFault.{RowFault}
 use Rattle.mdb_words.specs.Row.{IsRefusal, IsRow}
-use Rattle.mdb_msgs.specs.declared.setups.Setups.{Setups}
 use Rattle.mdb_bus.specs.declared.scope.Scope.{Scope}
 use Rattle.mdb_follow.specs.declared.report.Report.{Report}
 use Rattle.mdb_follow.specs.Runs.{IsReached}
@@ -13,7 +12,6 @@ use Rattle.mdb_text.specs.declared.outcome.Outcome.TheVariants.{Yes, No}
 use Rattle.mdb_verdict.specs.declared.fault.RunFault.{RunFault}
 use Rattle.mdb_verdict.specs.declared.fault.RunFault.TheVariants.{BadRow, TooLong, Read, Write, Memory}
 use Rattle.mdb_verdict.specs.Verdict.{AreRows, IsAnswer, IsOwnAnswer, LeadUpTo}
-use Rattle.mdb_late_start.specs.Cuts.{from_later}
 
 -- what the crates below say of rows
 pub record RowLaws : Type 0 where
@@ -22,8 +20,6 @@ pub record RowLaws : Type 0 where
       → IsRow fields event → IsRefusal fields fault → ⊥
   pub fronts : (scope : Scope) (rows more : List Event) → IsReached scope (rows ++ more)
       → IsReached scope rows
-  pub ends : (scope : Scope) (setups : Setups) (front end : List Event)
-      → IsReached scope (front ++ end) → IsReached (from_later setups scope) end
 
 -- the rows of records in two parts
 record RowsInTwo (front end : List (List (List ℕ))) (rows : List Event) : Type 0 where
@@ -94,40 +90,43 @@ led_to laws scope records all rows fields told leads =
       parts = parts;
     }
 
+-- where the rows of an end are reached, as they are taken there (`later`), if all rows are
+abbrev pub EndIsReached : Scope → Scope → List (List (List ℕ)) → List (List (List ℕ)) → Type 0
+EndIsReached scope later front end = (rows ends : List Event) → AreRows front rows
+    → AreRows end ends → IsReached scope (rows ++ ends) → IsReached later ends
+
 -- the end's own answer is a yes
-pub end_says_yes : RowLaws → (scope : Scope) (setups : Setups) (limit : ℕ)
-    (front end : List (List (List ℕ))) (report : Report) (answer : Result Outcome RunFault)
-    → IsAnswer scope limit (front ++ end) (Ok (Yes report))
-    → IsAnswer (from_later setups scope) limit end answer → IsOwnAnswer answer
+pub end_says_yes : RowLaws → (scope later : Scope) (limit : ℕ)
+    (front end : List (List (List ℕ))) → EndIsReached scope later front end → (report : Report)
+    (answer : Result Outcome RunFault) → IsAnswer scope limit (front ++ end) (Ok (Yes report))
+    → IsAnswer later limit end answer → IsOwnAnswer answer
     → (other : Report) × (answer ≡ Ok (Yes other))
-end_says_yes laws scope setups limit front end report (Ok (Yes other)) whole is own = (other, refl)
-end_says_yes laws scope setups limit front end report (Ok (No offence)) whole is own =
+end_says_yes laws scope later limit front end reaches report (Ok (Yes other)) whole is own =
+    (other, refl)
+end_says_yes laws scope later limit front end reaches report (Ok (No offence)) whole is own =
     let two = rows_in_two front end whole.rows whole.told in
-    let led = led_to laws (from_later setups scope) end two.second is.rows is.fields two.of_end
-    is.stops in
+    let led = led_to laws later end two.second is.rows is.fields two.of_end is.stops in
     let row : led.event ≡ is.row = laws.one_event is.fields led.event is.row led.told is.told in
     let parts : two.second ≡ (is.rows ++ is.row ∷ []) ++ led.rest =
     led.parts ∙ ap (λ e. is.rows ++ e ∷ led.rest) row
     ∙ sym (append_assoc is.rows (is.row ∷ []) led.rest) in
-    let reached : IsReached (from_later setups scope) two.second =
-    laws.ends scope setups two.first two.second (subst (IsReached scope) two.parts
-    whole.is.reached) in
-    absurd (is.is.not_reached (laws.fronts (from_later setups scope) (is.rows ++ is.row ∷ [])
-    led.rest (subst (IsReached (from_later setups scope)) parts reached)))
-end_says_yes laws scope setups limit front end report (Err (BadRow row fault)) whole is own =
+    let reached : IsReached later two.second =
+    reaches two.first two.second two.of_front two.of_end
+    (subst (IsReached scope) two.parts whole.is.reached) in
+    absurd (is.is.not_reached (laws.fronts later (is.rows ++ is.row ∷ []) led.rest
+    (subst (IsReached later) parts reached)))
+end_says_yes laws scope later limit front end reaches report (Err (BadRow row fault)) whole is own =
     let two = rows_in_two front end whole.rows whole.told in
-    let led = led_to laws (from_later setups scope) end two.second is.rows is.fields two.of_end
-    is.stops in
+    let led = led_to laws later end two.second is.rows is.fields two.of_end is.stops in
     absurd (laws.none_refused is.fields led.event fault led.told is.refused)
-end_says_yes laws scope setups limit front end report (Err TooLong) whole is own =
+end_says_yes laws scope later limit front end reaches report (Err TooLong) whole is own =
     let two = rows_in_two front end whole.rows whole.told in
-    let led = led_to laws (from_later setups scope) end two.second is.rows is.fields two.of_end
-    is.stops in
+    let led = led_to laws later end two.second is.rows is.fields two.of_end is.stops in
     let all : length whole.rows ≡ length two.first + length two.second =
     ap length two.parts ∙ length-append two.first two.second in
     let its : length two.second ≡ length is.rows + length (led.event ∷ led.rest) =
     ap length led.parts ∙ length-append is.rows (led.event ∷ led.rest) in
     absurd (omega (arith, all, its, whole.few, is.full))
-end_says_yes laws scope setups limit front end report (Err Read) whole is own = absurd own
-end_says_yes laws scope setups limit front end report (Err Write) whole is own = absurd own
-end_says_yes laws scope setups limit front end report (Err Memory) whole is own = absurd own
+end_says_yes laws scope later limit front end reaches report (Err Read) whole is own = absurd own
+end_says_yes laws scope later limit front end reaches report (Err Write) whole is own = absurd own
+end_says_yes laws scope later limit front end reaches report (Err Memory) whole is own = absurd own

@@ -38,7 +38,7 @@ starts_anywhere setups devices.Bill state = tt
 starts_anywhere setups (devices.Reader unit) state = tt
 
 -- no gains leave sums as they are
-no_more : (sums : Sums) → sums ≡ added sums no_gains
+pub no_more : (sums : Sums) → sums ≡ added sums no_gains
 no_more sums = simp add-zero
 
 -- foreign words are acts of no device
@@ -70,35 +70,46 @@ through_foreign begins device (word ∷ words) pieces state sums way =
     })
 
 -- a device's own acts don't change where others stand in front
-own_later : (device : Device) (later others : List Act) → own_acts device others ≡ []
+pub own_later : (device : Device) (later others : List Act) → own_acts device others ≡ []
     → own_acts device (later ++ others) ≡ own_acts device later
 own_later device [] others none = none
 own_later device (act ∷ later) others none =
     ap (λ (own : List Act). if has_part device act then act ∷ own else own)
     (own_later device later others none)
 
--- a way in mid-session leads on where foreign words stand in front
-pub after_foreign : (setups : Setups) (device : Device) (words : List Event) (later : List Act)
-    (state : StateOf device) (sums : Sums)
+-- A way in mid-session leads on where acts stand in front in which the device has no part, and
+-- through which a way leads from each state to the same.
+pub after_others : (setups : Setups) (device : Device) (others : List Act)
+    → own_acts device others ≡ []
+    → ((state : StateOf device)
+    → Arrives (machine_of (Joined setups) device) others state no_sums)
+    → (later : List Act) (state : StateOf device) (sums : Sums)
     → Arrives (machine_of (Joined setups) device) later state sums
-    → Arrives (machine_of (Joined setups) device) (later ++ acts_of (with_foreign words [])) state
-    sums
-after_foreign setups device words [] state sums way =
-    subst (λ u. Arrives (machine_of (Joined setups) device) (acts_of (with_foreign words [])) state
-    u) (sym way.1)
-    (through_foreign (Joined setups) device words [] state no_sums
-    (starts_anywhere setups device state, refl))
-after_foreign setups device words (act ∷ later) state sums way =
+    → Arrives (machine_of (Joined setups) device) (later ++ others) state sums
+after_others setups device others none through [] state sums way =
+    subst (λ u. Arrives (machine_of (Joined setups) device) others state u) (sym way.1)
+    (through state)
+after_others setups device others none through (act ∷ later) state sums way =
     let is = is_machine_of (Joined setups) device in
-    let foreign = acts_of (with_foreign words []) in
     record {
       choice = way.choice;
       stands = way.stands;
       before = way.before;
       sums_before = way.sums_before;
       gains = way.gains;
-      way = after_foreign setups device words later way.before way.sums_before way.way;
-      step = is.own later (later ++ foreign) act way.choice way.before state way.gains
-          (sym (own_later device later foreign (none_own device words []))) way.step;
+      way = after_others setups device others none through later way.before way.sums_before way.way;
+      step = is.own later (later ++ others) act way.choice way.before state way.gains
+          (sym (own_later device later others none)) way.step;
       adds = way.adds;
     }
+
+-- so where foreign words stand in front
+pub after_foreign : (setups : Setups) (device : Device) (words : List Event) (later : List Act)
+    (state : StateOf device) (sums : Sums)
+    → Arrives (machine_of (Joined setups) device) later state sums
+    → Arrives (machine_of (Joined setups) device) (later ++ acts_of (with_foreign words [])) state
+    sums
+after_foreign setups device words =
+    after_others setups device (acts_of (with_foreign words [])) (none_own device words [])
+    (λ state. through_foreign (Joined setups) device words [] state no_sums
+    (starts_anywhere setups device state, refl))

@@ -6,9 +6,10 @@ use Rattle.mdb_words.specs.declared.event.Event.{Event}
 use Rattle.mdb_msgs.specs.declared.device_set.DeviceSet.{DeviceSet}
 use Rattle.mdb_msgs.specs.declared.setups.Setups.{Setups}
 use Rattle.mdb_bus.specs.declared.act.Act.TheVariants as acts
+use Rattle.mdb_bus.specs.declared.scope.Beginning.TheVariants.{Joined}
 use Rattle.mdb_bus.specs.ActLists.{Piece, Whole, AskTail, ReplyTail, RepeatTail, Quiet, InForeign, ArePieces, ForeignMayCome, IsActList, MayCome, events_of, last_of, position_of}
-use Rattle.mdb_bus.specs.Scopes.{joined, leaving_out}
-use Rattle.mdb_late_start.proofs.Cutting.{said_stays}
+use Rattle.mdb_bus.specs.Scopes.{joined, leaving_out, no_levels}
+use Rattle.mdb_late_start.proofs.Said.{said_stays}
 
 -- a first foreign act may come in foreign traffic, too
 foreign_too : (to : Event) → ForeignMayCome Quiet None to → ForeignMayCome InForeign None to
@@ -47,7 +48,7 @@ in_order_too setups without [] are = tt
 in_order_too setups without (piece ∷ pieces) are =
     let stands = are.1 in (
       record {
-        said = said_stays setups (leaving_out without) piece are.0.said;
+        said = said_stays (Joined setups) no_levels (leaving_out without) piece are.0.said;
         spaced = are.0.spaced;
       },
       record {

@@ -13,11 +13,14 @@ pub mod FromPowerOn
 pub mod InEnds
 pub mod JoinedOrder
 pub mod Keepers
+pub mod Middles
 pub mod Onward
 pub mod ReaderCovers
 pub mod ReaderHolds
 pub mod ReaderOtherwise
 pub mod ReaderPrices
 pub mod Readers
+pub mod Said
+pub mod ToldCuts
 pub mod Truth
 pub mod Validator

@@ -1,4 +1,6 @@
 pub mod Cuts
 pub mod Ends
 pub mod MidSession
+pub mod Middle
+pub mod Told
 pub mod inner

@@ -1,15 +1,17 @@
 //! Laws of the ends of recordings. Each function's contract is the law, and its body calls the laws
 //! that it rests on.
 
-ghost use Rattle.std.specs.Prelude.{◌≡◌, ℕ, ◌++◌, List, Result, Ok};
+ghost use Rattle.std.specs.Prelude.{◌≡◌, ℕ, [], ◌++◌, List, Result, Ok};
 ghost use Rattle.mdb_words.specs.declared.event.Event.{Event};
 ghost use Rattle.mdb_msgs.specs.declared.command.Device.{Device};
 ghost use Rattle.mdb_msgs.specs.declared.command.Device.TheVariants as devices;
 ghost use Rattle.mdb_msgs.specs.declared.command.ReaderUnit.{ReaderUnit};
 ghost use Rattle.mdb_msgs.specs.declared.device_set.DeviceSet.{DeviceSet};
 ghost use Rattle.mdb_msgs.specs.declared.setups.Setups.{Setups};
-ghost use Rattle.mdb_bus.specs.ActLists.{IsActList, Piece, acts_of};
-ghost use Rattle.mdb_bus.specs.Scopes.{joined, leaving_out};
+ghost use Rattle.mdb_bus.specs.ActLists.{HasActList, IsActList, Piece, acts_of};
+ghost use Rattle.mdb_bus.specs.LeavingOut.{LeavesOutMore, with_foreign};
+ghost use Rattle.mdb_bus.specs.Scopes.{IsFollowed, joined, leaving_out};
+ghost use Rattle.mdb_bus.specs.declared.levels.Levels.{Levels};
 ghost use Rattle.mdb_bus.specs.declared.scope.Beginning.{Beginning};
 ghost use Rattle.mdb_bus.specs.declared.scope.Beginning.TheVariants.{Joined, PowerOn};
 ghost use Rattle.mdb_bus.specs.declared.scope.Scope.{Scope};
@@ -22,13 +24,17 @@ ghost use Rattle.mdb_follow.specs.declared.report.Report.{Report};
 ghost use Rattle.mdb_text.specs.declared.outcome.Outcome.{Outcome};
 ghost use Rattle.mdb_text.specs.declared.outcome.Outcome.TheVariants.{Yes};
 ghost use Rattle.mdb_verdict.specs.declared.fault.RunFault.{RunFault};
-ghost use Rattle.mdb_verdict.specs.Verdict.{IsAnswer, IsOwnAnswer};
+ghost use Rattle.mdb_verdict.specs.Verdict.{AreRows, IsAnswer, IsOwnAnswer};
 ghost use Rattle.mdb_late_start.specs.Cuts.{BeginAnew, IsCut, from_later};
 ghost use Rattle.mdb_late_start.specs.Ends.{AreAlike, CameToWithin, Passes, both_sums};
+ghost use Rattle.mdb_late_start.specs.Middle.{HasMiddle};
 ghost use Rattle.mdb_late_start.specs.MidSession.{AreOf, StaysInMidSession};
+ghost use Rattle.mdb_late_start.specs.Told.{AreToldBy, WereTold, told_later};
 ghost use Rattle.mdb_late_start.specs.inner.EndLaws.{EndLaws};
 
 use mdb_bus::laws as links;
+use mdb_cash::laws as cash;
+use mdb_cashless::laws as cashless;
 use mdb_follow::laws as follow;
 use mdb_words::laws as rows;
 
@@ -39,6 +45,27 @@ pub fn ends_of_transcripts_have_act_lists()
     ensures { (scope : Scope) (setups : Setups) (front end : List Event) (pieces : List Piece)
         → IsActList scope pieces (front ++ end) → IsCut scope setups front end pieces }
 {}
+
+/// So it has where feature levels are told that the controller had told the readers in front of the
+/// cut: of each reader none, or the last one.
+pub fn ends_have_act_lists_with_the_levels_told_in_front()
+    ensures { (scope : Scope) (setups : Setups) (levels : Levels) (front end : List Event)
+        (pieces : List Piece) → IsActList scope pieces (front ++ end)
+        → (cut : IsCut scope setups front end pieces) → AreToldBy scope cut.before levels
+        → IsActList (told_later setups levels scope) (cut.later ++ with_foreign cut.words []) end }
+{}
+
+/// If the end of a recording begins anew, the levels told in front of it are those that the act
+/// list of the rows there tells.
+pub fn the_act_list_in_front_tells_the_levels()
+    ensures { (scope : Scope) (setups : Setups) (levels : Levels) (front end : List Event)
+        (before : List Piece) → HasActList scope (front ++ end) → BeginAnew end
+        → IsActList scope before front → AreToldBy scope before levels
+        → WereTold scope setups levels front end }
+{
+    ends_of_transcripts_have_act_lists();
+    links::transcripts_have_one_act_list();
+}
 
 /// The act list of a recording from power-on is also that of the same rows, checked as a recording
 /// that begins while the machine was running.
@@ -73,6 +100,7 @@ fn end_laws()
     ensures { EndLaws }
 {
     ends_of_transcripts_have_act_lists();
+    ends_have_act_lists_with_the_levels_told_in_front();
     the_changer_stays_in_mid_session();
     the_validator_stays_in_mid_session();
     a_reader_stays_in_mid_session();
@@ -107,6 +135,16 @@ pub fn ends_of_reached_rows_are_reached()
     end_laws();
 }
 
+/// So it is where feature levels are told that the controller had told the readers in front of the
+/// cut: of each reader none, or the last one.
+pub fn ends_are_reached_with_the_levels_told_in_front()
+    ensures { (scope : Scope) (setups : Setups) (levels : Levels) (front end : List Event)
+        → IsReached scope (front ++ end) → WereTold scope setups levels front end
+        → IsReached (told_later setups levels scope) end }
+{
+    end_laws();
+}
+
 /// If the end of rows begins anew, each run of the rows passes the end of the rows before it.
 pub fn runs_pass_where_an_end_begins_anew()
     ensures { (scope : Scope) (front end : List Event) (sums : AllSums)
@@ -124,6 +162,21 @@ pub fn runs_of_ends_gain_what_whole_runs_gain_there()
         (run : Run scope (front ++ end) sums) → BeginAnew end
         → (passes : Passes scope (front ++ end) sums run front) → (gained : AllSums)
         × Run (from_later setups scope) end gained
+        × ((device : Device) → AreOf setups scope.begins device (acts_of passes.before)
+        → unvalued_of (Joined setups) device (acts_of passes.later) ≡ 0
+        → sums device ≡ both_sums (passes.sums_then device) (gained device)) }
+{
+    end_laws();
+}
+
+/// So it is where feature levels are told that the controller had told the readers in front of the
+/// end: of each reader none, or the last one.
+pub fn runs_of_ends_gain_it_with_the_levels_told_in_front()
+    ensures { (scope : Scope) (setups : Setups) (levels : Levels) (front end : List Event)
+        (sums : AllSums) (run : Run scope (front ++ end) sums) → BeginAnew end
+        → (passes : Passes scope (front ++ end) sums run front)
+        → AreToldBy scope passes.before levels → (gained : AllSums)
+        × Run (told_later setups levels scope) end gained
         × ((device : Device) → AreOf setups scope.begins device (acts_of passes.before)
         → unvalued_of (Joined setups) device (acts_of passes.later) ≡ 0
         → sums device ≡ both_sums (passes.sums_then device) (gained device)) }
@@ -151,6 +204,76 @@ pub fn what_came_in_an_end_lies_within_its_bounds()
     follow::reports_name_the_decimals_and_silences_of_devices();
 }
 
+/// So they lie where feature levels are told that the controller had told the readers in front of
+/// the end: of each reader none, or the last one.
+pub fn what_came_lies_within_its_bounds_with_the_levels_told_in_front()
+    ensures { (scope : Scope) (setups : Setups) (levels : Levels) (front end : List Event)
+        (sums : AllSums) (run : Run scope (front ++ end) sums) (report : Report)
+        → BeginAnew end → (passes : Passes scope (front ++ end) sums run front)
+        → AreToldBy scope passes.before levels
+        → IsReport (told_later setups levels scope) end report → (account : AccountName)
+        → AreOf setups scope.begins (account_device account) (acts_of passes.before)
+        → device_unvalued (account_device account) report ≡ 0
+        → CameToWithin (account_of account report) (sums_of account passes.sums_then)
+        (sums_of account sums) }
+{
+    end_laws();
+    follow::reports_name_the_accounts_of_runs();
+    follow::reports_name_the_decimals_and_silences_of_devices();
+}
+
+/// So they lie within the bounds of a stretch of rows that has the end in it, as `middle`. Before
+/// the end stand foreign words, and after it at most words of acts that didn't end. Take what an
+/// account gained in the end, in any run of the whole rows. It lies within the bounds of the
+/// stretch's report.
+pub fn what_came_in_a_stretch_lies_within_its_bounds()
+    ensures { (scope : Scope) (setups : Setups) (levels : Levels)
+        (front middle rows : List Event) (sums : AllSums)
+        (run : Run scope (front ++ middle) sums) (report : Report)
+        → HasMiddle (told_later setups levels scope) rows middle
+        → IsReport (told_later setups levels scope) rows report
+        → (passes : Passes scope (front ++ middle) sums run front)
+        → AreToldBy scope passes.before levels → (account : AccountName)
+        → AreOf setups scope.begins (account_device account) (acts_of passes.before)
+        → device_unvalued (account_device account) report ≡ 0
+        → CameToWithin (account_of account report) (sums_of account passes.sums_then)
+        (sums_of account sums) }
+{
+    end_laws();
+    follow::reports_name_the_accounts_of_runs();
+    follow::reports_name_the_decimals_and_silences_of_devices();
+    cash::the_changers_facts_are_of_its_own_acts();
+    cash::the_validators_facts_are_of_its_own_acts();
+    cashless::a_readers_facts_are_of_its_own_acts();
+}
+
+/// So they lie where further devices are left out of the stretch, in the accounts of the devices
+/// that it follows.
+pub fn what_came_lies_within_the_bounds_of_a_stretch_without_further_devices()
+    ensures { (scope more : Scope) (setups : Setups) (levels : Levels)
+        (front middle rows : List Event) (sums : AllSums)
+        (run : Run scope (front ++ middle) sums) (report : Report)
+        → LeavesOutMore (told_later setups levels scope) more
+        → HasMiddle more rows middle → IsReport more rows report
+        → (passes : Passes scope (front ++ middle) sums run front)
+        → AreToldBy scope passes.before levels → (account : AccountName)
+        → IsFollowed more (account_device account)
+        → AreOf setups scope.begins (account_device account) (acts_of passes.before)
+        → device_unvalued (account_device account) report ≡ 0
+        → CameToWithin (account_of account report) (sums_of account passes.sums_then)
+        (sums_of account sums) }
+{
+    end_laws();
+    follow::reports_name_the_accounts_of_runs();
+    follow::reports_name_the_decimals_and_silences_of_devices();
+    follow::runs_go_on_without_further_devices();
+    links::act_lists_stay_without_further_devices();
+    links::acts_of_followed_devices_stay();
+    cash::the_changers_facts_are_of_its_own_acts();
+    cash::the_validators_facts_are_of_its_own_acts();
+    cashless::a_readers_facts_are_of_its_own_acts();
+}
+
 /// If the answer to the records of a text is yes, the answer to each end of them is yes too. The
 /// end is checked as a recording that begins while the machine was running. It may be cut anywhere,
 /// and anything may be known of the devices from elsewhere. Refused reads, writes and memory are
@@ -163,6 +286,23 @@ pub fn ends_of_yeses_are_yeses()
         → (other : Report) × (answer ≡ Ok (Yes other)) }
 {
     ends_of_reached_rows_are_reached();
+    follow::fronts_of_reached_rows_are_reached();
+    rows::fields_are_of_one_event();
+    rows::rows_are_never_refused();
+}
+
+/// So it is where feature levels are told that the controller had told the readers in front of the
+/// end: of each reader none, or the last one.
+pub fn ends_of_yeses_are_yeses_with_the_levels_told_in_front()
+    ensures { (scope : Scope) (setups : Setups) (levels : Levels) (limit : ℕ)
+        (front end : List (List (List ℕ))) (report : Report) (answer : Result Outcome RunFault)
+        → IsAnswer scope limit (front ++ end) (Ok (Yes report))
+        → ((rows ends : List Event) → AreRows front rows → AreRows end ends
+        → WereTold scope setups levels rows ends)
+        → IsAnswer (told_later setups levels scope) limit end answer → IsOwnAnswer answer
+        → (other : Report) × (answer ≡ Ok (Yes other)) }
+{
+    ends_are_reached_with_the_levels_told_in_front();
     follow::fronts_of_reached_rows_are_reached();
     rows::fields_are_of_one_event();
     rows::rows_are_never_refused();

@@ -7,7 +7,7 @@ ghost use Rattle.mdb_msgs.specs.declared.setups.Setups.{Setups};
 ghost use Rattle.mdb_page.specs.Options.{Adds, AreSetups, GivesNone, IsTakenSo, devices_of};
 
 use mdb_blocks::unseal;
-use mdb_bus::{Beginning, Scope};
+use mdb_bus::Scope;
 use mdb_msgs::{Device, DeviceSet, ReaderUnit, Setups, laws};
 
 /// A device's answer to SETUP: a whole block, with its sum at the end.
@@ -44,10 +44,7 @@ pub(crate) fn taken_so(options: &PageOptions) -> Option<Scope>
         if !gives_none(&options.setups) {
             return None;
         }
-        return Some(Scope {
-            begins: Beginning::PowerOn,
-            without,
-        });
+        return Some(Scope::leaving_out(without));
     }
     let Some(setups) = setups_of(without, &options.setups) else {
         return None;

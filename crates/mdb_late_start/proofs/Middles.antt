@@ -1,0 +1,265 @@
+-- Rows that have foreign words in front of a middle, and tails after it: a run of the middle is one
+-- of the rows. Lists of acts and of pieces stand newest first, lists of events oldest first.
+use Rattle.std.proofs.Common.{ap, arith, refl, subst, sym, ◌∙◌, ◌≡◌, ◌+◌, ℕ, List, [], ◌∷◌, ◌++◌, Option, Some, None}
+use Rattle.std.specs.List.{AllByRecursion}
+use Rattle.std.proofs.lemmas.List.{append-nil}
+use Rattle.std.proofs.lemmas.List.Elements.{recursion_from_All}
+use Rattle.mdb_words.specs.declared.event.Event.{Event}
+use Rattle.mdb_words.specs.declared.event.Event.TheVariants.{Word, Break}
+use Rattle.mdb_words.specs.declared.word.Line.{Line}
+use Rattle.mdb_words.specs.declared.word.Line.TheVariants.{Controller, Peripheral}
+use Rattle.mdb_blocks.specs.Block.{block_of, controller_words}
+use Rattle.mdb_msgs.specs.Commands.{command_bytes}
+use Rattle.mdb_msgs.specs.declared.command.Device.{Device}
+use Rattle.mdb_msgs.specs.declared.setups.Setups.{Setups}
+use Rattle.mdb_bus.specs.declared.act.Act.TheVariants as acts
+use Rattle.mdb_bus.specs.declared.levels.Levels.{Levels}
+use Rattle.mdb_bus.specs.declared.scope.Beginning.TheVariants.{Joined}
+use Rattle.mdb_bus.specs.declared.scope.Scope.{Scope}
+use Rattle.mdb_bus.specs.Acts.{IsForeignWord, Say, said_by}
+use Rattle.mdb_bus.specs.ActLists.{Piece, Whole, AskTail, ReplyTail, RepeatTail, Position, InForeign, ArePieces, IsActList, IsSaid, IsTail, MayCome, acts_of, events_of, first_position, last_of, levels_of, piece_events, position_of}
+use Rattle.mdb_bus.specs.LeavingOut.{with_foreign}
+use Rattle.mdb_cash.specs.declared.choice.Choice.TheVariants.{Plain}
+use Rattle.mdb_cash.specs.Gains.{no_gains}
+use Rattle.mdb_cash.specs.Pair.{own_acts}
+use Rattle.mdb_follow.specs.Arrivals.{Arrives, EachArrives}
+use Rattle.mdb_follow.specs.Machines.{StateOf, machine_of}
+use Rattle.mdb_follow.specs.Runs.{AllSums, Run}
+use Rattle.mdb_follow.specs.Sums.{no_sums}
+use Rattle.mdb_late_start.specs.Middle.{HasMiddle}
+use Rattle.mdb_late_start.specs.MidSession.{IsNothingOr}
+use Rattle.mdb_late_start.specs.Told.{AreToldBy, IsLessTold, told_later}
+use Rattle.mdb_late_start.specs.inner.EndLaws.{EndLaws}
+use Rattle.mdb_late_start.proofs.CutWords.{AreForeignWords, foreign_end}
+use Rattle.mdb_late_start.proofs.EndRuns.{front_in_order, run_by}
+use Rattle.mdb_late_start.proofs.Foreign.{after_others, is_machine_of, no_more, own_later, starts_anywhere}
+use Rattle.mdb_late_start.proofs.Onward.{acts_in_two}
+
+-- pieces are foreign acts, and no others
+abbrev pub AreForeign : List Piece → Type 0
+AreForeign [] = Unit {0}
+AreForeign (Whole acts.Foreign events ∷ pieces) = AreForeign pieces
+AreForeign (piece ∷ pieces) = ⊥
+
+-- foreign words, by recursion
+words_each : (words : List Event) → AllByRecursion IsForeignWord words → AreForeignWords words
+words_each [] all = tt
+words_each (word ∷ words) all = (all.0, words_each words all.1)
+
+-- so are those of a front
+foreign_front : (events others : List Event) → AreForeignWords (events ++ others)
+    → AreForeignWords events
+foreign_front [] others words = tt
+foreign_front (event ∷ events) others words =
+    (words.0, foreign_front events others words.1)
+
+-- the first word of a block of the controller is no foreign word
+marked_word : (event : Event) (byte : ℕ) → said_by event ≡ Some (Controller, 256 + byte)
+    → IsForeignWord event → ⊥
+marked_word (Word at Controller word) byte says low =
+    let one : Line × ℕ = (Controller, word) in
+    let other : Line × ℕ = (Controller, 256 + byte) in
+    let same : one ≡ other = cc in
+    let is : word ≡ 256 + byte = ap (λ (p : Line × ℕ). p.1) same in
+    omega (arith, is, low)
+marked_word (Word at Peripheral word) byte says low =
+    let one : Line × ℕ = (Peripheral, word) in
+    let other : Line × ℕ = (Controller, 256 + byte) in
+    let same : one ≡ other = cc in
+    let line : Peripheral ≡ Controller = ap (λ (p : Line × ℕ). p.0) same in
+    cc line
+marked_word (Break at length) byte says low = low
+
+begins_marked : (bytes : List ℕ) (first : Event) (others : List Event)
+    → Say Controller (controller_words bytes) (first ∷ others) → IsForeignWord first → ⊥
+begins_marked [] first others says low = cc
+begins_marked (byte ∷ bytes) first others says low =
+    let one : said_by first ≡ Some (Controller, 256 + byte) = cc in
+    marked_word first byte one low
+
+-- a piece that begins with a foreign word in foreign traffic is a foreign act
+one_foreign : (scope : Scope) (piece : Piece) (position : Position) (from : Option Event)
+    (first : Event) (others : List Event) → IsSaid scope piece
+    → piece_events piece ≡ first ∷ others → MayCome piece position from first
+    → position ≡ InForeign → IsForeignWord first → (pieces : List Piece) → AreForeign pieces
+    → AreForeign (piece ∷ pieces)
+one_foreign scope (Whole (acts.Ask command) events) position from first others said are comes here
+    low pieces foreign =
+    let block = block_of (command_bytes command) in
+    absurd (begins_marked block first others (subst (Say Controller (controller_words block)) are
+    said.1) low)
+one_foreign scope (Whole (acts.Ack command) events) position from first others said are comes here
+    low pieces foreign = cc (sym comes.0 ∙ here)
+one_foreign scope (Whole (acts.Nak command) events) position from first others said are comes here
+    low pieces foreign = cc (sym comes.0 ∙ here)
+one_foreign scope (Whole (acts.Reply command reply) events) position from first others said are
+    comes here low pieces foreign = cc (sym comes.0 ∙ here)
+one_foreign scope (Whole (acts.VmcAck command reply) events) position from first others said are
+    comes here low pieces foreign = cc (sym comes.0 ∙ here)
+one_foreign scope (Whole (acts.VmcNak command reply) events) position from first others said are
+    comes here low pieces foreign = cc (sym comes.0 ∙ here)
+one_foreign scope (Whole (acts.VmcRet command reply) events) position from first others said are
+    comes here low pieces foreign = cc (sym comes.0 ∙ here)
+one_foreign scope (Whole (acts.Repeat command reply) events) position from first others said are
+    comes here low pieces foreign = cc (sym comes.0 ∙ here)
+one_foreign scope (Whole acts.Foreign events) position from first others said are comes here low
+    pieces foreign = foreign
+one_foreign scope (Whole (acts.Break length) events) position from first others said are comes here
+    low pieces foreign =
+    let is : first ∷ others ≡ Break said.0 length ∷ [] = sym are ∙ said.1 in
+    let same : first ≡ Break said.0 length = cc in
+    absurd (subst IsForeignWord same low)
+one_foreign scope (AskTail bytes events) position from first others said are comes here low pieces
+    foreign =
+    absurd (begins_marked bytes first others (subst (Say Controller (controller_words bytes)) are
+    said.1) low)
+one_foreign scope (ReplyTail command bytes events) position from first others said are comes here
+    low pieces foreign = cc (sym comes.0 ∙ here)
+one_foreign scope (RepeatTail command reply words events) position from first others said are comes
+    here low pieces foreign = cc (sym comes.0 ∙ here)
+
+-- foreign acts leave foreign traffic
+still_foreign : (scope : Scope) (pieces : List Piece) → first_position scope.begins ≡ InForeign
+    → AreForeign pieces → position_of scope pieces ≡ InForeign
+still_foreign scope [] begins foreign = begins
+still_foreign scope (Whole acts.Foreign events ∷ pieces) begins foreign = refl
+still_foreign scope (piece ∷ pieces) begins foreign = absurd foreign
+
+-- pieces of foreign words alone are foreign acts, where a recording begins in mid-session
+foreign_only : (scope : Scope) (pieces : List Piece) → first_position scope.begins ≡ InForeign
+    → ArePieces scope pieces → AreForeignWords (events_of pieces) → AreForeign pieces
+foreign_only scope [] begins are words = tt
+foreign_only scope (piece ∷ pieces) begins are words =
+    let stands = are.1 in
+    let earlier : AreForeign pieces =
+    foreign_only scope pieces begins are.2
+    (foreign_front (events_of pieces) (piece_events piece) words) in
+    let its : AreForeignWords (stands.first ∷ stands.others) =
+    subst AreForeignWords stands.begins
+    (foreign_end (events_of pieces) (piece_events piece) words) in
+    one_foreign scope piece (position_of scope pieces) (last_of (events_of pieces)) stands.first
+    stands.others are.0.said stands.begins stands.comes
+    (still_foreign scope pieces begins earlier) its.0 pieces earlier
+
+-- foreign acts tell no level
+none_told_by : (levels : Levels) (pieces : List Piece) → AreForeign pieces
+    → levels_of levels pieces ≡ levels
+none_told_by levels [] foreign = refl
+none_told_by levels (Whole acts.Foreign events ∷ pieces) foreign =
+    none_told_by levels pieces foreign
+none_told_by levels (piece ∷ pieces) foreign = absurd foreign
+
+-- a device has no part in them
+none_of_its : (device : Device) (pieces : List Piece) → AreForeign pieces
+    → own_acts device (acts_of pieces) ≡ []
+none_of_its device [] foreign = refl
+none_of_its device (Whole acts.Foreign events ∷ pieces) foreign =
+    none_of_its device pieces foreign
+none_of_its device (piece ∷ pieces) foreign = absurd foreign
+
+-- and a way leads through them from each state to the same
+stays_there : (setups : Setups) (device : Device) (pieces : List Piece) → AreForeign pieces
+    → (state : StateOf device)
+    → Arrives (machine_of (Joined setups) device) (acts_of pieces) state no_sums
+stays_there setups device [] foreign state = (starts_anywhere setups device state, refl)
+stays_there setups device (Whole acts.Foreign events ∷ pieces) foreign state =
+    let is = is_machine_of (Joined setups) device in
+    record {
+      choice = Plain;
+      stands = tt;
+      before = state;
+      sums_before = no_sums;
+      gains = no_gains;
+      way = stays_there setups device pieces foreign state;
+      step = (is.elsewhere (acts_of pieces) acts.Foreign Plain state state no_gains
+          (λ part. part)).1 (refl, refl);
+      adds = no_more no_sums;
+    }
+stays_there setups device (piece ∷ pieces) foreign state = absurd foreign
+
+-- tails have no acts
+acts_past : (tail pieces : List Piece) → AllByRecursion IsTail tail
+    → acts_of (tail ++ pieces) ≡ acts_of pieces
+acts_past [] pieces tails = refl
+acts_past (Whole act events ∷ tail) pieces tails = absurd tails.0
+acts_past (AskTail bytes events ∷ tail) pieces tails = acts_past tail pieces tails.1
+acts_past (ReplyTail command bytes events ∷ tail) pieces tails = acts_past tail pieces tails.1
+acts_past (RepeatTail command reply words events ∷ tail) pieces tails =
+    acts_past tail pieces tails.1
+
+-- what is told is the same
+the_same : (told : Option ℕ) → IsNothingOr told told
+the_same None = tt
+the_same (Some level) = refl
+
+-- The acts of rows are those of the act list of their middle, and foreign ones before them.
+pub record Parts (scope : Scope) (rows middle : List Event) (has : HasMiddle scope rows middle)
+    : Type 0 where
+  pub later : List Piece
+  pub before : List Piece
+  pub acts : acts_of (has.tail ++ has.whole) ≡ acts_of later ++ acts_of before
+  pub foreign : AreForeign before
+  pub list : IsActList scope later middle
+
+pub parts : EndLaws → (setups : Setups) (levels : Levels) (scope : Scope)
+    (rows middle : List Event) (has : HasMiddle (told_later setups levels scope) rows middle)
+    → Parts (told_later setups levels scope) rows middle has
+parts laws setups levels scope rows middle has =
+    let mine = told_later setups levels scope in
+    let list : IsActList mine has.whole (has.words ++ middle) = record {
+      in_order = front_in_order mine has.tail has.whole has.act_list.in_order;
+      whole = has.of_whole;
+    } in
+    let cut = laws.cut mine setups has.words middle has.whole list in
+    let none = cut.clean has.anew in
+    let before_rows : events_of cut.before ≡ has.words =
+    cut.rows ∙ ap (λ ws. has.words ++ ws) none ∙ append-nil has.words in
+    let foreign : AreForeign cut.before =
+    foreign_only mine cut.before refl cut.in_front
+    (subst AreForeignWords (sym before_rows)
+    (words_each has.words (recursion_from_All IsForeignWord has.words has.foreign))) in
+    let told : AreToldBy mine cut.before levels =
+    subst (λ ls. IsLessTold levels ls) (sym (none_told_by levels cut.before foreign))
+    (the_same levels.first, the_same levels.second) in
+    let clean : IsActList mine (cut.later ++ []) middle =
+    subst (λ ws. IsActList mine (cut.later ++ with_foreign ws []) middle) none
+    (laws.told mine setups levels has.words middle has.whole list cut told) in
+    record {
+      later = cut.later;
+      before = cut.before;
+      acts = acts_past has.tail has.whole (recursion_from_All IsTail has.tail has.cut)
+          ∙ ap acts_of cut.order ∙ acts_in_two cut.later cut.before;
+      foreign = foreign;
+      list = subst (λ ps. IsActList mine ps middle) (append-nil cut.later) clean;
+    }
+
+-- the acts of the rows that a device has a part in are those of the middle
+pub own_in_middle : (scope : Scope) (rows middle : List Event)
+    (has : HasMiddle scope rows middle) (parted : Parts scope rows middle has) (device : Device)
+    → own_acts device (acts_of (has.tail ++ has.whole)) ≡ own_acts device (acts_of parted.later)
+own_in_middle scope rows middle has parted device =
+    ap (own_acts device) parted.acts
+    ∙ own_later device (acts_of parted.later) (acts_of parted.before)
+    (none_of_its device parted.before parted.foreign)
+
+-- and a run of the middle is one of the rows
+pub run_of_rows : EndLaws → (setups : Setups) (levels : Levels) (scope : Scope)
+    (rows middle : List Event) (has : HasMiddle (told_later setups levels scope) rows middle)
+    (sums : AllSums) → Run (told_later setups levels scope) middle sums
+    → Run (told_later setups levels scope) rows sums
+run_of_rows laws setups levels scope rows middle has sums run =
+    let mine = told_later setups levels scope in
+    let parted = parts laws setups levels scope rows middle has in
+    let same : run.pieces ≡ parted.later =
+    laws.one mine middle run.pieces parted.later run.act_list parted.list in
+    let ways : EachArrives (Joined setups) (acts_of parted.later) run.states sums =
+    subst (λ ps. EachArrives (Joined setups) (acts_of ps) run.states sums) same
+    (laws.splits (Joined setups) run.loss run.pieces run.states sums run.way) in
+    run_by laws mine rows (has.tail ++ has.whole) run.states sums has.act_list
+    (λ device. subst
+    (λ l. Arrives (machine_of (Joined setups) device) l (run.states device) (sums device))
+    (sym parted.acts)
+    (after_others setups device (acts_of parted.before)
+    (none_of_its device parted.before parted.foreign)
+    (stays_there setups device parted.before parted.foreign) (acts_of parted.later)
+    (run.states device) (sums device) (ways device)))

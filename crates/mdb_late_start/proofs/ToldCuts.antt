@@ -1,0 +1,106 @@
+-- An end has its act list as well where levels are told that were told in front of it: what its
+-- replies say of levels fits those as it fitted in the whole.
+use Rattle.std.proofs.Common.{ap, refl, subst, ◌∙◌, ◌≡◌, ◌++◌, List, [], ◌∷◌}
+use Rattle.std.proofs.lemmas.List.{append-nil}
+use Rattle.mdb_words.specs.declared.event.Event.{Event}
+use Rattle.mdb_msgs.specs.declared.setups.Setups.{Setups}
+use Rattle.mdb_bus.specs.declared.act.Act.TheVariants as acts
+use Rattle.mdb_bus.specs.declared.levels.Levels.{Levels}
+use Rattle.mdb_bus.specs.declared.scope.Scope.{Scope}
+use Rattle.mdb_bus.specs.ActLists.{ArePieces, HasActList, IsActList, MayCome, Piece, PieceFitsLevels, Position, Whole, events_of, last_of, levels_of, position_of}
+use Rattle.mdb_bus.specs.LeavingOut.{with_foreign}
+use Rattle.mdb_bus.specs.Scopes.{told}
+use Rattle.mdb_late_start.specs.Cuts.{BeginAnew, IsCut, from_later}
+use Rattle.mdb_late_start.specs.Told.{AreToldBy, WereTold, told_later}
+use Rattle.mdb_late_start.proofs.Cutting.{less_told, levels_fit}
+use Rattle.mdb_late_start.proofs.Said.{said_stays}
+
+-- what pieces say of levels fits, where these were told before them
+abbrev AllFit : Levels → List Piece → Type 0
+AllFit levels [] = Unit {0}
+AllFit levels (piece ∷ pieces) =
+    PieceFitsLevels (levels_of levels pieces) piece × AllFit levels pieces
+
+-- foreign words say nothing of levels
+foreign_fit : (levels : Levels) (words : List Event) (pieces : List Piece) → AllFit levels pieces
+    → AllFit levels (with_foreign words pieces)
+foreign_fit levels [] pieces fit = fit
+foreign_fit levels (word ∷ words) pieces fit =
+    foreign_fit levels words (Whole acts.Foreign (word ∷ []) ∷ pieces) (tt, fit)
+
+-- what pieces of an end say fits, where less is told than in front of it
+later_fit : (scope : Scope) (levels : Levels) (words : List Event) (before : List Piece)
+    → AreToldBy scope before levels → (later : List Piece) → ArePieces scope (later ++ before)
+    → AllFit levels (later ++ with_foreign words [])
+later_fit scope levels words before less [] are = foreign_fit levels words [] tt
+later_fit scope levels words before less (piece ∷ later) are = (
+  levels_fit piece (levels_of levels (later ++ with_foreign words []))
+      (levels_of scope.levels (later ++ before))
+      (less_told levels scope.levels later words before less) are.1.levels,
+  later_fit scope levels words before less later are.2,
+)
+
+-- the bus is where it is, whatever was told
+same_position : (levels : Levels) (scope : Scope) (pieces : List Piece)
+    → position_of scope pieces ≡ position_of (told levels scope) pieces
+same_position levels scope [] = refl
+same_position levels scope (piece ∷ pieces) = refl
+
+-- so pieces in order are in order where levels are told that they fit
+told_order : (levels : Levels) (scope : Scope) (pieces : List Piece) → ArePieces scope pieces
+    → AllFit levels pieces → ArePieces (told levels scope) pieces
+told_order levels scope [] are fit = tt
+told_order levels scope (piece ∷ pieces) are fit =
+    let stands = are.1 in
+    let Comes : Position → Type 0 =
+    λ position. MayCome piece position (last_of (events_of pieces)) stands.first in (
+      record {
+        said = said_stays scope.begins levels scope piece are.0.said;
+        spaced = are.0.spaced;
+      },
+      record {
+        first = stands.first;
+        others = stands.others;
+        begins = stands.begins;
+        comes = subst Comes (same_position levels scope pieces) stands.comes;
+        levels = fit.0;
+      },
+      told_order levels scope pieces are.2 fit.1,
+    )
+
+-- and the act list of an end is one where levels are told that were told in front of it
+pub told_list : (scope : Scope) (setups : Setups) (levels : Levels) (front end : List Event)
+    (pieces : List Piece) → IsActList scope pieces (front ++ end)
+    → (cut : IsCut scope setups front end pieces) → AreToldBy scope cut.before levels
+    → IsActList (told_later setups levels scope) (cut.later ++ with_foreign cut.words []) end
+told_list scope setups levels front end pieces list cut less = record {
+  in_order = told_order levels (from_later setups scope)
+      (cut.later ++ with_foreign cut.words []) cut.act_list.in_order
+      (later_fit scope levels cut.words cut.before less cut.later
+      (subst (ArePieces scope) cut.order list.in_order));
+  whole = cut.act_list.whole;
+}
+
+-- Where an end begins anew, levels were told in front of it that the act list of the rows there
+-- tells.
+pub told_anew : ((scope : Scope) (setups : Setups) (front end : List Event) (pieces : List Piece)
+    → IsActList scope pieces (front ++ end) → IsCut scope setups front end pieces)
+    → ((scope : Scope) (rows : List Event) (one other : List Piece)
+    → IsActList scope one rows → IsActList scope other rows → one ≡ other)
+    → (scope : Scope) (setups : Setups) (levels : Levels) (front end : List Event)
+    (before : List Piece) → HasActList scope (front ++ end) → BeginAnew end
+    → IsActList scope before front → AreToldBy scope before levels
+    → WereTold scope setups levels front end
+told_anew cuts one scope setups levels front end before has anew list less =
+    let cut = cuts scope setups front end has.0 has.1 in
+    let there : IsActList scope cut.before front = record {
+      in_order = cut.in_front;
+      whole = cut.rows ∙ ap (λ ws. front ++ ws) (cut.clean anew) ∙ append-nil front;
+    } in
+    let same : before ≡ cut.before = one scope front before cut.before list there in
+    record {
+      pieces = has.0;
+      act_list = has.1;
+      cut = cut;
+      in_front = subst (λ ps. AreToldBy scope ps levels) same less;
+    }
