@@ -1,7 +1,7 @@
 -- What a follower that stands for events goes on to, and what it answers.
 use Rattle.std.proofs.Common.{sym, ap, subst, ◌∙◌, ◌≡◌, inl, inr, ℕ, ℤ, pos, ◌-ℤ◌, ◌+◌, List}
 use Rattle.std.proofs.Common.{[], ◌∷◌, ◌++◌, length, length-append, ◌<◌, ◌≤◌, take, drop, get_or}
-use Rattle.std.proofs.Common.{append_assoc, add-one, arith, Option, Some, None}
+use Rattle.std.proofs.Common.{append_assoc, add-one, arith, map, Option, Some, None}
 use Rattle.std.proofs.lemmas.List.{take_all, take_more}
 use Rattle.std.proofs.Math.Seq.{split_at, take-append-add}
 use Rattle.std.specs.Bool.{OnFalse, OnTrue}
@@ -15,8 +15,8 @@ use Rattle.mdb_bus.specs.declared.act.Act.{Act}
 use Rattle.mdb_bus.specs.declared.bus.Bus.{Bus}
 use Rattle.mdb_bus.specs.declared.fault.LinkFault.{LinkFault}
 use Rattle.mdb_bus.specs.declared.fault.Rule.{Rule}
-use Rattle.mdb_bus.specs.ActLists.{HasActList, IsActList, Piece, Whole, AskTail, ReplyTail}
-use Rattle.mdb_bus.specs.ActLists.{RepeatTail, act_in, acts_of, events_of, piece_events}
+use Rattle.mdb_bus.specs.ActLists.{ArePieces, HasActList, IsActList, Piece, Whole, AskTail, ReplyTail}
+use Rattle.mdb_bus.specs.ActLists.{RepeatTail, act_in, acts_of, events_of, piece_events, with_act}
 use Rattle.mdb_bus.specs.Bus as link
 use Rattle.mdb_bus.specs.Bus.{GoesOn}
 use Rattle.mdb_bus.specs.LinkFaults.{IsLinkFault}
@@ -25,6 +25,7 @@ use Rattle.mdb_cash.specs.Machine.{Machine}
 use Rattle.mdb_follow.specs.declared.account_name.AccountName.{AccountName}
 use Rattle.mdb_follow.specs.declared.account_name.AccountName.TheVariants.{CoinsIn, BillsIn}
 use Rattle.mdb_follow.specs.declared.account_name.AccountName.TheVariants.{PaidOut, Approved, Sold}
+use Rattle.mdb_follow.specs.declared.account_name.TheConstants.AccountName.{ALL}
 use Rattle.mdb_follow.specs.declared.cell.Cell.{Cell}
 use Rattle.mdb_follow.specs.declared.follower.Follower.{Follower}
 use Rattle.mdb_follow.specs.declared.offence.Offence.{Offence}
@@ -32,14 +33,16 @@ use Rattle.mdb_follow.specs.declared.range.Range.{Range}
 use Rattle.mdb_follow.specs.declared.report.Report.{Report}
 use Rattle.mdb_follow.specs.declared.sides.Sides.{Sides}
 use Rattle.mdb_follow.specs.declared.silence.Silence.{Silence}
+use Rattle.mdb_follow.specs.AccountNames.{account_place}
 use Rattle.mdb_follow.specs.EndedActs.{IsEndedAct}
 use Rattle.mdb_follow.specs.Follower.{HasAccepted, StandsFor, scope_of}
 use Rattle.mdb_follow.specs.inner.FollowerSteps.{HasFollowed, HasStopped}
+use Rattle.mdb_follow.specs.Limits.{IsAccountWithin, IsCellWithin}
 use Rattle.mdb_follow.specs.Ranges.{IsAccount, IsCell, IsRange}
 use Rattle.mdb_follow.specs.Sums.{AccountSums, Sums}
 use Rattle.mdb_follow.specs.Tables.{ArrivesAnywhere, IsTable}
 use Rattle.mdb_follow.specs.Offences.{HasOffence, IsOffence}
-use Rattle.mdb_follow.specs.Report.{AreAccounts, IsReport, report_of}
+use Rattle.mdb_follow.specs.Report.{AreAccounts, IsReport, no_account, report_of}
 use Rattle.mdb_follow.specs.declared.account.Account.{Account}
 use Rattle.mdb_follow.specs.Runs.{AllSums, IsReached, Run, States}
 use Rattle.mdb_follow.specs.Arrivals.{Arrives, EachArrives}
@@ -47,13 +50,14 @@ use Rattle.mdb_follow.specs.Machines.{machine_of}
 use Rattle.mdb_follow.specs.Offences.{NoStep}
 use Rattle.mdb_follow.specs.Sides.{AreSides}
 use Rattle.mdb_follow.specs.Silences.{asks_of}
-use Rattle.mdb_follow.specs.inner.SideSteps.{SidesStay}
+use Rattle.mdb_follow.specs.inner.SideSteps.{AreStanding, SidesStay}
 use Rattle.mdb_follow.specs.SilencesKept.{StandsForAsks, silence_in}
 use Rattle.mdb_follow.specs.SilenceSteps.{SilencesFollow}
 use Rattle.mdb_follow.proofs.Asks.{asks-go-on, asks-stay}
 use Rattle.mdb_follow.proofs.Machines.{with_one, with_one-same}
 use Rattle.mdb_follow.proofs.Reaching.{Joins, SomeArrive, SomeWay, run_of}
 use Rattle.mdb_follow.proofs.Joining.{split}
+use Rattle.mdb_follow.proofs.Sided.{by-stay}
 use Rattle.mdb_bus.specs.declared.scope.Scope.{Scope}
 
 -- a transcript divides into acts in at most one way
@@ -127,9 +131,9 @@ list-on bus events row pieces act whole goes = record {
 
 -- the act that the bus tells is the one that ends with the row
 pub ended-by : (bus : Bus) (scope : Scope) (events : List Event) (row : Event)
-    (pieces : List Piece) (act : Option Act) → events_of pieces ≡ events
+    (pieces : List Piece) (act : Option Act) → ArePieces scope pieces → events_of pieces ≡ events
     → GoesOn bus pieces row act → link.scope_of bus ≡ scope → IsEndedAct scope events row act
-ended-by bus scope events row pieces act whole goes same_scope =
+ended-by bus scope events row pieces act in_order whole goes same_scope =
     let grown = goes.grown in
     record {
       newest = grown.newest;
@@ -140,6 +144,9 @@ ended-by bus scope events row pieces act whole goes same_scope =
       begun = grown.begun;
       rows = grown.events;
       is = grown.ends;
+      before = pieces;
+      shorter = record { in_order = in_order; whole = whole };
+      acts = subst (λ ps. acts_of ps ≡ with_act act (acts_of pieces)) grown.are goes.acts;
     }
 
 -- one act ends with a row, or none
@@ -240,6 +247,15 @@ stands-beside old new events same_bus same_sides same_silences same_rows same on
           (asks_of begins device on.pieces)) (sym same_silences) (on.silences device));
     }
 
+-- sides of a follower that stands for events stand for acts
+standing-for : {follower : Follower} {events : List Event} → StandsFor follower events
+    → AreStanding follower.sides
+standing-for {follower} on = record {
+  begins = (scope_of follower).begins;
+  acts = acts_of on.pieces;
+  stand = on.sides;
+}
+
 -- A follower that has stopped has accepted still what it stood for.
 pub accepted-still : (old new : Follower) (events : List Event) → StandsFor old events
     → scope_of new ≡ scope_of old → new.rows ≡ old.rows → SidesStay old.sides new.sides
@@ -252,7 +268,8 @@ accepted-still old new events on same_scope same_rows stay same_silences =
           (list-of old events on);
       rows = same_rows ∙ on.rows;
       sides = sides-as (scope_of old) (scope_of new) new.sides (acts_of on.pieces) same_scope
-          (stay begins (acts_of on.pieces) on.sides);
+          (by-stay (λ sides. AreSides begins sides (acts_of on.pieces)) old.sides new.sides
+          ∣ standing-for on ∣₁ stay on.sides);
       silences = λ device. asks-as (scope_of old) (scope_of new) device
           (silence_in new.silences device) on.pieces same_scope
           (subst (λ silences. StandsForAsks (silence_in silences device)
@@ -492,6 +509,25 @@ accounts-of-cells Runs cells are BillsIn = (are devices.Bill).0
 accounts-of-cells Runs cells are PaidOut = (are devices.Changer).1
 accounts-of-cells Runs cells are (Approved unit) = (are (devices.Reader unit)).0
 accounts-of-cells Runs cells are (Sold unit) = (are (devices.Reader unit)).1
+
+-- the accounts of cells are as far from 0 as the cells
+pub accounts-within : (limit : ℕ) (cells : Device → Cell) (accounts : List Account)
+    → accounts ≡ map (accounts_in cells) ALL
+    → ((device : Device) → IsCellWithin limit (cells device)) → (account : AccountName)
+    → IsAccountWithin limit (get_or accounts (account_place account) no_account)
+accounts-within limit cells accounts are fits account =
+    subst (λ list. IsAccountWithin limit (get_or list (account_place account) no_account))
+    (sym are) (each account)
+  where
+    each : (account : AccountName) → IsAccountWithin limit
+        (get_or (map (accounts_in cells) ALL) (account_place account) no_account)
+    each CoinsIn = (fits devices.Changer).first
+    each BillsIn = (fits devices.Bill).first
+    each PaidOut = (fits devices.Changer).second
+    each (Approved First) = (fits (devices.Reader First)).first
+    each (Sold First) = (fits (devices.Reader First)).second
+    each (Approved Second) = (fits (devices.Reader Second)).first
+    each (Sold Second) = (fits (devices.Reader Second)).second
 
 -- what a follower reports of the rows that it has accepted
 pub reported : ((scope : Scope) → OneActList scope) → ((scope : Scope) → Joins scope)

@@ -1,6 +1,7 @@
 -- Sides go on by an act: the side of one device, those of all, and those that have no part in it.
 use Rattle.std.proofs.Common.{◌≡◌, inl, inr, ◌+◌, ◌^◌, ◌<◌, ◌∙◌, ℕ, List, Option, ap, arith}
 use Rattle.std.proofs.Common.{get_or, refl, subst, sym, Ok, Err, Result, ◌∷◌}
+use Rattle.std.proofs.Math.Logic.{∥∥₁_elim}
 use Rattle.std.specs.Prelude.{IfErr, IfOk, OnErr, option_map}
 use Rattle.mdb_msgs.specs.declared.command.Device.{Device}
 use Rattle.mdb_msgs.specs.declared.command.Device.TheVariants as devices
@@ -21,6 +22,7 @@ use Rattle.mdb_follow.specs.declared.cell.Cell.{Cell}
 use Rattle.mdb_follow.specs.declared.report.TheConstants.Report.{DEVICES}
 use Rattle.mdb_follow.specs.declared.sides.Sides.{Sides}
 use Rattle.mdb_follow.specs.Arrivals.{Arrives}
+use Rattle.mdb_follow.specs.Limits.{IsCellWithin}
 use Rattle.mdb_follow.specs.Machines.{machine_of}
 use Rattle.mdb_follow.specs.Offences.{HasNoStep, rule_of}
 use Rattle.mdb_follow.specs.Ranges.{IsCell}
@@ -28,9 +30,9 @@ use Rattle.mdb_follow.specs.Report.{decimals_of, unvalued_of}
 use Rattle.mdb_follow.specs.Sides.{AreSides, FactsOf, IsSideOf, SideOf, code_of, side_in}
 use Rattle.mdb_follow.specs.Sides.{stands_for}
 use Rattle.mdb_follow.specs.Tables.{ArrivesAnywhere}
-use Rattle.mdb_follow.specs.inner.SideSteps.{AreWithin, FollowsOf, IsSideWithin, IsWithin}
-use Rattle.mdb_follow.specs.inner.SideSteps.{OneFollows, SidesFollow, SidesStay, SidesStop}
-use Rattle.mdb_follow.specs.inner.SideSteps.{Stops}
+use Rattle.mdb_follow.specs.inner.SideSteps.{AreStanding, AreWithin, FollowsOf, IsSideWithin}
+use Rattle.mdb_follow.specs.inner.SideSteps.{IsWithin, OneFollows, SidesFollow, SidesStay}
+use Rattle.mdb_follow.specs.inner.SideSteps.{SidesStop, Stops}
 use Rattle.mdb_follow.proofs.ByDevice.{Front, front-next, same_or_not}
 use Rattle.mdb_follow.proofs.Machines.{is_machine_of}
 use Rattle.mdb_follow.proofs.Ways.{table-same}
@@ -125,11 +127,11 @@ one-stays (Err e) (devices.Reader First) sides side same =
 one-stays (Err e) (devices.Reader Second) sides side same =
     ap (λ s. with_side (devices.Reader Second) s sides) same
 
--- Sides that are what they were stand for what they stood for.
+-- Sides are what they were.
 pub same-stay : {T E : Type 0} (r : Result T E) (old new : Sides) → OnErr r (new ≡ old)
     → OnErr r (SidesStay old new)
 same-stay (Ok x) old new same = tt
-same-stay (Err e) old new same = λ begins acts. subst (λ sides. AreSides begins sides acts) (sym same)
+same-stay (Err e) old new same = inl same
 
 -- By a break each side has a step.
 break-stops-none : (sides : Sides) (act : Act) (broken : Rule) → IsBreak act
@@ -154,7 +156,7 @@ pub break-stay : {T : Type 0} (r : Result T Rule) (old new : Sides) (act : Act) 
     → IfErr r (SidesStop old act) → OnErr r (SidesStay old new)
 break-stay (Ok x) old new act is stops = tt
 break-stay (Err broken) old new act is stops =
-    λ begins acts on. absurd (break-stops-none old act broken is stops begins acts on)
+    inr (λ on. break-stops-none old act broken is stops on.begins on.acts on.stand)
 
 -- its table is as far from 0 as that of the device
 pub within-at : (device which : Device) (limit : ℕ) (sides : Sides) → device ≡ which
@@ -251,3 +253,22 @@ pub ranges-at : (device which : Device) (sides : Sides) (cell : Cell) → device
 ranges-at device which sides cell is known begins acts on =
     subst (λ d. IsCell (ArrivesAnywhere (Arrives (machine_of begins d) acts)) cell) (sym is)
     (known begins acts (on which))
+
+-- its count as it is kept, and how far from 0 its ranges are
+pub kept-at : (device which : Device) (sides : Sides) (count : ℕ) → device ≡ which
+    → count ≡ (side_in sides which).unvalued → count ≡ (side_in sides device).unvalued
+kept-at device which sides count is known =
+    known ∙ ap (λ d. (side_in sides d).unvalued) (sym is)
+
+pub ranges-within-at : (device which : Device) (sides : Sides) (cell : Cell) → device ≡ which
+    → ((limit : ℕ) → IsSideWithin limit (side_in sides which) → IsCellWithin limit cell)
+    → (limit : ℕ) → IsWithin device limit sides → IsCellWithin limit cell
+ranges-within-at device which sides cell is known limit within =
+    known limit (within-at device which limit sides is within)
+
+-- what holds of sides that stand for acts holds of what they are then
+pub by-stay : (P : Sides → Type 0) (old new : Sides) → ∥ AreStanding old ∥₁ → SidesStay old new
+    → P old → P new
+by-stay P old new standing (inl same) holds = subst P (sym same) holds
+by-stay P old new standing (inr none) holds =
+    absurd (∥∥₁_elim standing (λ one other. absurd one) none)

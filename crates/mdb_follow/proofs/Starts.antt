@@ -62,7 +62,7 @@ account-within ranges is = record {
   difference = range-within ranges.difference (ap (λ r. r.difference) is);
 }
 
-nothing-within : (cell : Cell) → IsNothing cell → IsCellWithin 0 cell
+pub nothing-within : (cell : Cell) → IsNothing cell → IsCellWithin 0 cell
 nothing-within cell is = record {
   first = account-within cell.first is.first;
   second = account-within cell.second is.second;

@@ -1,5 +1,5 @@
 -- What a report tells of a device is what the act list of its rows has of it.
-use Rattle.std.proofs.Common.{ap, refl, ◌∙◌, ◌≡◌, ℕ, List, length}
+use Rattle.std.proofs.Common.{ap, refl, ◌∙◌, ◌≡◌, ℕ, List, [], ◌∷◌, length, get_or}
 use Rattle.mdb_words.specs.declared.event.Event.{Event}
 use Rattle.mdb_msgs.specs.declared.command.Device.{Device}
 use Rattle.mdb_msgs.specs.declared.command.Device.TheVariants.{Changer, Bill, Reader}
@@ -9,6 +9,7 @@ use Rattle.mdb_bus.specs.declared.scope.Beginning.{Beginning}
 use Rattle.mdb_follow.specs.declared.account.Account.{Account}
 use Rattle.mdb_follow.specs.declared.account_name.AccountName.{AccountName}
 use Rattle.mdb_follow.specs.declared.report.Report.{Report}
+use Rattle.mdb_follow.specs.Devices.{device_place}
 use Rattle.mdb_follow.specs.Report.{IsReport, decimals_of, device_decimals, device_silences}
 use Rattle.mdb_follow.specs.Report.{device_unvalued, report_of, unvalued_of}
 use Rattle.mdb_follow.specs.Silences.{silences}
@@ -69,3 +70,12 @@ unvalued-told scope one rows report pieces is list device =
     ∙ (told-unvalued scope.begins (length rows) is.pieces is.accounts device
     ∙ ap (λ (p : List Piece). unvalued_of scope.begins device (acts_of p))
     (one rows is.pieces pieces is.act_list list))
+
+-- what a list of counts has of a device
+pub count-told : (changer bill first second : ℕ) (of : Device → ℕ) → changer ≡ of Changer
+    → bill ≡ of Bill → first ≡ of (Reader First) → second ≡ of (Reader Second) → (device : Device)
+    → get_or (changer ∷ bill ∷ first ∷ second ∷ []) (device_place device) 0 ≡ of device
+count-told changer bill first second of a b c d Changer = a
+count-told changer bill first second of a b c d Bill = b
+count-told changer bill first second of a b c d (Reader First) = c
+count-told changer bill first second of a b c d (Reader Second) = d

@@ -1,11 +1,12 @@
 -- How far from 0 the ends of the tables of all sides and their counts are, by the rows of a
 -- recording.
-use Rattle.std.proofs.Common.{ℕ, ◌+◌, ◌*◌, ◌≤◌, ◌^◌, arith}
+use Rattle.std.proofs.Common.{ℕ, ◌+◌, ◌*◌, ◌≤◌, ◌^◌, ◌∷◌, arith}
+use Rattle.std.proofs.Math.Logic.{∥∥₁_map}
 use Rattle.mdb_follow.specs.declared.side.Side.{Side}
 use Rattle.mdb_follow.specs.declared.sides.Sides.{Sides}
 use Rattle.mdb_bus.specs.declared.act.Act.{Act}
 use Rattle.mdb_follow.specs.Sides.{side_in}
-use Rattle.mdb_follow.specs.inner.SideSteps.{AreWithin, IsSideWithin, SidesFollow}
+use Rattle.mdb_follow.specs.inner.SideSteps.{AreStanding, AreWithin, IsSideWithin, SidesFollow}
 use Rattle.mdb_follow.proofs.Limits.{table-within-weaker}
 
 pub side-within-weaker : {Facts : Type 0} {N : ℕ} (limit more : ℕ) (side : Side Facts N)
@@ -35,3 +36,12 @@ pub sides-within-next : (rows : ℕ) (old : Sides) (act : Act) (new : Sides)
 sides-within-next rows old act new within follows =
     sides-within-weaker (rows * 2 ^ 32 + 2 ^ 32) ((rows + 1) * 2 ^ 32) new (omega arith)
     (λ device. (follows device).within (rows * 2 ^ 32) (within device))
+
+-- sides that stand for acts go on to sides that do
+pub standing-next : (old : Sides) (act : Act) (new : Sides) → ∥ AreStanding old ∥₁
+    → SidesFollow old act new → ∥ AreStanding new ∥₁
+standing-next old act new standing follows = ∥∥₁_map standing (λ on. record {
+  begins = on.begins;
+  acts = act ∷ on.acts;
+  stand = λ device. (follows device).stands on.begins on.acts (on.stand device);
+})

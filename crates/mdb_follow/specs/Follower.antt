@@ -1,6 +1,7 @@
 -- What a follower stands for.
 use Rattle.std.specs.Prelude.{◌≡◌, ℕ, List, length, Option, None}
 use Rattle.mdb_words.specs.declared.event.Event.{Event}
+use Rattle.mdb_bus.specs.declared.act.Act.{Act}
 use Rattle.mdb_bus.specs.ActLists.{IsActList, Piece, acts_of, events_of}
 use Rattle.mdb_bus.specs.declared.scope.Scope.{Scope}
 use Rattle.mdb_bus.specs.Bus as bus
@@ -20,6 +21,11 @@ rows_of follower = follower.rows
 
 abbrev pub offence_of : Follower → Option Offence
 offence_of follower = follower.offence
+
+-- what a follower has in its room for an act: the act that ended last; where the last row ended
+-- none, it is of no matter which act this is
+abbrev pub act_of : Follower → Act
+act_of follower = follower.act
 
 -- A follower stands for events: its bus does, each of its sides stands for their acts, and its
 -- silences are those of their asks.

@@ -13,6 +13,7 @@ pub mod Machines
 pub mod Offences
 pub mod Ranges
 pub mod Report
+pub mod ReportLimits
 pub mod Runs
 pub mod Sales
 pub mod Senders

@@ -1,5 +1,5 @@
--- How far from 0 the ends of ranges are, so that they stay numbers of 64 bits. This serves `Table`
--- and private functions.
+-- How far from 0 the ends of ranges are, so that they stay numbers of 64 bits. This serves `Table`,
+-- reports and private functions.
 use Rattle.std.specs.Prelude.{ℕ, List, All, pos, neg_ℤ, ◌≤ℤ◌}
 use Rattle.mdb_follow.specs.declared.range.Range.{Range}
 use Rattle.mdb_follow.specs.declared.account.Account.{Account}

@@ -32,9 +32,13 @@ no_range = record { least = pos 0; greatest = pos 0 }
 abbrev pub no_account : Account
 no_account = record { device = no_range; controller = no_range; difference = no_range }
 
+-- an account of a list in the order of a report
+abbrev pub account_in : AccountName → List Account → Account
+account_in account accounts = get_or accounts (account_place account) no_account
+
 -- what a report has of an account
 abbrev pub account_of : AccountName → Report → Account
-account_of account report = get_or report.accounts (account_place account) no_account
+account_of account report = account_in account report.accounts
 
 -- The accounts are those of sums of a kind.
 abbrev pub AreAccounts : (AllSums → Type 0) → (AccountName → Account) → Type 0

@@ -60,7 +60,7 @@ impl AccountName {
     }
 
     /// Its place in a report, from 0.
-    pub(crate) fn place(self) -> usize
+    pub fn place(self) -> usize
         ensures place { result ≡ account_place self }
         ensures below { result < 7 }
     {

@@ -6,7 +6,7 @@ ghost use Rattle.mdb_follow.specs.Devices as spec;
 use mdb_msgs::{Device, ReaderUnit};
 
 /// The place of a device in `Report::DEVICES`, from 0.
-pub(crate) fn device_place(device: Device) -> usize
+pub fn device_place(device: Device) -> usize
     ensures place { result ≡ spec.device_place device }
     ensures below { result < 4 }
 {

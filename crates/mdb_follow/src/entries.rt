@@ -2,6 +2,7 @@
 
 ghost use Rattle.std.specs.Prelude.{◌≡◌, ◌<◌, ◌++◌, ◌==◌, ℕ, List, [], ◌∷◌, length, slice_set};
 ghost use Rattle.mdb_follow.specs.declared.cell.Cell.{Cell};
+ghost use Rattle.mdb_follow.specs.Limits.{IsCellWithin, IsTableWithin};
 ghost use Rattle.mdb_follow.specs.inner.Entries.{joined_cells};
 
 pub(crate) mod steps;
@@ -98,8 +99,9 @@ impl<const N: usize> Entries<N> {
 
 /// The join of all cells; where there is none, all ranges are from 0 to 0.
 pub(crate) fn join_all(entries: &[(usize, Cell)]) -> Cell
-    ensures { (first : ℕ × Cell) (rest : List (ℕ × Cell)) → entries.now ≡ first ∷ rest
+    ensures joined { (first : ℕ × Cell) (rest : List (ℕ × Cell)) → entries.now ≡ first ∷ rest
         → result ≡ joined_cells first.1 rest }
+    ensures within { (limit : ℕ) → IsTableWithin limit entries.now → IsCellWithin limit result }
 {
     let Some(((_, first), rest)) = entries.split_first() else {
         return Cell::default();

@@ -8,7 +8,7 @@ ghost use Rattle.std.specs.Option.{ForNone, ForSome, IfNone};
 ghost use Rattle.mdb_words.specs.declared.event.Event.{Event};
 ghost use Rattle.mdb_bus.specs.declared.act.Act.{Act};
 ghost use Rattle.mdb_follow.specs.Senders as spec;
-ghost use Rattle.mdb_follow.specs.inner.SideSteps.{AreWithin};
+ghost use Rattle.mdb_follow.specs.inner.SideSteps.{AreStanding, AreWithin};
 ghost use Rattle.mdb_follow.specs.SilenceSteps.{AreFew};
 
 use crate::sides::Sides;
@@ -37,7 +37,8 @@ pub struct Follower {
     /// Room for the act that a row ends. Between rows what is in it is of no matter.
     act: Act,
     ghost few: { rows ≤ 100000000 },
-    ghost within: { ForNone offence (AreWithin (rows * 2 ^ 32) sides) },
+    ghost standing: { ∥ AreStanding sides ∥₁ },
+    ghost within: { AreWithin (rows * 2 ^ 32) sides },
     ghost few_silences: { AreFew rows silences },
     ghost numbered: { ForSome offence (λ offence. offence.row ≡ rows + 1) },
 }
@@ -49,10 +50,11 @@ impl Follower {
     ghost use Rattle.mdb_follow.specs.Runs.{IsReached};
     ghost use Rattle.mdb_bus.specs.Scopes.{all_joined, power_on};
     ghost use Rattle.mdb_follow.specs.Follower.{HasAccepted, StandsFor};
-    ghost use Rattle.mdb_follow.specs.Follower.{offence_of, rows_of, scope_of};
+    ghost use Rattle.mdb_follow.specs.Follower.{act_of, offence_of, rows_of, scope_of};
     ghost use Rattle.mdb_follow.specs.inner.FollowerSteps.{HasFollowed, HasStopped};
     ghost use Rattle.mdb_follow.specs.Offences.{HasOffence, IsOffence};
     ghost use Rattle.mdb_follow.specs.Report.{IsReport};
+    ghost use Rattle.mdb_follow.specs.ReportLimits.{IsReportWithin};
     ghost use Rattle.mdb_follow.specs.Sales.{SalesFollowApprovals};
 
     /// The follower before the first row of a recording that begins at power-on or at a break. All
@@ -137,10 +139,64 @@ impl Follower {
         }
     }
 
+    /// Accepts the next row like [`Follower::feed`], and answers whether an act ends with it. If
+    /// one does, [`Follower::act`] lends it.
+    ///
+    /// The act isn't moved, so this is as fast as `feed`.
+    ///
+    /// # Errors
+    ///
+    /// Those of `feed`.
+    #[inline(always)]
+    pub fn feed_ending(&mut self, event: Event) -> Result<bool, Offence>
+        requires { rows_of self.old < ROWS_MAX }
+        ensures reached { (events : List Event) → StandsFor self.old events
+            → IfOk result (λ _. StandsFor self.new (events ++ event ∷ [])) }
+        ensures is_reached { (events : List Event) → StandsFor self.old events
+            → IfOk result (λ _. IsReached (scope_of self.old) (events ++ event ∷ [])) }
+        ensures sales { (events : List Event) → StandsFor self.old events
+            → IfOk result (λ _. SalesFollowApprovals (scope_of self.old) (events ++ event ∷ [])) }
+        ensures offence { (events : List Event) → StandsFor self.old events
+            → IfErr result (IsOffence (scope_of self.old) events event) }
+        ensures act { (events : List Event) → StandsFor self.old events
+            → IfOk result (λ ended.
+            IsEndedAct (scope_of self.old) events event (ended_act ended (act_of self.new))) }
+        ensures accepted { (events : List Event) → StandsFor self.old events
+            → OnErr result (HasAccepted self.new events) }
+        ensures noted { IfErr result (λ offence. offence_of self.new ≡ Some offence) }
+        ensures numbered { IfErr result (λ offence. offence.row ≡ rows_of self.new + 1) }
+        ensures counted { IfOk result (λ _. rows_of self.new ≡ rows_of self.old + 1) }
+        ensures uncounted { OnErr result (rows_of self.new ≡ rows_of self.old) }
+        ensures repeats { IfSome (offence_of self.old) (λ offence.
+            (result ≡ Err offence) × (self.new ≡ self.old)) }
+        ensures scope { scope_of self.new ≡ scope_of self.old }
+    {
+        laws::ways_join();
+        laws::sales_follow_their_approvals();
+        if let Some(offence) = self.offence {
+            return Err(offence);
+        }
+        match self.take(event) {
+            Some(ended) => Ok(ended),
+            None => Err(self.noted()),
+        }
+    }
+
+    /// The act that ended with the last row, where [`Follower::feed_ending`] has just answered that
+    /// one did. At any other time it is of no matter which act this is.
+    #[inline(always)]
+    pub fn act(&self) -> &Act
+        ensures { result.now ≡ act_of self.now }
+    {
+        let Follower { act, .. } = self;
+        act
+    }
+
     /// Accepts the next row like [`Follower::feed`], and returns the act that ends with it, if one
     /// does.
     ///
     /// An act is large, and is moved out of the follower. If you don't need it, `feed` is faster.
+    /// If you only look at it, [`Follower::feed_ending`] is.
     ///
     /// # Errors
     ///
@@ -315,6 +371,7 @@ impl Follower {
             → IfOk result (IsReport (scope_of self.now) events) }
         ensures answers { (events : List Event) → StandsFor self.now events → IsOk result }
         ensures offence { IfSome (offence_of self.now) (λ offence. result ≡ Err offence) }
+        ensures within { IfOk result (IsReportWithin (rows_of self.now * 2 ^ 32)) }
     {
         match self.offence {
             Some(offence) => Err(offence),
@@ -324,11 +381,16 @@ impl Follower {
 
     /// The report on the rows that were accepted. After an offence these are the rows before the
     /// impossible one. Without one they are all rows so far, as in [`Follower::report`].
+    ///
+    /// No end of its ranges is farther from 0 than 2^32 times the number of these rows, and no
+    /// count is greater. So reports can be added up.
     pub fn report_before(&self) -> Report
         ensures before { (events : List Event) → HasAccepted self.now events
             → IsReport (scope_of self.now) events result }
         ensures going { (events : List Event) → StandsFor self.now events
             → IsReport (scope_of self.now) events result }
+        ensures within { IsReportWithin (rows_of self.now * 2 ^ 32) result }
+        ensures rows { result.rows ≡ rows_of self.now }
     {
         laws::ways_join();
         bus_laws::transcripts_have_one_act_list();

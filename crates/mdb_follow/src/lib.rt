@@ -29,6 +29,7 @@ mod table;
 pub use account::Account;
 pub use account_name::AccountName;
 pub use cell::Cell;
+pub use devices::device_place;
 pub use follower::{Follower, ROWS_MAX, sender_of};
 pub use goal::{AccountSide, Bound, Goal};
 pub use offence::Offence;

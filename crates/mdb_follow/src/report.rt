@@ -25,6 +25,7 @@ pub struct Report {
 
 impl Report {
     ghost use Rattle.std.specs.Prelude.{◌≡◌, ◌<◌, List, map};
+    ghost use Rattle.mdb_msgs.specs.declared.command.Device.{Device};
     ghost use Rattle.mdb_bus.specs.ActLists.{Piece, acts_of};
     ghost use Rattle.mdb_bus.specs.declared.scope.Beginning.{Beginning};
     ghost use Rattle.mdb_follow.specs.declared.account_name.AccountName.{AccountName};
@@ -32,9 +33,9 @@ impl Report {
     ghost use Rattle.mdb_follow.specs.declared.account.Account.{Account};
     ghost use Rattle.mdb_follow.specs.Report.{account_of, device_decimals, device_silences};
     ghost use Rattle.mdb_follow.specs.Report.{device_unvalued, report_of};
-    ghost use Rattle.mdb_follow.specs.Sides.{AreSides};
+    ghost use Rattle.mdb_follow.specs.Sides.{AreSides, side_in};
     ghost use Rattle.mdb_follow.specs.Silences.{asks_of};
-    ghost use Rattle.mdb_follow.specs.SilencesKept.{AllStandForAsks};
+    ghost use Rattle.mdb_follow.specs.SilencesKept.{AllStandForAsks, silence_in};
 
     /// The devices, in the order of a report.
     pub const DEVICES: [Device; 4] = [
@@ -52,11 +53,17 @@ impl Report {
         sides: &Sides,
         silences: &Silences,
     ) -> Report
-        ensures { (begins : Beginning) (pieces : List Piece) (named : AccountName → Account)
-            → AreSides begins sides.now (acts_of pieces)
+        ensures telling { (begins : Beginning) (pieces : List Piece)
+            (named : AccountName → Account) → AreSides begins sides.now (acts_of pieces)
             → AllStandForAsks silences.now (λ device. asks_of begins device pieces)
             → accounts ≡ map named ALL
             → result ≡ report_of begins rows pieces named }
+        ensures rows { result.rows ≡ rows }
+        ensures accounts { result.accounts ≡ accounts }
+        ensures silences { (device : Device)
+            → device_silences device result ≡ (silence_in silences.now device).count }
+        ensures unvalued { (device : Device)
+            → device_unvalued device result ≡ (side_in sides.now device).unvalued }
     {
         let first = Device::Reader(ReaderUnit::First);
         let second = Device::Reader(ReaderUnit::Second);

@@ -1,9 +1,10 @@
 //! A device and the controller, as a follower follows them.
 
-ghost use Rattle.std.specs.Prelude.{◌≡◌, ◌^◌, List, [], IfOk, IfErr, OnErr};
+ghost use Rattle.std.specs.Prelude.{◌≡◌, ◌^◌, ℕ, List, [], IfOk, IfErr, OnErr};
 ghost use Rattle.mdb_bus.specs.declared.act.Act.{Act};
 ghost use Rattle.mdb_bus.specs.declared.scope.Beginning.{Beginning};
 ghost use Rattle.mdb_follow.specs.Arrivals.{Arrives};
+ghost use Rattle.mdb_follow.specs.Limits.{IsCellWithin};
 ghost use Rattle.mdb_follow.specs.Offences.{HasNoStep};
 ghost use Rattle.mdb_follow.specs.Ranges.{IsCell};
 ghost use Rattle.mdb_follow.specs.Sides.{IsSide};
@@ -69,9 +70,10 @@ pub(crate) fn lead<P: Pair, const N: usize>(
 
 /// What the sums of a side may be, whatever the state is.
 pub(crate) fn ranges<P: Pair, const N: usize>(side: &Side<P::Facts, N>) -> Cell
-    ensures { (begins : Beginning) (acts : List Act)
+    ensures exact { (begins : Beginning) (acts : List Act)
         → IsSide (P.stands_for begins) P.code_of (P.machine begins) (P.unvalued begins) side.now
         acts → IsCell (ArrivesAnywhere (Arrives (P.machine begins) acts)) result }
+    ensures within { (limit : ℕ) → IsSideWithin limit side.now → IsCellWithin limit result }
 {
     side.table.ranges::<P>()
 }

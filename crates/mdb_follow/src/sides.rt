@@ -1,14 +1,15 @@
 //! The sides of a recording: each device and the controller.
 
-ghost use Rattle.std.specs.Prelude.{◌≡◌, ◌^◌, List, [], IfOk, IfErr, OnErr};
+ghost use Rattle.std.specs.Prelude.{◌≡◌, ◌^◌, ℕ, List, [], IfOk, IfErr, OnErr};
 ghost use Rattle.mdb_bus.specs.declared.act.Act.{Act};
 ghost use Rattle.mdb_bus.specs.declared.scope.Beginning.{Beginning};
 ghost use Rattle.mdb_follow.specs.Arrivals.{Arrives};
+ghost use Rattle.mdb_follow.specs.Limits.{IsCellWithin};
 ghost use Rattle.mdb_follow.specs.Machines.{machine_of};
 ghost use Rattle.mdb_follow.specs.Ranges.{IsCell};
 ghost use Rattle.mdb_follow.specs.Report.{decimals_of, unvalued_of};
 ghost use Rattle.mdb_follow.specs.Tables.{ArrivesAnywhere};
-ghost use Rattle.mdb_follow.specs.Sides.{AreSides};
+ghost use Rattle.mdb_follow.specs.Sides.{AreSides, side_in};
 ghost use Rattle.mdb_follow.specs.inner.SideSteps.{AreWithin, IsWithin, OneFollows, SidesFollow};
 ghost use Rattle.mdb_follow.specs.inner.SideSteps.{SidesStay, SidesStop, Stops};
 
@@ -55,7 +56,8 @@ impl Sides {
     ///
     /// # Errors
     ///
-    /// The rule of a side that has no step by it. Then all stand for what they stood for.
+    /// The rule of a side that has no step by it. Then all are what they were, where they stand for
+    /// acts.
     // Only a break is led over more sides than one, and each has a step by it.
     pub(crate) fn lead(&mut self, act: &Act) -> Result<(), Rule>
         requires { AreWithin (2 ^ 62) self.old }
@@ -131,8 +133,9 @@ impl Sides {
 
     /// How many amounts without a value a device reported.
     pub(crate) fn unvalued(&self, device: Device) -> u64
-        ensures { (begins : Beginning) (acts : List Act) → AreSides begins self.now acts
+        ensures counted { (begins : Beginning) (acts : List Act) → AreSides begins self.now acts
             → result ≡ unvalued_of begins device acts }
+        ensures kept { result ≡ (side_in self.now device).unvalued }
     {
         match device {
             Device::Changer => self.changer.unvalued,
@@ -146,8 +149,9 @@ impl Sides {
 
     /// What the sums of a device's accounts may be, whatever its state is.
     pub(crate) fn ranges(&self, device: Device) -> Cell
-        ensures { (begins : Beginning) (acts : List Act) → AreSides begins self.now acts
+        ensures exact { (begins : Beginning) (acts : List Act) → AreSides begins self.now acts
             → IsCell (ArrivesAnywhere (Arrives (machine_of begins device) acts)) result }
+        ensures within { (limit : ℕ) → IsWithin device limit self.now → IsCellWithin limit result }
     {
         match device {
             Device::Changer => side::ranges::<Changer, _>(&self.changer),

@@ -214,9 +214,10 @@ impl<const N: usize> Table<N> {
 
     /// What the sums may be, whatever the state is.
     pub fn ranges<P: Pair>(&self) -> Cell
-        ensures { (begins : Beginning) (acts : List Act)
+        ensures exact { (begins : Beginning) (acts : List Act)
             → IsTable P.code_of (P.machine begins) acts self.now
             → IsCell (ArrivesAnywhere (Arrives (P.machine begins) acts)) result }
+        ensures within { (limit : ℕ) → IsTableWithin limit self.now → IsCellWithin limit result }
     {
         if self.turned {
             join_all(self.other.as_slice())

@@ -1,6 +1,6 @@
 -- How sides are led over an act, and how far from 0 the ends of their tables and their counts are.
 -- This serves `Follower` and private functions.
-use Rattle.std.specs.Prelude.{◌≡◌, ◌≤◌, ◌+◌, ◌^◌, ℕ, List, ◌∷◌}
+use Rattle.std.specs.Prelude.{◌≡◌, ◌⊎◌, ◌≤◌, ◌+◌, ◌^◌, ℕ, List, ◌∷◌}
 use Rattle.mdb_msgs.specs.declared.command.Device.{Device}
 use Rattle.mdb_bus.specs.declared.act.Act.{Act}
 use Rattle.mdb_bus.specs.declared.fault.Rule.{Rule}
@@ -65,7 +65,12 @@ pub record Stops (device : Device) (sides : Sides) (act : Act) (broken : Rule) :
 abbrev pub SidesStop : Sides → Act → Rule → Type 0
 SidesStop sides act broken = (device : Device) × Stops device sides act broken
 
--- sides stand for what they stood for
+-- sides stand for some acts of some recording
+pub record AreStanding (sides : Sides) : Type 0 where
+  pub begins : Beginning
+  pub acts : List Act
+  pub stand : AreSides begins sides acts
+
+-- sides that stand for acts are what they were
 abbrev pub SidesStay : Sides → Sides → Type 0
-SidesStay old new =
-    (begins : Beginning) (acts : List Act) → AreSides begins old acts → AreSides begins new acts
+SidesStay old new = (new ≡ old) ⊎ (AreStanding old → ⊥)

@@ -1,12 +1,30 @@
-use Rattle.mdb_follow.proofs.Within.{sides-within-next, sides-within-rows}
+use Rattle.std.proofs.Common.{◌*◌, ◌^◌}
+use Rattle.mdb_follow.specs.inner.SideSteps.{AreStanding, AreWithin}
+use Rattle.mdb_follow.proofs.Sided.{by-stay}
+use Rattle.mdb_follow.proofs.Within.{sides-within-next, sides-within-rows, standing-next}
 use Rattle.mdb_follow.proofs.follower.Follower.follow.Goals as goal
 
 pub lead-requires : goal.lead-requires
 lead-requires c =
     sides-within-rows c.args.self.now.rows c.args.self.now.sides c.args.self.now.few
-    (c.args.self.now.within c.requires.going)
+    c.args.self.now.within
 
 pub invariant_of-self-clause-within : goal.invariant_of-self-clause-within
-invariant_of-self-clause-within c going =
+invariant_of-self-clause-within c =
     sides-within-next c.args.self.now.rows c.args.self.now.sides c.args.self.now.act
-    c.lead.new.self (c.args.self.now.within going) c.in-Ok.ensures.followed
+    c.lead.new.self c.args.self.now.within c.in-Ok.ensures.followed
+
+pub invariant_of-self-clause-standing : goal.invariant_of-self-clause-standing
+invariant_of-self-clause-standing c =
+    standing-next c.args.self.now.sides c.args.self.now.act c.lead.new.self
+    c.args.self.now.standing c.in-Ok.ensures.followed
+
+pub invariant_of-self-in-Err-clause-standing : goal.invariant_of-self-in-Err-clause-standing
+invariant_of-self-in-Err-clause-standing c =
+    by-stay (λ sides. ∥ AreStanding sides ∥₁) c.args.self.now.sides c.lead.new.self
+    c.args.self.now.standing c.in-Err.ensures.stay c.args.self.now.standing
+
+pub invariant_of-self-in-Err-clause-within : goal.invariant_of-self-in-Err-clause-within
+invariant_of-self-in-Err-clause-within c =
+    by-stay (AreWithin (c.args.self.now.rows * 2 ^ 32)) c.args.self.now.sides c.lead.new.self
+    c.args.self.now.standing c.in-Err.ensures.stay c.args.self.now.within

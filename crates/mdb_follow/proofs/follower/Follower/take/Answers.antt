@@ -1,4 +1,4 @@
-use Rattle.std.proofs.Common.{List, ◌+◌, ◌*◌, ◌^◌, None, Some, arith, refl, subst, sym, ◌∙◌}
+use Rattle.std.proofs.Common.{List, ◌+◌, ◌*◌, ◌^◌, None, Some, arith, inl, refl, subst, sym, ◌∙◌}
 use Rattle.mdb_words.specs.declared.event.Event.{Event}
 use Rattle.mdb_bus.specs.Bus.{GoesOn, ended_act}
 use Rattle.mdb_follow.specs.EndedActs.{IsEndedAct}
@@ -11,9 +11,9 @@ use Rattle.mdb_follow.proofs.Following.{stands-still}
 use Rattle.mdb_follow.proofs.follower.Follower.take.Goals as goal
 
 pub invariant_of-self-in-Ok-false-clause-within : goal.invariant_of-self-in-Ok-false-clause-within
-invariant_of-self-in-Ok-false-clause-within c going =
+invariant_of-self-in-Ok-false-clause-within c =
     sides-within-weaker (c.args.self.now.rows * 2 ^ 32) ((c.args.self.now.rows + 1) * 2 ^ 32)
-    c.args.self.now.sides (omega arith) (c.args.self.now.within going)
+    c.args.self.now.sides (omega arith) c.args.self.now.within
 
 pub returns-then-follow-clause-reached : goal.returns-then-follow-clause-reached
 returns-then-follow-clause-reached c events on =
@@ -32,7 +32,7 @@ returns-then-follow-clause-act c events on =
     subst (λ act. IsEndedAct (scope_of c.args.self.now) events c.args.event (Some act))
     (sym c.follow.ensures.act)
     (ended-by c.feed_into.new.self (scope_of c.args.self.now) events c.args.event on.pieces
-    (Some c.feed_into.new.act) on.whole goes c.feed_into.ensures.scope)
+    (Some c.feed_into.new.act) on.on_bus.in_order on.whole goes c.feed_into.ensures.scope)
 
 pub returns-else-follow-clause-offence : goal.returns-else-follow-clause-offence
 returns-else-follow-clause-offence c =
@@ -69,7 +69,7 @@ returns-in-Ok-false-clause-act c events on =
     subst (λ b. GoesOn c.feed_into.new.self on.pieces c.args.event (ended_act b c.feed_into.new.act))
     c.in-Ok-false.field-0-test (c.in-Ok-false.ensures.goes_on on.pieces on.on_bus) in
     ended-by c.feed_into.new.self (scope_of c.args.self.now) events c.args.event on.pieces None
-    on.whole goes c.feed_into.ensures.scope
+    on.on_bus.in_order on.whole goes c.feed_into.ensures.scope
 
 pub returns-in-Err-clause-offence : goal.returns-in-Err-clause-offence
 returns-in-Err-clause-offence c =
@@ -81,4 +81,4 @@ returns-in-Err-clause-offence c =
 pub returns-in-Err-clause-accepted : goal.returns-in-Err-clause-accepted
 returns-in-Err-clause-accepted c events on =
     accepted-still c.args.self.now _ events on c.feed_into.ensures.scope refl
-    (λ begins acts stands. stands) refl
+    (inl refl) refl

@@ -1,0 +1,9 @@
+use Rattle.std.proofs.Common.{[]}
+use Rattle.mdb_follow.proofs.follower.Follower.scoped.Goals as goal
+
+pub invariant_of-result-clause-standing : goal.invariant_of-result-clause-standing
+invariant_of-result-clause-standing c = ∣ record {
+  begins = c.args.scope.now.begins;
+  acts = [];
+  stand = c.start.ensures.stands;
+} ∣₁

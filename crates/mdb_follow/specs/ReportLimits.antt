@@ -1,0 +1,14 @@
+-- How far from 0 the sums of a report are, and how many silences and amounts without a value it
+-- has. So reports can be added up.
+use Rattle.std.specs.Prelude.{◌≤◌, ℕ}
+use Rattle.mdb_msgs.specs.declared.command.Device.{Device}
+use Rattle.mdb_follow.specs.declared.account_name.AccountName.{AccountName}
+use Rattle.mdb_follow.specs.declared.report.Report.{Report}
+use Rattle.mdb_follow.specs.Limits.{IsAccountWithin}
+use Rattle.mdb_follow.specs.Report.{account_of, device_silences, device_unvalued}
+
+-- all ends of a report's ranges are at most so far from 0, and so are its counts
+pub record IsReportWithin (limit : ℕ) (report : Report) : Type 0 where
+  pub accounts : (account : AccountName) → IsAccountWithin limit (account_of account report)
+  pub silences : (device : Device) → device_silences device report ≤ limit
+  pub unvalued : (device : Device) → device_unvalued device report ≤ limit
