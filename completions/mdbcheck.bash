@@ -42,9 +42,9 @@ _mdbcheck() {
         current=${current#[\'\"]} # a value of --setup stands in quotes
     else
         case $command in
-            '') words='check show explain replay manual' ;;
-            manual) [ $goals -gt 0 ] || words='check show explain replay manual' ;;
-            check) words='--joined --json --setup --without' ;;
+            '') words='check survey show explain replay manual' ;;
+            manual) [ $goals -gt 0 ] || words='check survey show explain replay manual' ;;
+            check | survey) words='--joined --json --setup --without' ;;
             show | replay) words='--json --without' ;;
             explain)
                 case $goals in

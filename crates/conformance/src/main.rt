@@ -1,18 +1,19 @@
 //! Runs the program `mdbcheck` on each worked case of its folder, prints each that doesn't come
 //! out as it is wanted, and at the end how many there are. `data/README` says how a case is
-//! written. Then it gives a recording to the follower in two pieces (`cuts`), and makes calls of
-//! the libraries (`calls`).
+//! written. Each no of `check` is surveyed too (`noes`). Then it gives a recording to the follower
+//! in two pieces (`cuts`), and makes calls of the libraries (`calls`).
 #![tactic(auto)]
 
 mod calls;
 mod cuts;
+mod noes;
 
 use std::alloc::{AllocError, Global};
 use std::io::Write;
 use std::{fs, io};
 
 /// The files of cases, one for each subject.
-static FILES: [&str; 23] = [
+static FILES: [&str; 24] = [
     "rows.cases",
     "times.cases",
     "commands.cases",
@@ -33,6 +34,7 @@ static FILES: [&str; 23] = [
     "without.cases",
     "joined.cases",
     "joined-levels.cases",
+    "surveys.cases",
     "json.cases",
     "worked.cases",
     "least.cases",
@@ -66,6 +68,10 @@ struct Shared {
     // The lines of a report at their defaults, of a recording from power-on and in mid-session.
     report: String,
     joined: String,
+    // Those of a stretch of a survey after its first, and those of the totals, without the word in
+    // front.
+    stretch: String,
+    total: String,
 }
 
 /// A transcript, and what the program has to make of it.
@@ -77,17 +83,24 @@ struct Case<'a> {
     words: &'a str,
     // The exit status, as it is written.
     status: &'a str,
-    // The lines of standard output that stand unless the case gives others, and those it gives.
+    // The whole lines of the parts of a survey that stand before the last part.
+    done: String,
+    // Whether the last part is the totals.
+    is_total: bool,
+    // The lines of standard output that stand unless the case gives others, and those it gives: of
+    // the last part, if there are parts.
     defaults: String,
     out: String,
     // Standard error, whole.
     err: String,
 }
 
-/// How many cases there were, and how many of them came out otherwise than wanted.
+/// How many cases there were, how many of them were a no of `check` and surveyed too, and how many
+/// came out otherwise than wanted.
 #[derive(Clone, Copy, Drop)]
 struct Tally {
     cases: u64,
+    noes: u64,
     differing: u64,
 }
 
@@ -167,6 +180,20 @@ impl Rows {
 }
 
 impl Shared {
+    /// Adds a line of the report on a recording in mid-session, and to the parts of a survey that
+    /// have it.
+    fn add_joined(&mut self, line: &str) -> Result<(), AllocError> {
+        add_line(&mut self.joined, line)?;
+        match first_word(line) {
+            "verdict" | "rows" => Ok(()),
+            "decimals" => add_line(&mut self.stretch, line),
+            _ => {
+                add_line(&mut self.stretch, line)?;
+                add_line(&mut self.total, line)
+            }
+        }
+    }
+
     /// The lines of a report at their defaults, of a command line with these words.
     fn report_for(&self, words: &str) -> &str {
         for word in words.split(' ') {
@@ -186,6 +213,8 @@ impl<'a> Case<'a> {
             rows: Rows::named(alloc, name)?,
             words: "check",
             status: "",
+            done: String::new(alloc),
+            is_total: false,
             defaults: String::new(alloc),
             out: String::new(alloc),
             err: String::new(alloc),
@@ -193,9 +222,9 @@ impl<'a> Case<'a> {
     }
 
     /// Takes a further line of the case, and answers whether it is one.
-    fn take(&mut self, line: &'a str, shared: &Shared) -> io::Result<bool> {
+    fn take(&mut self, alloc: Global, line: &'a str, shared: &Shared) -> io::Result<bool> {
         let Some((word, rest)) = line.split_once(' ') else {
-            return Ok(says_nothing(line));
+            return self.take_word(alloc, line, shared);
         };
         match word {
             "words" => self.words = rest,
@@ -203,11 +232,74 @@ impl<'a> Case<'a> {
             "why" => {}
             "yes" => self.add_yes(rest, shared)?,
             "no" => return self.add_no(rest),
+            "stretch" => return self.begin_stretch(alloc, rest, shared),
+            "fault" => self.add_whole(alloc, line)?,
+            "faults" => self.add_faults(alloc, line, rest)?,
             "out" => add_line(&mut self.out, rest)?,
             "err" => add_line(&mut self.err, rest)?,
             _ => return self.rows.add(word, rest, shared.known.as_slice()),
         }
         Ok(true)
+    }
+
+    /// Takes a further line of the case that has no blank, and answers whether it is one.
+    fn take_word(&mut self, alloc: Global, line: &str, shared: &Shared) -> io::Result<bool> {
+        if line != "total" {
+            return Ok(says_nothing(line));
+        }
+        self.end_part(alloc)?;
+        self.is_total = true;
+        self.defaults.push_str(shared.total.as_str())?;
+        Ok(true)
+    }
+
+    /// Wants the lines of a stretch of a survey, with the others at their defaults. Answers whether
+    /// the line has its number and its rows.
+    fn begin_stretch(&mut self, alloc: Global, line: &str, shared: &Shared) -> io::Result<bool> {
+        let Some((number, rows)) = line.split_once(' ') else {
+            return Ok(false);
+        };
+        self.end_part(alloc)?;
+        writeln!(self.done, "stretch {number} rows {rows}")?;
+        self.defaults.push_str(shared.stretch.as_str())?;
+        Ok(true)
+    }
+
+    /// Wants a line of a survey that stands by itself.
+    fn add_whole(&mut self, alloc: Global, line: &str) -> Result<(), AllocError> {
+        self.end_part(alloc)?;
+        add_line(&mut self.done, line)
+    }
+
+    /// Wants the last line of a survey, after whose first word stands the rest, and its status.
+    fn add_faults(&mut self, alloc: Global, line: &str, rest: &str) -> Result<(), AllocError> {
+        self.status = if rest.starts_with("0 ") { "0" } else { "1" };
+        self.add_whole(alloc, line)
+    }
+
+    /// Ends a part of a survey: its lines stand now.
+    fn end_part(&mut self, alloc: Global) -> Result<(), AllocError> {
+        let lines = merged(alloc, self.defaults.as_str(), self.out.as_str())?;
+        if self.is_total {
+            add_totals(&mut self.done, lines.as_str())?;
+        } else {
+            self.done.push_str(lines.as_str())?;
+        }
+        self.is_total = false;
+        self.defaults.clear();
+        self.out.clear();
+        Ok(())
+    }
+
+    /// Whether the case is a no of `check`.
+    fn is_no(&self) -> bool {
+        self.status == "1" && first_word(self.words) == "check"
+    }
+
+    /// Surveys the rows of a no of `check`, and answers whether the first fault is that no.
+    fn survey(&self, rt: &HostRuntime) -> io::Result<bool> {
+        let transcript = self.rows.transcript.as_slice();
+        noes::is_surveyed(rt, self.name, self.words, transcript, self.out.as_str())
     }
 
     /// Wants a report on so many rows, with its other lines at their defaults.
@@ -245,9 +337,17 @@ impl<'a> Case<'a> {
         self.judge(rt, status, out.as_slice(), err.as_slice())
     }
 
+    /// Standard output, whole.
+    fn wanted(&self, alloc: Global) -> Result<String, AllocError> {
+        let mut text = String::from_str(alloc, self.done.as_str())?;
+        let lines = merged(alloc, self.defaults.as_str(), self.out.as_str())?;
+        text.push_str(lines.as_str())?;
+        Ok(text)
+    }
+
     /// Answers whether this is what the case wants, and prints it where it isn't.
     fn judge(&self, rt: &HostRuntime, status: u8, out: &[u8], err: &[u8]) -> io::Result<bool> {
-        let wanted = merged(rt.alloc(), self.defaults.as_str(), self.out.as_str())?;
+        let wanted = self.wanted(rt.alloc())?;
         let is_wanted = self.status.parse().ok() == Some(status)
             && out == wanted.as_str().as_bytes()
             && err == self.err.as_str().as_bytes();
@@ -269,6 +369,14 @@ impl Tally {
     /// Counts a case after it was run.
     fn count(&mut self, is_wanted: bool) {
         self.cases = self.cases.saturating_add(1);
+        if !is_wanted {
+            self.differing = self.differing.saturating_add(1);
+        }
+    }
+
+    /// Counts a no of `check` after it was surveyed.
+    fn count_no(&mut self, is_wanted: bool) {
+        self.noes = self.noes.saturating_add(1);
         if !is_wanted {
             self.differing = self.differing.saturating_add(1);
         }
@@ -328,6 +436,17 @@ fn add_default<'a>(text: &mut String, line: &str, given: &'a str) -> Result<&'a 
             Ok(given)
         }
     }
+}
+
+/// Adds the lines of totals, each with its word in front.
+fn add_totals(text: &mut String, lines: &str) -> Result<(), AllocError> {
+    for line in lines.split('\n') {
+        if !line.is_empty() {
+            text.push_str("total ")?;
+            add_line(text, line)?;
+        }
+    }
+    Ok(())
 }
 
 /// Adds the words of a line, which single blanks part. What stands between two `'` is one word, as
@@ -408,11 +527,14 @@ fn run_case(
     let (name, lines) = text.split_once('\n').unwrap_or((text, ""));
     let mut case = Case::named(rt.alloc(), name)?;
     for line in lines.split('\n') {
-        if !case.take(line, shared)? {
+        if !case.take(rt.alloc(), line, shared)? {
             tally.tell(rt, file, line)?;
         }
     }
     tally.count(case.run(rt)?);
+    if case.is_no() {
+        tally.count_no(case.survey(rt)?);
+    }
     shared.known.push(case.rows)?;
     Ok(())
 }
@@ -478,33 +600,35 @@ fn read_front(rt: &HostRuntime, text: &str, known: &[Rows], tally: &mut Tally) -
 /// Reads what all files share.
 fn read_shared(rt: &HostRuntime, tally: &mut Tally) -> io::Result<Shared> {
     let known = read_fronts(rt, tally)?;
-    let mut report = String::new(rt.alloc());
-    let mut joined = String::new(rt.alloc());
+    let fronts = known.len();
+    let mut shared = Shared {
+        known,
+        fronts,
+        report: String::new(rt.alloc()),
+        joined: String::new(rt.alloc()),
+        stretch: String::new(rt.alloc()),
+        total: String::new(rt.alloc()),
+    };
     let text = fs::read_to_string(rt, REPORT)?;
     for line in text.as_str().split('\n') {
         match line.split_once(' ') {
             Some(("out", rest)) => {
-                add_line(&mut report, rest)?;
-                add_line(&mut joined, rest)?;
+                add_line(&mut shared.report, rest)?;
+                shared.add_joined(rest)?;
             }
-            Some(("joined", rest)) => add_line(&mut joined, rest)?,
+            Some(("joined", rest)) => shared.add_joined(rest)?,
             _ if says_nothing(line) => {}
             _ => tally.tell(rt, REPORT, line)?,
         }
     }
-    let fronts = known.len();
-    Ok(Shared {
-        known,
-        fronts,
-        report,
-        joined,
-    })
+    Ok(shared)
 }
 
 /// Runs the cases of all files, and prints how many there are.
 fn run_files(rt: &HostRuntime) -> io::Result<()> {
     let mut tally = Tally {
         cases: 0,
+        noes: 0,
         differing: 0,
     };
     let mut shared = read_shared(rt, &mut tally)?;
@@ -515,9 +639,11 @@ fn run_files(rt: &HostRuntime) -> io::Result<()> {
     }
     let cases = tally.cases;
     match tally.differing {
-        0 => println!(rt; "{cases} cases, each as wanted"),
-        differing => println!(rt; "{cases} cases, and {differing} that differ"),
+        0 => println!(rt; "{cases} cases, each as wanted")?,
+        differing => println!(rt; "{cases} cases, and {differing} that differ")?,
     }
+    let noes = tally.noes;
+    println!(rt; "{noes} noes of check, each surveyed too")
 }
 
 fn main(rt: HostRuntime) -> io::Result<()> {

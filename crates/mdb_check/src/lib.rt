@@ -1,12 +1,14 @@
 //! The checker, for programs that call it: everything that `mdbcheck` does, without a command line.
 //!
 //! - [`check`] returns the verdict: whether a recording is possible, and the bounds of the money.
+//! - [`survey`] goes on after an impossible row: it writes the report on each stretch of rows between,
+//!   and each fault. A [`Surveyor`] takes rows one by one.
 //! - [`show`] writes the acts line by line.
 //! - [`explain`] writes the marks that lead to a bound of a report, and the rows.
 //! - [`replay`] reads such marks and rows, and follows them.
 #![tactic(auto)]
 
-pub use mdb_bus::{Beginning, Blame, LinkFault, Rule, Scope};
+pub use mdb_bus::{Beginning, Blame, Levels, LinkFault, Rule, Scope};
 pub use mdb_explain::{MarkedFault, explain, explain_scoped, replay, replay_scoped};
 pub use mdb_follow::{
     Account, AccountName, AccountSide, Bound, Goal, Offence, ROWS_MAX, Range, Report,
@@ -14,6 +16,8 @@ pub use mdb_follow::{
 pub use mdb_json::json_of;
 pub use mdb_msgs::{BillSetup, ChangerSetup, Device, DeviceSet, ReaderConfig, ReaderUnit, Setups};
 pub use mdb_show::{show, show_json, show_scoped};
+pub use mdb_stretches::{Ended, FaultCounts, Stretch, Surveyor, Told, Totals};
+pub use mdb_survey::{Summary, survey, survey_json};
 pub use mdb_text::Outcome;
 pub use mdb_verdict::{
     BYTES_MAX, RunFault, check, check_joined, check_scoped, check_scoped_within, check_within,

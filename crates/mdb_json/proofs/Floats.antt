@@ -1,22 +1,22 @@
 -- An answer has no float.
-use Rattle.std.proofs.Common.{refl, ◌≡◌, ℤ, pos, negsuc, false, ℕ, Option, Some, None}
+use Rattle.std.proofs.Common.{refl, ◌≡◌, ℤ, pos, negsuc, false, ℕ, List, Option, Some, None}
 use Rattle.serde_json.specs.Find.{is_float, of_integer}
 use Rattle.serde_json.specs.Written.{has_float}
 use Rattle.mdb_msgs.specs.declared.command.Device.{Device}
 use Rattle.mdb_msgs.specs.declared.command.Device.TheVariants.{Changer, Bill, Reader}
 use Rattle.mdb_msgs.specs.declared.command.ReaderUnit.TheVariants.{First, Second}
 use Rattle.mdb_bus.specs.declared.scope.Scope.{Scope}
-use Rattle.mdb_follow.specs.declared.account_name.AccountName.{AccountName}
+use Rattle.mdb_follow.specs.declared.account.Account.{Account}
 use Rattle.mdb_follow.specs.declared.account_name.AccountName.TheVariants.{CoinsIn, BillsIn}
 use Rattle.mdb_follow.specs.declared.account_name.AccountName.TheVariants.{PaidOut, Approved, Sold}
 use Rattle.mdb_follow.specs.declared.goal.AccountSide.TheVariants as sides
 use Rattle.mdb_follow.specs.declared.range.Range.{Range}
 use Rattle.mdb_follow.specs.declared.report.Report.{Report}
 use Rattle.mdb_follow.specs.Ends.{side_range}
-use Rattle.mdb_follow.specs.Report.{account_of, device_decimals}
+use Rattle.mdb_follow.specs.Report.{account_in, device_decimals}
 use Rattle.mdb_text.specs.declared.outcome.Outcome.{Outcome}
 use Rattle.mdb_text.specs.declared.outcome.Outcome.TheVariants.{Yes, No}
-use Rattle.mdb_json.specs.Reports.{account_data, accounts_data, device_data, devices_data, outcome_data, places_data, range_data}
+use Rattle.mdb_json.specs.Reports.{account_data, accounts_data, device_data, devices_data, outcome_data, places_data, range_data, yes_data}
 
 no_float : (n : ℤ) → is_float (of_integer n) ≡ false
 no_float (pos n) = refl
@@ -25,21 +25,24 @@ no_float (negsuc n) = refl
 of_range : (range : Range) → has_float (range_data range) ≡ false
 of_range range = rw (no_float range.greatest) (rw (no_float range.least) refl)
 
-of_account : (report : Report) (name : AccountName) → has_float (account_data report name) ≡ false
-of_account report name =
-    let account = account_of name report in
+of_account : (account : Account) → has_float (account_data account) ≡ false
+of_account account =
     rw (of_range (side_range sides.Controller account))
     (rw (of_range (side_range sides.Device account))
     (rw (of_range (side_range sides.Difference account)) refl))
 
-of_accounts : (report : Report) (which : Device) → has_float (accounts_data report which) ≡ false
-of_accounts report Changer =
-    rw (of_account report CoinsIn) (rw (of_account report PaidOut) refl)
-of_accounts report Bill = rw (of_account report BillsIn) refl
-of_accounts report (Reader First) =
-    rw (of_account report (Approved First)) (rw (of_account report (Sold First)) refl)
-of_accounts report (Reader Second) =
-    rw (of_account report (Approved Second)) (rw (of_account report (Sold Second)) refl)
+pub of_accounts : (accounts : List Account) (which : Device)
+    → has_float (accounts_data accounts which) ≡ false
+of_accounts accounts Changer =
+    rw (of_account (account_in CoinsIn accounts))
+    (rw (of_account (account_in PaidOut accounts)) refl)
+of_accounts accounts Bill = rw (of_account (account_in BillsIn accounts)) refl
+of_accounts accounts (Reader First) =
+    rw (of_account (account_in (Approved First) accounts))
+    (rw (of_account (account_in (Sold First) accounts)) refl)
+of_accounts accounts (Reader Second) =
+    rw (of_account (account_in (Approved Second) accounts))
+    (rw (of_account (account_in (Sold Second) accounts)) refl)
 
 of_places : (places : Option ℕ) → has_float (places_data places) ≡ false
 of_places (Some places) = refl
@@ -48,7 +51,7 @@ of_places None = refl
 of_device : (scope : Scope) (report : Report) (which : Device)
     → has_float (device_data scope report which) ≡ false
 of_device scope report which =
-    rw (of_accounts report which) (rw (of_places (device_decimals which report)) refl)
+    rw (of_accounts report.accounts which) (rw (of_places (device_decimals which report)) refl)
 
 of_devices : (scope : Scope) (report : Report) → has_float (devices_data scope report) ≡ false
 of_devices scope report =
@@ -56,6 +59,9 @@ of_devices scope report =
     (rw (of_device scope report (Reader Second))
     (rw (of_device scope report Changer) refl)))
 
+pub of_yes : (scope : Scope) (report : Report) → has_float (yes_data scope report) ≡ false
+of_yes scope report = rw (of_devices scope report) refl
+
 pub of_outcome : (scope : Scope) (outcome : Outcome) → has_float (outcome_data scope outcome) ≡ false
-of_outcome scope (Yes report) = rw (of_devices scope report) refl
+of_outcome scope (Yes report) = of_yes scope report
 of_outcome scope (No offence) = refl

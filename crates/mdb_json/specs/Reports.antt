@@ -1,5 +1,5 @@
 -- An answer as a JSON value. The members of an object stand in the order of their names.
-use Rattle.std.specs.Prelude.{ℕ, Bool, true, false, Option, Some, None, codes}
+use Rattle.std.specs.Prelude.{ℕ, List, Bool, true, false, Option, Some, None, codes}
 use Rattle.serde_json.specs.Data.{Data, null, boolean, number, string, object, member, no_members, unsigned}
 use Rattle.serde_json.specs.Find.{of_integer}
 use Rattle.mdb_msgs.specs.declared.command.Device.{Device}
@@ -12,7 +12,7 @@ use Rattle.mdb_bus.specs.declared.scope.Beginning.{Beginning}
 use Rattle.mdb_bus.specs.declared.scope.Beginning.TheVariants.{PowerOn, Joined}
 use Rattle.mdb_bus.specs.declared.scope.Scope.{Scope}
 use Rattle.mdb_bus.specs.FaultWords.{blame_word, rule_word}
-use Rattle.mdb_follow.specs.declared.account_name.AccountName.{AccountName}
+use Rattle.mdb_follow.specs.declared.account.Account.{Account}
 use Rattle.mdb_follow.specs.declared.account_name.AccountName.TheVariants.{CoinsIn, BillsIn}
 use Rattle.mdb_follow.specs.declared.account_name.AccountName.TheVariants.{PaidOut, Approved, Sold}
 use Rattle.mdb_follow.specs.declared.goal.AccountSide.{AccountSide}
@@ -21,7 +21,7 @@ use Rattle.mdb_follow.specs.declared.offence.Offence.{Offence}
 use Rattle.mdb_follow.specs.declared.range.Range.{Range}
 use Rattle.mdb_follow.specs.declared.report.Report.{Report}
 use Rattle.mdb_follow.specs.Ends.{side_range}
-use Rattle.mdb_follow.specs.Report.{account_of, device_decimals, device_silences, device_unvalued}
+use Rattle.mdb_follow.specs.Report.{account_in, device_decimals, device_silences, device_unvalued}
 use Rattle.mdb_text.specs.declared.outcome.Outcome.{Outcome}
 use Rattle.mdb_text.specs.declared.outcome.Outcome.TheVariants.{Yes, No}
 use Rattle.mdb_text.specs.Known.{known_devices}
@@ -32,28 +32,29 @@ range_data range = object (member (codes "greatest") (number (of_integer range.g
     (member (codes "least") (number (of_integer range.least)) no_members))
 
 -- what an account comes to on a side
-abbrev pub side_data : Report → AccountName → AccountSide → Data
-side_data report name side = range_data (side_range side (account_of name report))
+abbrev pub side_data : Account → AccountSide → Data
+side_data account side = range_data (side_range side account)
 
 -- what an account comes to on each side
-abbrev pub account_data : Report → AccountName → Data
-account_data report name =
-    object (member (codes "controller") (side_data report name sides.Controller)
-    (member (codes "device") (side_data report name sides.Device)
-    (member (codes "difference") (side_data report name sides.Difference) no_members)))
+abbrev pub account_data : Account → Data
+account_data account =
+    object (member (codes "controller") (side_data account sides.Controller)
+    (member (codes "device") (side_data account sides.Device)
+    (member (codes "difference") (side_data account sides.Difference) no_members)))
 
--- the accounts that a device keeps, by their words
-abbrev pub accounts_data : Report → Device → Data
-accounts_data report Changer = object (member (codes "coins-in") (account_data report CoinsIn)
-    (member (codes "paid-out") (account_data report PaidOut) no_members))
-accounts_data report Bill =
-    object (member (codes "bills-in") (account_data report BillsIn) no_members)
-accounts_data report (Reader First) =
-    object (member (codes "approved") (account_data report (Approved First))
-    (member (codes "sold") (account_data report (Sold First)) no_members))
-accounts_data report (Reader Second) =
-    object (member (codes "approved-2") (account_data report (Approved Second))
-    (member (codes "sold-2") (account_data report (Sold Second)) no_members))
+-- the accounts that a device keeps, by their words, of a list in the order of a report
+abbrev pub accounts_data : List Account → Device → Data
+accounts_data accounts Changer =
+    object (member (codes "coins-in") (account_data (account_in CoinsIn accounts))
+    (member (codes "paid-out") (account_data (account_in PaidOut accounts)) no_members))
+accounts_data accounts Bill =
+    object (member (codes "bills-in") (account_data (account_in BillsIn accounts)) no_members)
+accounts_data accounts (Reader First) =
+    object (member (codes "approved") (account_data (account_in (Approved First) accounts))
+    (member (codes "sold") (account_data (account_in (Sold First) accounts)) no_members))
+accounts_data accounts (Reader Second) =
+    object (member (codes "approved-2") (account_data (account_in (Approved Second) accounts))
+    (member (codes "sold-2") (account_data (account_in (Sold Second) accounts)) no_members))
 
 -- how many decimal places a device told of; null where it told of none
 abbrev pub places_data : Option ℕ → Data
@@ -70,7 +71,7 @@ known_in (Joined setups) = known_devices setups
 -- whether it is left out
 abbrev pub device_data : Scope → Report → Device → Data
 device_data scope report device =
-    object (member (codes "accounts") (accounts_data report device)
+    object (member (codes "accounts") (accounts_data report.accounts device)
     (member (codes "decimals") (places_data (device_decimals device report))
     (member (codes "setup") (boolean (has (known_in scope.begins) device))
     (member (codes "silences") (number (unsigned (device_silences device report)))

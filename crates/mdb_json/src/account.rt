@@ -2,67 +2,73 @@
 
 ghost use Rattle.std.specs.Prelude.{◌≡◌, IfOk};
 ghost use Rattle.serde_json.specs.View.{view};
+ghost use Rattle.mdb_follow.specs.Report.{account_in};
 ghost use Rattle.mdb_json.specs.Reports.{account_data, accounts_data, range_data};
 
-use mdb_follow::{AccountName, Range, Report};
+use mdb_follow::{Account, AccountName, Range};
 use mdb_msgs::{Device, ReaderUnit};
 use serde_json::{Value, json};
 use std::alloc::{AllocError, Global};
 
-/// The accounts that a device keeps, by their words.
-pub(crate) fn accounts(alloc: Global, report: &Report, device: Device) -> Result<Value, AllocError>
-    ensures { IfOk result (λ value. view value ≡ accounts_data report.now device) }
+/// The accounts that a device keeps, by their words: those of all, which stand in the order of
+/// `AccountName::ALL`.
+///
+/// # Errors
+///
+/// Memory was refused.
+pub fn accounts_of(alloc: Global, all: &[Account; 7], device: Device) -> Result<Value, AllocError>
+    ensures { IfOk result (λ value. view value ≡ accounts_data all.now device) }
 {
     match device {
-        Device::Changer => of_changer(alloc, report),
-        Device::Bill => of_bill(alloc, report),
-        Device::Reader(ReaderUnit::First) => of_first_reader(alloc, report),
-        Device::Reader(ReaderUnit::Second) => of_second_reader(alloc, report),
+        Device::Changer => of_changer(alloc, all),
+        Device::Bill => of_bill(alloc, all),
+        Device::Reader(ReaderUnit::First) => of_first_reader(alloc, all),
+        Device::Reader(ReaderUnit::Second) => of_second_reader(alloc, all),
     }
 }
 
 /// The accounts of the changer.
-fn of_changer(alloc: Global, report: &Report) -> Result<Value, AllocError>
-    ensures { IfOk result (λ value. view value ≡ accounts_data report.now Device.Changer) }
+fn of_changer(alloc: Global, all: &[Account; 7]) -> Result<Value, AllocError>
+    ensures { IfOk result (λ value. view value ≡ accounts_data all.now Device.Changer) }
 {
-    let coins_in = account(alloc, report, AccountName::CoinsIn)?;
-    let paid_out = account(alloc, report, AccountName::PaidOut)?;
+    let coins_in = account(alloc, all, AccountName::CoinsIn)?;
+    let paid_out = account(alloc, all, AccountName::PaidOut)?;
     json!(in alloc; {"coins-in": coins_in, "paid-out": paid_out})
 }
 
 /// The account of the validator.
-fn of_bill(alloc: Global, report: &Report) -> Result<Value, AllocError>
-    ensures { IfOk result (λ value. view value ≡ accounts_data report.now Device.Bill) }
+fn of_bill(alloc: Global, all: &[Account; 7]) -> Result<Value, AllocError>
+    ensures { IfOk result (λ value. view value ≡ accounts_data all.now Device.Bill) }
 {
-    let bills_in = account(alloc, report, AccountName::BillsIn)?;
+    let bills_in = account(alloc, all, AccountName::BillsIn)?;
     json!(in alloc; {"bills-in": bills_in})
 }
 
 /// The accounts of the first reader.
-fn of_first_reader(alloc: Global, report: &Report) -> Result<Value, AllocError>
-    ensures { IfOk result (λ value. view value ≡ accounts_data report.now
+fn of_first_reader(alloc: Global, all: &[Account; 7]) -> Result<Value, AllocError>
+    ensures { IfOk result (λ value. view value ≡ accounts_data all.now
         (Device.Reader ReaderUnit.First)) }
 {
-    let approved = account(alloc, report, AccountName::Approved(ReaderUnit::First))?;
-    let sold = account(alloc, report, AccountName::Sold(ReaderUnit::First))?;
+    let approved = account(alloc, all, AccountName::Approved(ReaderUnit::First))?;
+    let sold = account(alloc, all, AccountName::Sold(ReaderUnit::First))?;
     json!(in alloc; {"approved": approved, "sold": sold})
 }
 
 /// The accounts of the second reader.
-fn of_second_reader(alloc: Global, report: &Report) -> Result<Value, AllocError>
-    ensures { IfOk result (λ value. view value ≡ accounts_data report.now
+fn of_second_reader(alloc: Global, all: &[Account; 7]) -> Result<Value, AllocError>
+    ensures { IfOk result (λ value. view value ≡ accounts_data all.now
         (Device.Reader ReaderUnit.Second)) }
 {
-    let approved = account(alloc, report, AccountName::Approved(ReaderUnit::Second))?;
-    let sold = account(alloc, report, AccountName::Sold(ReaderUnit::Second))?;
+    let approved = account(alloc, all, AccountName::Approved(ReaderUnit::Second))?;
+    let sold = account(alloc, all, AccountName::Sold(ReaderUnit::Second))?;
     json!(in alloc; {"approved-2": approved, "sold-2": sold})
 }
 
 /// What an account comes to on each side.
-fn account(alloc: Global, report: &Report, name: AccountName) -> Result<Value, AllocError>
-    ensures { IfOk result (λ value. view value ≡ account_data report.now name) }
+fn account(alloc: Global, all: &[Account; 7], name: AccountName) -> Result<Value, AllocError>
+    ensures { IfOk result (λ value. view value ≡ account_data (account_in name all.now)) }
 {
-    let account = report.account(name);
+    let account = all[name.place()];
     let device = range(alloc, account.device)?;
     let controller = range(alloc, account.controller)?;
     let difference = range(alloc, account.difference)?;

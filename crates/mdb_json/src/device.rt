@@ -4,7 +4,7 @@ ghost use Rattle.std.specs.Prelude.{◌≡◌, IfOk};
 ghost use Rattle.serde_json.specs.View.{view};
 ghost use Rattle.mdb_json.specs.Reports.{device_data, devices_data, known_in, places_data};
 
-use super::account::accounts;
+use super::account::accounts_of;
 use mdb_bus::{Beginning, Scope};
 use mdb_follow::Report;
 use mdb_msgs::{Device, DeviceSet, ReaderUnit};
@@ -37,7 +37,7 @@ fn device(
 ) -> Result<Value, AllocError>
     ensures { IfOk result (λ value. view value ≡ device_data scope.now report.now device) }
 {
-    let accounts = accounts(alloc, report, device)?;
+    let accounts = accounts_of(alloc, &report.accounts, device)?;
     let decimals = places(report.device_decimals(device));
     let is_known = known(&scope.begins).has(device);
     let is_left_out = scope.without.has(device);

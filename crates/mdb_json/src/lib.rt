@@ -11,5 +11,6 @@ mod device;
 mod line;
 mod outcome;
 
+pub use account::accounts_of;
 pub use line::line_of;
-pub use outcome::json_of;
+pub use outcome::{VERSION, json_of, report_value};

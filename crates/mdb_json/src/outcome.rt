@@ -15,7 +15,7 @@ use std::alloc::{AllocError, Global};
 
 /// The version of the form: it rises with any change of it, a new member too, as the schema in docs/
 /// takes no other.
-const VERSION: u64 = 1;
+pub const VERSION: u64 = 1;
 
 /// The answer to a recording that is taken as `scope` says, as JSON on one line, without the line
 /// feed. It is the text of one value, and reads as that value again.
@@ -38,13 +38,17 @@ fn value_of(alloc: Global, scope: &Scope, outcome: &Outcome) -> Result<Value, Al
     ensures { IfOk result (λ value. view value ≡ outcome_data scope.now outcome.now) }
 {
     match outcome {
-        Outcome::Yes(report) => yes(alloc, scope, report),
+        Outcome::Yes(report) => report_value(alloc, scope, report),
         Outcome::No(offence) => no(alloc, offence),
     }
 }
 
-/// A yes.
-fn yes(alloc: Global, scope: &Scope, report: &Report) -> Result<Value, AllocError>
+/// A yes as a value: the object that [`json_of`] has as text.
+///
+/// # Errors
+///
+/// Memory was refused.
+pub fn report_value(alloc: Global, scope: &Scope, report: &Report) -> Result<Value, AllocError>
     ensures { IfOk result (λ value. view value ≡ yes_data scope.now report.now) }
 {
     let devices = devices(alloc, scope, report)?;

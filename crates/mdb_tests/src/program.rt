@@ -62,8 +62,8 @@ unvalued changer 0 bill 0 cashless 0 cashless-2 0\n\
 setup changer cashless\nwithout bill\n";
 
 /// What is told of a command line that asks for help, on all commands and on each.
-const HELP: &[u8] = b"mdbcheck: commands: check (the verdict), show (the acts), \
-explain (a bound), replay (an explanation); all: mdbcheck manual\n";
+const HELP: &[u8] = b"mdbcheck: commands: check (verdict), survey (all faults), show (acts), \
+explain (bound), replay (explanation); all: mdbcheck manual\n";
 
 const CHECK_HELP: &[u8] = b"mdbcheck: usage: mdbcheck check [--joined] \
 [--setup 'DEVICE BYTES'].. [--without DEVICE].. [--json] < TRANSCRIPT; all: mdbcheck manual check\n";
@@ -266,6 +266,9 @@ fn runs_have_their_status_and_their_texts(rt: HostRuntime) {
 const CHECK_USAGE: &str = "check [--joined] [--setup 'DEVICE BYTES'].. [--without DEVICE].. \
 [--json] < TRANSCRIPT";
 
+const SURVEY_USAGE: &str = "survey [--joined] [--setup 'DEVICE BYTES'].. [--without DEVICE].. \
+[--json] < TRANSCRIPT";
+
 const SHOW_USAGE: &str = "show [--without DEVICE].. [--json] < TRANSCRIPT";
 
 const EXPLAIN_USAGE: &str = "explain ACCOUNT SIDE BOUND [--without DEVICE].. < TRANSCRIPT";
@@ -273,12 +276,20 @@ const EXPLAIN_USAGE: &str = "explain ACCOUNT SIDE BOUND [--without DEVICE].. < T
 const REPLAY_USAGE: &str = "replay [--without DEVICE].. [--json] < EXPLANATION";
 
 /// Which commands there are.
-const COMMANDS: &str = "commands: check (the verdict), show (the acts), \
-explain (a bound), replay (an explanation); all: mdbcheck manual";
+const COMMANDS: &str = "commands: check (verdict), survey (all faults), show (acts), \
+explain (bound), replay (explanation); all: mdbcheck manual";
 
 /// Command lines that are refused, and why. `~` stands for a blank within a word. A table of all of
 /// them would be too long for the proof of its test.
-static REFUSED: [(&str, &str); 42] = [
+static REFUSED: [(&str, &str); 44] = [
+    (
+        "mdbcheck survey bus.csv",
+        "standard input is read: write < bus.csv",
+    ),
+    (
+        "mdbcheck survey --without hopper",
+        "--without \"hopper\" isn't changer, bill, cashless, cashless-2",
+    ),
     ("", "no command"),
     ("mdbcheck", "no command"),
     ("mdbcheck frobnicate", "unknown command \"frobnicate\""),
@@ -295,31 +306,31 @@ static REFUSED: [(&str, &str); 42] = [
     ("mdbcheck check --without --", "--without has no value"),
     (
         "mdbcheck check --without=",
-        "--without \"\" isn't changer, bill, cashless or cashless-2",
+        "--without \"\" isn't changer, bill, cashless, cashless-2",
     ),
     (
         "mdbcheck check --without hopper",
-        "--without \"hopper\" isn't changer, bill, cashless or cashless-2",
+        "--without \"hopper\" isn't changer, bill, cashless, cashless-2",
     ),
     (
         "mdbcheck show --without=hopper",
-        "--without \"hopper\" isn't changer, bill, cashless or cashless-2",
+        "--without \"hopper\" isn't changer, bill, cashless, cashless-2",
     ),
     (
         "mdbcheck show --without Changer",
-        "--without \"Changer\" isn't changer, bill, cashless or cashless-2",
+        "--without \"Changer\" isn't changer, bill, cashless, cashless-2",
     ),
     (
         "mdbcheck check --without=changer,bill",
-        "--without \"changer,bill\" isn't changer, bill, cashless or cashless-2",
+        "--without \"changer,bill\" isn't changer, bill, cashless, cashless-2",
     ),
     (
         "mdbcheck check --without show",
-        "--without \"show\" isn't changer, bill, cashless or cashless-2",
+        "--without \"show\" isn't changer, bill, cashless, cashless-2",
     ),
     (
         "mdbcheck check --without -",
-        "--without \"-\" isn't changer, bill, cashless or cashless-2",
+        "--without \"-\" isn't changer, bill, cashless, cashless-2",
     ),
     (
         "mdbcheck check --without --without bill",
@@ -328,7 +339,7 @@ static REFUSED: [(&str, &str); 42] = [
     ("mdbcheck check --without --help", "--without has no value"),
     (
         "mdbcheck check --without bill --without hopper",
-        "--without \"hopper\" isn't changer, bill, cashless or cashless-2",
+        "--without \"hopper\" isn't changer, bill, cashless, cashless-2",
     ),
     ("mdbcheck check --without -x", "unknown option \"-x\""),
     (
@@ -476,15 +487,15 @@ static REFUSED_GOALS: [(&str, &str); 30] = [
     ),
     (
         "mdbcheck explain --without hopper coins-in device least",
-        "--without \"hopper\" isn't changer, bill, cashless or cashless-2",
+        "--without \"hopper\" isn't changer, bill, cashless, cashless-2",
     ),
     (
         "mdbcheck explain coins-in --without=hopper device least",
-        "--without \"hopper\" isn't changer, bill, cashless or cashless-2",
+        "--without \"hopper\" isn't changer, bill, cashless, cashless-2",
     ),
     (
         "mdbcheck explain coins-in --without bill device --without hopper least",
-        "--without \"hopper\" isn't changer, bill, cashless or cashless-2",
+        "--without \"hopper\" isn't changer, bill, cashless, cashless-2",
     ),
     ("mdbcheck Replay", "unknown command \"Replay\" (replay?)"),
     (
@@ -498,7 +509,7 @@ static REFUSED_GOALS: [(&str, &str); 30] = [
     ("mdbcheck replay --without", "--without has no value"),
     (
         "mdbcheck replay --without hopper",
-        "--without \"hopper\" isn't changer, bill, cashless or cashless-2",
+        "--without \"hopper\" isn't changer, bill, cashless, cashless-2",
     ),
     (
         "mdbcheck explain coins-in device least --json",
@@ -512,7 +523,7 @@ static REFUSED_SETUPS: [(&str, &str); 19] = [
     ("mdbcheck check --joined --setup", "--setup has no value"),
     (
         "mdbcheck check --joined --setup changer~02~00~01~05~02~00~07~01~02~05~19 --without hopper",
-        "--without \"hopper\" isn't changer, bill, cashless or cashless-2",
+        "--without \"hopper\" isn't changer, bill, cashless, cashless-2",
     ),
     (
         "mdbcheck replay --setup changer~02~00~01~05~02~00~07~01~02~05~19",
@@ -679,6 +690,7 @@ fn usage_of(words: &str) -> Option<&'static str> {
     };
     match name {
         "check" => Some(CHECK_USAGE),
+        "survey" => Some(SURVEY_USAGE),
         "show" => Some(SHOW_USAGE),
         "explain" => Some(EXPLAIN_USAGE),
         "replay" => Some(REPLAY_USAGE),

@@ -110,9 +110,13 @@ offence_text offence =
     ++ line (codes "rule " ++ rule_word offence.rule)
     ++ line (codes "blame " ++ blame_word offence.blame)
 
+-- the lines of a yes after the first ones
+abbrev pub report_lines : Scope → Report → List ℕ
+report_lines scope report =
+    decimals_line report ++ accounts_text report ++ silences_line report
+    ++ beginning_text scope.begins report ++ without_line scope
+
 -- what is written for an outcome
 abbrev pub report_text : Scope → Outcome → List ℕ
-report_text scope (Yes report) =
-    head_text report.rows ++ decimals_line report ++ accounts_text report ++ silences_line report
-    ++ beginning_text scope.begins report ++ without_line scope
+report_text scope (Yes report) = head_text report.rows ++ report_lines scope report
 report_text scope (No offence) = offence_text offence

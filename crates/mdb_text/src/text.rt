@@ -2,7 +2,7 @@
 
 ghost use Rattle.std.specs.Prelude.{OnOk};
 ghost use Rattle.std.specs.Io.KnownBytes.{Appends};
-ghost use Rattle.mdb_text.specs.Text.{account_line, accounts_text, beginning_text, count_text, decimals_line, head_text, devices_text, line_of_devices, offence_text, places_text, report_text, side_text, silences_line, unvalued_line, word_in};
+ghost use Rattle.mdb_text.specs.Text.{account_line, accounts_text, beginning_text, count_text, decimals_line, head_text, devices_text, line_of_devices, offence_text, places_text, report_lines, report_text, side_text, silences_line, unvalued_line, word_in};
 
 use super::known::known_devices;
 use super::outcome::Outcome;
@@ -32,6 +32,19 @@ fn write_report<W: Write>(writer: &mut W, scope: &Scope, report: &Report) -> io:
         (W.contents writer.new) (report_text scope.now (Outcome.Yes report.now))) }
 {
     write_head(writer, report.rows)?;
+    write_report_lines(writer, scope, report)
+}
+
+/// Writes the lines of a yes after the first two.
+pub fn write_report_lines<W: Write>(
+    writer: &mut W,
+    scope: &Scope,
+    report: &Report,
+) -> io::Result<()>
+    ensures { OnOk result
+        (Appends (W.contents writer.old)
+        (W.contents writer.new) (report_lines scope.now report.now)) }
+{
     write_decimals(writer, report)?;
     write_accounts(writer, report)?;
     write_silences(writer, report)?;
@@ -85,7 +98,11 @@ fn write_accounts<W: Write>(writer: &mut W, report: &Report) -> io::Result<()>
 }
 
 /// Writes what an account comes to on each side, after its word.
-fn write_account<W: Write>(writer: &mut W, name: AccountName, account: &Account) -> io::Result<()>
+pub fn write_account<W: Write>(
+    writer: &mut W,
+    name: AccountName,
+    account: &Account,
+) -> io::Result<()>
     ensures { OnOk result
         (Appends (W.contents writer.old)
         (W.contents writer.new) (account_line name account.now)) }
@@ -121,7 +138,7 @@ fn write_silences<W: Write>(writer: &mut W, report: &Report) -> io::Result<()>
 }
 
 /// Writes a count of a device after its word.
-fn write_count<W: Write>(writer: &mut W, device: Device, count: u64) -> io::Result<()>
+pub fn write_count<W: Write>(writer: &mut W, device: Device, count: u64) -> io::Result<()>
     ensures { OnOk result
         (Appends (W.contents writer.old)
         (W.contents writer.new) (count_text device count)) }
@@ -159,7 +176,7 @@ fn write_unvalued<W: Write>(writer: &mut W, report: &Report) -> io::Result<()>
 }
 
 /// Writes a word and after it which devices are of a set, if one is.
-fn write_devices<W: Write>(writer: &mut W, word: &str, devices: DeviceSet) -> io::Result<()>
+pub fn write_devices<W: Write>(writer: &mut W, word: &str, devices: DeviceSet) -> io::Result<()>
     ensures { OnOk result
         (Appends (W.contents writer.old)
         (W.contents writer.new) (line_of_devices word.now (devices_text devices))) }

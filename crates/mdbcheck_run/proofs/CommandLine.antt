@@ -21,14 +21,14 @@ use Rattle.mdb_bus.specs.Scopes.{leaving_out, joined as in_mid_session}
 use Rattle.mdb_follow.specs.declared.goal.Goal.{Goal}
 use Rattle.mdbcheck_run.specs.Program.{AreSetups, AskForGoal, AskToCheck, AskToShow, NameAReading}
 use Rattle.mdbcheck_run.specs.Program.{NamesCheck, NamesExplain, NamesManual, NamesReplay}
-use Rattle.mdbcheck_run.specs.Program.{NamesShow, check_command, explain_command, form_of}
-use Rattle.mdbcheck_run.specs.Program.{manual_command, replay_command, show_command}
-use Rattle.mdbcheck_run.specs.Program.{mdbcheck_manual}
+use Rattle.mdbcheck_run.specs.Program.{NamesShow, NamesSurvey, check_command, explain_command}
+use Rattle.mdbcheck_run.specs.Program.{form_of, manual_command, replay_command, show_command}
+use Rattle.mdbcheck_run.specs.Program.{mdbcheck_manual, survey_command}
 use Rattle.mdbcheck_run.specs.inner.CommandLine.{AsksFor, FindTask, IsOwnRefusal, IsRefusalBy}
 use Rattle.mdbcheck_run.specs.inner.CommandLine.{commands}
 use Rattle.mdbcheck_run.specs.declared.command_line.Task.{Task}
 use Rattle.mdbcheck_run.specs.declared.command_line.Task.TheVariants.{Check, Show, Explain, Replay}
-use Rattle.mdbcheck_run.specs.declared.command_line.Task.TheVariants.{Manual}
+use Rattle.mdbcheck_run.specs.declared.command_line.Task.TheVariants.{Manual, Survey}
 use Rattle.mdbcheck_run.specs.declared.form.Form.{Form}
 use Rattle.mdbcheck_run.specs.declared.refusal.Refusal.{Refusal}
 use Rattle.mdbcheck_run.specs.declared.refusal.Refusal.TheVariants.{Words, Setup}
@@ -47,6 +47,8 @@ pub names_a_command : (words : List Text) (task : Task) → AsksFor words task
     → NameACommand commands words
 names_a_command words (Check scope form) (uses, names, asks, in_form) =
     (check_command, uses, refl, names)
+names_a_command words (Survey scope form) (uses, names, asks, in_form) =
+    (survey_command, uses, refl, names)
 names_a_command words (Show scope form) (uses, names, asks, in_form) =
     (show_command, uses, refl, names)
 names_a_command words (Explain goal without) (uses, names, of_goal, asks) =
@@ -77,6 +79,9 @@ module _ (words : List Text) (found : Named) (read : IsReadFrom commands words f
   asked (Check scope form) (is, asks, in_form) =
       let of = asked_by found read.uses read.has (Checks scope form) (asks, in_form) in
       (read.uses, named_as commands words found read check_command refl is, of.0, of.1)
+  asked (Survey scope form) (is, asks, in_form) =
+      let of = asked_by found read.uses read.has (Checks scope form) (asks, in_form) in
+      (read.uses, named_as commands words found read survey_command refl is, of.0, of.1)
   asked (Show scope form) (is, asks, in_form) =
       let of = asked_by found read.uses read.has (Shows scope form) (asks, in_form) in
       (read.uses, named_as commands words found read show_command refl is, of.0, of.1)
@@ -97,6 +102,10 @@ module _ (words : List Text) (found : Named) (read : IsReadFrom commands words f
   pub finds : (task : Task) → AsksFor words task → FindTask found task
   finds (Check scope form) (uses, names, asks, in_form) =
       let (is, has) = found_as commands words found read check_command uses refl names in
+      let of = found_by found uses has (Checks scope form) (asks, in_form) in
+      (is, of.0, of.1)
+  finds (Survey scope form) (uses, names, asks, in_form) =
+      let (is, has) = found_as commands words found read survey_command uses refl names in
       let of = found_by found uses has (Checks scope form) (asks, in_form) in
       (is, of.0, of.1)
   finds (Show scope form) (uses, names, asks, in_form) =
@@ -139,6 +148,23 @@ own_refusal kinds (Setup fault) none own = none
 
 -- ---- names that differ
 
+pub check_not_survey : codes "check" ≢ codes "survey"
+check_not_survey is = let bad : codes "check" ≡ codes "survey" = is in cc bad
+
+pub survey_not_show : codes "survey" ≢ codes "show"
+survey_not_show is = let bad : codes "survey" ≡ codes "show" = is in cc bad
+
+pub survey_not_explain : codes "survey" ≢ codes "explain"
+survey_not_explain is = let bad : codes "survey" ≡ codes "explain" = is in cc bad
+
+pub survey_not_replay : codes "survey" ≢ codes "replay"
+survey_not_replay is =
+    let first : 115 ≡ 114 = ap (λ l. get_or l 0 0) is in absurd (omega (arith, first))
+
+pub survey_not_manual : codes "survey" ≢ codes "manual"
+survey_not_manual is =
+    let first : 115 ≡ 109 = ap (λ l. get_or l 0 0) is in absurd (omega (arith, first))
+
 pub check_not_show : codes "check" ≢ codes "show"
 check_not_show is = let bad : codes "check" ≡ codes "show" = is in cc bad
 
@@ -170,10 +196,12 @@ pub replay_not_manual : codes "replay" ≢ codes "manual"
 replay_not_manual is =
     let first : 114 ≡ 109 = ap (λ l. get_or l 0 0) is in absurd (omega (arith, first))
 
--- what was read is of `check`, or of `explain`, or of `manual`, where its name is
+-- what was read is of `check`, of `survey`, of `explain` or of `manual`, where its name is
 pub check_found : (found : Named) → name_in found ≡ codes "check" → (task : Task)
     → FindTask found task → (scope : Scope) × AskToCheck (values_in found) (used_in found) scope
 check_found found named (Check scope form) (is, asks, in_form) = (scope, asks)
+check_found found named (Survey scope form) (is, asks, in_form) =
+    absurd (check_not_survey (sym named ∙ is))
 check_found found named (Show scope form) (is, asks, in_form) =
     absurd (check_not_show (sym named ∙ is))
 check_found found named (Explain goal without) (is, of_goal, asks) =
@@ -182,10 +210,25 @@ check_found found named (Replay without form) (is, asks, in_form) =
     absurd (check_not_replay (sym named ∙ is))
 check_found found named (Manual part) (is, asks) = absurd (check_not_manual (sym named ∙ is))
 
+pub survey_found : (found : Named) → name_in found ≡ codes "survey" → (task : Task)
+    → FindTask found task → (scope : Scope) × AskToCheck (values_in found) (used_in found) scope
+survey_found found named (Check scope form) (is, asks, in_form) =
+    absurd (check_not_survey (sym is ∙ named))
+survey_found found named (Survey scope form) (is, asks, in_form) = (scope, asks)
+survey_found found named (Show scope form) (is, asks, in_form) =
+    absurd (survey_not_show (sym named ∙ is))
+survey_found found named (Explain goal without) (is, of_goal, asks) =
+    absurd (survey_not_explain (sym named ∙ is))
+survey_found found named (Replay without form) (is, asks, in_form) =
+    absurd (survey_not_replay (sym named ∙ is))
+survey_found found named (Manual part) (is, asks) = absurd (survey_not_manual (sym named ∙ is))
+
 pub explain_found : (found : Named) → name_in found ≡ codes "explain" → (task : Task)
     → FindTask found task → (goal : Goal) × AskForGoal (values_in found) goal
 explain_found found named (Check scope form) (is, asks, in_form) =
     absurd (check_not_explain (sym is ∙ named))
+explain_found found named (Survey scope form) (is, asks, in_form) =
+    absurd (survey_not_explain (sym is ∙ named))
 explain_found found named (Show scope form) (is, asks, in_form) =
     absurd (show_not_explain (sym is ∙ named))
 explain_found found named (Explain goal without) (is, of_goal, asks) = (goal, of_goal)
@@ -198,6 +241,8 @@ pub manual_found : (found : Named) → name_in found ≡ codes "manual" → (tas
     → (text : Text) × AskForManual mdbcheck_manual (values_in found (codes "COMMAND")) text
 manual_found found named (Check scope form) (is, asks, in_form) =
     absurd (check_not_manual (sym is ∙ named))
+manual_found found named (Survey scope form) (is, asks, in_form) =
+    absurd (survey_not_manual (sym is ∙ named))
 manual_found found named (Show scope form) (is, asks, in_form) =
     absurd (show_not_manual (sym is ∙ named))
 manual_found found named (Explain goal without) (is, of_goal, asks) =
@@ -209,16 +254,21 @@ manual_found found named (Manual part) (is, asks) =
 
 -- any other task takes no recording from mid-session on
 pub others_found : (found : Named) (name : Text) → name_in found ≡ name → codes "check" ≢ name
-    → name ≢ codes "manual" → (task : Task) → FindTask found task → (scope : Scope) × AskToShow (values_in found) scope
-others_found found name named other no_manual (Check scope form) (is, asks, in_form) =
+    → codes "survey" ≢ name → name ≢ codes "manual" → (task : Task) → FindTask found task
+    → (scope : Scope) × AskToShow (values_in found) scope
+others_found found name named other no_survey no_manual (Check scope form) (is, asks, in_form) =
     absurd (other (sym is ∙ named))
-others_found found name named other no_manual (Show scope form) (is, asks, in_form) =
+others_found found name named other no_survey no_manual (Survey scope form) (is, asks, in_form) =
+    absurd (no_survey (sym is ∙ named))
+others_found found name named other no_survey no_manual (Show scope form) (is, asks, in_form) =
     (scope, asks)
-others_found found name named other no_manual (Explain goal without) (is, of_goal, asks) =
+others_found found name named other no_survey no_manual (Explain goal without)
+    (is, of_goal, asks) =
     (leaving_out without, asks)
-others_found found name named other no_manual (Replay without form) (is, asks, in_form) =
+others_found found name named other no_survey no_manual (Replay without form)
+    (is, asks, in_form) =
     (leaving_out without, asks)
-others_found found name named other no_manual (Manual part) (is, asks) =
+others_found found name named other no_survey no_manual (Manual part) (is, asks) =
     absurd (no_manual (sym named ∙ is))
 
 -- ---- one task with one scope
@@ -283,6 +333,17 @@ module _ (one : WordsNameOneCommand) where
         in_form ∙ sym of.1,
       )
 
+  pub one_survey : AnswerTellsOneSetup → (words : List Text) (a b : Scope) (form other : Form)
+      → NamesSurvey words a form → NamesSurvey words b other → (a ≡ b) × (form ≡ other)
+  one_survey one_told words a b form other (uses, named, asks, in_form)
+      (also, too, asks_too, in_form_too) =
+      let of = same_asked words survey_command uses also refl named too (Checks b other)
+      (asks_too, in_form_too) in (
+        one_checked one_told (λ name. chosen name uses) (λ name. is_used name uses) a b asks
+            of.0,
+        in_form ∙ sym of.1,
+      )
+
   pub one_show : (words : List Text) (a b : Scope) (form other : Form) → NamesShow words a form
       → NamesShow words b other → (a ≡ b) × (form ≡ other)
   one_show words a b form other (uses, named, asks, in_form) (also, too, asks_too, in_form_too) =
@@ -326,18 +387,37 @@ module _ (one : WordsNameOneCommand) where
       (also, too, asks_too, in_form_too) =
       show_not_replay (same_name words show_command replay_command uses also refl refl named too)
 
+  pub survey_only : (words : List Text) (a b : Scope) (form other : Form)
+      → NamesSurvey words a form
+      → NamesCheck words b other ⊎ NamesShow words b other ⊎ NamesReplay words b other → ⊥
+  survey_only words a b form other (uses, named, asks, in_form)
+      (inl (also, too, asks_too, in_form_too)) =
+      check_not_survey (same_name words check_command survey_command also uses refl refl too named)
+  survey_only words a b form other (uses, named, asks, in_form)
+      (inr (inl (also, too, asks_too, in_form_too))) =
+      survey_not_show (same_name words survey_command show_command uses also refl refl named too)
+  survey_only words a b form other (uses, named, asks, in_form)
+      (inr (inr (also, too, asks_too, in_form_too))) =
+      survey_not_replay (same_name words survey_command replay_command uses also refl refl named
+      too)
+
   pub explain_only : (words : List Text) (goal : Goal) (a b : Scope) (form : Form)
       → NamesExplain words goal a
-      → NamesCheck words b form ⊎ NamesShow words b form ⊎ NamesReplay words b form → ⊥
+      → NamesCheck words b form ⊎ NamesSurvey words b form ⊎ NamesShow words b form
+      ⊎ NamesReplay words b form → ⊥
   explain_only words goal a b form (uses, named, of_goal, asks) (inl (also, too, asks_too, in_form))
       =
       check_not_explain (same_name words check_command explain_command also uses refl refl too
       named)
   explain_only words goal a b form (uses, named, of_goal, asks)
       (inr (inl (also, too, asks_too, in_form))) =
+      survey_not_explain (same_name words survey_command explain_command also uses refl refl too
+      named)
+  explain_only words goal a b form (uses, named, of_goal, asks)
+      (inr (inr (inl (also, too, asks_too, in_form)))) =
       show_not_explain (same_name words show_command explain_command also uses refl refl too named)
   explain_only words goal a b form (uses, named, of_goal, asks)
-      (inr (inr (also, too, asks_too, in_form))) =
+      (inr (inr (inr (also, too, asks_too, in_form)))) =
       explain_not_replay (same_name words explain_command replay_command uses also refl refl named
       too)
 
@@ -352,10 +432,16 @@ module _ (one : WordsNameOneCommand) where
   manual_only words text (uses, named, asks) (scope, inl (form, (also, too, reads, more))) =
       check_not_manual (same_name words check_command manual_command also uses refl refl too named)
   manual_only words text (uses, named, asks) (scope, inr (inl (form, (also, too, reads, more)))) =
+      survey_not_manual (same_name words survey_command manual_command also uses refl refl too
+      named)
+  manual_only words text (uses, named, asks)
+      (scope, inr (inr (inl (form, (also, too, reads, more))))) =
       show_not_manual (same_name words show_command manual_command also uses refl refl too named)
-  manual_only words text (uses, named, asks) (scope, inr (inr (inl (goal, (also, too, reads, more))))) =
+  manual_only words text (uses, named, asks)
+      (scope, inr (inr (inr (inl (goal, (also, too, reads, more)))))) =
       explain_not_manual (same_name words explain_command manual_command also uses refl refl too
       named)
-  manual_only words text (uses, named, asks) (scope, inr (inr (inr (form, (also, too, reads, more))))) =
+  manual_only words text (uses, named, asks)
+      (scope, inr (inr (inr (inr (form, (also, too, reads, more)))))) =
       replay_not_manual (same_name words replay_command manual_command also uses refl refl too
       named)

@@ -1,5 +1,9 @@
 -- What the statuses of the program say.
-use Rattle.std.proofs.Common.{arith, refl, ap, sym, subst, inl, inr, ◌≡◌, ◌≢◌, ℕ, List, [], Option, Some, None, Result, Ok, Err, IfOk, IfErr, IfSome, length, ◌<◌}
+use Rattle.std.proofs.Common.{arith, refl, ap, sym, subst, inl, inr, true, false, true≢false, ◌≡◌}
+use Rattle.std.proofs.Common.{◌≢◌, ◌<◌, ◌==◌, ℕ, Bool, List, [], Option, Some, None, Result, Ok, Err}
+use Rattle.std.proofs.Common.{IfOk, IfErr, IfSome, IsErr, length}
+use Rattle.std.proofs.lemmas.Bool.{eqb-false, eqb-true}
+use Rattle.std.specs.Prelude.{if◌then◌else◌}
 use Rattle.std.proofs.lemmas.List.{append-nil}
 use Rattle.std.specs.Io.KnownBytes.{Appends}
 use Rattle.csv.specs.Reading.{default_config, records, strip_bom}
@@ -14,10 +18,15 @@ use Rattle.mdb_explain.specs.declared.fault.MarkedFault.{MarkedFault}
 use Rattle.mdb_explain.specs.declared.fault.MarkedFault.TheVariants as marked
 use Rattle.mdb_explain.specs.Explain.{IsCutExplanation, IsExplainedIn}
 use Rattle.mdbcheck_run.specs.declared.form.Form.{Form}
-use Rattle.mdbcheck_run.specs.Program.{NamesManual, Says, SaysChecked, SaysExplained, SaysManual, SaysReplayed, SaysShown, answer_text, lines_in, refused, show_status_of, status_of, told}
+use Rattle.mdbcheck_run.specs.Program.{NamesManual, Says, SaysChecked, SaysExplained, SaysManual}
+use Rattle.mdbcheck_run.specs.Program.{SaysReplayed, SaysShown, SaysSurveyed, answer_text, lines_in}
+use Rattle.mdbcheck_run.specs.Program.{refused, show_status_of, status_of, survey_lines_in}
+use Rattle.mdbcheck_run.specs.Program.{survey_status_of, told}
 use Rattle.mdb_explain.specs.Replay.{IsCutReplayIn, IsReplayAnswer}
 use Rattle.mdb_verdict.specs.CutReport.{IsCutIn}
 use Rattle.mdb_show.specs.Show.{ShowsIn}
+use Rattle.mdb_survey.specs.Survey.{IsSurveyedWhole, SurveysIn}
+use Rattle.mdb_stretches.specs.declared.summary.Summary.{Summary}
 use Rattle.mdb_verdict.specs.Verdict.{IsAnswer, IsNoYes}
 use Rattle.mdb_writing.specs.Written.{HasTaken}
 use Rattle.mdb_bus.specs.declared.scope.Scope.{Scope}
@@ -86,6 +95,52 @@ says_shown scope form all before after (Err fault) (inl shows) =
 says_shown scope form all before after (Err fault) (inr cut) =
     record { whole = λ e. absurd (omega (arith, e)); to_fault = λ e. absurd (omega (arith, e)); unanswered = λ e. cut.1 }
 
+-- What is said by the status of a survey that came to its end, by whether it has no fault.
+says_whole : (scope : Scope) (form : Form) (all : List (List (List ℕ)))
+    (before after : Option (List ℕ)) (summary : Summary) (text : List ℕ) (none : Bool)
+    → (summary.faults.all == 0) ≡ none
+    → IsSurveyedWhole (survey_lines_in form) scope all summary text → Appends before after text
+    → SaysSurveyed scope form all before after (if none then 0 else 1)
+says_whole scope form all before after summary text true is whole written =
+    record {
+      faultless = λ e. (summary, text, whole, eqb-true summary.faults.all 0 is, written);
+      faulty = λ e. absurd (omega (arith, e));
+      unanswered = λ e. absurd (omega (arith, e));
+    }
+says_whole scope form all before after summary text false is whole written =
+    let other : summary.faults.all ≡ 0 → ⊥ = eqb-false summary.faults.all 0 is in
+    let some : 0 < summary.faults.all = omega (arith, other) in
+    record {
+      faultless = λ e. absurd (omega (arith, e));
+      faulty = λ e. (summary, text, whole, some, written);
+      unanswered = λ e. absurd (omega (arith, e));
+    }
+
+says_surveyed : (scope : Scope) (form : Form) (all : List (List (List ℕ)))
+    (before after : Option (List ℕ)) (answer : Result Summary RunFault)
+    → SurveysIn (survey_lines_in form) scope all before after answer
+    → SaysSurveyed scope form all before after (survey_status_of answer)
+says_surveyed scope form all before after (Ok summary) (inl (text, whole, written)) =
+    says_whole scope form all before after summary text (summary.faults.all == 0) refl whole written
+says_surveyed scope form all before after (Ok summary) (inr cut) = absurd (cc (cut.0))
+says_surveyed scope form all before after (Err fault) (inl (text, surveying, written)) =
+    record {
+      faultless = λ e. absurd (omega (arith, e));
+      faulty = λ e. absurd (omega (arith, e));
+      unanswered = λ e. record {
+        answer = Err fault;
+        text = text;
+        surveying = surveying;
+        taken = taken_whole before after text written;
+      };
+    }
+says_surveyed scope form all before after (Err fault) (inr cut) =
+    record {
+      faultless = λ e. absurd (omega (arith, e));
+      faulty = λ e. absurd (omega (arith, e));
+      unanswered = λ e. cut.1;
+    }
+
 -- a text that isn't one of a yes has another status, and so has one that isn't shown whole
 pub not_yes : {Fault : Type 0} (answer : Result Outcome Fault) → IsNoYes answer → status_of answer ≢ 0
 not_yes (Ok (Yes report)) none = absurd none
@@ -96,6 +151,11 @@ pub not_whole : (answer : Result (Option LinkFault) RunFault) → answer ≢ Ok 
 not_whole (Ok None) other = absurd (other refl)
 not_whole (Ok (Some fault)) _ = λ e. absurd (omega (arith, e))
 not_whole (Err fault) _ = λ e. absurd (omega (arith, e))
+
+-- a survey that came to no end has the status 2
+pub no_survey : (answer : Result Summary RunFault) → IsErr answer → survey_status_of answer ≡ 2
+no_survey (Ok summary) err = absurd (true≢false (sym err))
+no_survey (Err fault) err = refl
 
 -- where a text is longer than the limit, the status is not 0
 pub too_long : {Over : Type 0} (known : Option (List ℕ)) (limit status : ℕ) → IfSome known (λ text. limit < length text → Over) → (Over → status ≢ 0)
@@ -155,6 +215,35 @@ shown_says scope form (Some text) before after answer status shows same =
     let all : List (List (List ℕ)) = records default_config (strip_bom text) in
     let P : ℕ → Type 0 = λ n. SaysShown scope form all before after n in
     subst P (sym same) (says_shown scope form all before after answer shows)
+
+-- what the status of a text that was surveyed says
+pub surveyed_says : (scope : Scope) (form : Form) (known : Option (List ℕ))
+    (before after : Option (List ℕ)) (answer : Result Summary RunFault) (status : ℕ)
+    → IfSome known (λ text. SurveysIn (survey_lines_in form) scope
+    (records default_config (strip_bom text)) before after answer)
+    → status ≡ survey_status_of answer
+    → IfSome known (λ text. SaysSurveyed scope form (records default_config (strip_bom text)) before
+    after status)
+surveyed_says scope form None before after answer status surveys same = tt
+surveyed_says scope form (Some text) before after answer status surveys same =
+    let all : List (List (List ℕ)) = records default_config (strip_bom text) in
+    let P : ℕ → Type 0 = λ n. SaysSurveyed scope form all before after n in
+    subst P (sym same) (says_surveyed scope form all before after answer surveys)
+
+-- where a surveyed text is longer than the limit, the status is 2
+pub over_surveyed : {Over : Type 0} (known : Option (List ℕ)) (limit status : ℕ)
+    → IfSome known (λ text. limit < length text → Over) → (Over → status ≡ 2)
+    → IfSome known (λ text. limit < length text → status ≡ 2)
+over_surveyed None limit status over none = tt
+over_surveyed (Some text) limit status over none = λ long. none (over long)
+
+-- so it isn't 0
+pub surveyed_not_yes : (known : Option (List ℕ)) (limit status : ℕ)
+    → IfSome known (λ text. limit < length text → status ≡ 2)
+    → IfSome known (λ text. limit < length text → status ≢ 0)
+surveyed_not_yes None limit status none = tt
+surveyed_not_yes (Some text) limit status none = λ long yes. let two = none long in
+    absurd (omega (arith, two, yes))
 
 -- what the status of a refused command line says
 pub refused_says : (known : Option (List ℕ)) (words : List (List ℕ)) (before after : Option (List ℕ)) (status : ℕ) → status ≡ 2 → after ≡ before

@@ -1,4 +1,4 @@
--- How the recording is taken that the options of `check` ask for.
+-- How the recording is taken that the options of `check` or `survey` ask for.
 use Rattle.std.proofs.Common.{ap, refl, subst, sym, true, false, true≢false, ◌∙◌, ◌≡◌, Bool, List}
 use Rattle.std.proofs.Common.{[], ◌∷◌, codes, inl, inr, map, Option, Some, None, option_map}
 use Rattle.std.proofs.Common.{unwrap_or}

@@ -1,6 +1,6 @@
 -- What the words of a command line name, and what the program's exit status says.
-use Rattle.std.specs.Prelude.{◌≡◌, ◌≢◌, ◌⊎◌, ◌++◌, ℕ, Bool, true, false, List, [], ◌∷◌, codes, Option}
-use Rattle.std.specs.Prelude.{Some, None, Result, Ok, Err}
+use Rattle.std.specs.Prelude.{◌≡◌, ◌≢◌, ◌⊎◌, ◌++◌, ◌<◌, ◌==◌, ℕ, Bool, true, false, List, [], ◌∷◌}
+use Rattle.std.specs.Prelude.{codes, if◌then◌else◌, Option, Some, None, Result, Ok, Err}
 use Rattle.std.specs.Io.KnownBytes.{Appends}
 use Rattle.command_words.specs.Grammar.{Command, NameCommand, Uses, chosen, is_used}
 use Rattle.command_words.specs.Manual.{AskForManual, Manual}
@@ -25,6 +25,11 @@ use Rattle.mdb_show.specs.Lines.{LineForm}
 use Rattle.mdb_show.specs.Show.{IsCutShortIn, IsShownToFaultIn, IsShownWholeIn}
 use Rattle.mdb_show.specs.ShowJson.{json_lines}
 use Rattle.mdb_show.specs.ShowText.{bytes_text, text_lines}
+use Rattle.mdb_survey.specs.Lines.{LineForm as SurveyForm}
+use Rattle.mdb_survey.specs.Survey.{IsCutShort, IsSurveyedWhole}
+use Rattle.mdb_survey.specs.SurveyJson.{json_lines as survey_json_lines}
+use Rattle.mdb_survey.specs.SurveyText.{text_lines as survey_text_lines}
+use Rattle.mdb_stretches.specs.declared.summary.Summary.{Summary}
 use Rattle.mdb_text.specs.Accounts.{side_word}
 use Rattle.mdb_text.specs.Text.{report_text}
 use Rattle.mdb_verdict.specs.CutReport.{IsCutIn}
@@ -36,7 +41,7 @@ use Rattle.mdb_json.specs.Json.{json_line}
 use Rattle.mdb_bus.specs.declared.scope.Scope.{Scope}
 use Rattle.mdb_bus.specs.Scopes.{leaving_out, joined as in_mid_session}
 use Rattle.mdb_writing.specs.Written.{HasTaken}
-use Rattle.mdbcheck_run.specs.declared.manual.TheConstants.{ABOUT, CHECK, EXPLAIN, MANUAL, REPLAY, REST, SHOW}
+use Rattle.mdbcheck_run.specs.declared.manual.TheConstants.{ABOUT, CHECK, EXPLAIN, MANUAL, REPLAY, REST, SHOW, SURVEY}
 use Rattle.mdbcheck_run.specs.declared.form.Form.{Form}
 use Rattle.mdbcheck_run.specs.declared.form.Form.TheVariants.{Text, Json}
 
@@ -55,6 +60,10 @@ check_command = record {
   words = [];
   further = [];
 }
+
+-- `survey` knows the same
+abbrev pub survey_command : Command
+survey_command = record check_command { name = codes "survey" }
 
 -- what `show` and `replay` know
 abbrev pub show_command : Command
@@ -93,9 +102,9 @@ manual_command = record {
 abbrev pub mdbcheck_manual : Manual
 mdbcheck_manual = record {
   about = ABOUT.now;
-  parts = (codes "check", CHECK.now) ∷ (codes "show", SHOW.now)
-      ∷ (codes "explain", EXPLAIN.now) ∷ (codes "replay", REPLAY.now)
-      ∷ (codes "manual", MANUAL.now) ∷ [];
+  parts = (codes "check", CHECK.now) ∷ (codes "survey", SURVEY.now)
+      ∷ (codes "show", SHOW.now) ∷ (codes "explain", EXPLAIN.now)
+      ∷ (codes "replay", REPLAY.now) ∷ (codes "manual", MANUAL.now) ∷ [];
   rest = REST.now;
 }
 
@@ -144,8 +153,8 @@ pub record IsJoined (values : List ℕ → List (List ℕ)) (used : List ℕ →
   pub told : AreSetups left_out nothing_known (values (codes "setup")) setups
   pub is : scope ≡ in_mid_session setups left_out
 
--- The values of the options of `check`, and whether each flag was used, ask for a recording that is
--- taken so.
+-- The values of the options of `check` or `survey`, and whether each flag was used, ask for a
+-- recording that is taken so.
 abbrev pub AskToCheck : (List ℕ → List (List ℕ)) → (List ℕ → Bool) → Scope → Type 0
 AskToCheck values used scope = (left_out : DeviceSet)
     × AreDevices (values (codes "without")) left_out
@@ -168,6 +177,12 @@ pub record AskForGoal (values : List ℕ → List (List ℕ)) (goal : Goal) : Ty
 -- so, with an answer in this form
 abbrev pub NamesCheck : List (List ℕ) → Scope → Form → Type 0
 NamesCheck words scope form = (uses : Uses) × NameCommand words check_command uses
+    × AskToCheck (λ name. chosen name uses) (λ name. is_used name uses) scope
+    × (form ≡ form_of (is_used (codes "json") uses))
+
+-- they name `survey`, of a recording that is taken so, with its lines in this form
+abbrev pub NamesSurvey : List (List ℕ) → Scope → Form → Type 0
+NamesSurvey words scope form = (uses : Uses) × NameCommand words survey_command uses
     × AskToCheck (λ name. chosen name uses) (λ name. is_used name uses) scope
     × (form ≡ form_of (is_used (codes "json") uses))
 
@@ -194,7 +209,9 @@ NamesManual words text = (uses : Uses) × NameCommand words manual_command uses
 -- they name one of the tasks that read a recording
 abbrev pub NameAReading : List (List ℕ) → Type 0
 NameAReading words = (scope : Scope)
-    × (((form : Form) × NamesCheck words scope form) ⊎ ((form : Form) × NamesShow words scope form)
+    × (((form : Form) × NamesCheck words scope form)
+    ⊎ ((form : Form) × NamesSurvey words scope form)
+    ⊎ ((form : Form) × NamesShow words scope form)
     ⊎ ((goal : Goal) × NamesExplain words goal scope)
     ⊎ ((form : Form) × NamesReplay words scope form))
 
@@ -212,6 +229,11 @@ abbrev pub lines_in : Form → LineForm
 lines_in Text = text_lines
 lines_in Json = json_lines
 
+-- the lines that are written of a survey
+abbrev pub survey_lines_in : Form → SurveyForm
+survey_lines_in Text = survey_text_lines
+survey_lines_in Json = survey_json_lines
+
 -- What the statuses of `check` say of the records of a text, and of the bytes that the writer held
 -- before and after. At 2 nothing was written, or the writer failed, and took a front of what is
 -- written of the verdict that there is.
@@ -223,6 +245,19 @@ pub record SaysChecked (scope : Scope) (form : Form) (records : List (List (List
       × Appends before after (answer_text form scope (No offence))
   pub unanswered : status ≡ 2 → (after ≡ before)
       ⊎ IsCutIn (answer_text form) scope ROWS_MAX records before after
+
+-- The same of `survey`. At 0 and at 1 all records are rows, and the lines of their survey were
+-- written: at 0 it has no fault, and at 1 one or more. At 2 a front of a text was written that the
+-- records are surveyed with, whatever the answer is.
+pub record SaysSurveyed (scope : Scope) (form : Form) (records : List (List (List ℕ)))
+    (before after : Option (List ℕ)) (status : ℕ) : Type 0 where
+  pub faultless : status ≡ 0 → (summary : Summary) × (text : List ℕ)
+      × IsSurveyedWhole (survey_lines_in form) scope records summary text
+      × (summary.faults.all ≡ 0) × Appends before after text
+  pub faulty : status ≡ 1 → (summary : Summary) × (text : List ℕ)
+      × IsSurveyedWhole (survey_lines_in form) scope records summary text
+      × (0 < summary.faults.all) × Appends before after text
+  pub unanswered : status ≡ 2 → IsCutShort (survey_lines_in form) scope records before after
 
 -- The same of `show`. At 2 a front of a text was written that the records are shown with: its lines
 -- up to the fault, or fewer, where the writer failed.
@@ -264,12 +299,15 @@ pub record SaysManual (text : List ℕ) (before after : Option (List ℕ)) (stat
 
 -- What the status of the program says: what it says of the task that the words name, of a recording
 -- that is taken as they ask and in the form that they ask for, or of the manual; or that the words
--- were refused, with nothing written. Words that name no task always are. (That others are for want of memory alone is
--- a promise of a private function, `task_of`.)
+-- were refused, with nothing written. Words that name no task always are. (That others are for want
+-- of memory alone is a promise of a private function, `task_of`.)
 pub data Says (words : List (List ℕ)) (records : List (List (List ℕ)))
     (before after : Option (List ℕ)) (status : ℕ) : Type 0 where
   checked : (scope : Scope) (form : Form) → NamesCheck words scope form
       → SaysChecked scope form records before after status → Says words records before after status
+  surveyed : (scope : Scope) (form : Form) → NamesSurvey words scope form
+      → SaysSurveyed scope form records before after status
+      → Says words records before after status
   shown : (scope : Scope) (form : Form) → NamesShow words scope form
       → SaysShown scope form records before after status → Says words records before after status
   explained : (scope : Scope) (goal : Goal) → NamesExplain words goal scope
@@ -282,12 +320,16 @@ pub data Says (words : List (List ℕ)) (records : List (List (List ℕ)))
       → Says words records before after status
   refused : status ≡ 2 → after ≡ before → Says words records before after status
 
--- The rest serves private functions: the status for an answer of `check`, `explain` or `replay`, and
--- of `show`.
+-- The rest serves private functions: the status for an answer of `check`, `explain` or `replay`, of
+-- `survey`, and of `show`.
 abbrev pub status_of : {Fault : Type 0} → Result Outcome Fault → ℕ
 status_of (Ok (Yes report)) = 0
 status_of (Ok (No offence)) = 1
 status_of (Err fault) = 2
+
+abbrev pub survey_status_of : Result Summary RunFault → ℕ
+survey_status_of (Ok summary) = if summary.faults.all == 0 then 0 else 1
+survey_status_of (Err fault) = 2
 
 abbrev pub show_status_of : Result (Option LinkFault) RunFault → ℕ
 show_status_of (Ok None) = 0

@@ -71,6 +71,16 @@ pub(crate) const PROGRAM: Program<'static> = Program {
             manual: manual::CHECK,
         },
         CommandRow {
+            name: "survey",
+            options: &[SETUP, WITHOUT],
+            flags: &[JOINED, JSON],
+            words: &[],
+            further: &[],
+            usage: "survey [--joined] [--setup 'DEVICE BYTES'].. [--without DEVICE].. [--json] \
+< TRANSCRIPT",
+            manual: manual::SURVEY,
+        },
+        CommandRow {
             name: "show",
             options: &[WITHOUT],
             flags: &[JSON],
@@ -107,8 +117,8 @@ pub(crate) const PROGRAM: Program<'static> = Program {
             manual: manual::MANUAL,
         },
     ],
-    summary: "check (the verdict), show (the acts), explain (a bound), \
-replay (an explanation); all: mdbcheck manual",
+    summary: "check (verdict), survey (all faults), show (acts), explain (bound), \
+replay (explanation); all: mdbcheck manual",
     about: manual::ABOUT,
     rest: manual::REST,
 };
@@ -119,6 +129,8 @@ pub(crate) enum Task {
     /// `check`: the verdict on the transcript that the reader gives, of a recording that is taken
     /// so.
     Check(Scope, Form),
+    /// `survey`: its stretches and its faults, of a recording that is taken so.
+    Survey(Scope, Form),
     /// `show`: its acts.
     Show(Scope, Form),
     /// `explain`: its rows, with the marks of a run that comes to this goal. These devices are left
@@ -159,6 +171,7 @@ fn task_in(alloc: Global, found: &Named<'_>) -> Result<Task, Refusal>
 {
     match found.command() {
         "check" => Ok(Task::Check(scope_of_check(alloc, found)?, form_asked(found))),
+        "survey" => Ok(Task::Survey(scope_of_check(alloc, found)?, form_asked(found))),
         "show" => Ok(Task::Show(scope_of_show(found)?, form_asked(found))),
         "explain" => Ok(Task::Explain(goal_of_explain(found)?, left_out_of(found)?)),
         "replay" => Ok(Task::Replay(left_out_of(found)?, form_asked(found))),
@@ -167,7 +180,8 @@ fn task_in(alloc: Global, found: &Named<'_>) -> Result<Task, Refusal>
     }
 }
 
-/// How the recording is taken that the options of `check` ask for, of which this was read.
+/// How the recording is taken that the options of `check` or `survey` ask for, of which this was
+/// read.
 fn scope_of_check(alloc: Global, found: &Named<'_>) -> Result<Scope, Refusal>
     ensures asked { IfOk result (AskToCheck (values_in found.now) (used_in found.now)) }
     ensures refused { IfErr result (λ refusal. (scope : Scope)
@@ -197,7 +211,7 @@ fn scope_of_show(found: &Named<'_>) -> Result<Scope, Refusal>
     Ok(Scope::leaving_out(without))
 }
 
-/// The form that the options of `check`, `show` or `replay` ask for.
+/// The form that the options of `check`, `survey`, `show` or `replay` ask for.
 fn form_asked(found: &Named<'_>) -> Form
     ensures { result ≡ form_of (used_in found.now (codes "json")) }
 {

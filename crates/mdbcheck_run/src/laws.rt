@@ -5,7 +5,7 @@ ghost use Rattle.std.specs.Prelude.{◌≡◌, ◌⊎◌, ℕ, List};
 ghost use Rattle.mdb_bus.specs.declared.scope.Scope.{Scope};
 ghost use Rattle.mdb_follow.specs.declared.goal.Goal.{Goal};
 ghost use Rattle.mdbcheck_run.specs.Program.{NameAReading, NamesCheck, NamesExplain, NamesManual};
-ghost use Rattle.mdbcheck_run.specs.Program.{NamesReplay, NamesShow};
+ghost use Rattle.mdbcheck_run.specs.Program.{NamesReplay, NamesShow, NamesSurvey};
 ghost use Rattle.mdbcheck_run.specs.declared.form.Form.{Form};
 
 use command_words::laws as command_lines;
@@ -20,6 +20,8 @@ use mdb_msgs::laws as messages;
 pub fn command_lines_name_one_task()
     ensures check { (words : List (List ℕ)) (a b : Scope) (form other : Form)
         → NamesCheck words a form → NamesCheck words b other → (a ≡ b) × (form ≡ other) }
+    ensures survey { (words : List (List ℕ)) (a b : Scope) (form other : Form)
+        → NamesSurvey words a form → NamesSurvey words b other → (a ≡ b) × (form ≡ other) }
     ensures show { (words : List (List ℕ)) (a b : Scope) (form other : Form)
         → NamesShow words a form → NamesShow words b other → (a ≡ b) × (form ≡ other) }
     ensures explain { (words : List (List ℕ)) (goal other : Goal) (a b : Scope)
@@ -33,9 +35,13 @@ pub fn command_lines_name_one_task()
         → NamesCheck words a form → NamesReplay words b other → ⊥ }
     ensures no_show { (words : List (List ℕ)) (a b : Scope) (form other : Form)
         → NamesShow words a form → NamesReplay words b other → ⊥ }
+    ensures survey_only { (words : List (List ℕ)) (a b : Scope) (form other : Form)
+        → NamesSurvey words a form
+        → NamesCheck words b other ⊎ NamesShow words b other ⊎ NamesReplay words b other → ⊥ }
     ensures explain_only { (words : List (List ℕ)) (goal : Goal) (a b : Scope) (form : Form)
         → NamesExplain words goal a
-        → NamesCheck words b form ⊎ NamesShow words b form ⊎ NamesReplay words b form → ⊥ }
+        → NamesCheck words b form ⊎ NamesSurvey words b form ⊎ NamesShow words b form
+        ⊎ NamesReplay words b form → ⊥ }
     ensures manual { (words : List (List ℕ)) (text other : List ℕ)
         → NamesManual words text → NamesManual words other → text ≡ other }
     ensures manual_only { (words : List (List ℕ)) (text : List ℕ)

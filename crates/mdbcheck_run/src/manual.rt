@@ -7,6 +7,7 @@ NAME
 
 SYNOPSIS
         mdbcheck check < TRANSCRIPT
+        mdbcheck survey < TRANSCRIPT
         mdbcheck show < TRANSCRIPT
         mdbcheck explain ACCOUNT SIDE BOUND < TRANSCRIPT
         mdbcheck replay < EXPLANATION
@@ -58,6 +59,44 @@ CHECK
                      about another device.
     --json           Writes the report as JSON, for programs: one object on
                      one line. Statuses and standard error stay the same.
+
+";
+
+/// `survey`.
+pub const SURVEY: &str = "\
+SURVEY
+        mdbcheck survey [--joined] [--setup 'DEVICE BYTES']..
+            [--without DEVICE].. [--json] < TRANSCRIPT
+
+    Goes on after an impossible row. check stops there; survey prints every
+    such row as a fault, and the report on each stretch of rows between.
+
+    stretch 2 rows 38-46
+                     The second stretch, and its rows. The lines of its
+                     report follow, as check --joined prints them.
+    fault 47 Speaker changer
+                     An impossible row, its rule and its blame. It belongs
+                     to no stretch.
+    total coins-in ..
+                     The sums of the ranges of all stretches.
+    faults 2 controller 1 changer 1 ..
+                     How many faults there are, and how many of them each
+                     side has. Those with the rule Profile are nobody's: they
+                     count last, after \"profile\".
+
+    The first stretch is taken as check takes the recording. The row after a
+    fault begins a stretch that is taken with --joined. It is told the answers
+    to SETUP of the stretches so far: its line \"setup\" names these devices. A
+    reader that is blamed for Profile is left out from there on, unless the
+    controller has told it level 1: the line \"without\" names it.
+
+    Statuses: 0 no fault, 1 one fault or more, 2 no whole survey. If a row
+    can't be read, the lines up to it stand, without totals.
+
+    --joined, --setup, --without
+                     As with check.
+    --json           Writes one JSON object for each stretch, for each fault
+                     and for the totals, each on one line.
 
 ";
 

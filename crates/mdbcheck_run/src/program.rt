@@ -1,14 +1,16 @@
 //! The program over its words.
 
 ghost use Rattle.std.specs.Prelude.{◌≡◌, ◌≢◌, ◌<◌, ◌⊎◌, ℕ, List, None, Ok, Err};
-ghost use Rattle.std.specs.Prelude.{IfSome, length, map, option_map, string_bytes};
+ghost use Rattle.std.specs.Prelude.{IfSome, IsErr, length, map, option_map, string_bytes};
 ghost use Rattle.command_words.specs.Manual.{manual_text};
 ghost use Rattle.mdbcheck_run.specs.Complaint.{IsToldCause, excess_line};
 ghost use Rattle.mdbcheck_run.specs.Program.{NameAReading, NameATask, Says};
 ghost use Rattle.mdbcheck_run.specs.Program.{SaysChecked, SaysExplained, SaysManual, SaysReplayed};
-ghost use Rattle.mdbcheck_run.specs.Program.{SaysShown};
+ghost use Rattle.mdbcheck_run.specs.Program.{SaysShown, SaysSurveyed};
 ghost use Rattle.mdbcheck_run.specs.Program.{lines_in, mdbcheck_manual, show_status_of, status_of};
+ghost use Rattle.mdbcheck_run.specs.Program.{survey_lines_in, survey_status_of};
 ghost use Rattle.mdb_show.specs.Show.{ShowsIn};
+ghost use Rattle.mdb_survey.specs.Survey.{SurveysIn};
 ghost use Rattle.mdb_bus.specs.Scopes.{leaving_out};
 ghost use Rattle.mdb_verdict.specs.declared.verdict.TheConstants.{BYTES_MAX};
 ghost use Rattle.mdb_writing.specs.Written.{HasTaken};
@@ -27,6 +29,7 @@ use mdb_follow::{Goal, ROWS_MAX};
 use mdb_msgs::DeviceSet;
 use mdb_records::Records;
 use mdb_show::{show_json_records, show_records};
+use mdb_survey::{Summary, survey_json_records, survey_records};
 use mdb_text::Outcome;
 use mdb_verdict::{BYTES_MAX, RunFault, check_records, records_of};
 use mdb_writing::WriteFailed;
@@ -39,7 +42,7 @@ const POSSIBLE: u8 = 0;
 /// The status of a transcript that cannot have been, or has a link fault.
 const IMPOSSIBLE: u8 = 1;
 
-/// The status where there is no verdict, and the acts aren't shown to the end.
+/// The status where there is no verdict, and neither acts nor faults are shown to the end.
 const NO_VERDICT: u8 = 2;
 
 /// Runs the program for the words of its command line, the program's name first, and returns its
@@ -49,6 +52,12 @@ const NO_VERDICT: u8 = 2;
 ///
 /// - 0: the recording is possible, and its report is on `out`.
 /// - 1: it is impossible, and the report on `out` shows why.
+///
+/// `survey`:
+///
+/// - 0: each row of the recording is possible, and its report is on `out`.
+/// - 1: it has one fault or more. The report on each stretch, each fault, the totals and the number
+///   of faults are on `out`.
 ///
 /// `show`:
 ///
@@ -75,8 +84,8 @@ const NO_VERDICT: u8 = 2;
 /// command of the program. Words that ask for help or for the version count as none too. One line
 /// on `err` shows why. If `err` refuses the line, the status is the same.
 ///
-/// With `--json`, `check` and `replay` write their report as one line of JSON, and `show` a line of
-/// JSON for each act.
+/// With `--json`, `check` and `replay` write their report as one line of JSON, `show` a line of JSON
+/// for each act, and `survey` one for each stretch, for each fault and for the whole.
 pub fn run<R: Read + Drop, W: Write, E: Write>(
     alloc: Global,
     words: Vec<String>,
@@ -96,6 +105,7 @@ pub fn run<R: Read + Drop, W: Write, E: Write>(
 {
     match task_of(alloc, words.as_slice()) {
         Ok(Task::Check(scope, form)) => run_check(alloc, &scope, form, reader, out, err),
+        Ok(Task::Survey(scope, form)) => run_survey(alloc, &scope, form, reader, out, err),
         Ok(Task::Show(scope, form)) => run_show(alloc, &scope, form, reader, out, err),
         Ok(Task::Explain(goal, without)) => { run_explain(alloc, without, &goal, reader, out, err) }
         Ok(Task::Replay(without, form)) => run_replay(alloc, without, form, reader, out, err),
@@ -124,6 +134,28 @@ fn run_check<R: Read + Drop, W: Write, E: Write>(
     let mut records = input_of(alloc, reader);
     let answer = check_records(alloc, &form, scope, &mut records, out, ROWS_MAX);
     finish_check(answer, Wanted::Row, &records, err)
+}
+
+/// Surveys the text that the reader has left.
+fn run_survey<R: Read + Drop, W: Write, E: Write>(
+    alloc: Global,
+    scope: &Scope,
+    form: Form,
+    reader: R,
+    out: &mut W,
+    err: &mut E,
+) -> u8
+    ensures status { result < 3 }
+    ensures says { IfSome (R.remaining reader) (λ text. SaysSurveyed scope.now form
+        (records default_config (strip_bom text)) (W.contents out.old) (W.contents out.new)
+        result) }
+    ensures whole { IfSome (R.remaining reader) (λ text. BYTES_MAX < length text
+        → result ≡ NO_VERDICT) }
+    ensures silent { result < 2 → err.new ≡ err.old }
+{
+    let mut records = input_of(alloc, reader);
+    let answer = survey_in(alloc, scope, form, &mut records, out);
+    finish_survey(answer, &records, err)
 }
 
 /// Shows the acts of the text that the reader has left.
@@ -206,6 +238,25 @@ fn run_manual<W: Write, E: Write>(part: Option<&str>, out: &mut W, err: &mut E) 
             let _ = writeln!(err, "mdbcheck: {}", WriteFailed);
             NO_VERDICT
         }
+    }
+}
+
+/// Surveys the records that are still to come in this form.
+fn survey_in<R: Read + Drop, W: Write>(
+    alloc: Global,
+    scope: &Scope,
+    form: Form,
+    records: &mut Records<R>,
+    out: &mut W,
+) -> Result<Summary, RunFault>
+    ensures surveys { (all : List (List (List ℕ))) → ToCome R.remaining records.old all
+        → SurveysIn (survey_lines_in form) scope.now all (W.contents out.old)
+        (W.contents out.new) result }
+    ensures whole { IsOverLimit R.remaining records.old → IsErr result }
+{
+    match form {
+        Form::Text => survey_records(alloc, scope, records, out),
+        Form::Json => survey_json_records(alloc, scope, records, out),
     }
 }
 
@@ -303,6 +354,34 @@ fn finish_show<R: Read + Drop, E: Write>(
     match answer {
         Ok(None) => POSSIBLE,
         Ok(Some(_)) => IMPOSSIBLE,
+        Err(fault) => {
+            complain(fault, Wanted::Row, records, err);
+            NO_VERDICT
+        }
+    }
+}
+
+/// The status of a survey; a fault of the input or of writing is told.
+fn finish_survey<R: Read + Drop, E: Write>(
+    answer: Result<Summary, RunFault>,
+    records: &Records<R>,
+    err: &mut E,
+) -> u8
+    ensures status { result ≡ survey_status_of answer }
+    ensures silent { result < 2 → err.new ≡ err.old }
+    ensures excess { answer ≡ Err RunFault.TooLong
+        → HasTaken (E.contents err.old) (E.contents err.new) excess_line }
+    ensures read { answer ≡ Err RunFault.Read
+        → IsToldCause records.now (E.contents err.old) (E.contents err.new) }
+{
+    match answer {
+        Ok(summary) => {
+            if summary.faults.all == 0 {
+                POSSIBLE
+            } else {
+                IMPOSSIBLE
+            }
+        }
         Err(fault) => {
             complain(fault, Wanted::Row, records, err);
             NO_VERDICT

@@ -43,7 +43,7 @@ impl fmt::Display for Fault<'_> {
                 let word = Excerpt::of_word(word);
                 write!(
                     f,
-                    "--without \"{word}\" isn't changer, bill, cashless or cashless-2"
+                    "--without \"{word}\" isn't changer, bill, cashless, cashless-2"
                 )
             }
             Fault::Account(word) => {

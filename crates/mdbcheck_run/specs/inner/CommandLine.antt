@@ -10,7 +10,8 @@ use Rattle.command_words.specs.Named.{name_in, used_in, values_in}
 use Rattle.command_words.specs.declared.named.Named.{Named}
 use Rattle.mdb_bus.specs.Scopes.{leaving_out}
 use Rattle.mdbcheck_run.specs.Program.{AskForGoal, AskToCheck, AskToShow, NamesCheck, NamesExplain}
-use Rattle.mdbcheck_run.specs.Program.{NamesManual, NamesReplay, NamesShow, check_command}
+use Rattle.mdbcheck_run.specs.Program.{NamesManual, NamesReplay, NamesShow, NamesSurvey}
+use Rattle.mdbcheck_run.specs.Program.{check_command, survey_command}
 use Rattle.mdbcheck_run.specs.Program.{explain_command, form_of, manual_command, replay_command}
 use Rattle.mdbcheck_run.specs.Program.{show_command}
 use Rattle.mdbcheck_run.specs.Program.{mdbcheck_manual}
@@ -18,12 +19,12 @@ use Rattle.mdbcheck_run.specs.declared.refusal.Refusal.{Refusal}
 use Rattle.mdbcheck_run.specs.declared.refusal.Refusal.TheVariants.{Words, Setup}
 use Rattle.mdbcheck_run.specs.declared.command_line.Task.{Task}
 use Rattle.mdbcheck_run.specs.declared.command_line.Task.TheVariants.{Check, Show, Explain}
-use Rattle.mdbcheck_run.specs.declared.command_line.Task.TheVariants.{Manual, Replay}
+use Rattle.mdbcheck_run.specs.declared.command_line.Task.TheVariants.{Manual, Replay, Survey}
 
 -- the program's commands, and their names
 abbrev pub commands : List Command
-commands =
-    check_command ∷ show_command ∷ explain_command ∷ replay_command ∷ manual_command ∷ []
+commands = check_command ∷ survey_command ∷ show_command ∷ explain_command ∷ replay_command
+    ∷ manual_command ∷ []
 
 abbrev pub names : List (List ℕ)
 names = map (λ command. command.name) commands
@@ -35,6 +36,9 @@ mdbcheck = app_with (codes "mdbcheck") commands
 -- what was read is of the task, and asks for this
 abbrev pub FindTask : Named → Task → Type 0
 FindTask found (Check scope form) = (name_in found ≡ check_command.name)
+    × AskToCheck (values_in found) (used_in found) scope
+    × (form ≡ form_of (used_in found (codes "json")))
+FindTask found (Survey scope form) = (name_in found ≡ survey_command.name)
     × AskToCheck (values_in found) (used_in found) scope
     × (form ≡ form_of (used_in found (codes "json")))
 FindTask found (Show scope form) = (name_in found ≡ show_command.name)
@@ -51,6 +55,7 @@ FindTask found (Manual part) = (name_in found ≡ manual_command.name)
 -- the words ask for the task
 abbrev pub AsksFor : List (List ℕ) → Task → Type 0
 AsksFor words (Check scope form) = NamesCheck words scope form
+AsksFor words (Survey scope form) = NamesSurvey words scope form
 AsksFor words (Show scope form) = NamesShow words scope form
 AsksFor words (Explain goal without) = NamesExplain words goal (leaving_out without)
 AsksFor words (Replay without form) = NamesReplay words (leaving_out without) form

@@ -4,7 +4,5 @@ use Rattle.mdb_text.proofs.text.write_report.Goals as goal
 
 pub returns : goal.returns
 returns g c =
-    on_ok c.write_devices.result _ _
-    (λ last. Appends-trans _ _ _ _ _ (Appends-trans _ _ _ _ _ (Appends-trans _ _ _ _ _ (Appends-trans _ _ _ _ _ (Appends-trans _ _ _ _ _ c.in_ok-write_head.ensures
-    c.in_ok-write_decimals.ensures) c.in_ok-write_accounts.ensures) c.in_ok-write_silences.ensures) c.in_ok-write_beginning.ensures) last)
-    c.write_devices.ensures
+    on_ok c.write_report_lines.result _ _
+    (λ last. Appends-trans _ _ _ _ _ c.in_ok-write_head.ensures last) c.write_report_lines.ensures

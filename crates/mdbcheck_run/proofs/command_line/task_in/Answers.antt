@@ -6,7 +6,8 @@ use Rattle.mdbcheck_run.specs.inner.SetupReading.{no_memory}
 use Rattle.mdbcheck_run.proofs.CommandLine.{check_found, check_not_explain, check_not_replay}
 use Rattle.mdbcheck_run.proofs.CommandLine.{check_not_show, explain_found, explain_not_manual}
 use Rattle.mdbcheck_run.proofs.CommandLine.{manual_found, others_found, replay_not_manual}
-use Rattle.mdbcheck_run.proofs.CommandLine.{show_not_manual}
+use Rattle.mdbcheck_run.proofs.CommandLine.{show_not_manual, survey_found, survey_not_explain}
+use Rattle.mdbcheck_run.proofs.CommandLine.{survey_not_replay, survey_not_show}
 use Rattle.mdbcheck_run.proofs.command_line.task_in.Goals as goal
 
 pub returns-in_err-scope_of_check-in-check-clause-refused :
@@ -19,6 +20,17 @@ returns-in_err-scope_of_check-in-check-clause-refused c =
     let found = check_found c.args.found.now (sym c.command.ensures ∙ c.in-check.is) task asks in
     c.in_err-scope_of_check-in-check.ensures.refused found.0 found.1)
 
+pub returns-in_err-scope_of_check-in-survey-clause-refused :
+    goal.returns-in_err-scope_of_check-in-survey-clause-refused
+returns-in_err-scope_of_check-in-survey-clause-refused c =
+    passed_up c.from_residual-in_err-scope_of_check-in-survey.result
+    c.in_err-scope_of_check-in-survey.field-0.0
+    (λ refusal. (task : Task) → FindTask c.args.found.now task → refusal ≡ no_memory)
+    c.from_residual-in_err-scope_of_check-in-survey.ensures.1
+    (λ task asks.
+    let found = survey_found c.args.found.now (sym c.command.ensures ∙ c.in-survey.is) task asks in
+    c.in_err-scope_of_check-in-survey.ensures.refused found.0 found.1)
+
 pub returns-in_err-scope_of_show-in-show-clause-refused :
     goal.returns-in_err-scope_of_show-in-show-clause-refused
 returns-in_err-scope_of_show-in-show-clause-refused c =
@@ -28,7 +40,7 @@ returns-in_err-scope_of_show-in-show-clause-refused c =
     c.from_residual-in_err-scope_of_show-in-show.ensures.1
     (λ task asks.
     let found = others_found c.args.found.now (codes "show") (sym c.command.ensures ∙ c.in-show.is)
-    check_not_show show_not_manual task asks in
+    check_not_show survey_not_show show_not_manual task asks in
     c.in_err-scope_of_show-in-show.ensures.refused found.0 found.1)
 
 pub returns-in_err-goal_of_explain-in-explain-clause-refused :
@@ -52,7 +64,8 @@ returns-in_err-left_out_of-in-explain-clause-refused c =
     c.from_residual-in_err-left_out_of-in-explain.ensures.1
     (λ task asks.
     let found = others_found c.args.found.now (codes "explain")
-    (sym c.command.ensures ∙ c.in-explain.is) check_not_explain explain_not_manual task asks in
+    (sym c.command.ensures ∙ c.in-explain.is) check_not_explain survey_not_explain
+    explain_not_manual task asks in
     c.in_err-left_out_of-in-explain.ensures.refused found.0 found.1)
 
 pub returns-in_err-left_out_of-in-replay-clause-refused :
@@ -64,7 +77,8 @@ returns-in_err-left_out_of-in-replay-clause-refused c =
     c.from_residual-in_err-left_out_of-in-replay.ensures.1
     (λ task asks.
     let found = others_found c.args.found.now (codes "replay")
-    (sym c.command.ensures ∙ c.in-replay.is) check_not_replay replay_not_manual task asks in
+    (sym c.command.ensures ∙ c.in-replay.is) check_not_replay survey_not_replay replay_not_manual
+    task asks in
     c.in_err-left_out_of-in-replay.ensures.refused found.0 found.1)
 
 pub returns-in_err-part_asked-in-manual-clause-refused :

@@ -3,10 +3,11 @@ use Rattle.std.proofs.lemmas.Option.{IfSome_then}
 use Rattle.std.specs.Prelude.{String, map, string_bytes}
 use Rattle.mdb_bus.specs.Scopes.{leaving_out}
 use Rattle.mdbcheck_run.specs.inner.CommandLine.{AsksFor}
-use Rattle.mdbcheck_run.specs.Program.{NameATask, checked, explained, replayed, shown}
+use Rattle.mdbcheck_run.specs.Program.{NameATask, checked, explained, replayed, shown, surveyed}
 use Rattle.mdbcheck_run.specs.declared.command_line.Task.{Task}
-use Rattle.mdbcheck_run.specs.declared.command_line.Task.TheVariants.{Check, Show, Explain, Manual, Replay}
-use Rattle.mdbcheck_run.proofs.Status.{manual_says, refused_says}
+use Rattle.mdbcheck_run.specs.declared.command_line.Task.TheVariants.{Check, Show, Explain}
+use Rattle.mdbcheck_run.specs.declared.command_line.Task.TheVariants.{Manual, Replay, Survey}
+use Rattle.mdbcheck_run.proofs.Status.{manual_says, refused_says, surveyed_not_yes}
 use Rattle.mdbcheck_run.proofs.program.run.Goals as goal
 
 -- the words that were read are those that were given
@@ -17,9 +18,12 @@ asked read given found task same is asks =
 
 name_a_task : (words : List (List ℕ)) (task : Task) → AsksFor words task → NameATask words
 name_a_task words (Check scope form) asks = inl (scope, inl (form, asks))
-name_a_task words (Show scope form) asks = inl (scope, inr (inl (form, asks)))
-name_a_task words (Explain goal without) asks = inl (leaving_out without, inr (inr (inl (goal, asks))))
-name_a_task words (Replay without form) asks = inl (leaving_out without, inr (inr (inr (form, asks))))
+name_a_task words (Survey scope form) asks = inl (scope, inr (inl (form, asks)))
+name_a_task words (Show scope form) asks = inl (scope, inr (inr (inl (form, asks))))
+name_a_task words (Explain goal without) asks =
+    inl (leaving_out without, inr (inr (inr (inl (goal, asks)))))
+name_a_task words (Replay without form) asks =
+    inl (leaving_out without, inr (inr (inr (inr (form, asks)))))
 name_a_task words (Manual part) asks = inr (_, asks)
 
 pub returns-in-Ok-Check-clause-says : goal.returns-in-Ok-Check-clause-says
@@ -29,6 +33,26 @@ returns-in-Ok-Check-clause-says g c =
 
 pub returns-in-Ok-Check-clause-named : goal.returns-in-Ok-Check-clause-named
 returns-in-Ok-Check-clause-named g c = inl (name_a_task _ (Check c.in-Ok-Check.scope c.in-Ok-Check.form) (asked _ _ _ (Check c.in-Ok-Check.scope c.in-Ok-Check.form) c.as_slice.ensures.value c.in-Ok-Check.field-0-is c.in-Ok-Check.ensures.asked))
+
+pub returns-in-Ok-Survey-clause-says : goal.returns-in-Ok-Survey-clause-says
+returns-in-Ok-Survey-clause-says g c =
+    let task = Survey c.in-Ok-Survey.scope c.in-Ok-Survey.form in
+    let asks = asked _ _ _ task c.as_slice.ensures.value c.in-Ok-Survey.field-0-is
+    c.in-Ok-Survey.ensures.asked in
+    IfSome_then _ c.run_survey.ensures.says
+    (λ text says. surveyed c.in-Ok-Survey.scope c.in-Ok-Survey.form asks says)
+
+pub returns-in-Ok-Survey-clause-named : goal.returns-in-Ok-Survey-clause-named
+returns-in-Ok-Survey-clause-named g c =
+    let task = Survey c.in-Ok-Survey.scope c.in-Ok-Survey.form in
+    inl
+    (name_a_task _ task
+    (asked _ _ _ task c.as_slice.ensures.value c.in-Ok-Survey.field-0-is
+    c.in-Ok-Survey.ensures.asked))
+
+pub returns-in-Ok-Survey-clause-whole : goal.returns-in-Ok-Survey-clause-whole
+returns-in-Ok-Survey-clause-whole g c reads =
+    surveyed_not_yes (g.R.Read.remaining c.args.reader) _ _ c.run_survey.ensures.whole
 
 pub returns-in-Ok-Show-clause-says : goal.returns-in-Ok-Show-clause-says
 returns-in-Ok-Show-clause-says g c =

@@ -1,0 +1,197 @@
+-- What is told, and what was said last.
+use Rattle.std.proofs.Common.{refl, ap, ◌∙◌, ◌≡◌, List, [], ◌∷◌, Option, Some, None, option_map}
+use Rattle.mdb_msgs.specs.declared.command.Command.TheVariants as commands
+use Rattle.mdb_msgs.specs.declared.command.Device.{Device}
+use Rattle.mdb_msgs.specs.declared.command.Device.TheVariants as devices
+use Rattle.mdb_msgs.specs.declared.command.ReaderUnit.{ReaderUnit}
+use Rattle.mdb_msgs.specs.declared.command.ReaderUnit.TheVariants.{First, Second}
+use Rattle.mdb_msgs.specs.declared.reply.reader.ReaderMsg.{ReaderMsg}
+use Rattle.mdb_msgs.specs.declared.reply.reader.ReaderMsg.TheVariants as messages
+use Rattle.mdb_msgs.specs.declared.reply.Reply.TheVariants as replies
+use Rattle.mdb_msgs.specs.declared.setups.ReaderConfig.{ReaderConfig}
+use Rattle.mdb_msgs.specs.declared.setups.Setups.{Setups}
+use Rattle.mdb_msgs.specs.Commands.{device_of}
+use Rattle.mdb_msgs.specs.SetupData as setup
+use Rattle.mdb_msgs.specs.SetupData.{known_with, last_config, with_config}
+use Rattle.mdb_msgs.specs.Setups.{config_known}
+use Rattle.mdb_bus.specs.declared.act.Act.{Act}
+use Rattle.mdb_bus.specs.declared.act.Act.TheVariants as acts
+use Rattle.mdb_bus.specs.declared.scope.Beginning.{Beginning}
+use Rattle.mdb_bus.specs.declared.scope.Beginning.TheVariants.{PowerOn, Joined}
+use Rattle.mdb_bus.specs.ActLists.{Piece, Whole, acts_of, levels_after, levels_of}
+use Rattle.mdb_cash.specs.BillFacts as bill
+use Rattle.mdb_cash.specs.ChangerFacts as changer
+use Rattle.mdb_cash.specs.Keeper.{setup_by}
+use Rattle.mdb_cash.specs.Known.{known_before}
+use Rattle.mdb_cash.specs.Past.{last_told, or_else}
+use Rattle.mdb_cashless.specs.ReaderFacts as reader
+use Rattle.mdb_cashless.specs.ReaderMessages.{config_in, last_said}
+use Rattle.mdb_stretches.specs.declared.told.Told.{Told}
+use Rattle.mdb_stretches.specs.Learning.{AreKnown}
+use Rattle.mdb_stretches.specs.Told.{learnt_by, setups_of, told_after, with_answer}
+
+-- the feature levels
+answer_asks_nothing : (device : Device) (known : Option Setups) (told : Told)
+    → (with_answer device known told).asked ≡ told.asked
+answer_asks_nothing device None told = refl
+answer_asks_nothing device (Some setups) told = refl
+
+pub asked_after : (told : Told) (pieces : List Piece)
+    → (told_after told (acts_of pieces)).asked ≡ levels_of told.asked pieces
+asked_after told [] = refl
+asked_after told (Whole (acts.Ask command) events ∷ pieces) =
+    ap (levels_after command) (asked_after told pieces)
+asked_after told (Whole (acts.Reply command reply) events ∷ pieces) =
+    let before : Told = told_after told (acts_of pieces) in
+    answer_asks_nothing (device_of command) (known_with before.setups (device_of command) reply)
+    before ∙ asked_after told pieces
+asked_after told (Whole act events ∷ pieces) = asked_after told pieces
+asked_after told (piece ∷ pieces) = asked_after told pieces
+
+-- what is told last
+or_else_both : {X : Type 0} (one other last : Option X)
+    → or_else one (or_else other last) ≡ or_else (or_else one other) last
+or_else_both (Some x) other last = refl
+or_else_both None other last = refl
+
+-- what is known of a device, where an act tells it or leaves it
+known_last : {X : Type 0} (of : Setups → Option X) (tells : Act → Option X)
+    → ((act : Act) (told : Told) → of (learnt_by act told).setups
+    ≡ or_else (tells act) (of told.setups))
+    → (begins : Beginning) (told : Told) → of told.setups ≡ known_before of begins
+    → (acts : List Act) → of (told_after told acts).setups
+    ≡ or_else (last_told tells acts) (known_before of begins)
+known_last of tells step begins told is [] = is
+known_last of tells step begins told is (act ∷ acts) =
+    step act (told_after told acts)
+    ∙ ap (or_else (tells act)) (known_last of tells step begins told is acts)
+    ∙ or_else_both (tells act) (last_told tells acts) (known_before of begins)
+
+-- what is known before
+known_first : {X : Type 0} (of : Setups → Option X) → of (setups_of PowerOn) ≡ None
+    → (begins : Beginning) (told : Told) → told.setups ≡ setups_of begins
+    → of told.setups ≡ known_before of begins
+known_first of none PowerOn told is = ap of is ∙ none
+known_first of none (Joined setups) told is = ap of is
+
+-- a reader's answer leaves what is known of changer and validator, and of the other reader
+config_leaves : (unit : ReaderUnit) (config : Option ReaderConfig) (told : Told)
+    → ((with_answer (devices.Reader unit) (option_map (with_config told.setups unit) config)
+    told).setups.changer ≡ told.setups.changer)
+    × ((with_answer (devices.Reader unit) (option_map (with_config told.setups unit) config)
+    told).setups.bill ≡ told.setups.bill)
+config_leaves unit None told = (refl, refl)
+config_leaves First (Some config) told = (refl, refl)
+config_leaves Second (Some config) told = (refl, refl)
+
+changer_step : (act : Act) (told : Told) → (learnt_by act told).setups.changer
+    ≡ or_else (setup_by changer.tables act) told.setups.changer
+changer_step (acts.Reply (commands.Changer command) (replies.ChangerSetup table)) told = refl
+changer_step (acts.Reply (commands.Changer command) reply) told = refl
+changer_step (acts.Reply (commands.Bill command) (replies.BillSetup table)) told = refl
+changer_step (acts.Reply (commands.Bill command) reply) told = refl
+changer_step (acts.Reply (commands.Reader unit command) (replies.Reader list)) told =
+    (config_leaves unit (last_config list.messages) told).0
+changer_step (acts.Reply (commands.Reader unit command) reply) told = refl
+changer_step act told = refl
+
+bill_step : (act : Act) (told : Told) → (learnt_by act told).setups.bill
+    ≡ or_else (setup_by bill.tables act) told.setups.bill
+bill_step (acts.Reply (commands.Changer command) (replies.ChangerSetup table)) told = refl
+bill_step (acts.Reply (commands.Changer command) reply) told = refl
+bill_step (acts.Reply (commands.Bill command) (replies.BillSetup table)) told = refl
+bill_step (acts.Reply (commands.Bill command) reply) told = refl
+bill_step (acts.Reply (commands.Reader unit command) (replies.Reader list)) told =
+    (config_leaves unit (last_config list.messages) told).1
+bill_step (acts.Reply (commands.Reader unit command) reply) told = refl
+bill_step act told = refl
+
+-- the config of a reader's last config message, in one way and the other
+same_config : (message : ReaderMsg) → setup.config_in message ≡ config_in message
+same_config (messages.Config level code scale decimals response options) = refl
+same_config message = refl
+
+same_else : (one other : Option ReaderConfig) → setup.or_else one other ≡ or_else one other
+same_else (Some config) other = refl
+same_else None other = refl
+
+same_last : (list : List ReaderMsg) → last_config list ≡ last_said config_in list
+same_last [] = refl
+same_last (message ∷ list) =
+    same_else (last_config list) (setup.config_in message)
+    ∙ ap (λ c. or_else (last_config list) c) (same_config message)
+    ∙ ap (λ c. or_else c (config_in message)) (same_last list)
+
+first_own : (config : Option ReaderConfig) (told : Told)
+    → (with_answer (devices.Reader First) (option_map (with_config told.setups First) config)
+    told).setups.first_reader ≡ or_else config told.setups.first_reader
+first_own None told = refl
+first_own (Some config) told = refl
+
+first_other : (config : Option ReaderConfig) (told : Told)
+    → (with_answer (devices.Reader Second) (option_map (with_config told.setups Second) config)
+    told).setups.first_reader ≡ told.setups.first_reader
+first_other None told = refl
+first_other (Some config) told = refl
+
+second_own : (config : Option ReaderConfig) (told : Told)
+    → (with_answer (devices.Reader Second) (option_map (with_config told.setups Second) config)
+    told).setups.second_reader ≡ or_else config told.setups.second_reader
+second_own None told = refl
+second_own (Some config) told = refl
+
+second_other : (config : Option ReaderConfig) (told : Told)
+    → (with_answer (devices.Reader First) (option_map (with_config told.setups First) config)
+    told).setups.second_reader ≡ told.setups.second_reader
+second_other None told = refl
+second_other (Some config) told = refl
+
+first_step : (act : Act) (told : Told) → (learnt_by act told).setups.first_reader
+    ≡ or_else (reader.config_by First act) told.setups.first_reader
+first_step (acts.Reply (commands.Changer command) (replies.ChangerSetup table)) told = refl
+first_step (acts.Reply (commands.Changer command) reply) told = refl
+first_step (acts.Reply (commands.Bill command) (replies.BillSetup table)) told = refl
+first_step (acts.Reply (commands.Bill command) reply) told = refl
+first_step (acts.Reply (commands.Reader First command) (replies.Reader list)) told =
+    first_own (last_config list.messages) told
+    ∙ ap (λ c. or_else c told.setups.first_reader) (same_last list.messages)
+first_step (acts.Reply (commands.Reader Second command) (replies.Reader list)) told =
+    first_other (last_config list.messages) told
+first_step (acts.Reply (commands.Reader First command) reply) told = refl
+first_step (acts.Reply (commands.Reader Second command) reply) told = refl
+first_step act told = refl
+
+second_step : (act : Act) (told : Told) → (learnt_by act told).setups.second_reader
+    ≡ or_else (reader.config_by Second act) told.setups.second_reader
+second_step (acts.Reply (commands.Changer command) (replies.ChangerSetup table)) told = refl
+second_step (acts.Reply (commands.Changer command) reply) told = refl
+second_step (acts.Reply (commands.Bill command) (replies.BillSetup table)) told = refl
+second_step (acts.Reply (commands.Bill command) reply) told = refl
+second_step (acts.Reply (commands.Reader Second command) (replies.Reader list)) told =
+    second_own (last_config list.messages) told
+    ∙ ap (λ c. or_else c told.setups.second_reader) (same_last list.messages)
+second_step (acts.Reply (commands.Reader First command) (replies.Reader list)) told =
+    second_other (last_config list.messages) told
+second_step (acts.Reply (commands.Reader First command) reply) told = refl
+second_step (acts.Reply (commands.Reader Second command) reply) told = refl
+second_step act told = refl
+
+config_known_of : (begins : Beginning) (told : Told) (acts : List Act) (unit : ReaderUnit)
+    → told.setups ≡ setups_of begins
+    → config_known (told_after told acts).setups unit ≡ (reader.known_of begins unit acts).config
+config_known_of begins told acts First is =
+    known_last (λ setups. config_known setups First) (reader.config_by First) first_step begins told
+    (known_first (λ setups. config_known setups First) refl begins told is) acts
+config_known_of begins told acts Second is =
+    known_last (λ setups. config_known setups Second) (reader.config_by Second) second_step begins
+    told (known_first (λ setups. config_known setups Second) refl begins told is) acts
+
+pub setups_after : (begins : Beginning) (told : Told) (acts : List Act)
+    → told.setups ≡ setups_of begins → AreKnown begins (told_after told acts).setups acts
+setups_after begins told acts is = record {
+  changer = known_last (λ setups. setups.changer) (setup_by changer.tables) changer_step begins told
+      (known_first (λ setups. setups.changer) refl begins told is) acts;
+  bill = known_last (λ setups. setups.bill) (setup_by bill.tables) bill_step begins told
+      (known_first (λ setups. setups.bill) refl begins told is) acts;
+  reader = λ unit. config_known_of begins told acts unit is;
+}

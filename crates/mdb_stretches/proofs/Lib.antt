@@ -1,0 +1,7 @@
+mod Leading
+mod Learning
+mod OneSurvey
+mod Parts
+mod Standing
+mod Sums
+mod Within

@@ -1,0 +1,245 @@
+-- What a surveyor stands for, row by row.
+use Rattle.std.proofs.Common.{arith, refl, ap, sym, subst, ◌∙◌, ◌≡◌, ◌+◌, ◌*◌, ◌^◌, ◌≤◌, ◌<◌, ℕ, List, [], ◌∷◌, ◌++◌, Option, Some, None, length, map}
+use Rattle.std.proofs.lemmas.List.{length-map}
+use Rattle.mdb_words.specs.declared.event.Event.{Event}
+use Rattle.mdb_msgs.specs.declared.device_set.DeviceSet.{DeviceSet}
+use Rattle.mdb_bus.specs.declared.act.Act.{Act}
+use Rattle.mdb_bus.specs.declared.scope.Scope.{Scope}
+use Rattle.mdb_bus.specs.ActLists.{IsActList, Piece, acts_of, with_act}
+use Rattle.mdb_follow.specs.declared.account.Account.{Account}
+use Rattle.mdb_follow.specs.declared.offence.Offence.{Offence}
+use Rattle.mdb_follow.specs.declared.range.Range.{Range}
+use Rattle.mdb_follow.specs.declared.report.Report.{Report}
+use Rattle.mdb_follow.specs.EndedActs.{IsEndedAct}
+use Rattle.mdb_follow.specs.Follower as follow
+use Rattle.mdb_follow.specs.Limits.{IsAccountWithin, IsRangeWithin}
+use Rattle.mdb_follow.specs.Offences.{IsOffence}
+use Rattle.mdb_follow.specs.Report.{IsReport}
+use Rattle.mdb_follow.specs.ReportLimits.{IsReportWithin}
+use Rattle.mdb_stretches.specs.declared.counts.FaultCounts.{FaultCounts}
+use Rattle.mdb_stretches.specs.declared.stretch.Ended.{Ended}
+use Rattle.mdb_stretches.specs.declared.stretch.Stretch.{Stretch}
+use Rattle.mdb_stretches.specs.declared.summary.Summary.{Summary}
+use Rattle.mdb_stretches.specs.declared.surveyor.Surveyor.{Surveyor}
+use Rattle.mdb_stretches.specs.declared.told.Told.{Told}
+use Rattle.mdb_stretches.specs.declared.totals.Totals.{Totals}
+use Rattle.mdb_stretches.specs.Counts.{AreFew, counts_of, counts_of_faults}
+use Rattle.mdb_stretches.specs.Stretches.{EndsBy, IsStretch, IsSurvey, LeadFrom, StretchStart, first_place, place_after, scope_after, stretch_at}
+use Rattle.mdb_stretches.specs.Surveyor.{StandsFor}
+use Rattle.mdb_stretches.specs.Told.{learnt_by, learnt_if, told_after}
+use Rattle.mdb_stretches.specs.Totals.{AreWithin, CanBeAdded, totals_of, with_report}
+use Rattle.mdb_stretches.specs.inner.Halts.{HasHalted}
+use Rattle.mdb_stretches.proofs.Leading.{lead_faults, lead_more, lead_on}
+
+-- a transcript has one act list
+abbrev pub OneActList : Type 0
+OneActList = (scope : Scope) (rows : List Event) (one other : List Piece)
+    → IsActList scope one rows → IsActList scope other rows → one ≡ other
+
+-- no rows have no acts
+no_acts : OneActList → (scope : Scope) (pieces : List Piece) → IsActList scope pieces []
+    → acts_of pieces ≡ []
+no_acts one scope pieces list =
+    ap acts_of (one scope [] pieces [] list (record { in_order = tt; whole = refl }))
+
+pub told_nothing : OneActList → (scope : Scope) (told : Told) (pieces : List Piece)
+    → IsActList scope pieces [] → told ≡ told_after told (acts_of pieces)
+told_nothing one scope told pieces list =
+    ap (told_after told) (sym (no_acts one scope pieces list))
+
+-- what is told with one act more, if there is one
+learnt_more : (told : Told) (act : Option Act) (acts : List Act)
+    → learnt_if act (told_after told acts) ≡ told_after told (with_act act acts)
+learnt_more told None acts = refl
+learnt_more told (Some act) acts = refl
+
+-- a row is taken
+pub taken_more : OneActList → (old new : Surveyor) (scope : Scope) (rows : List Event)
+    (ended : List Ended) (row : Event) (act : Option Act) → StandsFor old scope rows ended
+    → ((events : List Event) → follow.StandsFor old.follower events
+    → follow.StandsFor new.follower (events ++ row ∷ []))
+    → follow.scope_of new.follower ≡ follow.scope_of old.follower
+    → ((events : List Event) → follow.StandsFor old.follower events
+    → IsEndedAct (follow.scope_of old.follower) events row act)
+    → new.told ≡ learnt_if act old.told → new.scope ≡ old.scope → new.before ≡ old.before
+    → new.faults ≡ old.faults → new.totals ≡ old.totals
+    → StandsFor new scope (rows ++ row ∷ []) ended
+taken_more one old new scope rows ended row act on follows same_scope ends learnt so before faults totals =
+    let it : IsEndedAct on.place.scope on.running row act =
+    subst (λ s. IsEndedAct s on.running row act) on.followed_so (ends on.running on.follows) in
+    record {
+      running = on.running ++ row ∷ [];
+      place = on.place;
+      lead = lead_more (first_place scope) rows ended on.running on.place row on.lead;
+      follows = follows on.running on.follows;
+      followed_so = same_scope ∙ on.followed_so;
+      taken_so = so ∙ on.taken_so;
+      told = λ pieces list.
+          learnt ∙ ap (learnt_if act) (on.told it.before it.shorter)
+          ∙ learnt_more on.place.told act (acts_of it.before)
+          ∙ ap (told_after on.place.told) (sym it.acts)
+          ∙ ap (λ ps. told_after on.place.told (acts_of ps)) (one on.place.scope
+          (on.running ++ row ∷ []) (it.newest ∷ it.earlier) pieces it.act_list list);
+      before = before ∙ on.before;
+      faults = faults ∙ on.faults;
+      totals = totals ∙ on.totals;
+    }
+
+-- a row is met that can't be
+pub halted_by : (old now : Surveyor) (scope : Scope) (rows : List Event) (row : Event)
+    (ended : List Ended) (offence : Offence) → StandsFor old scope rows ended
+    → ((events : List Event) → follow.StandsFor old.follower events
+    → follow.HasAccepted now.follower events)
+    → ((events : List Event) → follow.StandsFor old.follower events
+    → IsOffence (follow.scope_of old.follower) events row offence)
+    → follow.scope_of now.follower ≡ follow.scope_of old.follower
+    → now.told ≡ old.told → now.scope ≡ old.scope → now.before ≡ old.before
+    → now.faults ≡ old.faults → now.totals ≡ old.totals
+    → HasHalted now scope rows row ended offence
+halted_by old now scope rows row ended offence on accepted is same_scope told so before faults totals = record {
+  running = on.running;
+  place = on.place;
+  lead = on.lead;
+  accepted = accepted on.running on.follows;
+  followed_so = same_scope ∙ on.followed_so;
+  taken_so = so ∙ on.taken_so;
+  is = subst (λ s. IsOffence s on.running row offence) on.followed_so (is on.running on.follows);
+  told = λ pieces list. told ∙ on.told pieces list;
+  before = before ∙ on.before;
+  faults = faults ∙ on.faults;
+  totals = totals ∙ on.totals;
+}
+
+-- a stretch by its parts
+abbrev made : ℕ → ℕ → ℕ → Scope → Report → Stretch
+made number first last scope report = record {
+  number = number;
+  first = first;
+  last = last;
+  scope = scope;
+  report = report;
+}
+
+same_stretch : (n m f g l k : ℕ) (s t : Scope) (report : Report) → n ≡ m → f ≡ g → l ≡ k → s ≡ t
+    → made n f l s report ≡ made m g k t report
+same_stretch n m f g l k s t report number first last so =
+    ap (λ x. made x f l s report) number ∙ ap (λ x. made m x l s report) first
+    ∙ ap (λ x. made m g x s report) last ∙ ap (λ x. made m g k x report) so
+
+-- as many faults were counted as there are
+counted : (counts : FaultCounts) (ended : List Ended) → counts ≡ counts_of ended
+    → counts.all ≡ length ended
+counted counts ended is = ap (λ (c : FaultCounts). c.all) is ∙ length-map ended (λ (it : Ended). it.fault)
+
+-- a stretch as the surveyor tells it is that of where it begins
+pub stretch_told : (scope : Scope) (rows : List Event) (ended : List Ended) (running : List Event)
+    (place : StretchStart) (counts : FaultCounts) (before : ℕ) (taken : Scope) (report : Report)
+    → LeadFrom (first_place scope) rows ended running place → counts ≡ counts_of ended
+    → before ≡ place.rows → taken ≡ place.scope
+    → made (counts.all + 1) (before + 1) (before + report.rows) taken report
+    ≡ stretch_at place report
+stretch_told scope rows ended running place counts before taken report lead faults is so =
+    let many : place.faults ≡ length ended =
+    lead_faults (first_place scope) rows ended running place lead ∙ omega (arith) in
+    same_stretch _ _ _ _ _ _ _ _ report (omega (arith, counted counts ended faults, many))
+    (omega (arith, is)) (omega (arith, is)) so
+
+-- the stretch that runs
+pub runs : (surveyor : Surveyor) (scope : Scope) (rows : List Event) (ended : List Ended)
+    (report : Report) (taken : Scope) → StandsFor surveyor scope rows ended
+    → ((events : List Event) → follow.StandsFor surveyor.follower events
+    → IsReport (follow.scope_of surveyor.follower) events report) → taken ≡ surveyor.scope
+    → IsSurvey scope rows ended (record {
+      number = surveyor.faults.all + 1;
+      first = surveyor.before + 1;
+      last = surveyor.before + report.rows;
+      scope = taken;
+      report = report;
+    })
+runs surveyor scope rows ended report taken on reports same = record {
+  running = on.running;
+  place = on.place;
+  lead = on.lead;
+  is = record {
+    is = subst (λ s. IsReport s on.running report) on.followed_so (reports on.running on.follows);
+    begins = stretch_told scope rows ended on.running on.place surveyor.faults surveyor.before taken
+        report on.lead on.faults on.before (same ∙ on.taken_so);
+  };
+}
+
+-- the stretch after a fault begins
+pub next_stands : OneActList → (old new : Surveyor) (scope : Scope) (rows : List Event)
+    (row : Event) (ended : List Ended) (offence : Offence) (report : Report) (taken : Scope)
+    → HasHalted old scope rows row ended offence
+    → ((events : List Event) → follow.HasAccepted old.follower events
+    → IsReport (follow.scope_of old.follower) events report) → taken ≡ old.scope
+    → follow.StandsFor new.follower []
+    → follow.scope_of new.follower ≡ scope_after old.told offence old.scope.without
+    → new.scope ≡ scope_after old.told offence old.scope.without → new.told ≡ old.told
+    → new.before ≡ old.before + offence.row
+    → ((faults : List Offence) → old.faults ≡ counts_of_faults faults → new.faults
+    ≡ counts_of_faults (record {
+      row = old.before + offence.row;
+      rule = offence.rule;
+      blame = offence.blame;
+    } ∷ faults))
+    → new.totals ≡ with_report old.totals report
+    → StandsFor new scope (rows ++ row ∷ []) (record {
+      stretch = record {
+        number = old.faults.all + 1;
+        first = old.before + 1;
+        last = old.before + report.rows;
+        scope = taken;
+        report = report;
+      };
+      fault = record {
+        row = old.before + offence.row;
+        rule = offence.rule;
+        blame = offence.blame;
+      };
+    } ∷ ended)
+next_stands one old new scope rows row ended offence report taken on reports same begun follows_so so told before faults totals =
+    let pieces : List Piece = on.accepted.pieces in
+    let list : IsActList on.place.scope pieces on.running =
+    subst (λ s. IsActList s pieces on.running) on.followed_so on.accepted.act_list in
+    let known : old.told ≡ told_after on.place.told (acts_of pieces) = on.told pieces list in
+    let next : StretchStart = place_after on.place (length on.running) (acts_of pieces) offence in
+    let after : scope_after old.told offence old.scope.without ≡ next.scope =
+    ap (λ (t : Told). scope_after t offence old.scope.without) known
+    ∙ ap (λ (s : Scope). scope_after next.told offence s.without) on.taken_so in
+    let number : offence.row ≡ length on.running + 1 = on.is.number in
+    record {
+      running = [];
+      place = next;
+      lead = lead_on (first_place scope) rows ended on.running on.place row _ next on.lead (record {
+        stretch = record {
+          is = subst (λ s. IsReport s on.running report) on.followed_so
+              (reports on.running on.accepted);
+          begins = stretch_told scope rows ended on.running on.place old.faults old.before taken
+              report on.lead on.faults on.before (same ∙ on.taken_so);
+        };
+        offence = offence;
+        is = on.is;
+        row_is = ap (λ n. record { row = n + offence.row; rule = offence.rule; blame = offence.blame })
+            on.before;
+        pieces = pieces;
+        act_list = list;
+        on = refl;
+      });
+      follows = begun;
+      followed_so = follows_so ∙ after;
+      taken_so = so ∙ after;
+      told = λ ps none. told ∙ known ∙ told_nothing one next.scope next.told ps none;
+      before = omega (arith, before, on.before, number);
+      faults = faults (map (λ (it : Ended). it.fault) ended) on.faults;
+      totals = totals ∙ ap (λ (t : Totals). with_report t report) on.totals;
+    }
+
+-- a summary by its parts
+abbrev summed : Totals → DeviceSet → FaultCounts → Summary
+summed totals without faults = record { totals = totals; without = without; faults = faults }
+
+pub same_summary : (t u : Totals) (d e : DeviceSet) (f g : FaultCounts) → t ≡ u → d ≡ e → f ≡ g
+    → summed t d f ≡ summed u e g
+same_summary t u d e f g totals without faults =
+    ap (λ x. summed x d f) totals ∙ ap (λ x. summed u x f) without ∙ ap (λ x. summed u e x) faults

@@ -1,0 +1,78 @@
+-- What totals come to with a report more.
+use Rattle.std.proofs.Common.{arith, refl, ◌≡◌, ◌+◌, ◌≤◌, ◌≤ℤ◌, ◌+ℤ◌, ℕ, pos, neg_ℤ}
+use Rattle.std.proofs.lemmas.Int.{ints}
+use Rattle.mdb_msgs.specs.declared.command.Device.{Device}
+use Rattle.mdb_msgs.specs.declared.command.Device.TheVariants.{Changer, Bill, Reader}
+use Rattle.mdb_msgs.specs.declared.command.ReaderUnit.TheVariants.{First, Second}
+use Rattle.mdb_follow.specs.declared.account.Account.{Account}
+use Rattle.mdb_follow.specs.declared.account_name.AccountName.{AccountName}
+use Rattle.mdb_follow.specs.declared.account_name.AccountName.TheVariants.{CoinsIn, BillsIn, PaidOut, Approved, Sold}
+use Rattle.mdb_follow.specs.declared.range.Range.{Range}
+use Rattle.mdb_follow.specs.declared.report.Report.{Report}
+use Rattle.mdb_follow.specs.Limits.{IsAccountWithin, IsRangeWithin}
+use Rattle.mdb_follow.specs.ReportLimits.{IsReportWithin}
+use Rattle.mdb_follow.specs.Report.{account_of, device_silences, device_unvalued}
+use Rattle.mdb_stretches.specs.declared.totals.Totals.{Totals}
+use Rattle.mdb_stretches.specs.Totals.{AreWithin, added_account, added_range, total_of, total_silences, total_unvalued, with_report}
+
+-- by account, and by device
+pub account_sums : (totals : Totals) (report : Report) (account : AccountName)
+    → total_of account (with_report totals report)
+    ≡ added_account (total_of account totals) (account_of account report)
+account_sums totals report CoinsIn = refl
+account_sums totals report BillsIn = refl
+account_sums totals report PaidOut = refl
+account_sums totals report (Approved First) = refl
+account_sums totals report (Sold First) = refl
+account_sums totals report (Approved Second) = refl
+account_sums totals report (Sold Second) = refl
+
+pub silence_sums : (totals : Totals) (report : Report) (device : Device)
+    → total_silences device (with_report totals report)
+    ≡ total_silences device totals + device_silences device report
+silence_sums totals report Changer = refl
+silence_sums totals report Bill = refl
+silence_sums totals report (Reader First) = refl
+silence_sums totals report (Reader Second) = refl
+
+pub unvalued_sums : (totals : Totals) (report : Report) (device : Device)
+    → total_unvalued device (with_report totals report)
+    ≡ total_unvalued device totals + device_unvalued device report
+unvalued_sums totals report Changer = refl
+unvalued_sums totals report Bill = refl
+unvalued_sums totals report (Reader First) = refl
+unvalued_sums totals report (Reader Second) = refl
+
+-- how far from 0 they are then
+range_within : (limit more : ℕ) (one other : Range) → IsRangeWithin limit one
+    → IsRangeWithin more other → IsRangeWithin (limit + more) (added_range one other)
+range_within limit more one other first second = record {
+  least_low = omega (arith, ints, first.least_low, second.least_low);
+  least_high = omega (arith, ints, first.least_high, second.least_high);
+  greatest_low = omega (arith, ints, first.greatest_low, second.greatest_low);
+  greatest_high = omega (arith, ints, first.greatest_high, second.greatest_high);
+}
+
+account_within : (limit more : ℕ) (one other : Account) → IsAccountWithin limit one
+    → IsAccountWithin more other → IsAccountWithin (limit + more) (added_account one other)
+account_within limit more one other first second = record {
+  device = range_within limit more one.device other.device first.device second.device;
+  controller = range_within limit more one.controller other.controller first.controller
+      second.controller;
+  difference = range_within limit more one.difference other.difference first.difference
+      second.difference;
+}
+
+pub with_within : (limit more : ℕ) (totals : Totals) (report : Report) → AreWithin limit totals
+    → IsReportWithin more report → report.rows ≤ more
+    → AreWithin (limit + more) (with_report totals report)
+with_within limit more totals report within is few = record {
+  rows = omega (arith, within.rows, few);
+  accounts = λ account. rw (account_sums totals report account)
+      (account_within limit more (total_of account totals) (account_of account report)
+      (within.accounts account) (is.accounts account));
+  silences = λ device. rw (silence_sums totals report device)
+      (omega (arith, within.silences device, is.silences device));
+  unvalued = λ device. rw (unvalued_sums totals report device)
+      (omega (arith, within.unvalued device, is.unvalued device));
+}

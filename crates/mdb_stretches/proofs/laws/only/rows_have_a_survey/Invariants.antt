@@ -1,0 +1,6 @@
+use Rattle.std.proofs.Common.{take}
+use Rattle.mdb_stretches.proofs.OneSurvey.{HasSurveyed}
+use Rattle.mdb_stretches.proofs.laws.only.rows_have_a_survey.Given as goal
+
+abbrev pub invariant-loop-row : goal.invariant-loop-row
+invariant-loop-row l = HasSurveyed l.surveyor l.fn.scope (take l.row-index l.rows) l.row-index

@@ -1,0 +1,21 @@
+use Rattle.std.proofs.Common.{arith, refl, ap, sym, subst, ◌∙◌, ◌≡◌, ◌+◌, ◌*◌, ◌^◌, ◌≤◌, ℕ, List, [], ◌∷◌, ◌++◌, Some, None}
+use Rattle.mdb_stretches.specs.Stretches.{first_place}
+use Rattle.mdb_stretches.specs.Told.{told_after}
+use Rattle.mdb_bus.specs.ActLists.{acts_of}
+use Rattle.mdb_stretches.proofs.Standing.{told_nothing}
+use Rattle.mdb_stretches.proofs.surveyor.Surveyor.scoped.Goals as goal
+
+pub returns-clause-stands : goal.returns-clause-stands
+returns-clause-stands c = record {
+  running = [];
+  place = first_place c.args.scope.now;
+  lead = (refl, refl);
+  follows = c.scoped.ensures.stands;
+  followed_so = c.scoped.ensures.scope;
+  taken_so = c.copy.ensures;
+  told = λ pieces list. c.before-2.ensures ∙ told_nothing c.transcripts_have_one_act_list.ensures
+      c.args.scope.now _ pieces list;
+  before = refl;
+  faults = refl;
+  totals = refl;
+}

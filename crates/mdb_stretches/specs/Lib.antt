@@ -1,0 +1,9 @@
+pub mod Counts
+pub mod Learning
+pub mod Parts
+pub mod Stretches
+pub mod Summaries
+pub mod Surveyor
+pub mod Told
+pub mod Totals
+pub mod inner

@@ -1,0 +1,31 @@
+-- A surveyor whose follower has met an offence. This file serves private functions and proofs: no
+-- public clause cites it.
+use Rattle.std.specs.Prelude.{◌≡◌, List}
+use Rattle.mdb_words.specs.declared.event.Event.{Event}
+use Rattle.mdb_bus.specs.declared.scope.Scope.{Scope}
+use Rattle.mdb_bus.specs.ActLists.{IsActList, Piece, acts_of}
+use Rattle.mdb_follow.specs.declared.offence.Offence.{Offence}
+use Rattle.mdb_follow.specs.Follower as follow
+use Rattle.mdb_follow.specs.Offences.{IsOffence}
+use Rattle.mdb_stretches.specs.declared.stretch.Ended.{Ended}
+use Rattle.mdb_stretches.specs.declared.surveyor.Surveyor.{Surveyor}
+use Rattle.mdb_stretches.specs.Counts.{counts_of}
+use Rattle.mdb_stretches.specs.Stretches.{LeadFrom, StretchStart, first_place}
+use Rattle.mdb_stretches.specs.Told.{told_after}
+use Rattle.mdb_stretches.specs.Totals.{totals_of}
+
+-- It stood for these rows and faults, and the row after them, which it was fed, can't be.
+pub record HasHalted (surveyor : Surveyor) (scope : Scope) (rows : List Event) (row : Event)
+    (ended : List Ended) (offence : Offence) : Type 0 where
+  pub running : List Event
+  pub place : StretchStart
+  pub lead : LeadFrom (first_place scope) rows ended running place
+  pub accepted : follow.HasAccepted surveyor.follower running
+  pub followed_so : follow.scope_of surveyor.follower ≡ place.scope
+  pub taken_so : surveyor.scope ≡ place.scope
+  pub is : IsOffence place.scope running row offence
+  pub told : (pieces : List Piece) → IsActList place.scope pieces running
+      → surveyor.told ≡ told_after place.told (acts_of pieces)
+  pub before : surveyor.before ≡ place.rows
+  pub faults : surveyor.faults ≡ counts_of ended
+  pub totals : surveyor.totals ≡ totals_of ended

@@ -1,0 +1,76 @@
+//! Laws of the parts of a survey: of its faults, and of the stretches between them.
+
+ghost use Rattle.std.specs.Prelude.{◌≡◌, ◌+◌, ◌++◌, ◌⊎◌, List, [], All, Some, length};
+ghost use Rattle.mdb_words.specs.declared.event.Event.{Event};
+ghost use Rattle.mdb_msgs.specs.declared.command.Device.{Device};
+ghost use Rattle.mdb_bus.specs.declared.act.Act.{Act};
+ghost use Rattle.mdb_bus.specs.declared.scope.Beginning.{Beginning};
+ghost use Rattle.mdb_bus.specs.declared.scope.Scope.{Scope};
+ghost use Rattle.mdb_bus.specs.ActLists.{Piece, acts_of, levels_of};
+ghost use Rattle.mdb_bus.specs.LinkFaults.{blame_on};
+ghost use Rattle.mdb_bus.specs.Scopes.{IsFollowed, IsLeftOut};
+ghost use Rattle.mdb_stretches.specs.declared.stretch.Ended.{Ended};
+ghost use Rattle.mdb_stretches.specs.declared.stretch.Stretch.{Stretch};
+ghost use Rattle.mdb_stretches.specs.declared.told.Told.{Told};
+ghost use Rattle.mdb_stretches.specs.Learning.{AreKnown};
+ghost use Rattle.mdb_stretches.specs.Parts.{EndBefore, IsReaderBeyond};
+ghost use Rattle.mdb_stretches.specs.Stretches.{IsCutAt, IsSurvey, LeadFrom, StretchStart};
+ghost use Rattle.mdb_stretches.specs.Told.{setups_of, told_after};
+
+use mdb_follow::laws;
+
+/// A survey may be cut at a fault: the rows up to it lead to where the next stretch begins, and the
+/// others lead on from there.
+pub fn surveys_may_be_cut_at_a_fault()
+    ensures { (start : StretchStart) (rows : List Event) (later earlier : List Ended)
+        (running : List Event) (place : StretchStart)
+        → LeadFrom start rows (later ++ earlier) running place
+        → IsCutAt start rows later earlier running place }
+{}
+
+/// What was cut at a fault may be put together again.
+pub fn surveys_may_be_put_together()
+    ensures { (start cut place : StretchStart) (front rest running : List Event)
+        (earlier later : List Ended) → LeadFrom start front earlier [] cut
+        → LeadFrom cut rest later running place
+        → LeadFrom start (front ++ rest) (later ++ earlier) running place }
+{}
+
+/// Nobody is blamed that is left out, be it from the first row or after a fault.
+pub fn nobody_left_out_is_blamed()
+    ensures { (scope : Scope) (rows : List Event) (ended : List Ended) (last : Stretch)
+        → IsSurvey scope rows ended last
+        → All (λ it. (device : Device) → it.fault.blame ≡ blame_on (Some device)
+        → IsFollowed it.stretch.scope device × IsFollowed scope device) ended }
+{
+    laws::offences_are_blamed_on_devices_that_are_followed();
+}
+
+/// Each row is one of a stretch or a fault, in the order of their numbers.
+pub fn rows_are_of_stretches_or_faults()
+    ensures { (scope : Scope) (rows : List Event) (ended : List Ended) (last : Stretch)
+        → IsSurvey scope rows ended last
+        → EndBefore last.first ended × (last.last ≡ length rows)
+        × (last.number ≡ length ended + 1) }
+{}
+
+/// The devices that are left out at the end are those that are left out from the first row, and
+/// readers of which a fault is blamed on them with the rule `Profile`.
+pub fn left_out_are_those_of_the_start_and_readers_beyond_this_profile()
+    ensures stays { (scope : Scope) (rows : List Event) (ended : List Ended) (last : Stretch)
+        (device : Device) → IsSurvey scope rows ended last → IsLeftOut scope device
+        → IsLeftOut last.scope device }
+    ensures why { (scope : Scope) (rows : List Event) (ended : List Ended) (last : Stretch)
+        (device : Device) → IsSurvey scope rows ended last → IsLeftOut last.scope device
+        → IsLeftOut scope device ⊎ IsReaderBeyond ended device }
+{}
+
+/// What the rows tell for the next stretch is what was said last: `asked` the level of the last
+/// whole SETUP config ask to each reader, and `setups` what the machines of the devices know.
+pub fn what_is_told_is_what_was_said_last()
+    ensures asked { (told : Told) (pieces : List Piece)
+        → (told_after told (acts_of pieces)).asked ≡ levels_of told.asked pieces }
+    ensures setups { (begins : Beginning) (told : Told) (acts : List Act)
+        → told.setups ≡ setups_of begins
+        → AreKnown begins (told_after told acts).setups acts }
+{}

@@ -1,0 +1,16 @@
+//! What a survey comes to.
+
+use crate::counts::FaultCounts;
+use crate::totals::Totals;
+use mdb_msgs::DeviceSet;
+
+/// What the survey of a recording comes to.
+#[derive(Clone, Copy, PartialEq, Eq, Debug)]
+pub struct Summary {
+    /// The sums of the stretches' ranges, and of their counts.
+    pub totals: Totals,
+    /// The devices that are left out at the end.
+    pub without: DeviceSet,
+    /// How many faults there are.
+    pub faults: FaultCounts,
+}

@@ -1,0 +1,208 @@
+//! The surveyor of a recording.
+
+ghost use Rattle.std.specs.Prelude.{◌≡◌, ◌<◌, ◌≤◌, ◌+◌, ◌*◌, ◌^◌, List, [], ◌∷◌, ◌++◌, IfSome};
+ghost use Rattle.std.specs.Option.{IfNone};
+ghost use Rattle.mdb_words.specs.declared.event.Event.{Event};
+ghost use Rattle.mdb_bus.specs.declared.scope.Scope.{Scope};
+ghost use Rattle.mdb_follow.specs.declared.follower.TheConstants.{ROWS_MAX};
+ghost use Rattle.mdb_follow.specs.declared.offence.Offence.{Offence};
+ghost use Rattle.mdb_follow.specs.Follower.{rows_of as followed_rows};
+ghost use Rattle.mdb_stretches.specs.Counts.{AreFew};
+ghost use Rattle.mdb_stretches.specs.Stretches.{left_out_after, scope_after, without_reader};
+ghost use Rattle.mdb_stretches.specs.Totals.{AreWithin};
+
+use crate::counts::FaultCounts;
+use crate::stretch::{Ended, Stretch};
+use crate::summary::Summary;
+use crate::told::Told;
+use crate::totals::Totals;
+use mdb_bus::{Beginning, Blame, Rule, Scope, laws as links};
+use mdb_follow::{Follower, Offence};
+use mdb_msgs::{Device, DeviceSet, ReaderUnit};
+use mdb_words::Event;
+
+/// Everything that may have happened in the rows of the stretch that runs, and what is known of the
+/// stretches before it.
+///
+/// It keeps a follower, the sums of the stretches that have ended, and the number of their faults.
+/// It keeps no rows, and none of the stretches: each is returned as it ends.
+#[derive(Drop)]
+pub struct Surveyor {
+    follower: Follower,
+    /// How the rows of the stretch that runs are taken.
+    scope: Scope,
+    /// What the rows so far tell, those of the stretch that runs among them.
+    told: Told,
+    /// The number of rows before the stretch that runs.
+    before: u64,
+    /// The faults before it.
+    faults: FaultCounts,
+    /// The sums of the stretches before it.
+    totals: Totals,
+    ghost few: { before + followed_rows follower ≤ 100000000 },
+    ghost few_faults: { AreFew before faults },
+    ghost within: { AreWithin (before * 2 ^ 32) totals },
+}
+
+impl Surveyor {
+    ghost use Rattle.mdb_stretches.specs.declared.stretch.Ended.{Ended};
+    ghost use Rattle.mdb_stretches.specs.Stretches.{IsSurvey};
+    ghost use Rattle.mdb_stretches.specs.Summaries.{summary_of};
+    ghost use Rattle.mdb_stretches.specs.Surveyor.{StandsFor, rows_of};
+    ghost use Rattle.mdb_stretches.specs.Totals.{CanBeAdded};
+    ghost use Rattle.mdb_stretches.specs.inner.Halts.{HasHalted};
+
+    /// The surveyor before the first row of a recording that is taken so.
+    pub fn scoped(scope: &Scope) -> Surveyor
+        ensures stands { StandsFor result scope.now [] [] }
+        ensures empty { rows_of result ≡ 0 }
+    {
+        links::transcripts_have_one_act_list();
+        Surveyor {
+            follower: Follower::scoped(scope),
+            scope: scope.copy(),
+            told: Told::before(scope),
+            before: 0,
+            faults: FaultCounts::NONE,
+            totals: Totals::NONE,
+        }
+    }
+
+    /// The number of rows so far, those of the faults among them.
+    pub fn rows(&self) -> u64
+        ensures { result ≡ rows_of self.now }
+    {
+        self.before + self.follower.rows()
+    }
+
+    /// Takes the next row. If it can't be, it ends the stretch that runs: that stretch is returned,
+    /// with the fault, and the next row begins a new one.
+    #[inline(always)]
+    pub fn feed(&mut self, event: Event) -> Option<Ended>
+        requires room { rows_of self.old < ROWS_MAX }
+        ensures taken { IfNone result ((scope : Scope) (rows : List Event) (ended : List Ended)
+            → StandsFor self.old scope rows ended
+            → StandsFor self.new scope (rows ++ event ∷ []) ended) }
+        ensures ended { IfSome result (λ it. (scope : Scope) (rows : List Event)
+            (ended : List Ended) → StandsFor self.old scope rows ended
+            → StandsFor self.new scope (rows ++ event ∷ []) (it ∷ ended)) }
+        ensures counted { rows_of self.new ≡ rows_of self.old + 1 }
+    {
+        links::transcripts_have_one_act_list();
+        match self.follower.feed_ending(event) {
+            Ok(ended) => {
+                self.told.learn_if(ended, self.follower.act());
+                None
+            }
+            Err(offence) => Some(self.end_stretch(offence)),
+        }
+    }
+
+    /// The stretch that runs: the rows since the last fault, or since the first row. It may have no
+    /// row.
+    pub fn stretch(&self) -> Stretch
+        ensures { (scope : Scope) (rows : List Event) (ended : List Ended)
+            → StandsFor self.now scope rows ended → IsSurvey scope rows ended result }
+    {
+        self.running()
+    }
+
+    /// The stretch that runs, whose report can be added to the totals.
+    fn running(&self) -> Stretch
+        ensures stretch { (scope : Scope) (rows : List Event) (ended : List Ended)
+            → StandsFor self.now scope rows ended → IsSurvey scope rows ended result }
+        ensures scope { result.scope ≡ self.now.scope }
+        ensures within { CanBeAdded self.now.totals result.report }
+    {
+        let report = self.follower.report_before();
+        Stretch {
+            number: self.faults.all + 1,
+            first: self.before + 1,
+            last: self.before + report.rows,
+            scope: self.scope.copy(),
+            report,
+        }
+    }
+
+    /// The stretch that runs, as [`Surveyor::stretch`] has it, and what the survey comes to if it ends
+    /// here.
+    pub fn ending(&self) -> (Stretch, Summary)
+        ensures { (scope : Scope) (rows : List Event) (ended : List Ended)
+            → StandsFor self.now scope rows ended
+            → IsSurvey scope rows ended result.0 × (result.1 ≡ summary_of ended result.0) }
+    {
+        let last = self.running();
+        let summary = Summary {
+            totals: self.totals.with(&last.report),
+            without: self.scope.without,
+            faults: self.faults,
+        };
+        (last, summary)
+    }
+
+    /// Ends the stretch that runs, whose next row has met this offence.
+    #[inline(never)]
+    fn end_stretch(&mut self, offence: Offence) -> Ended
+        requires row { offence.row ≡ followed_rows self.old.follower + 1 }
+        requires room { rows_of self.old < ROWS_MAX }
+        ensures ended { (scope : Scope) (rows : List Event) (row : Event) (ended : List Ended)
+            → HasHalted self.old scope rows row ended offence
+            → StandsFor self.new scope (rows ++ row ∷ []) (result ∷ ended) }
+        ensures counted { rows_of self.new ≡ rows_of self.old + 1 }
+    {
+        links::transcripts_have_one_act_list();
+        let report = self.follower.report_before();
+        let fault = Offence {
+            row: self.before + offence.row,
+            rule: offence.rule,
+            blame: offence.blame,
+        };
+        let stretch = Stretch {
+            number: self.faults.all + 1,
+            first: self.before + 1,
+            last: self.before + report.rows,
+            scope: self.scope.copy(),
+            report,
+        };
+        self.totals = self.totals.with(&report);
+        self.faults.add(&fault);
+        self.before = fault.row;
+        self.scope = scope_after(&self.told, &fault, self.scope.without);
+        self.follower = Follower::scoped(&self.scope);
+        Ended { stretch, fault }
+    }
+}
+
+/// How the rows after a fault are taken, where so much is told up to it, and these devices were
+/// left out.
+fn scope_after(told: &Told, fault: &Offence, without: DeviceSet) -> Scope
+    ensures { result ≡ scope_after told.now fault.now without }
+{
+    Scope {
+        begins: Beginning::Joined(told.setups.copy()),
+        without: left_out_after(told, fault, without),
+        levels: told.unanswered,
+    }
+}
+
+/// The devices that are left out after a fault, where these were left out before it.
+fn left_out_after(told: &Told, fault: &Offence, without: DeviceSet) -> DeviceSet
+    ensures { result ≡ left_out_after told.now fault.now without }
+{
+    match (fault.rule, fault.blame) {
+        (Rule::Profile, Blame::Cashless) => without_reader(told, ReaderUnit::First, without),
+        (Rule::Profile, Blame::Cashless2) => without_reader(told, ReaderUnit::Second, without),
+        _ => without,
+    }
+}
+
+/// The devices that are left out after a `Profile` that is blamed on a reader.
+fn without_reader(told: &Told, unit: ReaderUnit, without: DeviceSet) -> DeviceSet
+    ensures { result ≡ without_reader told.now unit without }
+{
+    if told.is_told_below_2(unit) {
+        without
+    } else {
+        without.with(Device::Reader(unit))
+    }
+}

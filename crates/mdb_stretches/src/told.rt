@@ -1,0 +1,111 @@
+//! What the rows so far tell of how the devices are set up.
+
+ghost use Rattle.std.specs.Prelude.{◌≡◌, Some};
+ghost use Rattle.mdb_msgs.specs.declared.command.Device.{Device};
+ghost use Rattle.mdb_bus.specs.Bus.{ended_act};
+ghost use Rattle.mdb_msgs.specs.SetupData.{known_with};
+ghost use Rattle.mdb_stretches.specs.Told.{answered, is_told_below_2, learnt_by, learnt_if, setups_of, told_before, with_answer};
+
+use mdb_bus::{Act, Beginning, Levels, Scope};
+use mdb_msgs::{Device, ReaderUnit, Reply, Setups};
+
+/// What the rows so far tell of how the devices are set up, for the next stretch (this profile).
+#[derive(PartialEq, Eq, Debug, Drop)]
+pub struct Told {
+    /// The setup data of each device's last whole answer to SETUP, of a reader those of its last
+    /// config message. Where there was none, what was known before the first row.
+    pub setups: Setups,
+    /// The feature level (Y2) of the last whole SETUP config ask to each reader.
+    pub asked: Levels,
+    /// The same where no config message of that reader came after it.
+    pub unanswered: Levels,
+}
+
+impl Told {
+    /// What is told before the first row of a recording that is taken so.
+    pub fn before(scope: &Scope) -> Told
+        ensures { result ≡ told_before scope.now }
+    {
+        Told {
+            setups: setups_of(&scope.begins),
+            asked: scope.levels,
+            unanswered: scope.levels,
+        }
+    }
+
+    /// Learns what an act tells, if it has ended.
+    #[inline(always)]
+    pub(crate) fn learn_if(&mut self, has_ended: bool, act: &Act)
+        ensures { self.new ≡ learnt_if (ended_act has_ended act.now) self.old }
+    {
+        if has_ended {
+            self.learn(act);
+        }
+    }
+
+    /// Learns what an act tells.
+    #[inline(always)]
+    pub fn learn(&mut self, act: &Act)
+        ensures { self.new ≡ learnt_by act.now self.old }
+    {
+        match act {
+            Act::Ask(command) => {
+                self.asked = self.asked.after(*command);
+                self.unanswered = self.unanswered.after(*command);
+            }
+            Act::Reply(command, reply) => self.learn_reply(command.device(), reply),
+            _ => {}
+        }
+    }
+
+    /// Learns what a reply of a device tells.
+    fn learn_reply(&mut self, device: Device, reply: &Reply)
+        ensures { self.new
+            ≡ with_answer device (known_with self.old.setups device reply.now) self.old }
+    {
+        if self.setups.learn_reply(device, reply) {
+            self.unanswered = answered(device, self.unanswered);
+        }
+    }
+
+    /// Whether the controller has told a reader a feature level below 2, and no other since.
+    pub fn is_told_below_2(&self, unit: ReaderUnit) -> bool
+        ensures { result ≡ is_told_below_2 self.now unit }
+    {
+        let level = match unit {
+            ReaderUnit::First => self.asked.first,
+            ReaderUnit::Second => self.asked.second,
+        };
+        match level {
+            Some(level) => level < 2,
+            None => false,
+        }
+    }
+}
+
+/// The setup data that are known before a recording that begins so.
+pub fn setups_of(begins: &Beginning) -> Setups
+    ensures { result ≡ setups_of begins.now }
+{
+    match begins {
+        Beginning::PowerOn => Setups::NONE,
+        Beginning::Joined(setups) => setups.copy(),
+    }
+}
+
+/// The levels to which no config message is an answer yet, after one of this device.
+fn answered(device: Device, levels: Levels) -> Levels
+    ensures { result ≡ answered device levels }
+{
+    match device {
+        Device::Reader(ReaderUnit::First) => Levels {
+            first: None,
+            second: levels.second,
+        },
+        Device::Reader(ReaderUnit::Second) => Levels {
+            first: levels.first,
+            second: None,
+        },
+        _ => levels,
+    }
+}

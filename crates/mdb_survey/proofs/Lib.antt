@@ -1,0 +1,7 @@
+pub mod Floats
+pub mod NoRows
+pub mod OneSurvey
+pub mod PageEnds
+pub mod Surveyings
+pub mod Surveys
+pub mod Texts

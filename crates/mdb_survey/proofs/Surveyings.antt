@@ -1,0 +1,276 @@
+-- What the survey is, by how the reading of rows ended.
+use Rattle.std.proofs.Common.{refl, ap, sym, subst, inl, inr, ◌∙◌, ◌≡◌, ℕ, List, [], ◌∷◌, ◌++◌, Result, Ok, Err, append_assoc}
+use Rattle.std.specs.Prelude.{IsErrAnd}
+use Rattle.mdb_words.specs.declared.event.Event.{Event}
+use Rattle.mdb_words.specs.Row.{IsRefusal, IsRow}
+use Rattle.mdb_bus.specs.declared.scope.Scope.{Scope}
+use Rattle.mdb_follow.specs.declared.follower.TheConstants.{ROWS_MAX}
+use Rattle.mdb_stretches.specs.declared.stretch.Ended.{Ended}
+use Rattle.mdb_stretches.specs.declared.stretch.Stretch.{Stretch}
+use Rattle.mdb_stretches.specs.declared.summary.Summary.{Summary}
+use Rattle.mdb_stretches.specs.declared.surveyor.Surveyor.{Surveyor}
+use Rattle.mdb_stretches.specs.Stretches.{IsSurvey}
+use Rattle.mdb_stretches.specs.Summaries.{summary_of}
+use Rattle.mdb_stretches.specs.Surveyor.{StandsFor}
+use Rattle.mdb_verdict.specs.declared.fault.RunFault.{RunFault}
+use Rattle.mdb_verdict.specs.declared.fault.RunFault.TheVariants.{BadRow, TooLong, Read, Write, Memory}
+use Rattle.mdb_verdict.specs.Ending.{AreRead, HasEnded, IsStopped, IsTakenInPart, IsTakenWhole}
+use Rattle.mdb_verdict.proofs.Rows.{IsReadBefore, are_rows, read_before}
+use Rattle.mdb_writing.specs.Output.{Breaks, Output, Puts}
+use Rattle.mdb_writing.proofs.Outputs.{break_both, put_both}
+use Rattle.mdb_survey.specs.inner.SurveySteps.{HasAddedEnd, HasAddedLast, HasStopped, HasSurveyed, IsNotTaken, LeadInto, PutsSurveying}
+use Rattle.mdb_survey.specs.Lines.{LineForm, lines_of}
+use Rattle.mdb_survey.specs.Survey.{AreSurveyed, IsSurveyedInPart, IsSurveying}
+use Rattle.mdb_survey.proofs.NoRows.{NoneAreReached}
+use Rattle.mdb_survey.proofs.Surveys.{lead_into}
+
+-- what a surveyor may have stopped at
+abbrev pub Stops : LineForm → Scope → Output → Output → List Event → List Event → RunFault → Type 0
+Stops form scope before after earlier rows = HasStopped form scope before after (earlier ++ rows)
+
+-- the survey of the rows that were read
+abbrev surveyed_of : (scope : Scope) (all : List (List (List ℕ))) (rows : List Event)
+    (rest : List (List (List ℕ))) (ended : List Ended) (last : Stretch) → AreRead IsRow all rows rest
+    → IsSurvey scope rows ended last → AreSurveyed scope all ended last rest
+surveyed_of scope all rows rest ended last read survey = record {
+  done = read.done;
+  split = read.split;
+  rows = rows;
+  told = are_rows read.done rows read.told;
+  survey = survey;
+}
+
+-- the lines of faults alone are those of a part of the records
+part_of : (form : LineForm) (scope : Scope) (all : List (List (List ℕ))) (rows : List Event)
+    (rest : List (List (List ℕ))) (ended : List Ended) → AreRead IsRow all rows rest
+    → LeadInto scope rows ended → IsSurveyedInPart form scope all (lines_of form ended)
+part_of form scope all rows rest ended read lead =
+    let Read : List Event → Type 0 = λ l. AreRead IsRow all l rest in
+    let before : IsReadBefore IsRow all lead.front lead.rest =
+    read_before IsRow all lead.front lead.rest rest (subst Read lead.parts read) in
+    record {
+      ended = ended;
+      last = lead.last;
+      rest = before.after ++ before.rest;
+      surveyed = surveyed_of scope all lead.front (before.after ++ before.rest) ended lead.last before.read lead.survey;
+      lines = refl;
+    }
+
+-- The text ends.
+whole_by : (form : LineForm) (scope : Scope) (all : List (List (List ℕ))) (surveyor : Surveyor)
+    (before now later : Output)
+    → (it : IsTakenWhole IsRow (HasSurveyed form scope surveyor before now) ROWS_MAX all)
+    → (answer : Result Summary RunFault) → (adds : HasAddedEnd form surveyor now later answer)
+    → (summary : Summary) → summary ≡ adds.summary
+    → IsSurveying form scope all (Ok summary)
+    (lines_of form it.has.ended ++ form.stretch adds.last ++ form.summary adds.summary)
+whole_by form scope all surveyor before now later it answer adds summary is =
+    let both = adds.survey scope it.rows it.has.ended it.has.stands in
+    record {
+      ended = it.has.ended;
+      last = adds.last;
+      surveyed = surveyed_of scope all it.rows [] it.has.ended adds.last it.read both.0;
+      few = it.few;
+      comes_to = is ∙ both.1;
+      lines = ap (λ s. lines_of form it.has.ended ++ form.stretch adds.last ++ form.summary s) (sym is);
+    }
+
+pub whole : NoneAreReached → (form : LineForm) (scope : Scope) (all : List (List (List ℕ))) (surveyor : Surveyor)
+    (before now later : Output)
+    → IsTakenWhole IsRow (HasSurveyed form scope surveyor before now) ROWS_MAX all
+    → (answer : Result Summary RunFault) → HasAddedEnd form surveyor now later answer
+    → PutsSurveying form scope all before later answer
+whole law form scope all surveyor before now later it (Ok summary) adds = inl (
+  lines_of form it.has.ended ++ form.stretch adds.last ++ form.summary adds.summary,
+  whole_by form scope all surveyor before now later it (Ok summary) adds summary adds.told,
+  subst (Puts before later) (sym (append_assoc (lines_of form it.has.ended) (form.stretch adds.last) (form.summary adds.summary)))
+      (put_both before now later (lines_of form it.has.ended) (form.stretch adds.last ++ form.summary adds.summary) it.has.written adds.added),
+)
+whole law form scope all surveyor before now later it (Err (BadRow row fault)) adds = absurd adds.refused
+whole law form scope all surveyor before now later it (Err TooLong) adds = absurd adds.refused
+whole law form scope all surveyor before now later it (Err Read) adds = absurd adds.refused
+whole law form scope all surveyor before now later it (Err Write) adds = inr (
+  refl,
+  record {
+    answer = Ok adds.summary;
+    text = lines_of form it.has.ended ++ form.stretch adds.last ++ form.summary adds.summary;
+    surveying = whole_by form scope all surveyor before now later it (Err Write) adds adds.summary refl;
+    broken = subst (Breaks before later) (sym (append_assoc (lines_of form it.has.ended) (form.stretch adds.last) (form.summary adds.summary)))
+        (break_both before now later (lines_of form it.has.ended) (form.stretch adds.last ++ form.summary adds.summary) it.has.written adds.refused);
+  },
+)
+whole law form scope all surveyor before now later it (Err Memory) adds =
+    let P : Output → Type 0 = λ bytes. Puts before bytes (lines_of form it.has.ended) in inl (
+      lines_of form it.has.ended,
+      part_of form scope all it.rows [] it.has.ended it.read (lead_into law scope surveyor it.rows it.has.ended it.has.stands),
+      subst P (sym adds.refused) it.has.written,
+    )
+
+-- the same, where the lines of the whole are refused
+pub end_refused : (form : LineForm) (surveyor : Surveyor) (now later : Output) (last : Stretch)
+    (summary : Summary)
+    → ((scope : Scope) (rows : List Event) (ended : List Ended)
+    → StandsFor surveyor scope rows ended
+    → IsSurvey scope rows ended last × (summary ≡ summary_of ended last)) → (fault : RunFault)
+    → IsNotTaken fault now later (form.stretch last ++ form.summary summary)
+    → (answer : Result Summary RunFault) → IsErrAnd answer (λ told. told ≡ fault)
+    → HasAddedEnd form surveyor now later answer
+end_refused form surveyor now later last summary survey fault not_taken (Ok told) told_is = absurd told_is
+end_refused form surveyor now later last summary survey fault not_taken (Err told) told_is = record {
+  last = last;
+  summary = summary;
+  survey = survey;
+  told = tt;
+  added = tt;
+  refused = subst (λ f. IsNotTaken f now later (form.stretch last ++ form.summary summary)) (sym told_is) not_taken;
+}
+
+-- A record isn't taken, or can't be read.
+
+-- so many rows are taken, and with the lines of the stretch that runs this is the answer
+record TakenUpTo (form : LineForm) (scope : Scope) (all : List (List (List ℕ)))
+    (surveyor : Surveyor) (before now : Output) (fault : RunFault) : Type 0 where
+  taken : IsTakenInPart IsRow (HasSurveyed form scope surveyor before now) all
+  answers : (last : Stretch) → IsSurvey scope taken.rows taken.has.ended last
+      → IsSurveying form scope all (Err fault) (lines_of form taken.has.ended ++ form.stretch last)
+
+taken_up_to : (form : LineForm) (scope : Scope) (all : List (List (List ℕ))) (surveyor : Surveyor)
+    (before now : Output) (fault : RunFault) → (fault ≡ Memory → ⊥)
+    → HasEnded IsRow IsRefusal (HasSurveyed form scope surveyor before now)
+    (Stops form scope before now) ROWS_MAX all (Err fault)
+    → TakenUpTo form scope all surveyor before now fault
+taken_up_to form scope all surveyor before now (BadRow row fault) not it = record {
+  taken = record { rows = it.rows; rest = it.fields ∷ it.rest; read = it.read; has = it.has };
+  answers = λ last survey. record {
+    ended = it.has.ended;
+    last = last;
+    fields = it.fields;
+    rest = it.rest;
+    surveyed = surveyed_of scope all it.rows (it.fields ∷ it.rest) it.has.ended last it.read survey;
+    few = it.few;
+    number = it.number;
+    refused = it.refused;
+    lines = refl;
+  };
+}
+taken_up_to form scope all surveyor before now TooLong not it = record {
+  taken = record { rows = it.rows; rest = it.fields ∷ it.rest; read = it.read; has = it.has };
+  answers = λ last survey. record {
+    ended = it.has.ended;
+    last = last;
+    fields = it.fields;
+    rest = it.rest;
+    surveyed = surveyed_of scope all it.rows (it.fields ∷ it.rest) it.has.ended last it.read survey;
+    full = it.full;
+    lines = refl;
+  };
+}
+taken_up_to form scope all surveyor before now Read not it = record {
+  taken = it;
+  answers = λ last survey. record {
+    ended = it.has.ended;
+    last = last;
+    rest = it.rest;
+    surveyed = surveyed_of scope all it.rows it.rest it.has.ended last it.read survey;
+    lines = refl;
+  };
+}
+taken_up_to form scope all surveyor before now Write not it = absurd it
+taken_up_to form scope all surveyor before now Memory not it = absurd (not refl)
+
+-- the lines of the stretch that runs are added
+pub told_with_last : (form : LineForm) (scope : Scope) (all : List (List (List ℕ)))
+    (surveyor : Surveyor) (before now later : Output) (fault : RunFault) → (fault ≡ Memory → ⊥)
+    → HasEnded IsRow IsRefusal (HasSurveyed form scope surveyor before now)
+    (Stops form scope before now) ROWS_MAX all (Err fault)
+    → (done : Unit) → HasAddedLast form surveyor now later (Ok done)
+    → PutsSurveying form scope all before later (Err fault)
+told_with_last form scope all surveyor before now later fault not ended done adds =
+    let it : TakenUpTo form scope all surveyor before now fault =
+    taken_up_to form scope all surveyor before now fault not ended in
+    let has : HasSurveyed form scope surveyor before now it.taken.rows = it.taken.has in inl (
+      lines_of form has.ended ++ form.stretch adds.last,
+      it.answers adds.last (adds.survey scope it.taken.rows has.ended has.stands),
+      put_both before now later (lines_of form has.ended) (form.stretch adds.last) has.written adds.added,
+    )
+
+-- they aren't taken
+last_untaken : NoneAreReached → (form : LineForm) (scope : Scope) (all : List (List (List ℕ))) (surveyor : Surveyor)
+    (before now later : Output) (fault : RunFault)
+    → TakenUpTo form scope all surveyor before now fault → (other : RunFault)
+    → HasAddedLast form surveyor now later (Err other)
+    → PutsSurveying form scope all before later (Err other)
+last_untaken law form scope all surveyor before now later fault it (BadRow row refusal) adds = absurd adds.refused
+last_untaken law form scope all surveyor before now later fault it TooLong adds = absurd adds.refused
+last_untaken law form scope all surveyor before now later fault it Read adds = absurd adds.refused
+last_untaken law form scope all surveyor before now later fault it Write adds =
+    let has : HasSurveyed form scope surveyor before now it.taken.rows = it.taken.has in inr (
+      refl,
+      record {
+        answer = Err fault;
+        text = lines_of form has.ended ++ form.stretch adds.last;
+        surveying = it.answers adds.last (adds.survey scope it.taken.rows has.ended has.stands);
+        broken = break_both before now later (lines_of form has.ended) (form.stretch adds.last) has.written adds.refused;
+      },
+    )
+last_untaken law form scope all surveyor before now later fault it Memory adds =
+    let has : HasSurveyed form scope surveyor before now it.taken.rows = it.taken.has in
+    let P : Output → Type 0 = λ bytes. Puts before bytes (lines_of form has.ended) in inl (
+      lines_of form has.ended,
+      part_of form scope all it.taken.rows it.taken.rest has.ended it.taken.read (lead_into law scope surveyor it.taken.rows has.ended has.stands),
+      subst P (sym adds.refused) has.written,
+    )
+
+pub last_refused : NoneAreReached → (form : LineForm) (scope : Scope) (all : List (List (List ℕ)))
+    (surveyor : Surveyor) (before now later : Output) (fault : RunFault) → (fault ≡ Memory → ⊥)
+    → HasEnded IsRow IsRefusal (HasSurveyed form scope surveyor before now)
+    (Stops form scope before now) ROWS_MAX all (Err fault)
+    → (other : RunFault) → HasAddedLast form surveyor now later (Err other)
+    → (answer : Result Summary RunFault) → IsErrAnd answer (λ told. told ≡ other)
+    → PutsSurveying form scope all before later answer
+last_refused law form scope all surveyor before now later fault not ended other adds (Ok summary) told_is = absurd told_is
+last_refused law form scope all surveyor before now later fault not ended other adds (Err told) told_is =
+    let P : RunFault → Type 0 = λ f. PutsSurveying form scope all before later (Err f) in
+    subst P (sym told_is)
+    (last_untaken law form scope all surveyor before now later fault (taken_up_to form scope all surveyor before now fault not ended) other adds)
+
+-- memory is refused
+pub out_of_memory : NoneAreReached → (form : LineForm) (scope : Scope) (all : List (List (List ℕ)))
+    (surveyor : Surveyor) (before now : Output) (fault : RunFault) → fault ≡ Memory
+    → HasEnded IsRow IsRefusal (HasSurveyed form scope surveyor before now)
+    (Stops form scope before now) ROWS_MAX all (Err fault)
+    → PutsSurveying form scope all before now (Err fault)
+out_of_memory law form scope all surveyor before now fault is ended =
+    let Ended : RunFault → Type 0 = λ f. HasEnded IsRow IsRefusal (HasSurveyed form scope surveyor before now) (Stops form scope before now) ROWS_MAX all (Err f) in
+    let it : IsTakenInPart IsRow (HasSurveyed form scope surveyor before now) all = subst Ended is ended in
+    let P : RunFault → Type 0 = λ f. PutsSurveying form scope all before now (Err f) in
+    subst P (sym is) (inl (
+      lines_of form it.has.ended,
+      part_of form scope all it.rows it.rest it.has.ended it.read (lead_into law scope surveyor it.rows it.has.ended it.has.stands),
+      it.has.written,
+    ))
+
+-- The lines of a fault and its stretch aren't taken.
+pub lines_untaken : (form : LineForm) (scope : Scope) (all : List (List (List ℕ)))
+    (before now : Output) (fault : RunFault)
+    → IsStopped IsRow (λ earlier later. HasStopped form scope before now (earlier ++ later) fault)
+    ROWS_MAX all → PutsSurveying form scope all before now (Err fault)
+lines_untaken form scope all before now (BadRow row fault) it = absurd it.stops
+lines_untaken form scope all before now TooLong it = absurd it.stops
+lines_untaken form scope all before now Read it = absurd it.stops
+lines_untaken form scope all before now Write it =
+    let rows : List Event = it.earlier ++ it.later in inr (
+      refl,
+      record {
+        answer = Err Memory;
+        text = lines_of form it.stops.0;
+        surveying = part_of form scope all rows it.rest it.stops.0 it.read it.stops.1;
+        broken = it.stops.2;
+      },
+    )
+lines_untaken form scope all before now Memory it =
+    let rows : List Event = it.earlier ++ it.later in inl (
+      lines_of form it.stops.0,
+      part_of form scope all rows it.rest it.stops.0 it.read it.stops.1,
+      it.stops.2,
+    )

@@ -1,0 +1,7 @@
+use Rattle.mdb_survey.proofs.Surveys.{begins}
+use Rattle.mdb_survey.proofs.surveying.Surveying.new.Goals as goal
+
+pub returns-clause-surveyed : goal.returns-clause-surveyed
+returns-clause-surveyed g c =
+    begins g.F.Form.lines c.args.scope.now c.scoped.result c.new.result.page c.scoped.ensures.stands
+    c.scoped.ensures.empty c.new.ensures

@@ -1,0 +1,5 @@
+pub mod Lines
+pub mod Survey
+pub mod SurveyJson
+pub mod SurveyText
+pub mod inner

@@ -1,0 +1,99 @@
+-- How the lines of a survey come about, row by row, in whatever form. This file serves private
+-- functions and proofs: no public clause cites it.
+use Rattle.std.specs.Prelude.{◌≡◌, ◌⊎◌, ℕ, List, ◌++◌, length, Result, Ok, Err, IfErr, IfOk, OnOk}
+use Rattle.mdb_words.specs.declared.event.Event.{Event}
+use Rattle.mdb_bus.specs.declared.scope.Scope.{Scope}
+use Rattle.mdb_stretches.specs.declared.stretch.Ended.{Ended}
+use Rattle.mdb_stretches.specs.declared.stretch.Stretch.{Stretch}
+use Rattle.mdb_stretches.specs.declared.surveyor.Surveyor.{Surveyor}
+use Rattle.mdb_stretches.specs.Stretches.{IsSurvey}
+use Rattle.mdb_stretches.specs.Summaries.{summary_of}
+use Rattle.mdb_stretches.specs.Surveyor.{StandsFor, rows_of}
+use Rattle.mdb_verdict.specs.declared.fault.RunFault.{RunFault}
+use Rattle.mdb_verdict.specs.declared.fault.RunFault.TheVariants.{BadRow, TooLong, Read, Write, Memory}
+use Rattle.mdb_writing.specs.Output.{Breaks, Output, Puts}
+use Rattle.mdb_stretches.specs.declared.summary.Summary.{Summary}
+use Rattle.mdb_survey.specs.Lines.{LineForm, lines_of}
+use Rattle.mdb_survey.specs.Survey.{IsSurveying}
+
+-- a text isn't put there: with want of memory nothing has changed
+abbrev pub IsNotTaken : RunFault → Output → Output → List ℕ → Type 0
+IsNotTaken (BadRow row fault) before after text = ⊥
+IsNotTaken TooLong before after text = ⊥
+IsNotTaken Read before after text = ⊥
+IsNotTaken Write before after text = Breaks before after text
+IsNotTaken Memory before after text = after ≡ before
+
+-- A surveyor stands for the rows so far, and the lines of their faults, each with the stretch that
+-- it ended, are on their way.
+pub record HasSurveyed (form : LineForm) (scope : Scope) (surveyor : Surveyor)
+    (before after : Output) (rows : List Event) : Type 0 where
+  pub ended : List Ended
+  pub stands : StandsFor surveyor scope rows ended
+  pub counted : rows_of surveyor ≡ length rows
+  pub written : Puts before after (lines_of form ended)
+
+-- The first of some rows have a survey with these faults.
+pub record LeadInto (scope : Scope) (rows : List Event) (ended : List Ended) : Type 0 where
+  pub front : List Event
+  pub rest : List Event
+  pub parts : rows ≡ front ++ rest
+  pub last : Stretch
+  pub survey : IsSurvey scope front ended last
+
+-- One of these rows ended a stretch, and the lines of that and of the fault weren't taken: with want
+-- of memory those before them are on their way, and where the writer failed it took a front of all.
+abbrev pub HasStopped : LineForm → Scope → Output → Output → List Event → RunFault → Type 0
+HasStopped form scope before after rows (BadRow row fault) = ⊥
+HasStopped form scope before after rows TooLong = ⊥
+HasStopped form scope before after rows Read = ⊥
+HasStopped form scope before after rows Write =
+    (ended : List Ended) × LeadInto scope rows ended × Breaks before after (lines_of form ended)
+HasStopped form scope before after rows Memory =
+    (ended : List Ended) × LeadInto scope rows ended × Puts before after (lines_of form ended)
+
+-- what the taking of the last of these rows comes to
+abbrev pub HasGoneOn : LineForm → Scope → Surveyor → Output → Output → List Event
+    → Result Unit RunFault → Type 0
+HasGoneOn form scope surveyor before after rows (Ok done) =
+    HasSurveyed form scope surveyor before after rows
+HasGoneOn form scope surveyor before after rows (Err fault) =
+    HasStopped form scope before after rows fault
+
+-- The lines of the stretch that runs are on their way, or weren't taken.
+pub record HasAddedLast (form : LineForm) (surveyor : Surveyor) (before after : Output)
+    (answer : Result Unit RunFault) : Type 0 where
+  pub last : Stretch
+  pub survey : (scope : Scope) (rows : List Event) (ended : List Ended)
+      → StandsFor surveyor scope rows ended → IsSurvey scope rows ended last
+  pub added : OnOk answer (Puts before after (form.stretch last))
+  pub refused : IfErr answer (λ fault. IsNotTaken fault before after (form.stretch last))
+
+-- The lines of the last stretch and of the whole are on their way, and the whole is answered; or
+-- they weren't taken.
+pub record HasAddedEnd (form : LineForm) (surveyor : Surveyor) (before after : Output)
+    (answer : Result Summary RunFault) : Type 0 where
+  pub last : Stretch
+  pub summary : Summary
+  pub survey : (scope : Scope) (rows : List Event) (ended : List Ended)
+      → StandsFor surveyor scope rows ended
+      → IsSurvey scope rows ended last × (summary ≡ summary_of ended last)
+  pub told : IfOk answer (λ told. told ≡ summary)
+  pub added : OnOk answer (Puts before after (form.stretch last ++ form.summary summary))
+  pub refused : IfErr answer (λ fault. IsNotTaken fault before after
+      (form.stretch last ++ form.summary summary))
+
+-- The writer failed with a front of a text that is written of the records.
+pub record IsBroken (form : LineForm) (scope : Scope) (records : List (List (List ℕ)))
+    (before after : Output) : Type 0 where
+  pub answer : Result Summary RunFault
+  pub text : List ℕ
+  pub surveying : IsSurveying form scope records answer text
+  pub broken : Breaks before after text
+
+-- what `SurveysIn` says, where some of the text may still be on its way
+abbrev pub PutsSurveying : LineForm → Scope → List (List (List ℕ)) → Output → Output
+    → Result Summary RunFault → Type 0
+PutsSurveying form scope records before after answer =
+    ((text : List ℕ) × IsSurveying form scope records answer text × Puts before after text)
+    ⊎ ((answer ≡ Err Write) × IsBroken form scope records before after)

@@ -1,0 +1,149 @@
+//! The lines of a survey, as JSON.
+
+ghost use Rattle.std.specs.Prelude.{◌≡◌, ◌++◌, IfOk, OnOk, false};
+ghost use Rattle.serde_json.specs.Data.{Data};
+ghost use Rattle.serde_json.specs.View.{view};
+ghost use Rattle.serde_json.specs.Written.{compact_text, has_float};
+ghost use Rattle.mdb_survey.specs.SurveyJson.{device_total, devices_total, fault_data, faults_data, offence_data, stretch_data, stretch_json, summary_data, total_data};
+ghost use Rattle.mdb_text.specs.Text.{line};
+
+use mdb_follow::Offence;
+use mdb_json::{VERSION, accounts_of, report_value};
+use mdb_msgs::{Device, ReaderUnit};
+use mdb_stretches::{FaultCounts, Stretch, Summary};
+use serde_json::{Value, json};
+use std::alloc::{AllocError, Global};
+
+/// Appends the line of a stretch: none where it has no row.
+#[tactic(auto, using(crate::proofs::Floats::of_stretch))]
+pub(crate) fn push_stretch(text: &mut Vec<u8>, stretch: &Stretch) -> Result<(), AllocError>
+    ensures { OnOk result (text.new.items ≡ text.old.items ++ stretch_json stretch.now) }
+{
+    if stretch.report.rows == 0 {
+        return Ok(());
+    }
+    let value = stretch_value(*text.allocator(), stretch)?;
+    push_line(text, &value)
+}
+
+/// Appends the line of a fault.
+pub(crate) fn push_fault(text: &mut Vec<u8>, fault: &Offence) -> Result<(), AllocError>
+    ensures { OnOk result
+        (text.new.items ≡ text.old.items ++ line (compact_text (fault_data fault.now))) }
+{
+    let value = fault_value(*text.allocator(), fault)?;
+    push_line(text, &value)
+}
+
+/// Appends the line of the whole.
+#[tactic(auto, using(crate::proofs::Floats::of_summary))]
+pub(crate) fn push_summary(text: &mut Vec<u8>, summary: &Summary) -> Result<(), AllocError>
+    ensures { OnOk result
+        (text.new.items ≡ text.old.items ++ line (compact_text (summary_data summary.now))) }
+{
+    let value = summary_value(*text.allocator(), summary)?;
+    push_line(text, &value)
+}
+
+/// Appends a value as a line.
+fn push_line(text: &mut Vec<u8>, value: &Value) -> Result<(), AllocError>
+    requires { has_float (view value.now) ≡ false }
+    ensures { OnOk result
+        (text.new.items ≡ text.old.items ++ line (compact_text (view value.now))) }
+{
+    let written = value.to_string(*text.allocator())?;
+    text.extend_from_slice(written.as_bytes())?;
+    text.extend_from_slice(b"\n")
+}
+
+/// A stretch as a value.
+fn stretch_value(alloc: Global, stretch: &Stretch) -> Result<Value, AllocError>
+    ensures { IfOk result (λ value. view value ≡ stretch_data stretch.now) }
+{
+    let report = report_value(alloc, &stretch.scope, &stretch.report)?;
+    json!(in alloc; {
+        "version": VERSION,
+        "stretch": stretch.number,
+        "first": stretch.first,
+        "last": stretch.last,
+        "report": report
+    })
+}
+
+/// A fault as a value.
+fn fault_value(alloc: Global, fault: &Offence) -> Result<Value, AllocError>
+    ensures { IfOk result (λ value. view value ≡ fault_data fault.now) }
+{
+    let offence = json!(in alloc; {
+        "row": fault.row,
+        "rule": fault.rule.word(),
+        "blame": fault.blame.word()
+    })?;
+    json!(in alloc; {"version": VERSION, "fault": offence})
+}
+
+/// The whole as a value.
+fn summary_value(alloc: Global, summary: &Summary) -> Result<Value, AllocError>
+    ensures { IfOk result (λ value. view value ≡ summary_data summary.now) }
+{
+    let faults = faults_value(alloc, &summary.faults)?;
+    let total = total_value(alloc, summary)?;
+    json!(in alloc; {"version": VERSION, "total": total, "faults": faults})
+}
+
+/// How many faults there are, as a value.
+fn faults_value(alloc: Global, faults: &FaultCounts) -> Result<Value, AllocError>
+    ensures { IfOk result (λ value. view value ≡ faults_data faults.now) }
+{
+    json!(in alloc; {
+        "all": faults.all,
+        "controller": faults.controller,
+        "changer": faults.changer,
+        "bill": faults.bill,
+        "cashless": faults.cashless,
+        "cashless-2": faults.cashless_2,
+        "other": faults.other,
+        "profile": faults.profile
+    })
+}
+
+/// The totals as a value; null where no stretch has a row.
+fn total_value(alloc: Global, summary: &Summary) -> Result<Value, AllocError>
+    ensures { IfOk result (λ value. view value ≡ total_data summary.now) }
+{
+    if summary.totals.rows == 0 {
+        return Ok(Value::Null);
+    }
+    let devices = devices_value(alloc, summary)?;
+    json!(in alloc; {"devices": devices})
+}
+
+/// What all stretches have of each device, by its word.
+fn devices_value(alloc: Global, summary: &Summary) -> Result<Value, AllocError>
+    ensures { IfOk result (λ value. view value ≡ devices_total summary.now) }
+{
+    let changer = device_value(alloc, summary, Device::Changer)?;
+    let bill = device_value(alloc, summary, Device::Bill)?;
+    let first = device_value(alloc, summary, Device::Reader(ReaderUnit::First))?;
+    let second = device_value(alloc, summary, Device::Reader(ReaderUnit::Second))?;
+    json!(in alloc; {
+        "changer": changer,
+        "bill": bill,
+        "cashless": first,
+        "cashless-2": second
+    })
+}
+
+/// What all stretches have of a device.
+fn device_value(alloc: Global, summary: &Summary, device: Device) -> Result<Value, AllocError>
+    ensures { IfOk result (λ value. view value ≡ device_total summary.now device) }
+{
+    let accounts = accounts_of(alloc, &summary.totals.accounts, device)?;
+    let is_left_out = summary.without.has(device);
+    json!(in alloc; {
+        "accounts": accounts,
+        "silences": summary.totals.device_silences(device),
+        "unvalued": summary.totals.device_unvalued(device),
+        "without": is_left_out
+    })
+}
