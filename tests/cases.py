@@ -80,8 +80,9 @@ class Case(Rows):
     def __init__(self, name, file):
         super().__init__(name)
         self.file, self.why, self.words, self.status = file, "", ["check"], None
-        # The lines of a report that stand unless the case says otherwise, and those that it says.
-        self.defaults, self.lines, self.errors = [], [], ""
+        # The parts of a survey: the line in front, the lines that stand unless the case says
+        # otherwise, and those that it says. Other output is one part.
+        self.printed, self.errors = [("", [], [])], ""
 
     def add(self, line, known):
         word, _, rest = line.partition(" ")
@@ -92,34 +93,62 @@ class Case(Rows):
         elif word == "status":
             self.status = int(rest)
         elif word == "yes":
-            self.status, self.defaults = 0, report("--joined" in self.words)
-            self.lines.append(f"rows {rest}")
+            self.status = 0
+            self.printed = [("", report("--joined" in self.words), [f"rows {rest}"])]
         elif word == "no":
             row, rule, blame = rest.split(" ")
             self.status = 1
-            self.lines += ["verdict no", f"row {row}", f"rule {rule}", f"blame {blame}"]
+            self.printed[-1][2].extend(["verdict no", f"row {row}", f"rule {rule}", f"blame {blame}"])
+        elif word == "stretch":
+            number, rows = rest.split(" ")
+            self.printed.append((f"stretch {number} rows {rows}", report(True, "verdict", "rows"), []))
+        elif word == "fault":
+            self.printed.append((line, [], []))
+        elif word == "total":
+            self.printed.append(("total", report(True, "verdict", "rows", "decimals"), []))
+        elif word == "faults":
+            self.status = 0 if rest.startswith("0 ") else 1
+            self.printed.append((line, [], []))
         elif word == "out":
-            self.lines.append(rest)
+            self.printed[-1][2].append(rest)
         elif word == "err":
             self.errors += rest + "\n"
         else:
             super().add(line, known)
 
     def output(self):
-        """Standard output, whole: each line that is said in place of the default of its first word,
-        and the others behind the report."""
-        out, said = [], list(self.lines)
-        for line in self.defaults:
-            is_said = said and said[0].partition(" ")[0] == line.partition(" ")[0]
-            out.append(said.pop(0) if is_said else line)
-        return "".join(line + "\n" for line in out + said)
+        """Standard output, whole."""
+        return "".join(line + "\n" for part in self.printed for line in part_lines(*part))
+
+    def no(self):
+        """The line that `survey` has of a no of `check`, of its row, rule and blame; None where the case
+        is none."""
+        if self.status != 1 or self.words[0] != "check":
+            return None
+        out = self.output()
+        if "--json" in self.words:
+            return '{"fault":' + out.partition(',"verdict":')[0] + '},"version":1}'
+        return "fault " + " ".join(line.partition(" ")[2] for line in out.splitlines()[1:])
 
 
-def report(is_joined):
-    """The lines of a report at their defaults, of a recording from power-on or in mid-session."""
+def part_lines(front, defaults, lines):
+    """The lines of a part of the output: each line that is said in place of the default of its first
+    word, and the others behind the report."""
+    out, said = [], list(lines)
+    for line in defaults:
+        is_said = said and said[0].partition(" ")[0] == line.partition(" ")[0]
+        out.append(said.pop(0) if is_said else line)
+    if front == "total":
+        return [f"total {line}" for line in out + said]
+    return [front] * bool(front) + out + said
+
+
+def report(is_joined, *but):
+    """The lines of a report at their defaults, of a recording from power-on or in mid-session, but
+    those with one of these first words."""
     kinds = ("out", "joined") if is_joined else ("out",)
     parted = (line.partition(" ") for line in lines_of(FOLDER / "report"))
-    return [rest for kind, _, rest in parted if kind in kinds]
+    return [rest for kind, _, rest in parted if kind in kinds and rest.partition(" ")[0] not in but]
 
 
 def fronts():

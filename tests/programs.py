@@ -1,10 +1,12 @@
-"""The programs under test, for the scripts of tests/ that are Python.
+"""The programs under test and their runs, for the scripts of tests/ that are Python.
 
 MDBCHECK and MDBIMPORT of the environment name them. Else they are those that were built last in
 crates/ (by tests/run, or by rt run in crates/mdbcheck and crates/mdbimport), and where none was
 built, those of release/. tests/programs.sh says the same for scripts of the shell.
 """
 
+import importlib.machinery
+import importlib.util
 import os
 import pathlib
 
@@ -24,3 +26,35 @@ def program(name):
 
 
 MDBCHECK, MDBIMPORT = program("mdbcheck"), program("mdbimport")
+
+
+def load(name):
+    """A script of tests/ as a module: not each has a name that Python could import."""
+    loader = importlib.machinery.SourceFileLoader(name, str(TOP / "tests" / name))
+    module = importlib.util.module_from_spec(importlib.util.spec_from_loader(name, loader))
+    loader.exec_module(module)
+    return module
+
+
+class Runs:
+    """Runs of the program, whose streams are files in memory."""
+
+    def __init__(self, program):
+        self.program = program
+        self.rows, self.out, self.err = (os.memfd_create(name) for name in ("rows", "out", "err"))
+        self.streams = [
+            (os.POSIX_SPAWN_DUP2, self.rows, 0),
+            (os.POSIX_SPAWN_DUP2, self.out, 1),
+            (os.POSIX_SPAWN_DUP2, self.err, 2),
+        ]
+
+    def run(self, text, *words):
+        """The status, standard output and standard error of a run on a text, or on its bytes."""
+        for stream in (self.rows, self.out, self.err):
+            os.ftruncate(stream, 0)
+        os.pwrite(self.rows, text if isinstance(text, bytes) else text.encode(), 0)
+        for stream in (self.rows, self.out, self.err):
+            os.lseek(stream, 0, os.SEEK_SET)
+        child = os.posix_spawn(self.program, ["mdbcheck", *words], {}, file_actions=self.streams)
+        status = os.waitstatus_to_exitcode(os.waitpid(child, 0)[1])
+        return status, *(os.pread(s, os.fstat(s).st_size, 0).decode() for s in (self.out, self.err))

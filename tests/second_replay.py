@@ -1284,7 +1284,7 @@ def read_words(words: list[str]) -> set[str]:
             raise NoAnswer(f"unknown word {word!r}")
     for value in values:
         if value not in DEVICES:
-            raise NoAnswer(f"--without {value!r} isn't changer, bill, cashless or cashless-2")
+            raise NoAnswer(f"--without {value!r} isn't changer, bill, cashless, cashless-2")
     return set(values)
 
 

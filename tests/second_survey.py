@@ -1,0 +1,489 @@
+#!/usr/bin/env python3
+"""A second `mdbcheck survey`: the recording is cut by hand.
+
+    second_survey.py [survey] [--joined] [--setup 'DEVICE BYTES'].. [--without DEVICE].. [--json]
+
+It reads a transcript, and does what a technician does who has `check` and `show` alone, `head`,
+`tail` and a pencil:
+
+1. Check the rest of the rows: the first time as the options say, later with `--joined`, with
+   `--setup` for each device whose answer to SETUP was seen, and with `--without`.
+2. At a no, check the rows before it, for their report. They are a stretch, the row is its fault.
+3. Read the answers to SETUP, and the levels that the controller told, in what `show` prints of the
+   stretch. Go on with the row after the fault.
+
+One thing can't be told to `check`: the level that the controller told a reader before the fault. So
+this reader finds by itself where that level, and the one that the reader tells, are both 2 or more.
+
+It shares nothing with `survey` but what `check` and `show` of tests/programs.py's program say.
+
+    survey(text, options, run) -> (status, out, err)
+
+is the same as a function; `run(text, *words)` runs the program. Words of the command line that are
+wrong, and more rows than the program takes, are nothing for this reader.
+"""
+
+import argparse
+import json
+import re
+import sys
+from typing import Callable, Iterator, NamedTuple, Optional
+
+sys.dont_write_bytecode = True
+
+from programs import MDBCHECK, Runs  # noqa: E402
+from second_replay import records  # noqa: E402
+
+#: The devices, in the order of the report.
+DEVICES = ("changer", "bill", "cashless", "cashless-2")
+
+#: The accounts, in the order of the report, and whose they are.
+ACCOUNTS = {
+    "coins-in": "changer",
+    "bills-in": "bill",
+    "paid-out": "changer",
+    "approved": "cashless",
+    "sold": "cashless",
+    "approved-2": "cashless-2",
+    "sold-2": "cashless-2",
+}
+SIDES = ("device", "controller", "difference")
+
+#: Who can be to blame, in the order of the last line.
+BLAMES = ("controller", *DEVICES, "other")
+
+#: How the asks begin to which a device answers its setup data; a reader tells them in a message.
+SETUP_ASKS = {"changer": b"\x09", "bill": b"\x31"}
+
+#: How the SETUP config ask of each reader begins. The level of the controller is the byte after it.
+CONFIG_ASKS = {"cashless": b"\x11\x00", "cashless-2": b"\x61\x00"}
+
+#: The messages of a reader by their first byte: how many bytes. A display request (02) is the rest.
+LENGTHS = {0: 1, 1: 8, 3: 3, 4: 1, 5: 3, 6: 1, 7: 1, 8: 1, 9: 30, 10: 2, 11: 1}
+CONFIG = 1
+PLACES_IN_CONFIG = 5
+
+VERSION = 1
+
+Run = Callable[..., "tuple[int, str, str]"]
+
+
+class Options(NamedTuple):
+    """The words of the command line."""
+
+    is_joined: bool = False
+    setups: dict = {}  # by device, the bytes as text
+    left_out: tuple = ()
+    is_json: bool = False
+
+    def words(self) -> "list[str]":
+        words = ["--joined"] * self.is_joined
+        for device, text in self.setups.items():
+            words += ["--setup", f"{device} {text}"]
+        for device in self.left_out:
+            words += ["--without", device]
+        return words + ["--json"] * self.is_json
+
+
+class Act(NamedTuple):
+    """A line of `show`, with rows of the whole recording; a reply also with the ask before it."""
+
+    first: int
+    last: int
+    kind: str
+    device: Optional[str] = None
+    content: bytes = b""  # without the sum
+    asked: bytes = b""
+
+
+class Stretch(NamedTuple):
+    """Rows that are possible, and their report as `check --json` writes it."""
+
+    number: int
+    first: int
+    last: int
+    report: dict
+
+
+class Fault(NamedTuple):
+    """A row that isn't possible after the stretch before it."""
+
+    row: int
+    rule: str
+    blame: str
+
+
+# --------------------------------------------------------------------------------------------------
+# What is read
+# --------------------------------------------------------------------------------------------------
+
+
+def lines_of(text: bytes) -> "list[bytes]":
+    """The records of a text, each as a line that is read as the same record wherever it stands."""
+    return [b",".join(map(quoted, fields)) + b"\n" for fields in records(text)]
+
+
+def quoted(field: bytes) -> bytes:
+    """A field, in quotes where it needs some. (A line of an empty field would be blank without.)"""
+    if field and not re.search(rb'["\r\n,]|^\xef\xbb\xbf', field):
+        return field
+    return b'"' + field.replace(b'"', b'""') + b'"'
+
+
+def is_begin(line: bytes) -> bool:
+    """Whether a row is a break, or a marked word of the controller."""
+    return bool(re.match(rb"[0-9]+,(B|M,1)", line))
+
+
+def acts_in(lines: "list[bytes]", first: int, last: int, left_out, run: Run) -> Iterator[Act]:
+    """The acts that end in some rows (numbers from 1), by `show`. What stands before the first
+    marked word of the controller or break is foreign traffic to a joined recording. It is cut off,
+    since `show` knows nothing of joined recordings. The last row may be a fault."""
+    while first <= last and not is_begin(lines[first - 1]):
+        first += 1
+    words = Options(left_out=left_out).words()
+    _, out, _ = run(b"".join(lines[first - 1:last]), "show", *words)
+    asked = b""
+    for line in out.splitlines():
+        place, *said = line.split(" ")
+        if place == "fault" and int(said[0]) < last - first + 1:
+            raise RuntimeError(f"rows {first} to {last} are possible, and show says {line}")
+        if place == "fault" or said[0] == "cut":
+            continue
+        begin, end = (int(row) + first - 1 for row in place.split("-"))
+        if said[0] in ("foreign", "break"):
+            yield Act(begin, end, said[0])
+            continue
+        kind, device, *content = said
+        content = bytes.fromhex(" ".join(content))[:-1]
+        asked = content if kind == "ask" else asked
+        yield Act(begin, end, kind, device, content, asked if kind == "reply" else b"")
+
+
+def configs_in(act: Act) -> "list[bytes]":
+    """The config messages that a reader tells in a reply."""
+    if act.kind != "reply" or act.device not in CONFIG_ASKS:
+        return []
+    found, rest = [], act.content
+    while rest:
+        length = LENGTHS.get(rest[0], len(rest))
+        if rest[0] == CONFIG:
+            found.append(rest[:length])
+        rest = rest[length:]
+    return found
+
+
+def level_asked(act: Act) -> Optional[int]:
+    """The level that the controller tells in a SETUP config ask."""
+    head = CONFIG_ASKS.get(act.device)
+    if act.kind != "ask" or head is None or not act.content.startswith(head):
+        return None
+    return act.content[2]
+
+
+# --------------------------------------------------------------------------------------------------
+# What the stretches so far have shown
+# --------------------------------------------------------------------------------------------------
+
+
+class Known:
+    """What the next stretch is told, and who is left out in it."""
+
+    def __init__(self, options: Options):
+        self.setups = dict(options.setups)
+        self.left_out = set(options.left_out)
+        #: Of each reader the level of the last SETUP config ask; and the same where no config
+        #: message of that reader came after it.
+        self.asked: "dict[str, int]" = {}
+        self.unanswered: "dict[str, int]" = {}
+
+    def learn(self, act: Act):
+        """What a whole act of a stretch tells for the next ones."""
+        if act.kind == "reply" and act.asked[:1] == SETUP_ASKS.get(act.device):
+            self.setups[act.device] = bytes_text(act.content)
+        for config in configs_in(act):
+            self.setups[act.device] = bytes_text(config)
+            self.unanswered.pop(act.device, None)
+        level = level_asked(act)
+        if level is not None:
+            self.asked[act.device] = self.unanswered[act.device] = level
+
+    def blames(self, fault: Fault):
+        """After its `Profile` a reader is left out, unless the controller told it a low level."""
+        if fault.rule == "Profile" and fault.blame in CONFIG_ASKS:
+            if self.asked.get(fault.blame, 2) >= 2:
+                self.left_out.add(fault.blame)
+
+    def options(self) -> Options:
+        """How the next stretch is checked. `check` takes no setup data of a device that it leaves
+        out, and they would serve nothing."""
+        setups = {d: text for d, text in self.setups.items() if d not in self.left_out}
+        return Options(True, setups, tuple(sorted(self.left_out)), True)
+
+
+def bytes_text(content: bytes) -> str:
+    """A block as `show` prints it, with its sum."""
+    return " ".join(f"{byte:02X}" for byte in [*content, sum(content) % 256])
+
+
+def level_2(acts: "list[Act]", told: "dict[str, int]") -> Optional[Fault]:
+    """The first reply that is `Profile` by a level that the controller told before the stretch. An
+    ask of the stretch takes the place of what was told, and is known to `check`."""
+    told = dict(told)
+    for act in acts:
+        if level_asked(act) is not None:
+            told.pop(act.device, None)
+        is_high = told.get(act.device, 0) >= 2
+        if is_high and any(config[1] >= 2 for config in configs_in(act)):
+            return Fault(act.last, "Profile", act.device)
+    return None
+
+
+# --------------------------------------------------------------------------------------------------
+# The survey
+# --------------------------------------------------------------------------------------------------
+
+
+class Survey:
+    """A recording that is cut, from its first row on."""
+
+    def __init__(self, lines: "list[bytes]", options: Options, run: Run):
+        self.lines, self.run = lines, run
+        self.known = Known(options)
+        self.parts: "list[Stretch | Fault]" = []
+        self.refused: Optional[str] = None  # the line about a row that isn't one
+        self.by_told_levels = 0  # faults that `check` can't find in the rows of their stretch
+        now, first = options._replace(is_json=True), 1
+        while first <= len(lines) and self.refused is None:
+            fault = self.takes(first, now)
+            if fault is None:
+                break
+            self.parts.append(fault)
+            self.known.blames(fault)
+            now, first = self.known.options(), fault.row + 1
+
+    def check(self, first: int, last: int, options: Options):
+        return self.run(b"".join(self.lines[first - 1:last]), "check", *options.words())
+
+    def takes(self, first: int, options: Options) -> Optional[Fault]:
+        """The stretch that begins with a row; and its fault, if it has one."""
+        answer = self.check(first, len(self.lines), options)
+        last, fault, refused = self.first_no(first, answer)
+        left_out, told = options.left_out, self.known.unanswered
+        acts = []
+        if last < len(self.lines) or any(level >= 2 for level in told.values()):
+            # With the fault's row: if it breaks the rule of the levels too, that may be the first.
+            upto = last + (fault is not None)
+            acts = list(acts_in(self.lines, first, upto, left_out, self.run))
+            earlier = level_2(acts, told)
+            if earlier:
+                last, fault, refused = earlier.row - 1, earlier, None
+                self.by_told_levels += 1
+        self.refused = refused
+        if first <= last:
+            if last < len(self.lines):
+                answer = self.check(first, last, options)
+            self.adds(first, last, answer)
+        for act in acts:
+            if act.last <= last:
+                self.known.learn(act)
+        return fault
+
+    def first_no(self, first: int, answer):
+        """The last row before the first one that `check` doesn't take, and why it doesn't."""
+        status, out, err = answer
+        if status == 0:
+            return len(self.lines), None, None
+        if status == 1:
+            no = json.loads(out)
+            row = first + no["row"] - 1
+            return row - 1, Fault(row, no["rule"], no["blame"]), None
+        found = re.match(r"mdbcheck: row ([0-9]+): ", err)
+        if not found:
+            raise RuntimeError(f"check ends with {answer}")
+        row = first + int(found[1]) - 1
+        return row - 1, None, f"mdbcheck: row {row}: {err[found.end():]}"
+
+    def adds(self, first: int, last: int, answer):
+        """A stretch, with the answer to its rows."""
+        status, out, err = answer
+        report = json.loads(out) if status == 0 else {}
+        if err or report.get("rows") != last - first + 1:
+            raise RuntimeError(f"rows {first} to {last}: check says {answer}")
+        for device in DEVICES:
+            told = report["devices"][device]
+            told["setup"] = device in self.known.setups
+            # `check` takes no setup data of a device that it leaves out. A survey may know some: of
+            # a reader that it left out later. Its decimal places are known then, too.
+            if told["setup"] and told["without"]:
+                told["decimals"] = bytes.fromhex(self.known.setups[device])[PLACES_IN_CONFIG]
+        number = 1 + sum(isinstance(part, Fault) for part in self.parts)
+        self.parts.append(Stretch(number, first, last, report))
+
+    def faults(self) -> "list[Fault]":
+        return [part for part in self.parts if isinstance(part, Fault)]
+
+    def answer(self, is_json: bool) -> "tuple[int, str, str]":
+        """Status, standard output and standard error."""
+        status = 2 if self.refused else 1 if self.faults() else 0
+        return status, (json_of if is_json else text_of)(self), self.refused or ""
+
+    def total(self) -> Optional[dict]:
+        """The sums of all stretches' ranges and counts, by device; None where there is none."""
+        reports = [part.report["devices"] for part in self.parts if isinstance(part, Stretch)]
+        if not reports:
+            return None
+        return {device: added([report[device] for report in reports]) for device in DEVICES}
+
+
+def added(reports: "list[dict]") -> dict:
+    """The sums of what the reports of a device count."""
+    accounts = {
+        account: {
+            side: {
+                end: sum(report["accounts"][account][side][end] for report in reports)
+                for end in ("least", "greatest")
+            }
+            for side in SIDES
+        }
+        for account in reports[0]["accounts"]
+    }
+    counts = {name: sum(report[name] for report in reports) for name in ("silences", "unvalued")}
+    return {"accounts": accounts, **counts}
+
+
+# --------------------------------------------------------------------------------------------------
+# The text
+# --------------------------------------------------------------------------------------------------
+
+
+def text_of(survey: Survey) -> str:
+    lines = []
+    for part in survey.parts:
+        if isinstance(part, Fault):
+            lines.append(f"fault {part.row} {part.rule} {part.blame}")
+        else:
+            lines.append(f"stretch {part.number} rows {part.first}-{part.last}")
+            lines += report_lines(part.report["devices"])
+    if not survey.refused:
+        lines += last_lines(survey)
+    return "".join(line + "\n" for line in lines)
+
+
+def report_lines(devices: dict) -> "list[str]":
+    """The lines of a stretch after its first."""
+    places = {d: devices[d]["decimals"] for d in DEVICES}
+    lines = [by_device("decimals", {d: "-" if n is None else n for d, n in places.items()})]
+    lines += [*sum_lines(devices), *count_lines(devices)]
+    for word in ("setup", "without"):
+        lines += named(word, [device for device in DEVICES if devices[device][word]])
+    return lines
+
+
+def sum_lines(devices: dict) -> Iterator[str]:
+    for account, device in ACCOUNTS.items():
+        sides = devices[device]["accounts"][account]
+        ranges = (f"{side} {sides[side]['least']}..{sides[side]['greatest']}" for side in SIDES)
+        yield f"{account} {' '.join(ranges)}"
+
+
+def count_lines(devices: dict) -> Iterator[str]:
+    for word in ("silences", "unvalued"):
+        yield by_device(word, {device: devices[device][word] for device in DEVICES})
+
+
+def by_device(word: str, values: dict) -> str:
+    return " ".join([word, *(f"{name} {value}" for name, value in values.items())])
+
+
+def named(word: str, devices: "list[str]") -> "list[str]":
+    """A line that names devices, where there is one."""
+    return [" ".join([word, *devices])] if devices else []
+
+
+def last_lines(survey: Survey) -> "list[str]":
+    """The totals, and the last line."""
+    lines, total = [], survey.total()
+    if total is not None:
+        lines += [*sum_lines(total), *count_lines(total)]
+        lines += named("without", [d for d in DEVICES if d in survey.known.left_out])
+    lines = [f"total {line}" for line in lines]
+    faults, (blames, profiles) = survey.faults(), counted(survey.faults())
+    lines.append(f"faults {len(faults)} {by_device('', blames).lstrip()} profile {profiles}")
+    return lines
+
+
+def counted(faults: "list[Fault]"):
+    """How many faults count for whom, and how many are `Profile`, which count for nobody."""
+    blamed = [fault.blame for fault in faults if fault.rule != "Profile"]
+    return {name: blamed.count(name) for name in BLAMES}, len(faults) - len(blamed)
+
+
+# --------------------------------------------------------------------------------------------------
+# The same as JSON
+# --------------------------------------------------------------------------------------------------
+
+
+def json_of(survey: Survey) -> str:
+    objects = []
+    for part in survey.parts:
+        if isinstance(part, Fault):
+            objects.append({"fault": part._asdict()})
+        else:
+            place = {"stretch": part.number, "first": part.first, "last": part.last}
+            objects.append({**place, "report": part.report})
+    if not survey.refused:
+        objects.append({"total": json_total(survey), "faults": json_faults(survey.faults())})
+    return "".join(json_line({**each, "version": VERSION}) for each in objects)
+
+
+def json_total(survey: Survey) -> Optional[dict]:
+    """The totals, by device as in a report, with who is left out at the end."""
+    total, left_out = survey.total(), survey.known.left_out
+    if total is None:
+        return None
+    return {"devices": {name: {**of, "without": name in left_out} for name, of in total.items()}}
+
+
+def json_faults(faults: "list[Fault]") -> dict:
+    blames, profiles = counted(faults)
+    return {"all": len(faults), **blames, "profile": profiles}
+
+
+def json_line(value: dict) -> str:
+    return json.dumps(value, sort_keys=True, separators=(",", ":")) + "\n"
+
+
+# --------------------------------------------------------------------------------------------------
+# The command
+# --------------------------------------------------------------------------------------------------
+
+
+def survey(text: bytes, options: Options, run: Run) -> "tuple[int, str, str]":
+    """Status, standard output and standard error of `survey` on a text."""
+    return Survey(lines_of(text), options, run).answer(options.is_json)
+
+
+def options_of(words: "list[str]") -> Options:
+    """The options of a command line that is right."""
+    parser = argparse.ArgumentParser(usage=__doc__)
+    parser.add_argument("command", nargs="?", choices=["survey"])
+    parser.add_argument("--joined", action="store_true")
+    parser.add_argument("--setup", action="append", default=[])
+    parser.add_argument("--without", action="append", default=[], choices=DEVICES)
+    parser.add_argument("--json", action="store_true")
+    read = parser.parse_args(words)
+    setups = dict(value.split(" ", 1) for value in read.setup)
+    return Options(read.joined, setups, tuple(dict.fromkeys(read.without)), read.json)
+
+
+def main() -> int:
+    answer = survey(sys.stdin.buffer.read(), options_of(sys.argv[1:]), Runs(MDBCHECK).run)
+    status, out, err = answer
+    sys.stdout.write(out)
+    sys.stderr.write(err)
+    return status
+
+
+if __name__ == "__main__":
+    sys.exit(main())
