@@ -4,4 +4,5 @@ mod OneSurvey
 mod Parts
 mod Standing
 mod Sums
+mod Unanswered
 mod Within

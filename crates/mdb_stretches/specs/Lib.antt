@@ -6,4 +6,5 @@ pub mod Summaries
 pub mod Surveyor
 pub mod Told
 pub mod Totals
+pub mod Unanswered
 pub mod inner

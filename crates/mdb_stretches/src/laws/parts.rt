@@ -1,8 +1,9 @@
 //! Laws of the parts of a survey: of its faults, and of the stretches between them.
 
-ghost use Rattle.std.specs.Prelude.{◌≡◌, ◌+◌, ◌++◌, ◌⊎◌, List, [], All, Some, length};
+ghost use Rattle.std.specs.Prelude.{◌≡◌, ◌+◌, ◌++◌, ◌⊎◌, ◌↔◌, ℕ, List, [], All, Some, length};
 ghost use Rattle.mdb_words.specs.declared.event.Event.{Event};
 ghost use Rattle.mdb_msgs.specs.declared.command.Device.{Device};
+ghost use Rattle.mdb_msgs.specs.declared.command.ReaderUnit.{ReaderUnit};
 ghost use Rattle.mdb_bus.specs.declared.act.Act.{Act};
 ghost use Rattle.mdb_bus.specs.declared.scope.Beginning.{Beginning};
 ghost use Rattle.mdb_bus.specs.declared.scope.Scope.{Scope};
@@ -16,6 +17,7 @@ ghost use Rattle.mdb_stretches.specs.Learning.{AreKnown};
 ghost use Rattle.mdb_stretches.specs.Parts.{EndBefore, IsReaderBeyond};
 ghost use Rattle.mdb_stretches.specs.Stretches.{IsCutAt, IsSurvey, LeadFrom, StretchStart};
 ghost use Rattle.mdb_stretches.specs.Told.{setups_of, told_after};
+ghost use Rattle.mdb_stretches.specs.Unanswered.{IsNeither, IsUnanswered, level_of};
 
 use mdb_follow::laws;
 
@@ -54,8 +56,8 @@ pub fn rows_are_of_stretches_or_faults()
         × (last.number ≡ length ended + 1) }
 {}
 
-/// The devices that are left out at the end are those that are left out from the first row, and
-/// readers of which a fault is blamed on them with the rule `Profile`.
+/// A device that is left out from the first row is left out at the end. Any other device that is
+/// left out at the end is a reader that a fault with the rule `Profile` is blamed on.
 pub fn left_out_are_those_of_the_start_and_readers_beyond_this_profile()
     ensures stays { (scope : Scope) (rows : List Event) (ended : List Ended) (last : Stretch)
         (device : Device) → IsSurvey scope rows ended last → IsLeftOut scope device
@@ -66,11 +68,16 @@ pub fn left_out_are_those_of_the_start_and_readers_beyond_this_profile()
 {}
 
 /// What the rows tell for the next stretch is what was said last: `asked` the level of the last
-/// whole SETUP config ask to each reader, and `setups` what the machines of the devices know.
+/// whole SETUP config ask to each reader, and `setups` what the machines of the devices know. A
+/// level is told on, as `unanswered`, exactly where no config message of its reader came after it.
 pub fn what_is_told_is_what_was_said_last()
     ensures asked { (told : Told) (pieces : List Piece)
         → (told_after told (acts_of pieces)).asked ≡ levels_of told.asked pieces }
     ensures setups { (begins : Beginning) (told : Told) (acts : List Act)
         → told.setups ≡ setups_of begins
         → AreKnown begins (told_after told acts).setups acts }
+    ensures unanswered { (told : Told) (acts : List Act) (unit : ReaderUnit) (level : ℕ)
+        → (level_of unit (told_after told acts).unanswered ≡ Some level)
+        ↔ (IsUnanswered unit level acts
+        ⊎ (All (IsNeither unit) acts × (level_of unit told.unanswered ≡ Some level))) }
 {}
