@@ -88,7 +88,7 @@ SURVEY
     fault begins a stretch that is taken with --joined. It is told the answers
     to SETUP of the stretches so far: its line \"setup\" names these devices. A
     reader that is blamed for Profile is left out from there on, unless the
-    controller has told it level 1: the line \"without\" names it.
+    controller last gave it level 1: the line \"without\" names it.
 
     Statuses: 0 no fault, 1 one fault or more, 2 no whole survey. If a row
     can't be read, the lines up to it stand, without totals.
