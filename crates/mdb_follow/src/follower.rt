@@ -140,46 +140,39 @@ impl Follower {
     }
 
     /// Accepts the next row like [`Follower::feed`], and answers whether an act ends with it. If
-    /// one does, [`Follower::act`] lends it.
+    /// one does, [`Follower::act`] lends it. The answer is `None` for the first impossible row, and
+    /// for each after it: [`Follower::offence`] has the offence.
     ///
-    /// The act isn't moved, so this is as fast as `feed`.
-    ///
-    /// # Errors
-    ///
-    /// Those of `feed`.
+    /// Nothing large is moved, so for each row this takes as long as [`Follower::feed_all`].
     #[inline(always)]
-    pub fn feed_ending(&mut self, event: Event) -> Result<bool, Offence>
+    pub fn feed_ending(&mut self, event: Event) -> Option<bool>
         requires { rows_of self.old < ROWS_MAX }
-        ensures reached { (events : List Event) → StandsFor self.old events
-            → IfOk result (λ _. StandsFor self.new (events ++ event ∷ [])) }
-        ensures is_reached { (events : List Event) → StandsFor self.old events
-            → IfOk result (λ _. IsReached (scope_of self.old) (events ++ event ∷ [])) }
-        ensures sales { (events : List Event) → StandsFor self.old events
-            → IfOk result (λ _. SalesFollowApprovals (scope_of self.old) (events ++ event ∷ [])) }
-        ensures offence { (events : List Event) → StandsFor self.old events
-            → IfErr result (IsOffence (scope_of self.old) events event) }
-        ensures act { (events : List Event) → StandsFor self.old events
-            → IfOk result (λ ended.
-            IsEndedAct (scope_of self.old) events event (ended_act ended (act_of self.new))) }
-        ensures accepted { (events : List Event) → StandsFor self.old events
-            → OnErr result (HasAccepted self.new events) }
-        ensures noted { IfErr result (λ offence. offence_of self.new ≡ Some offence) }
-        ensures numbered { IfErr result (λ offence. offence.row ≡ rows_of self.new + 1) }
-        ensures counted { IfOk result (λ _. rows_of self.new ≡ rows_of self.old + 1) }
-        ensures uncounted { OnErr result (rows_of self.new ≡ rows_of self.old) }
-        ensures repeats { IfSome (offence_of self.old) (λ offence.
-            (result ≡ Err offence) × (self.new ≡ self.old)) }
+        ensures reached { OnSome result ((events : List Event) → StandsFor self.old events
+            → StandsFor self.new (events ++ event ∷ [])) }
+        ensures is_reached { OnSome result ((events : List Event) → StandsFor self.old events
+            → IsReached (scope_of self.old) (events ++ event ∷ [])) }
+        ensures sales { OnSome result ((events : List Event) → StandsFor self.old events
+            → SalesFollowApprovals (scope_of self.old) (events ++ event ∷ [])) }
+        ensures offence { IfNone result (IsSomeAnd (offence_of self.new) (λ offence.
+            (events : List Event) → StandsFor self.old events
+            → IsOffence (scope_of self.old) events event offence)) }
+        ensures act { IfSome result (λ ended. (events : List Event) → StandsFor self.old events
+            → IsEndedAct (scope_of self.old) events event (ended_act ended (act_of self.new))) }
+        ensures accepted { IfNone result ((events : List Event) → StandsFor self.old events
+            → HasAccepted self.new events) }
+        ensures noted { IfNone result (IsSome (offence_of self.new)) }
+        ensures counted { OnSome result (rows_of self.new ≡ rows_of self.old + 1) }
+        ensures uncounted { IfNone result (rows_of self.new ≡ rows_of self.old) }
+        ensures repeats { IsSome (offence_of self.old)
+            → (result ≡ None) × (self.new ≡ self.old) }
         ensures scope { scope_of self.new ≡ scope_of self.old }
     {
         laws::ways_join();
         laws::sales_follow_their_approvals();
-        if let Some(offence) = self.offence {
-            return Err(offence);
+        if self.offence.is_some() {
+            return None;
         }
-        match self.take(event) {
-            Some(ended) => Ok(ended),
-            None => Err(self.noted()),
-        }
+        self.take(event)
     }
 
     /// The act that ended with the last row, where [`Follower::feed_ending`] has just answered that
@@ -190,6 +183,14 @@ impl Follower {
     {
         let Follower { act, .. } = self;
         act
+    }
+
+    /// The offence of the first impossible row, if one was met.
+    pub fn offence(&self) -> Option<Offence>
+        ensures met { result ≡ offence_of self.now }
+        ensures numbered { IfSome result (λ offence. offence.row ≡ rows_of self.now + 1) }
+    {
+        self.offence
     }
 
     /// Accepts the next row like [`Follower::feed`], and returns the act that ends with it, if one
@@ -321,6 +322,7 @@ impl Follower {
 
     /// Follows the act that was ended by a row that started at a time. Answers whether each side
     /// has a step by it: where one hasn't, the offence is noted.
+    #[inline(always)]
     fn follow(&mut self, at: Time) -> bool
         requires room { rows_of self.old < ROWS_MAX }
         requires going { offence_of self.old ≡ None }

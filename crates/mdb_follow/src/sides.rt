@@ -59,6 +59,7 @@ impl Sides {
     /// The rule of a side that has no step by it. Then all are what they were, where they stand for
     /// acts.
     // Only a break is led over more sides than one, and each has a step by it.
+    #[inline(always)]
     pub(crate) fn lead(&mut self, act: &Act) -> Result<(), Rule>
         requires { AreWithin (2 ^ 62) self.old }
         ensures followed { IfOk result (λ _. SidesFollow self.old act.now self.new) }
