@@ -1,3 +1,4 @@
+mod Feeding
 mod Leading
 mod Learning
 mod OneSurvey

@@ -1,6 +1,7 @@
 -- What a surveyor stands for, row by row.
 use Rattle.std.proofs.Common.{arith, refl, ap, sym, subst, ◌∙◌, ◌≡◌, ◌+◌, ◌*◌, ◌^◌, ◌≤◌, ◌<◌, ℕ, List, [], ◌∷◌, ◌++◌, Option, Some, None, length, map}
 use Rattle.std.proofs.lemmas.List.{length-map}
+use Rattle.std.specs.Prelude.{IsSomeAnd}
 use Rattle.mdb_words.specs.declared.event.Event.{Event}
 use Rattle.mdb_msgs.specs.declared.device_set.DeviceSet.{DeviceSet}
 use Rattle.mdb_bus.specs.declared.act.Act.{Act}
@@ -85,25 +86,35 @@ taken_more one old new scope rows ended row act on follows same_scope ends learn
       totals = totals ∙ on.totals;
     }
 
+-- an offence that is noted
+the_offence : (noted : Option Offence) (P : Offence → Type 0) → IsSomeAnd noted P
+    → (offence : Offence) × (noted ≡ Some offence) × P offence
+the_offence None P met = absurd met
+the_offence (Some offence) P met = (offence, refl, met)
+
 -- a row is met that can't be
 pub halted_by : (old now : Surveyor) (scope : Scope) (rows : List Event) (row : Event)
-    (ended : List Ended) (offence : Offence) → StandsFor old scope rows ended
+    (ended : List Ended) → StandsFor old scope rows ended
     → ((events : List Event) → follow.StandsFor old.follower events
     → follow.HasAccepted now.follower events)
-    → ((events : List Event) → follow.StandsFor old.follower events
+    → IsSomeAnd (follow.offence_of now.follower) (λ offence. (events : List Event)
+    → follow.StandsFor old.follower events
     → IsOffence (follow.scope_of old.follower) events row offence)
     → follow.scope_of now.follower ≡ follow.scope_of old.follower
     → now.told ≡ old.told → now.scope ≡ old.scope → now.before ≡ old.before
     → now.faults ≡ old.faults → now.totals ≡ old.totals
-    → HasHalted now scope rows row ended offence
-halted_by old now scope rows row ended offence on accepted is same_scope told so before faults totals = record {
+    → HasHalted now scope rows row ended
+halted_by old now scope rows row ended on accepted met same_scope told so before faults totals =
+    let it = the_offence (follow.offence_of now.follower) _ met in record {
+  offence = it.0;
+  noted = it.1;
   running = on.running;
   place = on.place;
   lead = on.lead;
   accepted = accepted on.running on.follows;
   followed_so = same_scope ∙ on.followed_so;
   taken_so = so ∙ on.taken_so;
-  is = subst (λ s. IsOffence s on.running row offence) on.followed_so (is on.running on.follows);
+  is = subst (λ s. IsOffence s on.running row it.0) on.followed_so (it.2 on.running on.follows);
   told = λ pieces list. told ∙ on.told pieces list;
   before = before ∙ on.before;
   faults = faults ∙ on.faults;
@@ -167,10 +178,13 @@ runs surveyor scope rows ended report taken on reports same = record {
   };
 }
 
+some_one : (one other : Offence) → Some one ≡ Some other → one ≡ other
+some_one one other same = cc same
+
 -- the stretch after a fault begins
 pub next_stands : OneActList → (old new : Surveyor) (scope : Scope) (rows : List Event)
     (row : Event) (ended : List Ended) (offence : Offence) (report : Report) (taken : Scope)
-    → HasHalted old scope rows row ended offence
+    → HasHalted old scope rows row ended → follow.offence_of old.follower ≡ Some offence
     → ((events : List Event) → follow.HasAccepted old.follower events
     → IsReport (follow.scope_of old.follower) events report) → taken ≡ old.scope
     → follow.StandsFor new.follower []
@@ -198,7 +212,7 @@ pub next_stands : OneActList → (old new : Surveyor) (scope : Scope) (rows : Li
         blame = offence.blame;
       };
     } ∷ ended)
-next_stands one old new scope rows row ended offence report taken on reports same begun follows_so so told before faults totals =
+next_stands one old new scope rows row ended offence report taken on noted reports same begun follows_so so told before faults totals =
     let pieces : List Piece = on.accepted.pieces in
     let list : IsActList on.place.scope pieces on.running =
     subst (λ s. IsActList s pieces on.running) on.followed_so on.accepted.act_list in
@@ -207,7 +221,10 @@ next_stands one old new scope rows row ended offence report taken on reports sam
     let after : scope_after old.told offence old.scope.without ≡ next.scope =
     ap (λ (t : Told). scope_after t offence old.scope.without) known
     ∙ ap (λ (s : Scope). scope_after next.told offence s.without) on.taken_so in
-    let number : offence.row ≡ length on.running + 1 = on.is.number in
+    let met : on.offence ≡ offence = some_one on.offence offence (sym on.noted ∙ noted) in
+    let is : IsOffence on.place.scope on.running row offence =
+    subst (λ o. IsOffence on.place.scope on.running row o) met on.is in
+    let number : offence.row ≡ length on.running + 1 = is.number in
     record {
       running = [];
       place = next;
@@ -219,7 +236,7 @@ next_stands one old new scope rows row ended offence report taken on reports sam
               report on.lead on.faults on.before (same ∙ on.taken_so);
         };
         offence = offence;
-        is = on.is;
+        is = is;
         row_is = ap (λ n. record { row = n + offence.row; rule = offence.rule; blame = offence.blame })
             on.before;
         pieces = pieces;

@@ -1,5 +1,5 @@
 -- What a surveyor stands for.
-use Rattle.std.specs.Prelude.{◌≡◌, ◌+◌, ℕ, List}
+use Rattle.std.specs.Prelude.{◌≡◌, ◌+◌, ℕ, List, [], ◌∷◌, ◌++◌, length}
 use Rattle.mdb_words.specs.declared.event.Event.{Event}
 use Rattle.mdb_bus.specs.declared.scope.Scope.{Scope}
 use Rattle.mdb_bus.specs.ActLists.{IsActList, Piece, acts_of}
@@ -31,3 +31,15 @@ pub record StandsFor (surveyor : Surveyor) (scope : Scope) (rows : List Event)
   pub before : surveyor.before ≡ place.rows
   pub faults : surveyor.faults ≡ counts_of ended
   pub totals : surveyor.totals ≡ totals_of ended
+
+-- One of these rows, which a surveyor was fed, ended the stretch that ran, and with the next row a
+-- new one begins. The rows up to it are taken; the rest, after it, is still to come.
+pub record EndsAmong (old : Surveyor) (rows : List Event) (it : Ended) (rest : List Event)
+    (new : Surveyor) : Type 0 where
+  pub front : List Event
+  pub row : Event
+  pub parts : rows ≡ front ++ row ∷ rest
+  pub stands : (scope : Scope) (before : List Event) (ended : List Ended)
+      → StandsFor old scope before ended
+      → StandsFor new scope (before ++ front ++ row ∷ []) (it ∷ ended)
+  pub counted : rows_of new ≡ rows_of old + (length front + 1)

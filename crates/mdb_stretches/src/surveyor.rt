@@ -1,12 +1,14 @@
 //! The surveyor of a recording.
 
-ghost use Rattle.std.specs.Prelude.{◌≡◌, ◌<◌, ◌≤◌, ◌+◌, ◌*◌, ◌^◌, List, [], ◌∷◌, ◌++◌, IfSome};
+ghost use Rattle.std.specs.Prelude.{◌≡◌, ◌<◌, ◌≤◌, ◌+◌, ◌*◌, ◌^◌, List, [], ◌∷◌, ◌++◌, IfSome, IsSome};
+ghost use Rattle.std.specs.Prelude.{length};
+ghost use Rattle.std.specs.Bool.{OnFalse, OnTrue};
 ghost use Rattle.std.specs.Option.{IfNone};
 ghost use Rattle.mdb_words.specs.declared.event.Event.{Event};
 ghost use Rattle.mdb_bus.specs.declared.scope.Scope.{Scope};
 ghost use Rattle.mdb_follow.specs.declared.follower.TheConstants.{ROWS_MAX};
 ghost use Rattle.mdb_follow.specs.declared.offence.Offence.{Offence};
-ghost use Rattle.mdb_follow.specs.Follower.{rows_of as followed_rows};
+ghost use Rattle.mdb_follow.specs.Follower.{offence_of, rows_of as followed_rows};
 ghost use Rattle.mdb_stretches.specs.Counts.{AreFew};
 ghost use Rattle.mdb_stretches.specs.Stretches.{left_out_after, scope_after, without_reader};
 ghost use Rattle.mdb_stretches.specs.Totals.{AreWithin};
@@ -48,7 +50,7 @@ impl Surveyor {
     ghost use Rattle.mdb_stretches.specs.declared.stretch.Ended.{Ended};
     ghost use Rattle.mdb_stretches.specs.Stretches.{IsSurvey};
     ghost use Rattle.mdb_stretches.specs.Summaries.{summary_of};
-    ghost use Rattle.mdb_stretches.specs.Surveyor.{StandsFor, rows_of};
+    ghost use Rattle.mdb_stretches.specs.Surveyor.{EndsAmong, StandsFor, rows_of};
     ghost use Rattle.mdb_stretches.specs.Totals.{CanBeAdded};
     ghost use Rattle.mdb_stretches.specs.inner.Halts.{HasHalted};
 
@@ -77,7 +79,8 @@ impl Surveyor {
 
     /// Takes the next row. If it can't be, it ends the stretch that runs: that stretch is returned,
     /// with the fault, and the next row begins a new one.
-    #[inline(always)]
+    ///
+    /// What is returned is large. If you have more rows, [`Surveyor::feed_all`] is faster.
     pub fn feed(&mut self, event: Event) -> Option<Ended>
         requires room { rows_of self.old < ROWS_MAX }
         ensures taken { IfNone result ((scope : Scope) (rows : List Event) (ended : List Ended)
@@ -88,13 +91,56 @@ impl Surveyor {
             → StandsFor self.new scope (rows ++ event ∷ []) (it ∷ ended)) }
         ensures counted { rows_of self.new ≡ rows_of self.old + 1 }
     {
+        if self.take(event) {
+            None
+        } else {
+            Some(self.end_stretch())
+        }
+    }
+
+    /// Takes the next rows, up to the first that can't be. If there is one, it ends the stretch that
+    /// runs: that stretch is returned, with the fault, and with the rows after it, which aren't taken
+    /// yet.
+    // Not inlined, so that its loop has the processor's registers to itself.
+    #[inline(never)]
+    pub fn feed_all<'a>(&mut self, rows: &'a [Event]) -> Option<(Ended, &'a [Event])>
+        requires room { rows_of self.old + length rows.now ≤ ROWS_MAX }
+        ensures taken { IfNone result ((scope : Scope) (before : List Event) (ended : List Ended)
+            → StandsFor self.old scope before ended
+            → StandsFor self.new scope (before ++ rows.now) ended) }
+        ensures ended { IfSome result (λ it. EndsAmong self.old rows.now it.0 it.1.now self.new) }
+        ensures counted { IfNone result
+            (rows_of self.new ≡ rows_of self.old + length rows.now) }
+    {
+        for (at, event) in rows.iter().enumerate() {
+            if !self.take(*event) {
+                return Some((self.end_stretch(), &rows[at + 1..]));
+            }
+        }
+        None
+    }
+
+    /// Takes the next row, and learns what it tells. Answers whether it can be: where it can't, the
+    /// stretch that runs is to be ended.
+    #[inline(always)]
+    fn take(&mut self, event: Event) -> bool
+        requires room { rows_of self.old < ROWS_MAX }
+        ensures taken { OnTrue result ((scope : Scope) (rows : List Event) (ended : List Ended)
+            → StandsFor self.old scope rows ended
+            → StandsFor self.new scope (rows ++ event ∷ []) ended) }
+        ensures halted { OnFalse result ((scope : Scope) (rows : List Event) (ended : List Ended)
+            → StandsFor self.old scope rows ended → HasHalted self.new scope rows event ended) }
+        ensures met { OnFalse result (IsSome (offence_of self.new.follower)) }
+        ensures counted { OnTrue result (rows_of self.new ≡ rows_of self.old + 1) }
+        ensures uncounted { OnFalse result (rows_of self.new ≡ rows_of self.old) }
+    {
         links::transcripts_have_one_act_list();
         match self.follower.feed_ending(event) {
-            Ok(ended) => {
+            Some(ended) => {
                 self.told.learn_if(ended, self.follower.act());
-                None
+                true
             }
-            Err(offence) => Some(self.end_stretch(offence)),
+            None => false,
         }
     }
 
@@ -140,17 +186,20 @@ impl Surveyor {
         (last, summary)
     }
 
-    /// Ends the stretch that runs, whose next row has met this offence.
+    /// Ends the stretch that runs, whose next row can't be.
     #[inline(never)]
-    fn end_stretch(&mut self, offence: Offence) -> Ended
-        requires row { offence.row ≡ followed_rows self.old.follower + 1 }
+    fn end_stretch(&mut self) -> Ended
+        requires met { IsSome (offence_of self.old.follower) }
         requires room { rows_of self.old < ROWS_MAX }
         ensures ended { (scope : Scope) (rows : List Event) (row : Event) (ended : List Ended)
-            → HasHalted self.old scope rows row ended offence
+            → HasHalted self.old scope rows row ended
             → StandsFor self.new scope (rows ++ row ∷ []) (result ∷ ended) }
         ensures counted { rows_of self.new ≡ rows_of self.old + 1 }
     {
         links::transcripts_have_one_act_list();
+        let Some(offence) = self.follower.offence() else {
+            unreachable!()
+        };
         let report = self.follower.report_before();
         let fault = Offence {
             row: self.before + offence.row,

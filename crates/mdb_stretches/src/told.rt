@@ -2,12 +2,13 @@
 
 ghost use Rattle.std.specs.Prelude.{◌≡◌, Some};
 ghost use Rattle.mdb_msgs.specs.declared.command.Device.{Device};
+ghost use Rattle.mdb_bus.specs.declared.act.Act.TheVariants.{Ask};
 ghost use Rattle.mdb_bus.specs.Bus.{ended_act};
 ghost use Rattle.mdb_msgs.specs.SetupData.{known_with};
 ghost use Rattle.mdb_stretches.specs.Told.{answered, is_told_below_2, learnt_by, learnt_if, setups_of, told_before, with_answer};
 
 use mdb_bus::{Act, Beginning, Levels, Scope};
-use mdb_msgs::{Device, ReaderUnit, Reply, Setups};
+use mdb_msgs::{Command, Device, ReaderCommand, ReaderUnit, Reply, Setups};
 
 /// What the rows so far tell of how the devices are set up, for the next stretch (this profile).
 #[derive(PartialEq, Eq, Debug, Drop)]
@@ -49,13 +50,21 @@ impl Told {
         ensures { self.new ≡ learnt_by act.now self.old }
     {
         match act {
-            Act::Ask(command) => {
-                self.asked = self.asked.after(*command);
-                self.unanswered = self.unanswered.after(*command);
+            Act::Ask(command @ Command::Reader(_, ReaderCommand::SetupConfig { .. })) => {
+                self.learn_ask(*command)
             }
             Act::Reply(command, reply) => self.learn_reply(command.device(), reply),
             _ => {}
         }
+    }
+
+    /// Learns what an ask tells.
+    #[inline(never)]
+    fn learn_ask(&mut self, command: Command)
+        ensures { self.new ≡ learnt_by (Ask command) self.old }
+    {
+        self.asked = self.asked.after(command);
+        self.unanswered = self.unanswered.after(command);
     }
 
     /// Learns what a reply of a device tells.

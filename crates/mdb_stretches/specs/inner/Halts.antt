@@ -1,6 +1,6 @@
 -- A surveyor whose follower has met an offence. This file serves private functions and proofs: no
 -- public clause cites it.
-use Rattle.std.specs.Prelude.{◌≡◌, List}
+use Rattle.std.specs.Prelude.{◌≡◌, List, Some}
 use Rattle.mdb_words.specs.declared.event.Event.{Event}
 use Rattle.mdb_bus.specs.declared.scope.Scope.{Scope}
 use Rattle.mdb_bus.specs.ActLists.{IsActList, Piece, acts_of}
@@ -16,7 +16,9 @@ use Rattle.mdb_stretches.specs.Totals.{totals_of}
 
 -- It stood for these rows and faults, and the row after them, which it was fed, can't be.
 pub record HasHalted (surveyor : Surveyor) (scope : Scope) (rows : List Event) (row : Event)
-    (ended : List Ended) (offence : Offence) : Type 0 where
+    (ended : List Ended) : Type 0 where
+  pub offence : Offence
+  pub noted : follow.offence_of surveyor.follower ≡ Some offence
   pub running : List Event
   pub place : StretchStart
   pub lead : LeadFrom (first_place scope) rows ended running place
