@@ -1,19 +1,18 @@
 -- How far the lines of some rows have come.
-use Rattle.std.proofs.Common.{arith, refl, ap, sym, subst, ◌∙◌, ◌≡◌, ◌+◌, ◌<◌, ℕ, List, [], ◌∷◌, ◌++◌, Option, Result, Ok, Err, length, length-append, append_assoc, take, drop, get_or, take-append-drop}
-use Rattle.std.proofs.lemmas.List.{append-nil, take_more}
-use Rattle.std.specs.Prelude.{IfErr, OnOk}
+use Rattle.std.proofs.Common.{arith, refl, ap, sym, subst, ◌∙◌, ◌≡◌, ◌+◌, ◌≤◌, ℕ, List, [], ◌∷◌, ◌++◌, Option, length, length-append, append_assoc}
+use Rattle.std.proofs.lemmas.List.{append-nil}
 use Rattle.mdb_words.specs.declared.event.Event.{Event}
 use Rattle.mdb_bus.specs.declared.scope.Scope.{Scope}
 use Rattle.mdb_follow.specs.Runs.{IsReached}
 use Rattle.mdb_stretches.specs.declared.stretch.Ended.{Ended}
 use Rattle.mdb_stretches.specs.declared.surveyor.Surveyor.{Surveyor}
 use Rattle.mdb_stretches.specs.Stretches.{LeadFrom, StretchStart, first_place, stretch_at}
-use Rattle.mdb_stretches.specs.Surveyor.{StandsFor, rows_of}
+use Rattle.mdb_stretches.specs.Surveyor.{EndsAmong, StandsFor, rows_of}
 use Rattle.mdb_verdict.specs.declared.fault.RunFault.{RunFault}
 use Rattle.mdb_verdict.specs.declared.fault.RunFault.TheVariants.{BadRow, TooLong, Read, Write, Memory}
 use Rattle.mdb_writing.specs.Output.{Output, Puts, begun, output}
 use Rattle.mdb_writing.proofs.Outputs.{break_both, put_begun, put_both}
-use Rattle.mdb_survey.specs.inner.SurveySteps.{HasGoneOn, HasStopped, HasSurveyed, IsNotTaken, LeadInto}
+use Rattle.mdb_survey.specs.inner.SurveySteps.{HasStopped, HasSurveyed, IsNotTaken, LeadInto}
 use Rattle.mdb_survey.specs.Lines.{LineForm, ended_lines, lines_of}
 use Rattle.mdb_survey.proofs.NoRows.{NoneAreReached, is_report_on_none, report_on_none}
 
@@ -96,114 +95,158 @@ stopped_further form scope before after rows more Write stopped =
 stopped_further form scope before after rows more Memory stopped =
     (stopped.0, lead_further scope rows more stopped.0 stopped.1, stopped.2)
 
--- One row more.
+-- Some rows more.
 
--- it ends no stretch
+-- they end no stretch
 pub goes_on : (form : LineForm) (scope : Scope) (old new : Surveyor) (before now : Output)
-    (rows : List Event) (event : Event)
+    (rows more : List Event)
     → ((scope : Scope) (rows : List Event) (ended : List Ended) → StandsFor old scope rows ended
-    → StandsFor new scope (rows ++ event ∷ []) ended) → rows_of new ≡ rows_of old + 1
+    → StandsFor new scope (rows ++ more) ended) → rows_of new ≡ rows_of old + length more
     → HasSurveyed form scope old before now rows
-    → HasSurveyed form scope new before now (rows ++ event ∷ [])
-goes_on form scope old new before now rows event on counted has = record {
+    → HasSurveyed form scope new before now (rows ++ more)
+goes_on form scope old new before now rows more on counted has = record {
   ended = has.ended;
   stands = on scope rows has.ended has.stands;
-  counted = omega (arith, counted, has.counted, length-append rows (event ∷ []));
+  counted = omega (arith, counted, has.counted, length-append rows more);
   written = has.written;
 }
 
--- it ends one, whose lines are added, or aren't taken
-pub ends_one : NoneAreReached → (form : LineForm) (scope : Scope) (old new : Surveyor) (before now later : Output)
-    (rows : List Event) (event : Event) (it : Ended)
+-- the last of them ends one, whose lines are added
+ends_one : (form : LineForm) (scope : Scope) (old new : Surveyor) (before now later : Output)
+    (rows more : List Event) (it : Ended)
     → ((scope : Scope) (rows : List Event) (ended : List Ended) → StandsFor old scope rows ended
-    → StandsFor new scope (rows ++ event ∷ []) (it ∷ ended)) → rows_of new ≡ rows_of old + 1
-    → HasSurveyed form scope old before now rows → (answer : Result Unit RunFault)
-    → OnOk answer (Puts now later (ended_lines form it))
-    → IfErr answer (λ fault. IsNotTaken fault now later (ended_lines form it))
-    → HasGoneOn form scope new before later (rows ++ event ∷ []) answer
-ends_one law form scope old new before now later rows event it on counted has (Ok done) added refused =
-    record {
-      ended = it ∷ has.ended;
-      stands = on scope rows has.ended has.stands;
-      counted = omega (arith, counted, has.counted, length-append rows (event ∷ []));
-      written = put_both before now later (lines_of form has.ended) (ended_lines form it) has.written added;
-    }
-ends_one law form scope old new before now later rows event it on counted has (Err (BadRow row fault)) added refused =
-    absurd refused
-ends_one law form scope old new before now later rows event it on counted has (Err TooLong) added refused = absurd refused
-ends_one law form scope old new before now later rows event it on counted has (Err Read) added refused = absurd refused
-ends_one law form scope old new before now later rows event it on counted has (Err Write) added refused = (
+    → StandsFor new scope (rows ++ more) (it ∷ ended)) → rows_of new ≡ rows_of old + length more
+    → HasSurveyed form scope old before now rows → Puts now later (ended_lines form it)
+    → HasSurveyed form scope new before later (rows ++ more)
+ends_one form scope old new before now later rows more it on counted has added = record {
+  ended = it ∷ has.ended;
+  stands = on scope rows has.ended has.stands;
+  counted = omega (arith, counted, has.counted, length-append rows more);
+  written = put_both before now later (lines_of form has.ended) (ended_lines form it) has.written added;
+}
+
+-- the last of them ends one, whose lines aren't taken
+ends_none : NoneAreReached → (form : LineForm) (scope : Scope) (old new : Surveyor) (before now later : Output)
+    (rows more : List Event) (it : Ended)
+    → ((scope : Scope) (rows : List Event) (ended : List Ended) → StandsFor old scope rows ended
+    → StandsFor new scope (rows ++ more) (it ∷ ended))
+    → HasSurveyed form scope old before now rows → (fault : RunFault)
+    → IsNotTaken fault now later (ended_lines form it)
+    → HasStopped form scope before later (rows ++ more) fault
+ends_none law form scope old new before now later rows more it on has (BadRow row fault) refused = absurd refused
+ends_none law form scope old new before now later rows more it on has TooLong refused = absurd refused
+ends_none law form scope old new before now later rows more it on has Read refused = absurd refused
+ends_none law form scope old new before now later rows more it on has Write refused = (
   it ∷ has.ended,
-  lead_into law scope new (rows ++ event ∷ []) (it ∷ has.ended) (on scope rows has.ended has.stands),
+  lead_into law scope new (rows ++ more) (it ∷ has.ended) (on scope rows has.ended has.stands),
   break_both before now later (lines_of form has.ended) (ended_lines form it) has.written refused,
 )
-ends_one law form scope old new before now later rows event it on counted has (Err Memory) added refused =
+ends_none law form scope old new before now later rows more it on has Memory refused =
     let P : Output → Type 0 = λ bytes. Puts before bytes (lines_of form has.ended) in (
       has.ended,
-      lead_further scope rows (event ∷ []) has.ended (lead_into law scope old rows has.ended has.stands),
+      lead_further scope rows more has.ended (lead_into law scope old rows has.ended has.stands),
       subst P (sym refused) has.written,
     )
 
--- Some rows more.
+-- Rows that are fed to a surveyor until all are taken.
 
--- after the old state those of so many rows are taken
+-- after the old state these are taken, and the rest isn't
 pub record Goes (form : LineForm) (scope : Scope) (old new : Surveyor) (was now : Output)
-    (rows : List Event) (count : ℕ) : Type 0 where
-  pub counted : rows_of new ≡ rows_of old + count
+    (rows rest : List Event) : Type 0 where
+  pub taken : List Event
+  pub parts : rows ≡ taken ++ rest
+  pub counted : rows_of new ≡ rows_of old + length taken
   pub surveyed : (before : Output) (earlier : List Event)
       → HasSurveyed form scope old before was earlier
-      → HasSurveyed form scope new before now (earlier ++ rows)
+      → HasSurveyed form scope new before now (earlier ++ taken)
 
+-- none is taken
 pub goes_none : (form : LineForm) (scope : Scope) (surveyor : Surveyor) (now : Output)
-    → Goes form scope surveyor surveyor now now [] 0
-goes_none form scope surveyor now = record {
+    (rows : List Event) → Goes form scope surveyor surveyor now now rows rows
+goes_none form scope surveyor now rows = record {
+  taken = [];
+  parts = refl;
   counted = omega arith;
   surveyed = λ before earlier has.
       let P : List Event → Type 0 = λ l. HasSurveyed form scope surveyor before now l in
       subst P (sym (append-nil earlier)) has;
 }
 
--- one row more of them
-one_more : (earlier events : List Event) (i : ℕ) (event default : Event) → i < length events
-    → event ≡ get_or events i default
-    → (earlier ++ take i events) ++ event ∷ [] ≡ earlier ++ take (i + 1) events
-one_more earlier events i event default within is =
-    append_assoc earlier (take i events) (event ∷ [])
-    ∙ ap (λ l. earlier ++ l) (ap (λ e. take i events ++ e ∷ []) is ∙ sym (take_more events i default within))
+-- there is room for the rest
+pub goes_within : (form : LineForm) (scope : Scope) (old mid : Surveyor) (was now : Output)
+    (rows rest : List Event) (most : ℕ) → Goes form scope old mid was now rows rest
+    → rows_of old + length rows ≤ most → rows_of mid + length rest ≤ most
+goes_within form scope old mid was now rows rest most goes room =
+    let all : length rows ≡ length goes.taken + length rest =
+    ap length goes.parts ∙ length-append goes.taken rest in
+    omega (arith, all, goes.counted, room)
 
+-- the rows up to one of the rest are the next ones
+next_rows : (rows taken rest front after : List Event) (row : Event) → rows ≡ taken ++ rest
+    → rest ≡ front ++ row ∷ after → rows ≡ (taken ++ (front ++ row ∷ [])) ++ after
+next_rows rows taken rest front after row parts more =
+    parts ∙ ap (λ l. taken ++ l) (more ∙ sym (append_assoc front (row ∷ []) after))
+    ∙ sym (append_assoc taken (front ++ row ∷ []) after)
+
+-- where it ended a stretch, the surveyor stands for them, too
+stands_on : (scope : Scope) (mid new : Surveyor) (rest after : List Event) (it : Ended)
+    → (ends : EndsAmong mid rest it after new) → (rows : List Event) (ended : List Ended)
+    → StandsFor mid scope rows ended
+    → StandsFor new scope (rows ++ (ends.front ++ ends.row ∷ [])) (it ∷ ended)
+stands_on scope mid new rest after it ends rows ended on =
+    subst (λ l. StandsFor new scope l (it ∷ ended)) (append_assoc rows ends.front (ends.row ∷ []))
+    (ends.stands scope rows ended on)
+
+-- one of the rest ended a stretch, whose lines are added
 pub goes_more : (form : LineForm) (scope : Scope) (old mid new : Surveyor) (was now later : Output)
-    (events : List Event) (i : ℕ) (event default : Event) → i < length events
-    → event ≡ get_or events i default → Goes form scope old mid was now (take i events) i
-    → rows_of new ≡ rows_of mid + 1
-    → ((before : Output) (rows : List Event) → HasSurveyed form scope mid before now rows
-    → HasSurveyed form scope new before later (rows ++ event ∷ []))
-    → Goes form scope old new was later (take (i + 1) events) (i + 1)
-goes_more form scope old mid new was now later events i event default within is goes counted on =
+    (rows rest after : List Event) (it : Ended) → Goes form scope old mid was now rows rest
+    → EndsAmong mid rest it after new → Puts now later (ended_lines form it)
+    → Goes form scope old new was later rows after
+goes_more form scope old mid new was now later rows rest after it goes ends added =
+    let more : List Event = ends.front ++ ends.row ∷ [] in
+    let many : length more ≡ length ends.front + 1 = length-append ends.front (ends.row ∷ []) in
+    let counted : rows_of new ≡ rows_of mid + length more = omega (arith, many, ends.counted) in
     record {
-      counted = omega (arith, counted, goes.counted);
+      taken = goes.taken ++ more;
+      parts = next_rows rows goes.taken rest ends.front after ends.row goes.parts ends.parts;
+      counted = omega (arith, goes.counted, counted, length-append goes.taken more);
       surveyed = λ before earlier has.
           let P : List Event → Type 0 = λ l. HasSurveyed form scope new before later l in
-          subst P (one_more earlier events i event default within is)
-          (on before (earlier ++ take i events) (goes.surveyed before earlier has));
+          subst P (append_assoc earlier goes.taken more)
+          (ends_one form scope mid new before now later (earlier ++ goes.taken) more it
+          (λ s. stands_on s mid new rest after it ends) counted (goes.surveyed before earlier has)
+          added);
     }
 
 -- its lines aren't taken
-pub stops_at : (form : LineForm) (scope : Scope) (old mid : Surveyor) (was now later : Output)
-    (events : List Event) (i : ℕ) (event default : Event) → i < length events
-    → event ≡ get_or events i default → Goes form scope old mid was now (take i events) i
-    → (fault : RunFault)
-    → ((before : Output) (rows : List Event) → HasSurveyed form scope mid before now rows
-    → HasStopped form scope before later (rows ++ event ∷ []) fault)
+pub goes_no_more : NoneAreReached → (form : LineForm) (scope : Scope) (old mid new : Surveyor)
+    (was now later : Output) (rows rest after : List Event) (it : Ended)
+    → Goes form scope old mid was now rows rest → EndsAmong mid rest it after new
+    → (fault : RunFault) → IsNotTaken fault now later (ended_lines form it)
     → (before : Output) (earlier : List Event) → HasSurveyed form scope old before was earlier
-    → HasStopped form scope before later (earlier ++ events) fault
-stops_at form scope old mid was now later events i event default within is goes fault stops before
-    earlier has =
+    → HasStopped form scope before later (earlier ++ rows) fault
+goes_no_more law form scope old mid new was now later rows rest after it goes ends fault refused
+    before earlier has =
     let P : List Event → Type 0 = λ l. HasStopped form scope before later l fault in
-    let here : HasStopped form scope before later (earlier ++ take (i + 1) events) fault =
-    subst P (one_more earlier events i event default within is)
-    (stops before (earlier ++ take i events) (goes.surveyed before earlier has)) in
-    let whole : (earlier ++ take (i + 1) events) ++ drop (i + 1) events ≡ earlier ++ events =
-    append_assoc earlier (take (i + 1) events) (drop (i + 1) events)
-    ∙ ap (λ l. earlier ++ l) (take-append-drop (i + 1) events) in
-    subst P whole
-    (stopped_further form scope before later (earlier ++ take (i + 1) events) (drop (i + 1) events) fault here)
+    let more : List Event = ends.front ++ ends.row ∷ [] in
+    let here : HasStopped form scope before later ((earlier ++ goes.taken) ++ more) fault =
+    ends_none law form scope mid new before now later (earlier ++ goes.taken) more it
+    (λ s. stands_on s mid new rest after it ends) (goes.surveyed before earlier has) fault refused in
+    subst P (ap (λ l. l ++ after) (append_assoc earlier goes.taken more)
+    ∙ append_assoc earlier (goes.taken ++ more) after
+    ∙ ap (λ l. earlier ++ l)
+    (sym (next_rows rows goes.taken rest ends.front after ends.row goes.parts ends.parts)))
+    (stopped_further form scope before later ((earlier ++ goes.taken) ++ more) after fault here)
+
+-- all of the rest are taken, and end none
+pub goes_all : (form : LineForm) (scope : Scope) (old mid new : Surveyor) (was now : Output)
+    (rows rest : List Event) → Goes form scope old mid was now rows rest
+    → ((scope : Scope) (before : List Event) (ended : List Ended) → StandsFor mid scope before ended
+    → StandsFor new scope (before ++ rest) ended) → rows_of new ≡ rows_of mid + length rest
+    → (before : Output) (earlier : List Event) → HasSurveyed form scope old before was earlier
+    → HasSurveyed form scope new before now (earlier ++ rows)
+goes_all form scope old mid new was now rows rest goes on counted before earlier has =
+    let P : List Event → Type 0 = λ l. HasSurveyed form scope new before now l in
+    subst P (append_assoc earlier goes.taken rest ∙ ap (λ l. earlier ++ l) (sym goes.parts))
+    (goes_on form scope mid new before now (earlier ++ goes.taken) rest on counted
+    (goes.surveyed before earlier has))

@@ -186,12 +186,9 @@ struct Surveying<F: Drop> {
 }
 
 impl<F: Form> Surveying<F> {
-    ghost use Rattle.std.specs.Prelude.{◌∷◌, ◌++◌, ◌+◌, Option};
-    ghost use Rattle.mdb_words.specs.declared.event.Event.{Event};
-    ghost use Rattle.mdb_follow.specs.declared.follower.TheConstants.{ROWS_MAX};
-    ghost use Rattle.mdb_stretches.specs.Surveyor.{rows_of};
-    ghost use Rattle.mdb_writing.specs.Output.{Output, begun, output};
-    ghost use Rattle.mdb_survey.specs.inner.SurveySteps.{HasAddedEnd, HasAddedLast, HasGoneOn, HasSurveyed};
+    ghost use Rattle.std.specs.Prelude.{Option};
+    ghost use Rattle.mdb_writing.specs.Output.{begun, output};
+    ghost use Rattle.mdb_survey.specs.inner.SurveySteps.{HasAddedEnd, HasAddedLast, HasSurveyed};
 
     /// Before the first row.
     fn new(alloc: Global, scope: &Scope, form: F) -> Surveying<F>
@@ -205,29 +202,6 @@ impl<F: Form> Surveying<F> {
             surveyor: Surveyor::scoped(scope),
             printer: Printer::new(alloc),
             form,
-        }
-    }
-
-    /// Takes the next row, and adds the lines of the stretch that it ends, and its own, if it can't
-    /// be.
-    #[inline(always)]
-    fn take<W: Write>(&mut self, writer: &mut W, event: Event) -> Result<(), RunFault>
-        requires { rows_of self.old.surveyor < ROWS_MAX }
-        ensures taken { (before : Output) (rows : List Event)
-            → HasSurveyed F.lines self.old.scope self.old.surveyor before
-            (output (W.contents writer.old) self.old.printer.page) rows
-            → HasGoneOn F.lines self.old.scope self.new.surveyor before
-            (output (W.contents writer.new) self.new.printer.page) (rows ++ event ∷ []) result }
-        ensures counted { rows_of self.new.surveyor ≡ rows_of self.old.surveyor + 1 }
-        ensures scope { self.new.scope ≡ self.old.scope }
-    {
-        match self.surveyor.feed(event) {
-            None => Ok(()),
-            Some(ended) => {
-                laws::followers_stand_for_reached_rows();
-                laws::fronts_of_reached_rows_are_reached();
-                self.printer.add_ended(&self.form, writer, &ended)
-            }
         }
     }
 
@@ -284,10 +258,14 @@ impl<F: Form, W: Write> TakeRows<W> for Surveying<F> {
     }
 
     fn take_all(&mut self, writer: &mut W, rows: &[Event]) -> Option<RunFault> {
-        for event in rows {
-            if let Err(fault) = self.take(writer, *event) {
+        laws::followers_stand_for_reached_rows();
+        laws::fronts_of_reached_rows_are_reached();
+        let mut rest = rows;
+        while let Some((ended, after)) = self.surveyor.feed_all(rest) {
+            if let Err(fault) = self.printer.add_ended(&self.form, writer, &ended) {
                 return Some(fault);
             }
+            rest = after;
         }
         None
     }

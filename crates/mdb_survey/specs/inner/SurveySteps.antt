@@ -52,14 +52,6 @@ HasStopped form scope before after rows Write =
 HasStopped form scope before after rows Memory =
     (ended : List Ended) × LeadInto scope rows ended × Puts before after (lines_of form ended)
 
--- what the taking of the last of these rows comes to
-abbrev pub HasGoneOn : LineForm → Scope → Surveyor → Output → Output → List Event
-    → Result Unit RunFault → Type 0
-HasGoneOn form scope surveyor before after rows (Ok done) =
-    HasSurveyed form scope surveyor before after rows
-HasGoneOn form scope surveyor before after rows (Err fault) =
-    HasStopped form scope before after rows fault
-
 -- The lines of the stretch that runs are on their way, or weren't taken.
 pub record HasAddedLast (form : LineForm) (surveyor : Surveyor) (before after : Output)
     (answer : Result Unit RunFault) : Type 0 where
