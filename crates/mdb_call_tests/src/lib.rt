@@ -12,3 +12,5 @@ mod c_call;
 mod client;
 #[cfg(test)]
 mod page;
+#[cfg(test)]
+mod page_survey;

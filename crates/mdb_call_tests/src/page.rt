@@ -36,7 +36,7 @@ fn checked(options: &PageOptions, text: &[u8]) -> (u32, PageTold, PageText) {
     let mut told = nothing();
     let mut answer = PageText {
         count: 0,
-        bytes: [0; 2048],
+        bytes: [0; 4096],
     };
     let number = mdb_page_check(options, text, &mut told, &mut answer);
     (number, told, answer)
@@ -217,8 +217,11 @@ fn sizes_are_told(rt: HostRuntime) {
         answer: 0,
         act: 0,
         news: 0,
+        fault: 0,
+        lines: 0,
     };
     mdb_page_layout(&mut layout);
     assert_eq!(rt; (layout.options, layout.setup, layout.told), (153, 37, 40));
-    assert_eq!(rt; (layout.answer, layout.act, layout.news), (2056, 80, 64));
+    assert_eq!(rt; (layout.answer, layout.act, layout.news), (4104, 80, 64));
+    assert_eq!(rt; (layout.fault, layout.lines), (16, 4_194_312));
 }

@@ -2,5 +2,6 @@ pub mod Acts
 pub mod Answers
 pub mod Lines
 pub mod Options
+pub mod Surveys
 pub mod Worth
 pub mod inner

@@ -140,6 +140,8 @@ pub(crate) fn line_answer(told: &mut PageTold, fault: LineFault) -> u32
     ensures options { result ≢ 5 }
     ensures row { told.new.row ≡ told.old.row }
     ensures offset { told.new.offset ≡ told.old.offset }
+    ensures acts { told.new.acts ≡ told.old.acts }
+    ensures news { told.new.news ≡ told.old.news }
 {
     match fault {
         LineFault::Unread => UNREAD,

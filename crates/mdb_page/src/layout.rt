@@ -2,9 +2,10 @@
 
 use crate::acts::PageAct;
 use crate::answer::PageTold;
+use crate::faults::PageFault;
 use crate::news::PageNews;
 use crate::options::{PageOptions, PageSetup};
-use crate::sheet::PageText;
+use crate::sheet::{PageLines, PageText};
 use std::mem::size_of;
 
 /// The sizes of the structures of the calls, in bytes.
@@ -23,6 +24,10 @@ pub struct PageLayout {
     pub act: u64,
     /// That of `PageNews`.
     pub news: u64,
+    /// That of `PageFault`.
+    pub fault: u64,
+    /// That of `PageLines`.
+    pub lines: u64,
 }
 
 /// Tells the sizes of the structures of the calls.
@@ -35,5 +40,7 @@ pub extern "C" fn mdb_page_layout(layout: &mut PageLayout) {
         answer: size_of::<PageText>() as u64,
         act: size_of::<PageAct>() as u64,
         news: size_of::<PageNews>() as u64,
+        fault: size_of::<PageFault>() as u64,
+        lines: size_of::<PageLines>() as u64,
     };
 }

@@ -4,4 +4,3 @@ pub mod OneSurvey
 pub mod PageEnds
 pub mod Surveyings
 pub mod Surveys
-pub mod Texts

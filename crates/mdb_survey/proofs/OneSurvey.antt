@@ -12,7 +12,7 @@ use Rattle.mdb_stretches.specs.Summaries.{summary_of}
 use Rattle.mdb_verdict.specs.declared.fault.RunFault.{RunFault}
 use Rattle.mdb_verdict.specs.declared.fault.RunFault.TheVariants.{BadRow, TooLong, Read, Write, Memory}
 use Rattle.mdb_verdict.proofs.OneAnswer.{GoesOn, compared, one_refusal, row_not_refused}
-use Rattle.mdb_survey.specs.Lines.{LineForm, lines_of}
+use Rattle.mdb_survey_text.specs.Lines.{LineForm, lines_of}
 use Rattle.mdb_survey.specs.Survey.{AreSurveyed, IsOwnSurveying, IsSurveying}
 
 -- rows have at most one survey

@@ -10,7 +10,7 @@ use Rattle.mdb_writing.specs.Output.{Output, begun}
 use Rattle.mdb_writing.specs.Written.{HasTaken}
 use Rattle.mdb_writing.proofs.Outputs as outputs
 use Rattle.mdb_survey.specs.inner.SurveySteps.{PutsSurveying}
-use Rattle.mdb_survey.specs.Lines.{LineForm}
+use Rattle.mdb_survey_text.specs.Lines.{LineForm}
 use Rattle.mdb_survey.specs.Survey.{IsCutShort, IsSurveying, SurveysIn}
 
 -- The page is written out at last.

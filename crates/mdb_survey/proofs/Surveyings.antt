@@ -19,7 +19,7 @@ use Rattle.mdb_verdict.proofs.Rows.{IsReadBefore, are_rows, read_before}
 use Rattle.mdb_writing.specs.Output.{Breaks, Output, Puts}
 use Rattle.mdb_writing.proofs.Outputs.{break_both, put_both}
 use Rattle.mdb_survey.specs.inner.SurveySteps.{HasAddedEnd, HasAddedLast, HasStopped, HasSurveyed, IsNotTaken, LeadInto, PutsSurveying}
-use Rattle.mdb_survey.specs.Lines.{LineForm, lines_of}
+use Rattle.mdb_survey_text.specs.Lines.{LineForm, lines_of}
 use Rattle.mdb_survey.specs.Survey.{AreSurveyed, IsSurveyedInPart, IsSurveying}
 use Rattle.mdb_survey.proofs.NoRows.{NoneAreReached}
 use Rattle.mdb_survey.proofs.Surveys.{lead_into}

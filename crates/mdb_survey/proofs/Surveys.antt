@@ -13,7 +13,7 @@ use Rattle.mdb_verdict.specs.declared.fault.RunFault.TheVariants.{BadRow, TooLon
 use Rattle.mdb_writing.specs.Output.{Output, Puts, begun, output}
 use Rattle.mdb_writing.proofs.Outputs.{break_both, put_begun, put_both}
 use Rattle.mdb_survey.specs.inner.SurveySteps.{HasStopped, HasSurveyed, IsNotTaken, LeadInto}
-use Rattle.mdb_survey.specs.Lines.{LineForm, ended_lines, lines_of}
+use Rattle.mdb_survey_text.specs.Lines.{LineForm, ended_lines, lines_of}
 use Rattle.mdb_survey.proofs.NoRows.{NoneAreReached, is_report_on_none, report_on_none}
 
 -- before the first row

@@ -15,9 +15,9 @@ use Rattle.mdb_verdict.specs.declared.fault.RunFault.TheVariants.{BadRow, TooLon
 use Rattle.mdb_verdict.specs.Verdict.{AreRows}
 use Rattle.mdb_writing.specs.Written.{HasTaken}
 use Rattle.mdb_stretches.specs.declared.summary.Summary.{Summary}
-use Rattle.mdb_survey.specs.Lines.{LineForm, lines_of}
+use Rattle.mdb_survey_text.specs.Lines.{LineForm, lines_of}
 use Rattle.mdb_survey.specs.SurveyJson.{json_lines}
-use Rattle.mdb_survey.specs.SurveyText.{text_lines}
+use Rattle.mdb_survey_text.specs.SurveyText.{text_lines}
 
 -- The records up to the rest are rows, and this is their survey.
 pub record AreSurveyed (scope : Scope) (records : List (List (List ℕ))) (ended : List Ended)

@@ -14,7 +14,7 @@ use Rattle.mdb_stretches.specs.declared.counts.FaultCounts.{FaultCounts}
 use Rattle.mdb_stretches.specs.declared.stretch.Stretch.{Stretch}
 use Rattle.mdb_stretches.specs.Totals.{total_silences, total_unvalued}
 use Rattle.mdb_stretches.specs.declared.summary.Summary.{Summary}
-use Rattle.mdb_survey.specs.Lines.{LineForm}
+use Rattle.mdb_survey_text.specs.Lines.{LineForm}
 use Rattle.mdb_text.specs.Text.{line}
 
 -- A stretch that has rows: its first row and its last, the report on them, and its number. The

@@ -1,7 +1,7 @@
 //! The forms of the lines.
 
 ghost use Rattle.std.specs.Prelude.{◌≡◌, ◌++◌, OnOk};
-ghost use Rattle.mdb_survey.specs.Lines.{LineForm, ended_lines};
+ghost use Rattle.mdb_survey_text.specs.Lines.{LineForm, ended_lines};
 
 use super::{json_text, text};
 use mdb_follow::Offence;
@@ -31,7 +31,7 @@ pub(crate) trait Form: Drop {
 pub(crate) struct TextForm;
 
 impl Form for TextForm {
-    ghost use Rattle.mdb_survey.specs.SurveyText.{text_lines};
+    ghost use Rattle.mdb_survey_text.specs.SurveyText.{text_lines};
 
     ghost lines = { text_lines };
 

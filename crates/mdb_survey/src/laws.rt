@@ -5,7 +5,7 @@ ghost use Rattle.std.specs.Prelude.{◌≡◌, ℕ, List, Result};
 ghost use Rattle.mdb_bus.specs.declared.scope.Scope.{Scope};
 ghost use Rattle.mdb_stretches.specs.declared.summary.Summary.{Summary};
 ghost use Rattle.mdb_verdict.specs.declared.fault.RunFault.{RunFault};
-ghost use Rattle.mdb_survey.specs.Lines.{LineForm};
+ghost use Rattle.mdb_survey_text.specs.Lines.{LineForm};
 ghost use Rattle.mdb_survey.specs.Survey.{IsOwnSurveying, IsSurveying};
 
 use mdb_stretches::laws as stretches;

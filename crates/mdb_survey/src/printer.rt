@@ -2,7 +2,7 @@
 
 ghost use Rattle.std.specs.Prelude.{◌≡◌, ◌++◌, [], OnOk, IfErr};
 ghost use Rattle.mdb_writing.specs.Output.{Puts, output};
-ghost use Rattle.mdb_survey.specs.Lines.{ended_lines};
+ghost use Rattle.mdb_survey_text.specs.Lines.{ended_lines};
 ghost use Rattle.mdb_survey.specs.inner.SurveySteps.{IsNotTaken};
 
 use super::form::{Form, push_end, push_ended};

@@ -1,17 +1,12 @@
-//! The lines of a survey, as text.
+//! The lines of a survey, as text, in memory.
 
-ghost use Rattle.std.specs.Prelude.{◌≡◌, ◌<◌, ◌+◌, ◌++◌, OnOk};
-ghost use Rattle.std.specs.Io.KnownBytes.{Appends};
-ghost use Rattle.mdb_survey.specs.SurveyText.{fault_line, faults_line, rows_text, stretch_line, stretch_text, summary_text, total_accounts_text, total_silences_line, total_unvalued_line, totals_text};
+ghost use Rattle.std.specs.Prelude.{◌≡◌, ◌++◌, OnOk};
+ghost use Rattle.mdb_survey_text.specs.SurveyText.{fault_line, stretch_text, summary_text};
 
-use mdb_bus::Scope;
-use mdb_follow::{AccountName, Offence, Report};
-use mdb_msgs::Device;
-use mdb_stretches::{FaultCounts, Stretch, Summary, Totals, setups_of};
-use mdb_text::{write_account, write_count, write_devices, write_report_lines};
+use mdb_follow::Offence;
+use mdb_stretches::{Stretch, Summary};
+use mdb_survey_text::{write_fault, write_stretch, write_summary};
 use std::alloc::AllocError;
-use std::io;
-use std::io::Write;
 
 /// Appends the lines of a stretch: none where it has no row.
 pub(crate) fn push_stretch(text: &mut Vec<u8>, stretch: &Stretch) -> Result<(), AllocError>
@@ -32,118 +27,4 @@ pub(crate) fn push_summary(text: &mut Vec<u8>, summary: &Summary) -> Result<(), 
     ensures { OnOk result (text.new.items ≡ text.old.items ++ summary_text summary.now) }
 {
     write_summary(text, summary).map_err(|_| AllocError)
-}
-
-/// Writes the lines of a stretch: none where it has no row.
-fn write_stretch<W: Write>(writer: &mut W, stretch: &Stretch) -> io::Result<()>
-    ensures { OnOk result (Appends (W.contents writer.old) (W.contents writer.new)
-        (stretch_text stretch.now)) }
-{
-    if stretch.report.rows == 0 {
-        return Ok(());
-    }
-    let Stretch {
-        number,
-        first,
-        last,
-        ..
-    } = stretch;
-    write!(writer, "stretch {number} rows {first}-{last}\n")?;
-    let scope = Scope::joined(setups_of(&stretch.scope.begins), stretch.scope.without);
-    write_report_lines(writer, &scope, &stretch.report)
-}
-
-/// Writes the line of a fault.
-fn write_fault<W: Write>(writer: &mut W, fault: &Offence) -> io::Result<()>
-    ensures { OnOk result (Appends (W.contents writer.old) (W.contents writer.new)
-        (fault_line fault.now)) }
-{
-    let Offence { row, rule, blame } = *fault;
-    write!(writer, "fault {row} {rule} {blame}\n")
-}
-
-/// Writes the totals, where a stretch has a row, and how many faults there are.
-fn write_summary<W: Write>(writer: &mut W, summary: &Summary) -> io::Result<()>
-    ensures { OnOk result (Appends (W.contents writer.old) (W.contents writer.new)
-        (summary_text summary.now)) }
-{
-    if summary.totals.rows != 0 {
-        write_totals(writer, summary)?;
-    }
-    write_faults(writer, &summary.faults)
-}
-
-/// Writes the totals, and which devices are left out at the end.
-fn write_totals<W: Write>(writer: &mut W, summary: &Summary) -> io::Result<()>
-    ensures { OnOk result (Appends (W.contents writer.old) (W.contents writer.new)
-        (totals_text summary.now)) }
-{
-    let Summary {
-        totals,
-        without,
-        ..
-    } = summary;
-    write_total_accounts(writer, totals)?;
-    write_total_silences(writer, totals)?;
-    write_total_unvalued(writer, totals)?;
-    write_devices(writer, "total without", *without)
-}
-
-/// Writes the sums of each account.
-fn write_total_accounts<W: Write>(writer: &mut W, totals: &Totals) -> io::Result<()>
-    ensures { OnOk result (Appends (W.contents writer.old) (W.contents writer.new)
-        (total_accounts_text totals.now)) }
-{
-    for name in AccountName::ALL {
-        write!(writer, "total ")?;
-        write_account(writer, name, &totals.account(name))?;
-    }
-    Ok(())
-}
-
-/// Writes the sums of each device's silences.
-fn write_total_silences<W: Write>(writer: &mut W, totals: &Totals) -> io::Result<()>
-    ensures { OnOk result (Appends (W.contents writer.old) (W.contents writer.new)
-        (total_silences_line totals.now)) }
-{
-    write!(writer, "total silences")?;
-    for device in Report::DEVICES {
-        write_count(writer, device, totals.device_silences(device))?;
-    }
-    write!(writer, "\n")
-}
-
-/// Writes the sums of each device's amounts without a value.
-fn write_total_unvalued<W: Write>(writer: &mut W, totals: &Totals) -> io::Result<()>
-    ensures { OnOk result (Appends (W.contents writer.old) (W.contents writer.new)
-        (total_unvalued_line totals.now)) }
-{
-    write!(writer, "total unvalued")?;
-    for device in Report::DEVICES {
-        write_count(writer, device, totals.device_unvalued(device))?;
-    }
-    write!(writer, "\n")
-}
-
-/// Writes how many faults there are.
-fn write_faults<W: Write>(writer: &mut W, faults: &FaultCounts) -> io::Result<()>
-    ensures { OnOk result (Appends (W.contents writer.old) (W.contents writer.new)
-        (faults_line faults.now)) }
-{
-    let FaultCounts {
-        all,
-        controller,
-        changer,
-        bill,
-        cashless,
-        cashless_2,
-        other,
-        profile,
-    } = *faults;
-    write!(
-        writer,
-        "faults {all} controller {controller} changer {changer} bill {bill}"
-    )?;
-    write!(writer, " cashless {cashless} cashless-2 {cashless_2}")?;
-    write!(writer, " other {other} profile {profile}\n")
 }

@@ -25,10 +25,10 @@ use Rattle.mdb_show.specs.Lines.{LineForm}
 use Rattle.mdb_show.specs.Show.{IsCutShortIn, IsShownToFaultIn, IsShownWholeIn}
 use Rattle.mdb_show.specs.ShowJson.{json_lines}
 use Rattle.mdb_show.specs.ShowText.{bytes_text, text_lines}
-use Rattle.mdb_survey.specs.Lines.{LineForm as SurveyForm}
+use Rattle.mdb_survey_text.specs.Lines.{LineForm as SurveyForm}
 use Rattle.mdb_survey.specs.Survey.{IsCutShort, IsSurveyedWhole}
 use Rattle.mdb_survey.specs.SurveyJson.{json_lines as survey_json_lines}
-use Rattle.mdb_survey.specs.SurveyText.{text_lines as survey_text_lines}
+use Rattle.mdb_survey_text.specs.SurveyText.{text_lines as survey_text_lines}
 use Rattle.mdb_stretches.specs.declared.summary.Summary.{Summary}
 use Rattle.mdb_text.specs.Accounts.{side_word}
 use Rattle.mdb_text.specs.Text.{report_text}

@@ -13,7 +13,7 @@ use Rattle.mdb_verdict.specs.declared.fault.RunFault.{RunFault}
 use Rattle.mdb_verdict.specs.declared.fault.RunFault.TheVariants.{BadRow, TooLong, Read, Write, Memory}
 use Rattle.mdb_writing.specs.Output.{Breaks, Output, Puts}
 use Rattle.mdb_stretches.specs.declared.summary.Summary.{Summary}
-use Rattle.mdb_survey.specs.Lines.{LineForm, lines_of}
+use Rattle.mdb_survey_text.specs.Lines.{LineForm, lines_of}
 use Rattle.mdb_survey.specs.Survey.{IsSurveying}
 
 -- a text isn't put there: with want of memory nothing has changed

@@ -3,8 +3,8 @@ use Rattle.std.proofs.KnownBytes.{Appends-trans}
 use Rattle.std.specs.Prelude.{OnOk}
 use Rattle.std.specs.Io.KnownBytes.{Appends}
 use Rattle.mdb_text.proofs.Texts.{on_ok}
-use Rattle.mdb_survey.proofs.Texts.{faults_first, faults_parts, faults_second, faults_third}
-use Rattle.mdb_survey.proofs.text.write_faults.Goals as goal
+use Rattle.mdb_survey_text.proofs.Texts.{faults_first, faults_parts, faults_second, faults_third}
+use Rattle.mdb_survey_text.proofs.text.write_faults.Goals as goal
 
 pub returns : goal.returns
 returns g c =

@@ -5,7 +5,7 @@ use Rattle.mdb_follow.specs.declared.report.TheConstants.Report.{DEVICES}
 use Rattle.mdb_stretches.specs.Totals.{total_unvalued}
 use Rattle.mdb_text.specs.Text.{count_text}
 use Rattle.mdb_text.proofs.Texts.{all_parts, on_ok, one_part_more}
-use Rattle.mdb_survey.proofs.text.write_total_unvalued.Goals as goal
+use Rattle.mdb_survey_text.proofs.text.write_total_unvalued.Goals as goal
 
 pub loop-device-init : goal.loop-device-init
 loop-device-init g c = c.in_ok-write.ensures.bytes

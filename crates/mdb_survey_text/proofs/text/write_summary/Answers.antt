@@ -2,10 +2,10 @@ use Rattle.std.proofs.Common.{sym, subst, ◌==◌, ℕ, List, [], if◌then◌e
 use Rattle.std.proofs.KnownBytes.{Appends-nil, Appends-trans}
 use Rattle.std.specs.Io.KnownBytes.{Appends}
 use Rattle.mdb_text.proofs.Texts.{on_ok}
-use Rattle.mdb_survey.specs.SurveyText.{totals_text}
-use Rattle.mdb_survey.proofs.Texts.{if_none, if_some}
-use Rattle.mdb_survey.proofs.text.write_summary.Goals as goal
-use Rattle.mdb_survey.proofs.text.write_summary.Goals.{then-summary-ne0+in_ok-write_totals, else-summary-ne0}
+use Rattle.mdb_survey_text.specs.SurveyText.{totals_text}
+use Rattle.mdb_survey_text.proofs.Texts.{if_none, if_some}
+use Rattle.mdb_survey_text.proofs.text.write_summary.Goals as goal
+use Rattle.mdb_survey_text.proofs.text.write_summary.Goals.{then-summary-ne0+in_ok-write_totals, else-summary-ne0}
 
 pub returns : goal.returns
 returns g c =

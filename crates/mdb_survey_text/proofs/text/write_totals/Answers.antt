@@ -1,6 +1,6 @@
 use Rattle.std.proofs.KnownBytes.{Appends-trans}
 use Rattle.mdb_text.proofs.Texts.{on_ok}
-use Rattle.mdb_survey.proofs.text.write_totals.Goals as goal
+use Rattle.mdb_survey_text.proofs.text.write_totals.Goals as goal
 
 pub returns : goal.returns
 returns g c =

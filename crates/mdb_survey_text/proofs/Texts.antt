@@ -4,7 +4,7 @@ use Rattle.std.proofs.lemmas.Bool.{cond-false, cond-true, eq-eqb, ne_eqb}
 use Rattle.std.specs.Fmt.{decimal}
 use Rattle.mdb_stretches.specs.declared.counts.FaultCounts.{FaultCounts}
 use Rattle.mdb_stretches.specs.declared.stretch.Stretch.{Stretch}
-use Rattle.mdb_survey.specs.SurveyText.{faults_line, stretch_line}
+use Rattle.mdb_survey_text.specs.SurveyText.{faults_line, stretch_line}
 
 -- a text that is there where something isn't 0
 pub if_some : (count : ℕ) (text : List ℕ) → (count ≡ 0 → ⊥)

@@ -7,9 +7,9 @@ use Rattle.mdb_bus.specs.Scopes.{joined}
 use Rattle.mdb_stretches.specs.Told.{setups_of}
 use Rattle.mdb_text.specs.Text.{report_lines}
 use Rattle.mdb_text.proofs.Texts.{on_ok}
-use Rattle.mdb_survey.specs.SurveyText.{rows_text, stretch_line}
-use Rattle.mdb_survey.proofs.Texts.{if_some, stretch_bytes, stretch_parts}
-use Rattle.mdb_survey.proofs.text.write_stretch.Goals as goal
+use Rattle.mdb_survey_text.specs.SurveyText.{rows_text, stretch_line}
+use Rattle.mdb_survey_text.proofs.Texts.{if_some, stretch_bytes, stretch_parts}
+use Rattle.mdb_survey_text.proofs.text.write_stretch.Goals as goal
 
 pub returns : goal.returns
 returns g c =

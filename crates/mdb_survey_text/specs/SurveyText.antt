@@ -13,7 +13,7 @@ use Rattle.mdb_stretches.specs.declared.totals.Totals.{Totals}
 use Rattle.mdb_stretches.specs.Told.{setups_of}
 use Rattle.mdb_stretches.specs.Totals.{total_of, total_silences, total_unvalued}
 use Rattle.mdb_stretches.specs.declared.summary.Summary.{Summary}
-use Rattle.mdb_survey.specs.Lines.{LineForm}
+use Rattle.mdb_survey_text.specs.Lines.{LineForm}
 use Rattle.mdb_text.specs.Text.{account_line, count_text, devices_text, line, line_of_devices, report_lines}
 
 -- the first line of a stretch: its number, its first row and its last

@@ -5,7 +5,7 @@ use Rattle.mdb_follow.specs.declared.account_name.TheConstants.AccountName.{ALL}
 use Rattle.mdb_stretches.specs.Totals.{total_of}
 use Rattle.mdb_text.specs.Text.{account_line}
 use Rattle.mdb_text.proofs.Texts.{all_parts, one_part_more}
-use Rattle.mdb_survey.proofs.text.write_total_accounts.Goals as goal
+use Rattle.mdb_survey_text.proofs.text.write_total_accounts.Goals as goal
 
 pub loop-name-preserved : goal.loop-name-preserved
 loop-name-preserved g c =

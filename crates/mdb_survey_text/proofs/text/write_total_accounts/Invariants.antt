@@ -3,7 +3,7 @@ use Rattle.std.specs.Io.KnownBytes.{Appends}
 use Rattle.std.specs.List.{flat_map}
 use Rattle.mdb_stretches.specs.Totals.{total_of}
 use Rattle.mdb_text.specs.Text.{account_line}
-use Rattle.mdb_survey.proofs.text.write_total_accounts.Given as goal
+use Rattle.mdb_survey_text.proofs.text.write_total_accounts.Given as goal
 
 -- the accounts so far have their lines
 abbrev pub invariant-loop-name : goal.invariant-loop-name

@@ -3,7 +3,7 @@ use Rattle.std.specs.Io.KnownBytes.{Appends}
 use Rattle.std.specs.List.{flat_map}
 use Rattle.mdb_stretches.specs.Totals.{total_silences}
 use Rattle.mdb_text.specs.Text.{count_text}
-use Rattle.mdb_survey.proofs.text.write_total_silences.Given as goal
+use Rattle.mdb_survey_text.proofs.text.write_total_silences.Given as goal
 
 -- the devices so far have their parts
 abbrev pub invariant-loop-device : goal.invariant-loop-device

@@ -1,0 +1,120 @@
+-- How one fault more of a survey is listed, or not.
+use Rattle.std.proofs.Common.{◌≡◌, ◌+◌, ◌<◌, ◌⊎◌, ℕ, true, false, List, [], ◌∷◌, ◌++◌, length, map, take, set, length-set, refl, sym, subst, ap, ◌∙◌, arith}
+use Rattle.std.proofs.lemmas.List.{length-append, map-append, take_more_set}
+use Rattle.mdb_stretches.specs.declared.stretch.Ended.{Ended}
+use Rattle.mdb_survey_text.specs.Lines.{ended_lines, lines_of}
+use Rattle.mdb_survey_text.specs.SurveyText.{text_lines}
+use Rattle.mdb_page.specs.Surveys.{AreListed, HasNoRoom, rows_of_faults, written_lines}
+use Rattle.mdb_page.specs.inner.Surveying.{AreLater, HasListed}
+use Rattle.mdb_page.specs.declared.faults.FaultListing.{FaultListing}
+use Rattle.mdb_page.specs.declared.faults.PageFault.{PageFault}
+use Rattle.mdb_page.specs.declared.sheet.PageLines.{PageLines}
+use Rattle.mdb_page.specs.declared.sheet.TheConstants.{LINES_ROOM}
+
+-- A fault comes after one that had no room.
+pub stays_full : (skip : ℕ) (earlier : List Ended) (it : Ended) (listing : FaultListing)
+    (faults : List PageFault) (lines : PageLines)
+    → HasListed skip earlier listing faults lines → listing.skip ≡ 0 → listing.is_full ≡ true
+    → HasListed skip (it ∷ earlier) listing faults lines
+stays_full skip earlier it listing faults lines has zero full =
+    let rest : HasNoRoom (length faults) has.later has.shown =
+    subst (λ b. AreLater b (length faults) has.later has.shown) full has.rest in
+    record {
+      later = it ∷ has.later;
+      shown = has.shown;
+      passed = has.passed;
+      parts = ap (λ l. it ∷ l) has.parts;
+      left = has.left;
+      none = λ some. absurd (some zero);
+      number = has.number;
+      few = has.few;
+      rest = subst (λ b. AreLater b (length faults) (it ∷ has.later) has.shown) (sym full)
+          (record {
+            newer = it ∷ rest.newer;
+            next = rest.next;
+            are = ap (λ l. it ∷ l) rest.are;
+            full = rest.full;
+          });
+      listed = has.listed;
+    }
+
+none_yet : (skip : ℕ) (earlier : List Ended) (listing : FaultListing) (faults : List PageFault)
+    (lines : PageLines) → (has : HasListed skip earlier listing faults lines)
+    → listing.is_full ≡ false → has.later ≡ []
+none_yet skip earlier listing faults lines has some_room =
+    subst (λ b. AreLater b (length faults) has.later has.shown) some_room has.rest
+
+-- A fault has no room.
+pub fills : (skip : ℕ) (earlier : List Ended) (it : Ended) (listing next : FaultListing)
+    (faults : List PageFault) (lines : PageLines)
+    → (has : HasListed skip earlier listing faults lines) → listing.skip ≡ 0
+    → listing.is_full ≡ false → next.skip ≡ listing.skip → next.listed ≡ listing.listed
+    → next.is_full ≡ true
+    → (length has.shown ≡ length faults)
+    ⊎ (LINES_ROOM < length (lines_of text_lines (it ∷ has.shown)))
+    → HasListed skip (it ∷ earlier) next faults lines
+fills skip earlier it listing next faults lines has zero some_room same number full why =
+    let later = none_yet skip earlier listing faults lines has some_room in
+    record {
+      later = it ∷ [];
+      shown = has.shown;
+      passed = has.passed;
+      parts = ap (λ l. it ∷ l)
+          (has.parts ∙ ap (λ l. l ++ (has.shown ++ has.passed)) later);
+      left = omega (arith, has.left, same);
+      none = λ some. absurd (some (same ∙ zero));
+      number = number ∙ has.number;
+      few = has.few;
+      rest = subst (λ b. AreLater b (length faults) (it ∷ []) has.shown) (sym full)
+          (record { newer = []; next = it; are = refl; full = why });
+      listed = has.listed;
+    }
+
+-- A fault is listed.
+pub lists_one : (skip : ℕ) (earlier : List Ended) (it : Ended) (listing next : FaultListing)
+    (faults : List PageFault) (entry : PageFault) (lines after : PageLines)
+    → HasListed skip earlier listing faults lines → listing.skip ≡ 0 → listing.is_full ≡ false
+    → next.skip ≡ listing.skip → next.listed ≡ listing.listed + 1 → next.is_full ≡ false
+    → listing.listed < length faults → entry.row ≡ it.fault.row
+    → written_lines after ≡ written_lines lines ++ ended_lines text_lines it
+    → HasListed skip (it ∷ earlier) next (set faults listing.listed entry) after
+lists_one skip earlier it listing next faults entry lines after has zero some_room same more still
+    room row added =
+    let place : ℕ = listing.listed in
+    let now : List PageFault = set faults place entry in
+    let later = none_yet skip earlier listing faults lines has some_room in
+    let number : length (it ∷ has.shown) ≡ place + 1 = omega (arith, has.number) in
+    record {
+      later = [];
+      shown = it ∷ has.shown;
+      passed = has.passed;
+      parts = ap (λ l. it ∷ l)
+          (has.parts ∙ ap (λ l. l ++ (has.shown ++ has.passed)) later);
+      left = omega (arith, has.left, same);
+      none = λ some. absurd (some (same ∙ zero));
+      number = more ∙ sym number;
+      few = omega (arith, number, room, length-set faults place entry);
+      rest = subst (λ b. AreLater b (length now) [] (it ∷ has.shown)) (sym still) refl;
+      listed = record {
+        rows = ap (λ n. map (λ entry. entry.row) (take n now)) number
+            ∙ ap (map (λ entry. entry.row)) (take_more_set faults place entry room)
+            ∙ map-append (λ entry. entry.row) (take place faults) (entry ∷ [])
+            ∙ ap (λ l. l ++ entry.row ∷ [])
+            (ap (λ n. map (λ entry. entry.row) (take n faults)) has.number ∙ has.listed.rows)
+            ∙ ap (λ n. rows_of_faults has.shown ++ n ∷ []) row;
+        text = added ∙ ap (λ l. l ++ ended_lines text_lines it) has.listed.text;
+      };
+    }
+
+-- The lines of a fault, with those that are listed, are too many.
+pub too_long : (it : Ended) (shown : List Ended) (lines : PageLines) (text : List ℕ)
+    → written_lines lines ≡ lines_of text_lines shown → text ≡ ended_lines text_lines it
+    → LINES_ROOM < length (written_lines lines) + length text
+    → LINES_ROOM < length (lines_of text_lines (it ∷ shown))
+too_long it shown lines text listed is more =
+    let sum : length (written_lines lines) + length text
+    ≡ length (lines_of text_lines (it ∷ shown)) =
+    sym (length-append (written_lines lines) text)
+    ∙ ap (λ l. length (l ++ text)) listed
+    ∙ ap (λ l. length (lines_of text_lines shown ++ l)) is in
+    subst (λ n. LINES_ROOM < n) sum more
