@@ -1,6 +1,7 @@
 //! What the page's survey answers to small texts, and to one with more faults than room.
 
 use mdb_page::{PageFault, PageLines, PageOptions, PageSetup, PageText, PageTold, mdb_page_survey};
+use std::alloc::AllocError;
 
 /// A changer that is reset, and reports its set-up and coins. Row 37 has a wrong sum, and row 47 is
 /// a coin that nobody asked for.
@@ -91,44 +92,107 @@ const NO_TEXT: PageText = PageText {
 /// No fault was listed yet.
 const NOWHERE: PageFault = PageFault { row: 0, offset: 0 };
 
-/// Whether the first bytes of these are a text.
-fn is_text(bytes: &[u8], count: u64, text: &[u8]) -> bool {
-    count == text.len() as u64 && bytes.starts_with(text)
+/// What the survey of a text answers, and what it tells.
+fn surveyed(
+    text: &[u8],
+    skip: u64,
+    faults: &mut [PageFault],
+    lines: &mut PageLines,
+) -> (u32, PageTold, PageText) {
+    let mut told = NOTHING;
+    let mut answer = NO_TEXT;
+    let number = mdb_page_survey(&POWER_ON, text, skip, &mut told, faults, lines, &mut answer);
+    (number, told, answer)
+}
+
+/// Whether so many first bytes are these texts.
+fn are_texts(bytes: &[u8], count: u64, first: &[u8], second: &[u8]) -> bool {
+    count == (first.len() + second.len()) as u64
+        && bytes.starts_with(first)
+        && bytes[first.len()..].starts_with(second)
 }
 
 #[test]
 fn faults_are_listed_and_the_whole_is_answered(rt: HostRuntime) {
-    let mut told = NOTHING;
-    let mut answer = NO_TEXT;
     let mut lines = PageLines {
         count: 7,
         bytes: [0; 1 << 22],
     };
     let mut faults = [NOWHERE, NOWHERE, NOWHERE];
-    let number = mdb_page_survey(
-        &POWER_ON,
-        DAMAGED,
-        0,
-        &mut told,
-        &mut faults,
-        &mut lines,
-        &mut answer,
-    );
+    let (number, told, answer) = surveyed(DAMAGED, 0, &mut faults, &mut lines);
     assert_eq!(rt; number, 1);
-    assert_eq!(rt;
-        (told.row, told.offset, told.acts, told.news),
-        (49, 605, 2, 2)
-    );
+    assert_eq!(rt; (told.row, told.offset), (49, 605));
+    assert_eq!(rt; (told.acts, told.news), (2, 2));
     assert_eq!(rt; (faults[0].row, faults[0].offset), (37, 436));
     assert_eq!(rt; (faults[1].row, faults[1].offset), (47, 566));
     assert_eq!(rt; faults[2].row, 0);
-    assert!(rt; lines.bytes.starts_with(FIRST));
+    assert!(rt; are_texts(&lines.bytes, lines.count, FIRST, SECOND));
+    assert!(rt; are_texts(&answer.bytes, answer.count, LAST, b""));
+    // There is one entry for two faults, and the second comes with the next call.
+    let (number, told, answer) = surveyed(DAMAGED, 0, &mut faults[2..], &mut lines);
+    assert_eq!(rt; (number, told.acts, told.news), (1, 2, 1));
+    assert_eq!(rt; faults[2].row, 37);
+    assert!(rt; are_texts(&lines.bytes, lines.count, FIRST, b""));
+    assert!(rt; are_texts(&answer.bytes, answer.count, LAST, b""));
+    let (number, told, answer) = surveyed(DAMAGED, 1, &mut faults[2..], &mut lines);
+    assert_eq!(rt; (number, told.acts, told.news), (1, 2, 1));
+    assert_eq!(rt; (faults[2].row, faults[2].offset), (47, 566));
+    assert!(rt; are_texts(&lines.bytes, lines.count, SECOND, b""));
+    assert!(rt; are_texts(&answer.bytes, answer.count, LAST, b""));
+    let (number, told, _) = surveyed(DAMAGED, 2, &mut faults, &mut lines);
+    assert_eq!(rt; (number, told.acts, told.news), (1, 2, 0));
+    assert_eq!(rt; lines.count, 0);
+}
+
+#[test]
+fn a_survey_that_ends_early_answers_with_its_stretch(rt: HostRuntime) {
+    let mut lines = PageLines {
+        count: 7,
+        bytes: [0; 1 << 22],
+    };
+    let (number, told, answer) = surveyed(b"0,M,108\n1146,M,8\n", 0, &mut [], &mut lines);
+    assert_eq!(rt; (number, told.row, told.offset), (2, 2, 8));
+    assert_eq!(rt; (told.fault, told.acts, told.news), (3, 0, 0));
     assert!(rt;
-        is_text(
-            &lines.bytes[FIRST.len()..],
-            lines.count - FIRST.len() as u64,
-            SECOND
-        )
+        answer
+            .bytes
+            .starts_with(b"stretch 1 rows 1-1\ndecimals changer -")
     );
-    assert!(rt; is_text(&answer.bytes, answer.count, LAST));
+    let end = b"unvalued changer 0 bill 0 cashless 0 cashless-2 0\n";
+    assert!(rt; answer.bytes[..answer.count as usize].ends_with(end));
+    let (number, told, answer) = surveyed(b"\n\"0\",M,108\n", 0, &mut [], &mut lines);
+    assert_eq!(rt; (number, told.row, told.offset), (4, 1, 1));
+    assert_eq!(rt; (answer.count, lines.count), (0, 0));
+    let (number, told, answer) = surveyed(b"", 0, &mut [], &mut lines);
+    assert_eq!(rt; (number, told.row, told.acts), (0, 0, 0));
+    let none =
+        b"faults 0 controller 0 changer 0 bill 0 cashless 0 cashless-2 0 other 0 profile 0\n";
+    assert!(rt; are_texts(&answer.bytes, answer.count, none, b""));
+}
+
+#[test]
+fn entries_without_room_come_with_the_next_call(rt: HostRuntime) -> Result<(), AllocError> {
+    let mut lines = PageLines {
+        count: 7,
+        bytes: [0; 1 << 22],
+    };
+    let mut faults = [NOWHERE; 8000];
+    // Each second row is earlier than the row before it.
+    let mut text: Vec<u8> = Vec::new(rt.alloc());
+    for _ in 0..8000 {
+        text.extend_from_slice(b"9,M,108\n0,M,108\n")?;
+    }
+    let (number, told, _) = surveyed(text.as_slice(), 0, &mut faults, &mut lines);
+    assert_eq!(rt; (number, told.row, told.acts), (1, 16_000, 8_000));
+    assert!(rt; told.news > 7_000 && told.news < 8_000);
+    let listed = told.news as usize;
+    assert_eq!(rt; faults[listed - 1].row, 2 * told.news);
+    assert_eq!(rt; faults[listed].row, 0);
+    let end = b" Order controller\n";
+    assert!(rt; lines.bytes[..lines.count as usize].ends_with(end));
+    let (_, next, _) = surveyed(text.as_slice(), told.news, &mut faults, &mut lines);
+    assert_eq!(rt; told.news + next.news, 8_000);
+    assert_eq!(rt; faults[0].row, 2 * (told.news + 1));
+    assert_eq!(rt; faults[0].offset, 16 * told.news + 8);
+    Ok(())
 }
