@@ -1,7 +1,6 @@
-//! What the page's survey answers to small texts, and to one with more faults than room.
+//! What the page's survey answers to small texts.
 
 use mdb_page::{PageFault, PageLines, PageOptions, PageSetup, PageText, PageTold, mdb_page_survey};
-use std::alloc::AllocError;
 
 /// A changer that is reset, and reports its set-up and coins. Row 37 has a wrong sum, and row 47 is
 /// a coin that nobody asked for.
@@ -168,31 +167,4 @@ fn a_survey_that_ends_early_answers_with_its_stretch(rt: HostRuntime) {
     let none =
         b"faults 0 controller 0 changer 0 bill 0 cashless 0 cashless-2 0 other 0 profile 0\n";
     assert!(rt; are_texts(&answer.bytes, answer.count, none, b""));
-}
-
-#[test]
-fn entries_without_room_come_with_the_next_call(rt: HostRuntime) -> Result<(), AllocError> {
-    let mut lines = PageLines {
-        count: 7,
-        bytes: [0; 1 << 22],
-    };
-    let mut faults = [NOWHERE; 8000];
-    // Each second row is earlier than the row before it.
-    let mut text: Vec<u8> = Vec::new(rt.alloc());
-    for _ in 0..8000 {
-        text.extend_from_slice(b"9,M,108\n0,M,108\n")?;
-    }
-    let (number, told, _) = surveyed(text.as_slice(), 0, &mut faults, &mut lines);
-    assert_eq!(rt; (number, told.row, told.acts), (1, 16_000, 8_000));
-    assert!(rt; told.news > 7_000 && told.news < 8_000);
-    let listed = told.news as usize;
-    assert_eq!(rt; faults[listed - 1].row, 2 * told.news);
-    assert_eq!(rt; faults[listed].row, 0);
-    let end = b" Order controller\n";
-    assert!(rt; lines.bytes[..lines.count as usize].ends_with(end));
-    let (_, next, _) = surveyed(text.as_slice(), told.news, &mut faults, &mut lines);
-    assert_eq!(rt; told.news + next.news, 8_000);
-    assert_eq!(rt; faults[0].row, 2 * (told.news + 1));
-    assert_eq!(rt; faults[0].offset, 16 * told.news + 8);
-    Ok(())
 }
