@@ -30,7 +30,7 @@ function isPast(it, {last}) {
   return it.answer === ANSWERS.NO && last >= it.row;
 }
 
-// An act's line, with links to where else the act is shown.
+// An act's line, with links to where else the act is shown. What is apart from the list has no links to its rows.
 function actRow(it, i, isInList = false) {
   const acts = it.list, first = acts.first(i), last = acts.last(i), start = acts.start(i);
   const bad = it.answer === ANSWERS.NO && it.row >= first && it.row <= last, here = isInList && isHere(it, first, last);
@@ -41,7 +41,8 @@ function actRow(it, i, isInList = false) {
         class: [bad && "mark", here && "here"].filter(Boolean).join(" ") || undefined,
         "aria-current": here ? "true" : undefined
       },
-      h("td", {class: "number"}, timeLink(start)), h("td", {class: "rows"}, isInList ? rows : rowLink(first, last)),
+      h("td", {class: "number"}, timeLink(start)),
+      h("td", {class: "rows"}, isInList || it.isApart ? rows : rowLink(first, last)),
       h("td", {class: "wide"}, speaker(acts, i)), h("td", {class: "wide"}, KIND_WORDS[acts.kind(i)]),
       h("td", {}, h("span", {class: "narrow"}, `${shortSpeaker(acts, i)}: `), actWords(acts, i),
         bad ? h("strong", {}, ` – cannot be: ${it.report.rule}`) :

@@ -155,7 +155,7 @@ function showNo(it) {
       isLate || !it.late ? null :
           isExchanged    ? lateAside(it) :
                            lateNotes(it),
-      isLate || isFile ? null : h("p", {class: "soft"}, RECORDER), judgedWords(it), nameWords(it));
+      isLate || isFile ? null : h("p", {class: "soft"}, RECORDER), judgedWords(it), surveyOffer(it), nameWords(it));
 }
 
 const RECORDER = "This blame holds only if the file has every word of both lines, the lines " +
@@ -185,7 +185,7 @@ function showUnfollowed(it) {
       h("p", {class: "soft"},
         `Row ${row} falls under the rule Profile. ${
             it.row > 1 ? `The rows before it are possible together. ` : ""}Nothing after it was judged.`),
-      nameWords(it));
+      surveyOffer(it), nameWords(it));
 }
 
 function leaveOut(it) {

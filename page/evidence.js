@@ -34,6 +34,7 @@ function recordTable(it) {
           row("Size", `${number(it.size)} bytes`), row("SHA-256 of the recording", sum),
           row("File last changed", clockTime(new Date(it.file.lastModified))), row("Checked", clockTime(it.when)),
           row("Command with the same answer", h("code", {id: "command"}, commandOf(it))),
+          it.survey && row("Command of the survey", h("code", {id: "survey-command"}, surveyCommandOf(it))),
           row("Checked by", by("made").textContent))));
 }
 
@@ -48,7 +49,7 @@ function recordSection(it) {
       "button", {type: "button", id: "save-report", disabled: true, onclick: () => saveReport(it)}, "Save the report");
   return section(
       "For the record", "record", recordTable(it), h("p", {class: "noprint"}, button), ...programText(it),
-      h("p", {id: "figures", class: "soft"}));
+      ...surveyText(it), h("p", {id: "figures", class: "soft"}));
 }
 
 // Shows the checksum of the recording when it is there. A report can be saved from then on.
@@ -60,7 +61,7 @@ async function showSum(it) {
 }
 
 // The parts of the page that a report has, if they are there.
-const REPORT_PARTS = ["fault", "money", "before", "devices"];
+const REPORT_PARTS = ["fault", "money", "before", "devices", "survey", "stretches"];
 
 // Takes away what can be pressed or followed.
 function makeStill(part) {
@@ -83,7 +84,7 @@ function reportPage(it) {
   page.body.append(
       h("h1", {}, "Report of mdbcheck"), by("verdict").cloneNode(true),
       section("What was checked", "record", recordTable(it)), ...parts,
-      section("What the program prints", "printed", ...programText(it)));
+      section("What the program prints", "printed", ...programText(it), ...surveyText(it)));
   makeStill(page.body);
   return `<!doctype html>\n${page.documentElement.outerHTML}\n`;
 }

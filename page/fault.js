@@ -13,10 +13,10 @@ function faultSection(it) {
 }
 
 // The rows of the file about it, as they stand there.
-function fileRows(it) {
+function fileRows(it, after = "not judged") {
   const kind = faultKind(it), lines = it.lines.filter((l) => l.row >= it.row - 6);
   const words = (line) => line.row > it.row ?
-      "not judged" :
+      after :
       line.row < it.row ?
       "" :
       {limit: "not followed from here on", no: "this row cannot be", none: "this line is no row"}[kind];

@@ -45,6 +45,8 @@ function markHere(it, here) {
   }
   drawActs(it);
   drawStatement(it);
+  drawFaults(it);
+  drawStretches(it);
   drawLine(it);
 }
 

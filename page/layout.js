@@ -5,7 +5,7 @@ const STRUCTURES = {
   options: {joined: [1, 1], without: [1, 4], setups: [1, 4 * 37]},
   setup: {count: [1, 1], bytes: [1, 36]},
   told: {row: [8, 1], offset: [8, 1], fault: [8, 1], acts: [8, 1], news: [8, 1]},
-  answer: {count: [8, 1], bytes: [1, 2048]},
+  answer: {count: [8, 1], bytes: [1, 4096]},
   act: {
     first: [8, 1],
     last: [8, 1],
@@ -32,7 +32,9 @@ const STRUCTURES = {
     decimals: [1, 1],
     isAcknowledged: [1, 1],
     isToken: [1, 1]
-  }
+  },
+  fault: {row: [8, 1], offset: [8, 1]},
+  lines: {count: [8, 1], bytes: [1, 1 << 22]}
 };
 // For each structure its size, and the place of each field.
 const layout = {};

@@ -18,7 +18,9 @@ function show(it) {
 function figures(it) {
   const s = (ms) => (ms / 1000).toFixed(2) + " s";
   return `${number(it.size)} bytes, read in ${s(it.ms.read)}, checked in ${s(it.ms.check)}${
-      it.before ? `, the rows before row ${number(it.row)} in ${s(it.ms.before)}` : ""}, acts listed in ${
+      it.survey ?
+          `, surveyed in ${s(it.survey.ms)}` :
+          ""}${it.before ? `, the rows before row ${number(it.row)} in ${s(it.ms.before)}` : ""}, acts listed in ${
       s(it.ms.list)}, shown after ${s(it.ms.all)}; ${number(Math.round(it.memory / 1048576))} MB of memory.`;
 }
 

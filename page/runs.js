@@ -15,6 +15,8 @@ let module, file = null, recording = null, checker = null;
 let state = null;
 // The number of the newest run; whether it works; the options of the one before.
 let newest = 0, isWorking = false, lastKey = null;
+// What can't be pressed while a run works.
+let stilled = [];
 let timer, times = 0;
 
 // A module with a memory of 64-bit addresses, and nothing else.
@@ -127,11 +129,15 @@ function working(on) {
   main.inert = on;
   if (on) {
     document.title = `checking – ${shownName(file.name)} – mdbcheck`;
-    for (const it of main.querySelectorAll("button, input, select")) it.disabled = true;
+    stilled.push(...[...main.querySelectorAll("button, input, select")].filter((it) => !it.disabled));
+    for (const it of stilled) it.disabled = true;
     by("doing").textContent = "Reading";
     by("bar").value = 0;
-  } else
+  } else {
     clearInterval(timer);
+    for (const it of stilled) it.disabled = false;
+    stilled = [];
+  }
   showWay();
 }
 
@@ -168,6 +174,7 @@ async function run(given, isButton = !given) {
   if (!given && !file) return null;
   const mine = ++newest, isNow = () => mine === newest, begin = performance.now();
   if (given || isWorking) endChecker();
+  surveying = null;
   if (given) {
     file = given;
     recording = null;
@@ -208,6 +215,10 @@ function stop() {
   if (!isWorking) return;
   newest++;
   endChecker();
+  if (surveying) {
+    stopSurvey();
+    return;
+  }
   closeImport();
   working(false);
   trouble(
@@ -227,13 +238,17 @@ function trouble(words, isButton, ...more) {
 // After an answer or a failure: the title, the settings and the live region are of what is shown now, and the card is
 // in sight.
 function settle(isButton) {
-  const word = state ? answerWord(state) : "no verdict";
-  document.title = file ? `${word} – ${shownName(file.name)} – mdbcheck` : "mdbcheck";
+  showTitle();
   const said = `${by("verdict").querySelector(".word").textContent}. ${by("lead").textContent}`;
   announce(file ? `${shownName(file.name)}: ${said}` : said);
   showWay();
   reachCard(isButton);
   document.documentElement.dataset.shown = ++times;
+}
+
+function showTitle() {
+  const word = state ? answerWord(state) : "no verdict";
+  document.title = file ? `${word} – ${shownName(file.name)} – mdbcheck` : "mdbcheck";
 }
 
 // Brings the card into sight. After a button it gets the focus too, since the button is gone.

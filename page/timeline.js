@@ -62,17 +62,26 @@ function faultTime(it, begin, end) {
   return at >= begin && at <= end * 2 ? Math.min(at, end) : null;
 }
 
+// From when to when the acts go; of a survey the whole recording.
+function lineSpan({list: acts, survey}) {
+  const times = acts.count ? [acts.start(0), acts.end(acts.count - 1)] : [];
+  if (survey) times.push(survey.begin, survey.end, ...[survey.faults[0], survey.faults.at(-1)].map((it) => it?.time));
+  const known = times.filter(Number.isFinite), begin = Math.min(...known);
+  return [begin, Math.max(begin + 1, ...known)];
+}
+
 function makeLine(it) {
   statementOf(it);
-  const {list: acts, found} = it, begin = acts.start(0), end = Math.max(begin + 1, acts.end(acts.count - 1));
+  const {found, survey} = it, [begin, end] = lineSpan(it);
   const lanes = [eventLane(found), silenceLane(found), ...[1, 2, 3, 4].map((device) => moneyLane(it, device))];
+  if (survey) lanes.push(stretchLane(survey), allFaultsLane(survey));
   return {
     begin,
     end,
     from: begin,
     to: end,
     lanes: lanes.filter((lane, i) => i === 0 || lane.begin.length),
-    fault: faultTime(it, begin, end),
+    fault: survey ? null : faultTime(it, begin, end),
     drawn: [],
     current: null
   };
@@ -400,11 +409,24 @@ function silenceList(it) {
   ];
 }
 
+const surveyCounts = ({survey}) =>
+    survey ? `, ${survey.stretches.length} stretches, ${survey.faults.length} faults` : "";
+
+// The time line anew, with what is known now.
+function showLine(it) {
+  const made = timeSection(it);
+  if (by("time"))
+    by("time").replaceWith(made);
+  else
+    by("record").before(made);
+}
+
 function timeSection(it) {
   it.line = makeLine(it);
   const {found, line} = it;
   const told = `Time line from ${seconds(line.begin)} to ${seconds(line.end)}: ${found.breaks.length} breaks, ${
-      found.resets.length} resets, ${found.silences.length} silences, ${found.money.length} entries of money`;
+      found.resets.length} resets, ${found.silences.length} silences, ${found.money.length} entries of money${
+      surveyCounts(it)}`;
   const made = s("svg", {role: "application", "aria-label": told, "aria-describedby": "line-help", tabindex: 0});
   const figure = h("figure", {id: "line"}, made);
   made.addEventListener("keydown", (e) => pressed(it, e));

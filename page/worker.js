@@ -5,6 +5,12 @@ const PAGE = 65536, CHUNK = 1 << 24;
 const MOST = 800000, HALF = MOST / 2;
 // So many news are asked for at a time.
 const MOST_NEWS = 1000000;
+// So many faults of a survey are listed at most: what is more than that is counted.
+const MOST_FAULTS = 20000;
+// What is told of each fault: its row, its place, and the times of the row, the row before it and the row after it.
+const FAULT_NUMBERS = 5;
+// So many rows before a fault are looked at for what was said: a block and more.
+const FAR_BACK = 80;
 // So many bytes are summed up between two messages.
 const PIECE = 1 << 22;
 // So many bytes are checked first, to know how quick this computer is.
@@ -20,6 +26,12 @@ function places(length) {
   const room = Math.min(MOST, Math.floor(length / 8) + 2), roomNews = Math.min(MOST_NEWS, Math.floor(length / 96) + 64);
   const news = acts + room * layout.act.size;
   return {options, told, answer, text, acts, room, news, roomNews, end: news + roomNews * layout.news.size};
+}
+
+// A survey lists no acts. Its faults and its lines lie where those would.
+function surveyPlaces() {
+  const room = Math.min(MOST_FAULTS, Math.floor(size / 8) + 2), lines = at.acts + room * layout.fault.size;
+  return {faults: at.acts, room, lines, end: lines + layout.lines.size};
 }
 
 // Why a file gives no recording, in words for the page.
@@ -85,11 +97,12 @@ function check(length) {
   return call.mdb_page_check(BigInt(at.options), BigInt(at.text), BigInt(length), BigInt(at.told), BigInt(at.answer));
 }
 
-// Lists the first acts and the last ones as far as there is room for so many, and the news after the first `skip`.
-function list(room, skip, roomNews) {
+// Lists the first acts and the last ones as far as there is room for so many, and the news after the first `skip`: of
+// the text, or of a part of it.
+function list(room, skip, roomNews, from = 0, to = size) {
   const answer = call.mdb_page_list(
-      BigInt(at.options), BigInt(at.text), BigInt(size), BigInt(Math.min(HALF, room)), BigInt(skip), BigInt(at.told),
-      BigInt(at.acts), BigInt(room), BigInt(at.news), BigInt(roomNews));
+      BigInt(at.options), BigInt(at.text + from), BigInt(to - from), BigInt(Math.min(HALF, room)), BigInt(skip),
+      BigInt(at.told), BigInt(at.acts), BigInt(room), BigInt(at.news), BigInt(roomNews));
   return {...told(), answer};
 }
 
@@ -157,12 +170,13 @@ function lines(offset, row) {
   return found;
 }
 
-// The fields that the program tells of a row that is none.
-function answerText() {
-  const {answer} = layout, view = new DataView(call.memory.buffer, at.answer);
-  const count = Number(view.getBigUint64(answer.count, true));
-  return new TextDecoder().decode(new Uint8Array(call.memory.buffer, at.answer + answer.bytes, count).slice());
+// The text that lies at a place, with its length before it.
+function textAt(place, {count, bytes}) {
+  const length = Number(new DataView(call.memory.buffer, place).getBigUint64(count, true));
+  return new TextDecoder().decode(new Uint8Array(call.memory.buffer, place + bytes, length).slice());
 }
+
+const answerText = () => textAt(at.answer, layout.answer);
 
 function setOptions(options) {
   new Uint8Array(call.memory.buffer, at.options, layout.options.size).set(options);
@@ -235,6 +249,126 @@ function judgeLate(options, isDevice) {
   say({told: "done", answer, text, row: end.row, isFollowed});
 }
 
+// A survey ----
+
+const isEnd = (byte) => byte === 10 || byte === 13;
+
+// Where the row after the one at a place begins, and where the row before a place does; -1 if there is none.
+function rowAfter(text, from) {
+  let place = text.indexOf(10, from);
+  while (place >= 0 && isEnd(text[place])) place++;
+  return place < text.length ? place : -1;
+}
+
+function rowBefore(text, to) {
+  let place = to;
+  while (place > 0 && isEnd(text[place - 1])) place--;
+  if (place === 0) return -1;
+  return text.lastIndexOf(10, place - 1) + 1;
+}
+
+// The TIME of the row at a place; NaN where there is none.
+function timeAt(text, place) {
+  let at = place === 0 && text[0] === 0xEF ? 3 : place, time = 0;
+  while (isEnd(text[at])) at++;
+  const from = at;
+  for (; text[at] >= 48 && text[at] <= 57; at++) time = time * 10 + text[at] - 48;
+  return place >= 0 && at > from ? time : NaN;
+}
+
+// What is told of the faults that lie in memory.
+function faultNumbers(text, {faults}, count) {
+  const view = new DataView(call.memory.buffer, faults), made = new Float64Array(count * FAULT_NUMBERS);
+  const u64 = (i, field) => Number(view.getBigUint64(i * layout.fault.size + layout.fault[field], true));
+  for (let i = 0; i < count; i++) {
+    const offset = u64(i, "offset");
+    const times = [offset, rowBefore(text, offset), rowAfter(text, offset)].map((place) => timeAt(text, place));
+    made.set([u64(i, "row"), offset, ...times], i * FAULT_NUMBERS);
+  }
+  return made;
+}
+
+// Surveys so many bytes of the text. The faults after the first `skip` are listed, as far as there is room.
+function survey({faults, room, lines}, length, skip) {
+  const answer = call.mdb_page_survey(
+      BigInt(at.options), BigInt(at.text), BigInt(length), BigInt(skip), BigInt(at.told), BigInt(faults),
+      BigInt(room - skip), BigInt(lines), BigInt(at.answer));
+  return {...told(), answer};
+}
+
+// The survey of the recording: the lines of its faults and of the stretches that they end, piece by piece, and then
+// what the program prints after the last fault.
+function surveyAll(spots) {
+  const text = new Uint8Array(call.memory.buffer, at.text, size), texts = [], numbers = [];
+  let listed = 0, end;
+  do {
+    end = survey(spots, size, listed);
+    texts.push(textAt(spots.lines, layout.lines));
+    numbers.push(...faultNumbers(text, spots, end.news));
+    listed += end.news;
+    if (listed < end.acts) tell("Listing the faults", listed / Math.min(end.acts, spots.room));
+  } while (end.news > 0 && listed < Math.min(end.acts, spots.room));
+  return {...end, listed, text: texts.join(""), last: answerText(), faults: Float64Array.from(numbers)};
+}
+
+function judgeSurvey(options) {
+  const spots = surveyPlaces();
+  setOptions(options);
+  grow(spots.end);
+  const begin = performance.now();
+  survey(spots, Math.min(size, FRONT), 0);
+  tell("Surveying", 0, size > 8 * FRONT ? (performance.now() - begin) * (size / FRONT) : 0);
+  const made = surveyAll(spots), {answer, row, offset} = made, isWhole = answer < 2;
+  const text = new Uint8Array(call.memory.buffer, at.text, size);
+  say({
+    ...made,
+    told: "done",
+    begin: timeAt(text, 0),
+    end: timeAt(text, rowBefore(text, isWhole ? size : offset)),
+    lines: isWhole ? [] : lines(offset, row),
+    ms: performance.now() - begin
+  });
+}
+
+// The rows about a fault ----
+
+// Whether a row is the first word of a command.
+function isCommand(text, place) {
+  const at = text.indexOf(44, place);
+  return text[at + 1] === 77 && text[at + 2] === 44 && text[at + 3] === 49;
+}
+
+// The earliest command among the rows not long before a place, but none before `from`: its place, and how many rows it
+// is before that.
+function commandBefore(text, offset, from) {
+  const found = {place: -1, rows: 0};
+  for (let place = rowBefore(text, offset), rows = 1; place >= from && rows <= FAR_BACK; rows++) {
+    if (isCommand(text, place)) Object.assign(found, {place, rows});
+    place = rowBefore(text, place);
+  }
+  return found;
+}
+
+// The acts of the rows up to a fault and of its own row, with the recording's numbers of rows. They are read as of a
+// machine that was running already, from a command on.
+function actsAbout({row, offset, from}) {
+  const text = new Uint8Array(call.memory.buffer, at.text, size), first = commandBefore(text, offset, from);
+  const options = new Uint8Array(layout.options.size), after = rowAfter(text, offset);
+  if (first.place < 0) return {acts: new ArrayBuffer(0), count: 0};
+  options[layout.options.joined] = 1;
+  setOptions(options);
+  const count = list(at.room, 0, 0, first.place, after < 0 ? size : after).acts, {act} = layout;
+  const acts = new Uint8Array(call.memory.buffer, at.acts, count * act.size).slice().buffer, view = new DataView(acts);
+  for (let i = 0; i < count; i++)
+    for (const place of [i * act.size + act.first, i * act.size + act.last])
+      view.setBigUint64(place, view.getBigUint64(place, true) + BigInt(row - first.rows - 1), true);
+  return {acts, count};
+}
+
+const tellAbout = (fault) => say({told: "done", lines: lines(fault.offset, fault.row), ...actsAbout(fault)});
+
+// Messages ----
+
 // Makes the recording's checksum, piece by piece between the messages: no answer waits for it.
 function sumUp() {
   const sum = new Sha256();
@@ -256,20 +390,31 @@ async function prepare(module) {
   grow(at.end);
 }
 
-async function take({number: mine, module, file, options, late, isDevice}) {
+// Answers what a message asks for. One that asks for nothing has the recording read for its checksum.
+function answer({options, late, isDevice, surveyed, about}) {
+  if (surveyed)
+    judgeSurvey(surveyed);
+  else if (about)
+    tellAbout(about);
+  else if (late)
+    judgeLate(late, isDevice);
+  else if (options)
+    judge(options);
+  else
+    say({told: "done"});
+}
+
+async function take({number: mine, module, file, ...asked}) {
   number = mine;
   try {
     if (module) await prepare(module);
-    const device = late ? 0 : badSetup(options);
+    const device = asked.options ? badSetup(asked.options) : 0;
     if (device) {
       say({told: "fault", device});
       return;
     }
     if (file) load(file);
-    if (late)
-      judgeLate(late, isDevice);
-    else
-      judge(options);
+    answer(asked);
     if (file) sumUp();
   } catch (fault) {
     say({told: "fault", words: fault instanceof Refusal ? fault.message : String(fault)});
