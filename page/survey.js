@@ -53,19 +53,24 @@ function readSurvey(text) {
 
 const reportOf = (stretch) => stretch.report ??= readReport(stretch.lines.join("\n"));
 
+// What is told of the fault with an index: its row, its place, and the times of it and of the rows beside it.
+function placeOfFault({faults}, i) {
+  const [row, offset, time, before, after] = faults.subarray(i * 5, i * 5 + 5);
+  return {row, offset, time, before, after};
+}
+
 // A survey with the time of each fault, and with those of each stretch's first and last row.
 function surveyOf(told) {
-  const made = {...told, all: told.acts, whole: told.text + told.last, faultFrom: 0, stretchFrom: 0},
-        {stretches, faults} = Object.assign(made, readSurvey(made.whole));
-  faults.forEach((fault, i) => {
-    [, fault.offset, fault.time, fault.before, fault.after] = told.faults.subarray(i * 5, i * 5 + 5);
-  });
-  for (const it of stretches) {
-    const isLast = it.number > told.acts;
-    it.from = it.number === 1 ? told.begin : faults[it.number - 2]?.after ?? NaN;
-    it.to = isLast ? told.end : faults[it.number - 1]?.before ?? NaN;
+  const {acts: all, listed: some} = told, whole = told.text + told.last;
+  const made = {...told, ...readSurvey(whole), whole, all, faultFrom: 0, stretchFrom: 0};
+  made.faults.forEach((fault, i) => Object.assign(fault, placeOfFault(told, i)));
+  const last = some < all ? placeOfFault(told, some) : made.faults.at(-1);
+  for (const it of made.stretches) {
+    const isLast = it.number > all, before = isLast ? last : made.faults[it.number - 2];
+    it.from = before?.after ?? told.begin;
+    it.to = isLast ? told.end : made.faults[it.number - 1].before;
   }
-  made.rows = Math.max(faults.at(-1)?.row ?? 0, stretches.at(-1)?.last ?? 0);
+  made.rows = Math.max(last?.row ?? 0, made.stretches.at(-1)?.last ?? 0);
   return made;
 }
 
@@ -412,18 +417,18 @@ function stretchNotes(report) {
   }
   if (report.without.length) notes.push(`left out: ${named(report.without)}`);
   if (report.setup.length) notes.push(`set-up known of: ${named(report.setup)}`);
-  return notes;
+  return notes.map((words) => h("div", {class: "soft"}, words));
 }
 
 // The rows of a table for a report: a heading over them all, and a row for each account that has something.
-function sumRows(report, decimals, head) {
+function sumRows(report, decimals, head, isTotal = false) {
   const names = accountsOf(report);
   const cells = (name) => {
     const {device, title} = ACCOUNTS[name], a = report.accounts[name];
     return [
       h("th", {scope: "row", role: "rowheader"}, title), ...["device", "controller", "difference"].map((side, i) => {
         const words = rangeWords(a[side], decimals(device)), label = STRETCH_HEADS[i + 2][0];
-        const inner = side === "difference" && isDiffering(a) ? h("strong", {}, words) : words;
+        const inner = side === "difference" && isDiffering(a) && !isTotal ? h("strong", {}, words) : words;
         return h("td", {role: "cell", class: "number", "data-side": side, "data-label": label}, inner);
       })
     ];
@@ -441,8 +446,7 @@ function stretchBody(it, stretch) {
   const {number: n, first, last, from, to} = stretch, report = reportOf(stretch), isShown = it.here?.stretch === n;
   const head = [
     h("div", {}, `Stretch ${number(n)}`), h("div", {}, first === last ? "row " : "rows ", rowsShown(it, first, last)),
-    Number.isNaN(from) ? null : h("div", {}, timeLink(from), ` to ${seconds(to)}`),
-    ...stretchNotes(report).map((words) => h("div", {class: "soft"}, words))
+    Number.isNaN(from) ? null : h("div", {}, timeLink(from), ` to ${seconds(to)}`), ...stretchNotes(report)
   ];
   return h(
       "tbody", {
@@ -462,11 +466,10 @@ function decimalsOf({stretches}, device) {
 
 function totalBody(made) {
   if (!made.totals) return null;
-  const head =
-      [h("div", {}, "All stretches"), stretchNotes(made.totals).map((words) => h("div", {class: "soft"}, words))];
+  const head = [h("div", {}, "All stretches"), ...stretchNotes(made.totals)];
   return h(
       "tbody", {role: "rowgroup", id: "stretch-total", class: "total"},
-      sumRows(made.totals, (device) => decimalsOf(made, device), head));
+      sumRows(made.totals, (device) => decimalsOf(made, device), head, true));
 }
 
 function drawStretches(it) {

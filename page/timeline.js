@@ -412,6 +412,15 @@ function silenceList(it) {
 const surveyCounts = ({survey}) =>
     survey ? `, ${survey.stretches.length} stretches, ${survey.faults.length} faults` : "";
 
+// After a row that breaks a rule of the link no act is listed.
+function unlistedAfter({survey, link}) {
+  if (!survey || link.answer !== ANSWERS.NO) return null;
+  return h(
+      "p", {class: "soft"},
+      `After row ${
+          number(link.row)} nothing is read as acts. So of the time after it the line has stretches and faults alone.`);
+}
+
 // The time line anew, with what is known now.
 function showLine(it) {
   const made = timeSection(it);
@@ -443,5 +452,5 @@ function timeSection(it) {
       h("details", {class: "hint noprint"}, h("summary", {}, "How to use the time line"),
         h("p", {id: "line-help"},
           "Click a mark to go there. Drag to zoom into a range, or hold Ctrl and turn the wheel. Keys: arrows go from mark to mark, Enter goes there, + and − zoom, Shift with an arrow moves, 0 shows all. Bars count what would lie on top of each other; the number beside a lane is that of its highest bar.")),
-      silenceList(it));
+      unlistedAfter(it), silenceList(it));
 }

@@ -297,7 +297,7 @@ function survey({faults, room, lines}, length, skip) {
 }
 
 // The survey of the recording: the lines of its faults and of the stretches that they end, piece by piece, and then
-// what the program prints after the last fault.
+// what the program prints after the last fault. Where not all faults are listed, the numbers of the last one follow.
 function surveyAll(spots) {
   const text = new Uint8Array(call.memory.buffer, at.text, size), texts = [], numbers = [];
   let listed = 0, end;
@@ -308,6 +308,10 @@ function surveyAll(spots) {
     listed += end.news;
     if (listed < end.acts) tell("Listing the faults", listed / Math.min(end.acts, spots.room));
   } while (end.news > 0 && listed < Math.min(end.acts, spots.room));
+  if (listed < end.acts) {
+    survey({...spots, room: end.acts}, size, end.acts - 1);
+    numbers.push(...faultNumbers(text, spots, 1));
+  }
   return {...end, listed, text: texts.join(""), last: answerText(), faults: Float64Array.from(numbers)};
 }
 

@@ -1,0 +1,601 @@
+#!/usr/bin/env python3
+"""tests/page_survey.py [--firefox] [GENERATED [SEED]]: whether the page surveys a recording as
+`mdbcheck survey` does.
+
+After a no, the page's button surveys
+
+- each recording of examples/ that has a no, from power-on and joined;
+- so many damaged recordings (200 if not said), those of tests/surveyed, with their options;
+- a bad row in the middle, faults alone, 10,000 faults, more faults than the page lists, times in
+  milliseconds, and exchanged lines.
+
+The text has to be the program's, byte for byte. The table of faults, the stretches with their sums,
+the totals, the lanes of the time line and the saved files have to say what that text says, with the
+times of the rows. Then the test stops surveys and gives other files and options while one runs:
+nothing of the old one may stand. It looks at focus, keys, names, headings, contrast, print and the
+width of a telephone. tests/page runs this, too. Ends with status 1 at the first difference.
+"""
+
+import json
+import pathlib
+import random
+import subprocess
+import sys
+import tempfile
+import time
+
+sys.dont_write_bytecode = True
+
+from browser import Browser  # noqa: E402
+from firefox import Firefox  # noqa: E402
+from programs import MDBCHECK, load  # noqa: E402
+
+TOP = pathlib.Path(__file__).resolve().parent.parent
+EXAMPLES = TOP / "examples"
+page_test = load("page")
+want, Wrong, amount = page_test.want, page_test.Wrong, page_test.amount
+SENDERS = page_test.NAMES
+# The most faults that the page lists, and so many it shows at a time.
+MOST, AT_A_TIME = 20_000, 200
+
+# What a reader finds of a survey. Tables are read page by page.
+READ = """(() => {
+  const text = (it) => it ? it.textContent : null, all = (q) => [...document.querySelectorAll(q)];
+  const paged = (id, read) => { const found = [], back = by(id + "-back"), more = by(id + "-more");
+    while (back && !back.disabled) back.click();
+    found.push(...read());
+    while (more && !more.disabled) { more.click(); found.push(...read()); }
+    while (back && !back.disabled) back.click();
+    return found; };
+  const faults = () => all("#survey-rows > tr:not(.about)").map((it) => [...it.children].slice(0, 6).map(text));
+  const sums = (body) => [...body.querySelectorAll("tr[data-account]")].map((it) =>
+    [it.dataset.account, ...[...it.querySelectorAll("td")].map(text)]);
+  const body = (it) => ({head: [...it.querySelectorAll(".head > div")].map(text), sums: sums(it)});
+  const lane = (name) => { const it = state.line?.lanes.find((it) => it.name === name);
+    return it ? [...it.begin].map((begin, k) => [begin, it.end[k], it.words(k)]) : []; };
+  const drawn = (name) => { const row = state.line.lanes.findIndex((it) => it.name === name);
+    return state.line.drawn.filter((it) => it.row === row).map((it) => it.words); };
+  return JSON.stringify({
+    whole: state.survey.whole, text: text(by("survey-text")), command: text(by("survey-command")), lead: text(by("survey-lead")),
+    offer: text(by("survey-offer")), word: text(document.querySelector("#verdict .word")), end: text(by("survey-end")), many: text(by("survey-many")),
+    faults: paged("survey", faults), stretches: paged("stretch", () => all("#stretch-table > tbody:not(#stretch-total)").map(body)),
+    total: by("stretch-total") && body(by("stretch-total")), rules: all("#survey-rules tbody tr").map((it) => [...it.children].map(text)),
+    lanes: [lane("stretches"), lane("faults")], drawn: [drawn("stretches"), drawn("faults")], csv: faultCsv(state.survey),
+    contents: all("#contents a").map(text), titles: all("#told > section > h2").map(text), focus: document.activeElement.id,
+    title: document.title, announced: text(by("announced")), check: text(by("text")), listed: state.survey.faults.length,
+  });
+})()"""
+ACCOUNTS = ["coins-in", "bills-in", "paid-out", "approved", "sold", "approved-2", "sold-2"]
+OWNERS = page_test.OWNERS
+DEVICE_WORDS = {it: SENDERS[it].removeprefix("the ") for it in page_test.DEVICES}
+
+
+class Survey:
+    """What the program prints of a recording, read."""
+
+    def __init__(self, data, words):
+        self.ran = subprocess.run([MDBCHECK, "survey", *words], input=data, capture_output=True)
+        self.status, self.text = self.ran.returncode, self.ran.stdout.decode()
+        self.stretches, self.faults, self.totals, self.counts = [], [], {}, None
+        for line in self.text.splitlines():
+            kind, *rest = line.split(" ")
+            if kind == "stretch":
+                first, last = map(int, rest[2].split("-"))
+                self.stretches.append({"number": int(rest[0]), "first": first, "last": last, "report": {}})
+            elif kind == "fault":
+                self.faults.append((int(rest[0]), *rest[1:]))
+            elif kind == "total":
+                self.totals[rest[0]] = rest[1:]
+            elif kind == "faults":
+                self.counts = dict(zip([kind, *rest[1::2]], map(int, [rest[0], *rest[2::2]])))
+            else:
+                self.stretches[-1]["report"][kind] = rest
+        lines = [it.rstrip("\r") for it in data.decode("latin-1").removeprefix("\xef\xbb\xbf").split("\n")]
+        self.lines = [it for it in lines if it]
+        self.rows = max([row for row, *_ in self.faults] + [it["last"] for it in self.stretches], default=0)
+
+    def time(self, row):
+        return int(self.lines[row - 1].split(",")[0])
+
+
+def seconds(micros):
+    """A time as the page writes it."""
+    if micros < 60_000_000:
+        return f"{micros / 1e6:.6f} s"
+    whole, part = divmod(micros, 1_000_000)
+    hours, minutes, rest = whole // 3600, whole // 60 % 60, whole % 60
+    end = f"{rest:02}.{part:06}"
+    return f"{hours}:{minutes:02}:{end}" if hours else f"{minutes}:{end}"
+
+
+def bounds(words, places):
+    """A range as the page writes it."""
+    least, greatest = (amount(it, places) for it in words.split(".."))
+    return least if least == greatest else f"{least} to {greatest}"
+
+
+def sums_of(report, places):
+    """The accounts in which something moved, as the page writes them. `places` has the decimals of a device."""
+    for name in ACCOUNTS:
+        ranges = report[name][1::2]
+        if any(it != "0..0" for it in ranges):
+            yield [name, *(bounds(it, places(OWNERS[name])) for it in ranges)]
+
+
+def listed(words):
+    return "".join(words) if len(words) < 2 else f"{', '.join(words[:-1])} and {words[-1]}"
+
+
+def notes_of(report):
+    """What the page notes of a stretch."""
+    counts = {kind: dict(zip(report[kind][::2], map(int, report[kind][1::2]))) for kind in ("silences", "unvalued")}
+    found = []
+    for device in page_test.DEVICES:
+        for kind, one, after in (("silences", "silence", ""), ("unvalued", "amount", " without a known value")):
+            n = counts[kind][device]
+            if n:
+                found.append(f"{n} {one}{'' if n == 1 else 's'} of the {DEVICE_WORDS[device]}{after}")
+    for kind, words in (("without", "left out"), ("setup", "set-up known of")):
+        if kind in report:
+            found.append(f"{words}: {listed([DEVICE_WORDS[it] for it in report[kind]])}")
+    return found
+
+
+def places_of(report):
+    found = dict(zip(report["decimals"][::2], report["decimals"][1::2]))
+    return lambda device: 0 if found[device] == "-" else int(found[device])
+
+
+def total_places(made):
+    """The decimals of a device that all stretches share."""
+    found = {}
+    for it in made.stretches:
+        words = it["report"]["decimals"]
+        for device, places in zip(words[::2], words[1::2]):
+            if places != "-":
+                found.setdefault(device, set()).add(int(places))
+    return lambda device: next(iter(found[device])) if len(found.get(device, ())) == 1 else 0
+
+
+def span(first, last):
+    return f"row {first}" if first == last else f"rows {first}–{last}"
+
+
+def plain(words):
+    """Numbers of rows without their commas: where the page has a link, they have none."""
+    return words.replace(",", "")
+
+
+class Page(page_test.Page):
+    """The page, and its surveys."""
+
+    def push(self, name):
+        """Presses a button as by the keyboard: it has the focus."""
+        self.browser.value("(() => { const it = by('%s'); it.focus(); it.click(); return 1; })()" % name)
+
+    def survey(self):
+        before = self.shown()
+        self.push("survey-go")
+        self.wait(before)
+        return json.loads(self.browser.value(READ))
+
+    def has_button(self):
+        return self.browser.value("Boolean(document.getElementById('survey-go'))")
+
+    def value(self, code):
+        return json.loads(self.browser.value(f"JSON.stringify({code})"))
+
+    def until(self, code, most=60):
+        end = time.monotonic() + most
+        while not self.browser.value(f"Boolean({code})"):
+            want(time.monotonic() < end, f"not within {most} s: {code}")
+            time.sleep(0.01)
+
+
+def compare_faults(made, came):
+    wanted = []
+    for i, (row, rule, blame) in enumerate(made.faults[:MOST]):
+        wanted.append([str(i + 1), str(row), seconds(made.time(row)), rule, SENDERS[blame]])
+    got = [[plain(it[0]), plain(it[1]), *it[2:5]] for it in came["faults"]]
+    want(got == wanted, f"the faults: {next(((a, b) for a, b in zip(got + [None], wanted + [None]) if a != b), None)}")
+    want(all(len(it[5]) > 20 and it[5].endswith(".") for it in came["faults"]), f"in words: {came['faults'][:1]}")
+    csv = [["row", "time_us", "rule", "blame", "ended_stretch"]]
+    csv += [[str(row), str(made.time(row)), rule, blame, str(i + 1)] for i, (row, rule, blame) in enumerate(made.faults[:MOST])]
+    want([it.split(",") for it in came["csv"].split("\r\n")[:-1]] == csv, "the CSV of the faults")
+    rules = {}
+    for _, rule, blame in made.faults[:MOST]:
+        rules[rule, SENDERS[blame]] = rules.get((rule, SENDERS[blame]), 0) + 1
+    found = {(rule, blame): int(plain(n)) for n, rule, blame in came["rules"]}
+    want(found == (rules if len(made.faults) > 5 else {}), f"the faults by rule: {found}, wanted {rules}")
+
+
+def compare_stretches(made, came):
+    stretches = [it for it in made.stretches if it["number"] <= MOST or it["number"] > len(made.faults)]
+    want(len(came["stretches"]) == len(stretches), f"{len(came['stretches'])} stretches, wanted {len(stretches)}")
+    for it, shown in zip(stretches, came["stretches"]):
+        report, name = it["report"], f"stretch {it['number']}"
+        head = [f"Stretch {it['number']}", span(it["first"], it["last"]), f"{seconds(made.time(it['first']))} to {seconds(made.time(it['last']))}"]
+        head += notes_of(report)
+        want(list(map(plain, shown["head"])) == list(map(plain, head)), f"{name}: {shown['head']}, wanted {head}")
+        want(shown["sums"] == list(sums_of(report, places_of(report))), f"{name}: {shown['sums']}")
+    if not made.totals:
+        want(came["total"] is None, f"there are totals: {came['total']}")
+        return
+    want(came["total"]["head"] == ["All stretches", *notes_of(made.totals)], f"the totals: {came['total']['head']}")
+    want(came["total"]["sums"] == list(sums_of(made.totals, total_places(made))), f"the totals: {came['total']['sums']}")
+
+
+def compare_lanes(made, came):
+    if len(made.faults) > MOST:
+        return
+    stretches = [[made.time(it["first"]), made.time(it["last"]),
+                  f"stretch {it['number']:,}: rows {it['first']:,} to {it['last']:,}, from {seconds(made.time(it['first']))} to {seconds(made.time(it['last']))}"]
+                 for it in made.stretches]
+    faults = [[made.time(row), made.time(row), f"row {row:,} cannot be: {rule}, {SENDERS[blame]}, at {seconds(made.time(row))}"]
+              for row, rule, blame in made.faults]
+    for name, wanted, lane, drawn in zip(("stretches", "faults"), (stretches, faults), came["lanes"], came["drawn"]):
+        want(lane == wanted, f"the lane {name}: {lane[:3]}, wanted {wanted[:3]}")
+        # What is drawn has each once: alone, or counted.
+        count = sum(1 if it.startswith(("stretch ", "row ")) else int(plain(it.split(" ")[0])) for it in drawn)
+        want(count == len(wanted), f"the lane {name} shows {count} of {len(wanted)}: {drawn[:3]}")
+
+
+def compare_words(made, came, words):
+    """What the page says around the tables."""
+    n = len(made.faults)
+    count = f"{n:,} fault{'' if n == 1 else 's'} in {made.rows:,} row{'' if made.rows == 1 else 's'}"
+    want(came["lead"].startswith(count), f"{came['lead']!r}, wanted {count!r}")
+    if made.counts:
+        senders = [it for it in SENDERS if made.counts.get(it)]
+        want(all(f"{SENDERS[it]} {made.counts[it]:,}" in came["lead"] for it in senders), f"{came['lead']!r}: {made.counts}")
+        profile = made.counts["profile"]
+        want((f"{profile:,} row" in came["lead"] and "nobody's fault" in came["lead"]) if profile else "Profile" not in came["lead"], came["lead"])
+    want(came["lead"] in came["offer"] and came["lead"] in came["announced"], f"{came['offer']!r}, {came['announced']!r}")
+    row = made.faults[0][0]
+    want(came["word"].startswith((f"No: row {row:,} ", f"Not followed from row {row:,} ")), f"the first no: {came['word']!r}")
+    want(came["contents"] == came["titles"] and {"All faults", "Money by stretch"} < set(came["contents"]), f"{came['contents']}, {came['titles']}")
+    quoted = [f"'{it}'" if " " in it else it for it in words]
+    want(came["command"].replace("--setup=", "--setup ").split(" ")[:2] == ["mdbcheck", "survey"], came["command"])
+    want(sorted(came["command"].removesuffix(" < FILE").split(" ")) == sorted(" ".join(["mdbcheck", "survey", *quoted]).split(" ")), f"{came['command']!r}, {words}")
+    want(came["focus"] == "survey-title", f"the focus is on {came['focus']!r}")
+    refused = made.ran.stderr.decode("latin-1")
+    want((came["end"] is not None) == (made.status == 2), f"the end: {came['end']!r}, {refused!r}")
+    if made.status == 2:
+        told = refused.strip().split(": ", 2)[2]
+        want(told.split(":")[0] in came["end"] and "no totals" in came["end"], f"the end: {came['end']!r}, {refused!r}")
+
+
+def compare(page, data, words, name):
+    """Surveys a recording, and compares; answers what the program found. None where there is no no."""
+    shown = page.give(data if isinstance(data, pathlib.Path) else data, words, name)
+    data = data.read_bytes() if isinstance(data, pathlib.Path) else data
+    is_no = shown["card"] in ("card no", "card limit")
+    want(page.has_button() == is_no, f"the button: {shown['card']}")
+    if not is_no:
+        return None
+    made, came = Survey(data, words), page.survey()
+    if len(made.faults) <= MOST:
+        want(came["whole"] == made.text, f"the text is {came['whole'][:300]!r}, wanted {made.text[:300]!r}")
+    if len(made.text) <= 1_000_000:
+        want(came["text"] == made.text, "the text on the page")
+    want(came["check"] == shown["text"], "the text of the check")
+    compare_words(made, came, words)
+    compare_faults(made, came)
+    compare_stretches(made, came)
+    compare_lanes(made, came)
+    want(not page.has_button(), "the button stays")
+    return made
+
+
+def text_of(rows):
+    return "".join(f"{row}\n" for row in rows).encode()
+
+
+def wrong_sums(count):
+    """Polls that the changer answers with a wrong sum each."""
+    words = (0, "M,10B"), (1146, "M,00B"), (3000, "S,005"), (4146, "S,106")
+    return [f"{1000 + 20_000 * i + at},{word}" for i in range(count) for at, word in words]
+
+
+def try_examples(page):
+    counts = [0, 0, 0]
+    for path in sorted(EXAMPLES.glob("*.csv")):
+        for words in ([], ["--joined"], ["--without", "cashless"]):
+            try:
+                made = compare(page, path, words, path.name)
+            except Wrong as wrong:
+                raise Wrong(f"{path.name} {words}: {wrong}") from None
+            if made:
+                counts = [a + b for a, b in zip(counts, (1, len(made.faults), len(made.stretches)))]
+    print("surveys of {} examples: {} faults and {} stretches, as the program prints them".format(*counts))
+
+
+def generated(number, seed):
+    """Damaged recordings with their options, those of tests/surveyed."""
+    surveyed = load("surveyed")
+    surveyed.CASES = surveyed.without.recorded()
+    for index in range(number):
+        dice = random.Random(f"page survey {seed} {index}")
+        taken = surveyed.played(dice) if index % 2 else surveyed.levelled(dice) if index % 4 else surveyed.talked(seed, index)
+        taken, is_from_start = surveyed.part_of(dice, taken)
+        options, words = surveyed.options_for(dice, taken.setups, is_from_start), []
+        if options.is_joined:
+            words.append("--joined")
+        for device in page_test.DEVICES:
+            if device in options.left_out:
+                words += ["--without", device]
+            elif device in options.setups:
+                words += ["--setup", f"{device} {options.setups[device]}"]
+        yield "".join(surveyed.damaged(dice, taken)).encode(), words
+
+
+def try_generated(page, number, seed):
+    counts, refused = [0, 0, 0], 0
+    for index, (data, words) in enumerate(generated(number, seed)):
+        if b'"' in data:
+            continue  # quotes are the import's
+        try:
+            made = compare(page, data, words, "recording.csv")
+        except Wrong as wrong:
+            (TOP / "out" / "survey-wrong.csv").write_bytes(data)
+            raise Wrong(f"damaged recording {index} of seed {seed}, {words} (out/survey-wrong.csv): {wrong}") from None
+        if made:
+            counts = [a + b for a, b in zip(counts, (1, len(made.faults), len(made.stretches)))]
+            refused += made.status == 2
+    print("surveys of {} damaged recordings of {}: {} faults and {} stretches, {} end at a line that is no row".format(counts[0], number, *counts[1:], refused))
+
+
+def try_ends(page):
+    """A line that is no row after a fault; a fault in the only row; faults one after the other."""
+    rows = (EXAMPLES / "a-days-recording.csv").read_text().splitlines()
+    for spoiled in ("x,M,108", "1;M;108", "7205000000,L,108", "7205000000,M,8"):
+        made = compare(page, text_of([*rows[:120], spoiled, *rows[120:]]), [], "spoiled.csv")
+        want(made.status == 2 and len(made.faults) == 1, f"{spoiled}: {made.ran}")
+    for given in (["1000,M,008"], ["1000,S,155", "1000,S,155"], ["1000,M,108", "900,M,008", "800,M,008"]):
+        made = compare(page, text_of(given), [], "short.csv")
+        want(made is not None, f"{given} is possible")
+    compare(page, b"\xef\xbb\xbf" + "\r\n".join(rows).encode() + b"\r\n\r\n", [], "windows.csv")
+    compare(page, "\n".join(rows).encode(), [], "no-end.csv")
+    print("surveys that end at a line that is no row, and of few rows")
+
+
+def try_many(page):
+    """10,000 faults, more than are listed, and what so many come of."""
+    made = compare(page, text_of(wrong_sums(10_000)), [], "many.csv")
+    want(len(made.faults) == 10_000, f"{len(made.faults)} faults")
+    want("most likely it is the file" in page.value("by('survey-many').textContent"), "10,000 faults")
+    shown = page.value("[by('survey-rows').children.length, by('survey-count').textContent, by('survey-text').textContent.length < 1100000]")
+    want(shown == [AT_A_TIME, "Faults 1 to 200 of 10,000.", True], f"10,000 faults: {shown}")
+    saved = page.value("(() => { window.kept = null; const old = window.save; window.save = (...it) => { window.kept = it; }; by('save-survey').click(); window.save = old; return [kept[0], kept[1] === state.survey.whole]; })()")
+    want(saved == ["many-survey.txt", True], f"the saved text: {saved}")
+    made = compare(page, text_of([*wrong_sums(MOST + 10), "1000000000000,M,10B"]), [], "one-more.csv")
+    made = compare(page, text_of(wrong_sums(MOST + 10)), [], "more.csv")
+    told = page.value("by('survey').textContent")
+    want(f"The first 20,000 of {MOST + 10:,} faults are listed." in told and page.value("state.survey.faults.length") == MOST, "more than are listed")
+    day = (EXAMPLES / "a-days-recording.csv").read_text().splitlines()
+    split = [row.split(",") for row in day]
+    compare(page, text_of([f"{int(at) // 1000},{line},{value}" for at, line, value in split]), [], "ms.csv")
+    want("most likely it is the file" in page.value("by('survey-many').textContent"), "times in milliseconds")
+    other = {"M": "S", "S": "M", "B": "B"}
+    compare(page, text_of([f"{at},{other[line]},{value}" for at, line, value in split]), [], "exchanged.csv")
+    want("lines M and S are exchanged" in page.value("by('survey-many').textContent"), "exchanged lines")
+    compare(page, EXAMPLES / "a-days-recording.csv", [], "a-days-recording.csv")
+    want(page.value("by('survey-many')") is None, "two faults aren't many")
+    print("10,000 faults, more than are listed, times in milliseconds and exchanged lines")
+
+
+def try_about(page):
+    """The rows about each fault, and what was said up to it."""
+    path = EXAMPLES / "a-days-recording.csv"
+    made = compare(page, path, [], path.name)
+    for number, (row, rule, _) in enumerate(made.faults, 1):
+        page.browser.value(f"(() => {{ const it = document.querySelector('#survey-rows [data-number=\"{number}\"] button'); it.focus(); it.click(); return 1; }})()")
+        page.until(f"document.querySelector('#survey-rows [data-number=\"{number}\"]').nextSibling?.classList.contains('about')")
+        marked, acts, isOpen = page.value("""(() => { const it = document.querySelector('#survey-rows [data-number="%d"]'), tables = [...it.nextSibling.querySelectorAll("table")];
+            return [[...tables.at(-1).querySelectorAll("tr.mark")].map((one) => [...one.children].map((c) => c.textContent)),
+                tables.length > 1 ? [...tables[0].querySelectorAll(":scope > tbody > tr")].map((one) => [one.children[1].textContent, one.lastChild.textContent]) : [],
+                document.activeElement.getAttribute("aria-expanded")]; })()""" % number)
+        want(marked and marked[0][:3] == [str(row), made.lines[row - 1], "this row cannot be"], f"the rows about row {row}: {marked}")
+        before = made.faults[number - 2][0] if number > 1 else 0
+        want(acts_about(made, row, before) == acts, f"what was said up to row {row}: {acts}")
+        want(isOpen == "true", "the button doesn't say that it is open")
+    page.browser.value("(() => { for (const it of document.querySelectorAll('#survey-rows button')) it.click(); return 1; })()")
+    want(page.value("document.querySelectorAll('#survey-rows .about').length") == 0, "it doesn't close")
+    print("the rows about each fault, and what was said up to it, as `show` has it")
+
+
+def acts_about(made, row, before):
+    """The last acts before a row and with it, as `mdbcheck show` has them of the rows from a command on."""
+    place = next(it for it in range(max(before + 1, row - 80), row) if made.lines[it - 1].split(",")[1:] and made.lines[it - 1].split(",")[1] == "M" and made.lines[it - 1].split(",")[2][0] == "1")
+    ran = subprocess.run([MDBCHECK, "show"], input=text_of(made.lines[place - 1:row]), capture_output=True)
+    found = []
+    for line in ran.stdout.decode().splitlines():
+        words = line.split(" ")
+        if words[0] == "fault":
+            continue
+        first, last = (int(it) + place - 1 for it in words[0].split("-"))
+        found.append([str(first) if first == last else f"{first}–{last}", " ".join(words[3:])])
+    return found[-8:]
+
+
+def try_links(page):
+    """Marks of the time line lead to their rows in the tables, and back."""
+    path = EXAMPLES / "a-days-recording.csv"
+    compare(page, path, [], path.name)
+    page.push("back")
+    want(page.value("document.activeElement.id") == "survey-offer", "the way back leads to the card")
+    page.browser.value("document.querySelector('#survey-offer a').click(); 1")
+    want(page.value("document.activeElement.id") == "survey-title", "the card leads to the faults")
+    for name, table, count in (("faults", "#survey-rows", 2), ("stretches", "#stretch-table", 3)):
+        for k in range(count):
+            page.browser.value("(() => { const row = state.line.lanes.findIndex((it) => it.name === '%s'); state.line.drawn.filter((it) => it.row === row)[%d].go(by('line').querySelector('svg')); return 1; })()" % (name, k))
+            came = page.value("[document.activeElement.dataset.number, document.activeElement.closest('%s') !== null, document.activeElement.getAttribute('aria-current')]" % table)
+            want(came == [str(k + 1), True, "true"], f"mark {k} of {name} leads to {came}")
+            page.push("back")
+            want(page.value("document.activeElement.tagName") == "svg", f"back from {name}")
+    # A key leads from mark to mark, and zooming keeps the lanes.
+    page.browser.value("(() => { const it = by('line').querySelector('svg'); it.focus(); it.dispatchEvent(new KeyboardEvent('keydown', {key: '+', bubbles: true})); return 1; })()")
+    want(page.value("state.line.lanes.map((it) => it.name).slice(-2)") == ["stretches", "faults"], "the lanes, zoomed")
+    label = page.value("by('line').querySelector('svg').getAttribute('aria-label')")
+    want("3 stretches, 2 faults" in label, label)
+    page.browser.value("document.querySelector('#survey-rows a[data-at]').click(); 1")
+    want(page.value("document.activeElement.tagName") == "svg", "a fault's time leads to the time line")
+    print("marks, times and the card lead to the faults and the stretches, and back")
+
+
+def try_stops(page):
+    """Surveys that are stopped, or overtaken by another file or other options: nothing of them stands."""
+    day, long = EXAMPLES / "a-days-recording.csv", page.work / "long.csv"
+    with long.open("wb") as file:
+        subprocess.run([sys.executable, TOP / "bench" / "generate", "mixed", "400000"], stdout=file, check=True)
+        file.write(b"5,M,108\n")
+    page.give(long)
+    want(page.has_button(), "the long recording has no no")
+    word = page.value("document.querySelector('#verdict .word').textContent")
+    for isBefore in (False, True):
+        if isBefore:  # before its checksum is there
+            page.give(long)
+        page.browser.value("(() => { by('survey-go').click(); by('stop').click(); return 1; })()")
+        told = page.value("[by('survey-told').textContent, document.activeElement.id, document.querySelector('#verdict .word').textContent, document.title, isWorking, by('survey'), by('work').hidden, by('main').inert]")
+        want(told == ["You stopped the survey.", "survey-go", word, "no – long.csv – mdbcheck", False, None, True, False], f"after a stop: {told}")
+        page.until("state.sha256 && by('sum').textContent === state.sha256 && !by('save-report').disabled")
+    made = Survey(long.read_bytes(), [])
+    want(page.survey()["whole"] == made.text, "the survey after a stop")
+    page.until("state.sha256 && !by('save-report').disabled")
+    # While it works, what the answer offers is off.
+    page.give(long)
+    off = page.value("(() => { by('survey-go').click(); return [by('main').inert, [...by('main').querySelectorAll('button, input, select')].filter((it) => !it.disabled).length, by('again').disabled, document.title, by('work').hidden]; })()")
+    want(off == [True, 0, True, "checking – long.csv – mdbcheck", False], f"while it works: {off}")
+    # Another file is given while it works.
+    before = page.shown()
+    page.browser.choose("#file", day)
+    page.wait(before)
+    time.sleep(0.5)
+    told = page.value("[by('survey'), by('name').textContent, by('survey-go') !== null, state.survey ?? null, by('survey-text'), surveying]")
+    want(told == [None, day.name, True, None, None, None], f"after another file: {told}")
+    page.survey()
+    want(page.value("by('survey') !== null && by('survey-text') !== null"), "no survey")
+    # Other options, or the same ones, are asked for: the survey goes.
+    for words in ("by('joined').checked = true", "by('joined').checked = false"):
+        before = page.shown()
+        page.browser.value(f"(() => {{ {words}; showWay(); by('again').click(); return 1; }})()")
+        page.wait(before)
+        told = page.value("[by('survey'), by('stretches'), by('survey-text'), by('survey-command'), state.line.lanes.some((it) => it.name === 'stretches')]")
+        want(told == [None, None, None, None, False], f"after another check: {told}")
+    # Fields that were changed after the check don't change how the survey is made.
+    page.browser.value("(() => { by('joined').checked = true; by('without-changer').checked = true; showWay(); return 1; })()")
+    came = page.survey()
+    want(came["whole"] == Survey(day.read_bytes(), []).text and came["command"] == "mdbcheck survey < FILE", came["command"])
+    want(page.value("!by('stale').hidden"), "the page doesn't say that the settings are others")
+    # A late answer of another number is dropped, and a run overtakes a survey.
+    page.options([])
+    page.give(long)
+    before = page.shown()
+    page.browser.value("(() => { by('survey-go').click(); run(); return 1; })()")
+    page.wait(before)
+    time.sleep(0.5)
+    want(page.value("[by('survey'), surveying, isWorking, by('survey-go') !== null]") == [None, None, False, True], "a run after a survey began")
+    # The file is gone, and its worker as well: the answer stays, and says why.
+    gone = page.work / "gone.csv"
+    gone.write_bytes(day.read_bytes())
+    page.give(gone)
+    page.until("state.sha256")
+    gone.unlink()
+    page.browser.value("(() => { endChecker(); return 1; })()")
+    before = page.shown()
+    page.push("survey-go")
+    page.wait(before)
+    told = page.value("[by('survey-told').textContent, document.activeElement.id, state !== null, by('survey')]")
+    want("There is no survey: The file" in told[0] and told[1:] == ["survey-go", True, None], f"a file that is gone: {told}")
+    print("surveys that are stopped, overtaken or refused leave the answer as it was")
+
+
+def try_report(page):
+    """The saved report has the survey, and its text byte for byte."""
+    evidence = load("page_evidence.py")
+    day = EXAMPLES / "a-days-recording.csv"
+    made = compare(page, day, [], day.name)
+    page.until("state.sha256 && !by('save-report').disabled")
+    page.browser.value("(() => { for (const it of document.querySelectorAll('#survey-rows button')) it.click(); return 1; })()")
+    page.until("document.querySelectorAll('#survey-rows .about').length === 2")
+    text = page.value("(() => { window.kept = null; const old = window.save; window.save = (...it) => { window.kept = it; }; by('save-report').click(); window.save = old; return kept[1]; })()")
+    report = evidence.Report(text)
+    want(report.texts["survey-text"] == made.text, "the survey's text in the report")
+    want(report.texts["survey-command"] == "mdbcheck survey < FILE", "the survey's command in the report")
+    want(all(it in report.texts["survey"] for it in ("2:00:04.669090", "Changer", "the coin changer")), report.texts["survey"])
+    want("All stretches" in report.texts["stretches"] and "1.00 to 2.00" in report.texts["stretches"], report.texts["stretches"])
+    print("the saved report has the survey")
+
+
+def try_seen(page):
+    """What a screen reader is given, contrast, print, a telephone, and the keyboard. In Chromium."""
+    day = EXAMPLES / "a-days-recording.csv"
+    page.give(day)
+    page.browser.value("by('survey-go').focus(); 1")
+    before = page.shown()
+    for kind in ("keyDown", "keyUp"):
+        page.browser.ask("Input.dispatchKeyEvent", type=kind, key="Enter", code="Enter", windowsVirtualKeyCode=13, text="\r")
+    page.wait(before)
+    want(page.value("document.activeElement.id") == "survey-title", "by the keyboard")
+    top, high = page.value("[by('survey-title').getBoundingClientRect().top, innerHeight]")
+    want(-1 < top < high / 2, f"the section is at {top}")
+    page.browser.value("(() => { for (const it of document.querySelectorAll('#survey-rows button')) it.click(); return 1; })()")
+    page.until("document.querySelectorAll('#survey-rows .about').length === 2")
+    levels = []
+    for node in page.browser.ask("Accessibility.getFullAXTree")["nodes"]:
+        role, name = node.get("role", {}).get("value"), node.get("name", {}).get("value", "")
+        if node.get("ignored"):
+            continue
+        want(role not in page_test.NAMED or name.strip(), f"a {role} has no name: {node}")
+        if role == "heading":
+            levels.append(next(it["value"]["value"] for it in node["properties"] if it["name"] == "level"))
+    want(all(after <= before + 1 for before, after in zip(levels, levels[1:])), f"the headings are {levels}")
+    ids = page.value("[...document.querySelectorAll('[id]')].map((it) => it.id)")
+    want(len(ids) == len(set(ids)), f"ids that stand twice: {[it for it in ids if ids.count(it) > 1]}")
+    for scheme in ("light", "dark"):
+        page.browser.ask("Emulation.setEmulatedMedia", features=[{"name": "prefers-color-scheme", "value": scheme}])
+        faint = json.loads(page.browser.value(page_test.FAINT))
+        want(not faint, f"{scheme}: too faint: {faint[:5]}")
+    page.browser.ask("Emulation.setEmulatedMedia", media="print", features=[])
+    shown = page.value("['survey-rows', 'stretch-table', 'survey-text', 'line'].map((it) => by(it).checkVisibility())")
+    want(shown == [True] * 4 and not page.value("by('survey-csv').checkVisibility()"), f"printed: {shown}")
+    page.browser.ask("Emulation.setEmulatedMedia", media="", features=[])
+    page.browser.ask("Emulation.setDeviceMetricsOverride", width=400, height=850, deviceScaleFactor=1, mobile=True)
+    wide = page.value("[document.documentElement.scrollWidth, ...['#survey .scroll', '#stretches .scroll'].map((it) => document.querySelector(it).scrollWidth - document.querySelector(it).clientWidth)]")
+    want(wide[0] <= 400 and wide[1:] == [0, 0], f"on a telephone it is {wide} wide")
+    page.browser.ask("Emulation.clearDeviceMetricsOverride")
+    print("a survey by the keyboard; names, headings, contrast, print, and the width of a telephone")
+
+
+def try_all(browser, work, number, seed):
+    page = Page(work, browser)
+    try_examples(page)
+    try_ends(page)
+    try_about(page)
+    try_links(page)
+    try_report(page)
+    if isinstance(browser, Browser):
+        try_seen(page)
+    try_generated(page, number, seed)
+    try_many(page)
+    try_stops(page)
+    want(not browser.complaints(), f"the console has {browser.complaints()[:2]}")
+    want(not browser.requests(), f"asked for {browser.requests()[:2]}")
+
+
+def main():
+    given = [int(it) for it in sys.argv[1:] if it != "--firefox"]
+    number, seed = (given + [200, 1][len(given):])[:2]
+    with tempfile.TemporaryDirectory() as work:
+        browser = Firefox() if "--firefox" in sys.argv else Browser()
+        try:
+            try_all(browser, pathlib.Path(work), number, seed)
+        except Wrong as wrong:
+            sys.exit(f"page_survey: {wrong}")
+        finally:
+            browser.close()
+    print("page_survey: all as wanted")
+
+
+if __name__ == "__main__":
+    main()
