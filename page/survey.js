@@ -111,6 +111,7 @@ function endSurvey() {
 function giveUpSurvey(it, words) {
   endSurvey();
   sumAgain(it);
+  announce(words);
   by("survey-told").textContent = words;
   by("survey-go").focus();
 }
@@ -133,7 +134,7 @@ function surveyOffer(it) {
   return h(
       "p", {id: "survey-offer"},
       h("button", {type: "button", id: "survey-go", class: "noprint", onclick: () => survey()}, words), " ",
-      h("span", {id: "survey-told", role: "status"}));
+      h("span", {id: "survey-told"}));
 }
 
 function showSurvey(it) {

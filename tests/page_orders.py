@@ -8,7 +8,8 @@ click. After each order the page has to show
 
 - the file that was given last, and the settings at the time when the last check began, on the card
   and in the program's command;
-- the text that the program prints for that file and that command; after a stop, a file that can't
+- the text that the program prints for that file and that command, and after a survey that of
+  `survey`; after a stop, a file that can't
   be read or set-up bytes that can't be used: no verdict, and why;
 - a title that says the same as the card.
 
@@ -51,6 +52,7 @@ READ = """(() => {
     focus: focus.id || focus.tagName, top: card.getBoundingClientRect().top, high: innerHeight, announced: text(document.getElementById("announced")),
     faults: all("#setups .fault").map(text).filter((it) => it), setupTold: text(document.getElementById("setup-told")),
     late: text(document.getElementById("late")), badRow: text(document.getElementById("bad-row")), buttons: all("#verdict button").map(text),
+    survey: state?.survey?.whole ?? null, surveyTold: text(document.getElementById("survey-told")), shown: text(document.getElementById("survey-text")),
     rowTold: text(document.getElementById("act-row-told")), acts: text(document.getElementById("act-count")),
   });
 })()"""
@@ -210,19 +212,20 @@ class Orders:
             self.is_stopped = False
 
     def stop(self):
-        if self.click("by('stop')"):
+        """Stops what works. A survey that is stopped leaves the answer."""
+        if self.value("(() => { const before = newest, isSurvey = surveying !== null; by('stop').click(); return newest !== before && !isSurvey; })()"):
             self.is_stopped = True
 
     def bytes(self, value, device="changer"):
         self.value("""(() => { const it = by("setup-%s"); it.value = "%s";
             for (const kind of ["input", "change"]) it.dispatchEvent(new Event(kind, {bubbles: true})); return 1; })()""" % (device, value))
 
-    def program(self, name, words):
+    def program(self, name, words, command="check"):
         """What the program answers."""
-        key = name, *words
+        key = name, command, *words
         if key not in self.answers:
             with (self.work / name).open("rb") as file:
-                ran = subprocess.run([PROGRAM, "check", *words], stdin=file, capture_output=True)
+                ran = subprocess.run([PROGRAM, command, *words], stdin=file, capture_output=True)
             self.answers[key] = ran.returncode, ran.stdout.decode(), ran.stderr.decode()
         return self.answers[key]
 
@@ -235,7 +238,8 @@ class Orders:
         word = {"card yes": "yes", "card no": "no", "card limit": "not followed"}.get(came["card"], "no verdict")
         want(came["name"] == name, f"the card names {came['name']}: {came['verdict']!r}")
         want(came["title"] == f"{word} – {name} – mdbcheck", f"the card is {came['card']}, the title {came['title']!r}")
-        want(came["announced"] == f"{name}: {came['word']}. {came['lead']}", f"announced is {came['announced']!r}")
+        announced = "All faults. " if came["survey"] is not None else came["surveyTold"] or f"{name}: {came['word']}. {came['lead']}"
+        want(came["announced"].startswith(announced), f"announced is {came['announced']!r}, wanted {announced!r}")
         want(not came["inert"] and came["again"], "the controls are off")
         words = self.value("window.noted ?? null")
         is_wrong = any("zz" in it for it in words or [])
@@ -258,6 +262,9 @@ class Orders:
         else:
             want(came["text"] == text, f"{words}: the text is {came['text']!r}, wanted {text!r}")
             want(("no" if word == "not followed" else word) == text.split()[1], f"the card is {came['card']}")
+        if came["survey"] is not None:
+            text = self.program(self.name, words, "survey")[1]
+            want(came["survey"] == text and came["shown"] == text, f"{words}: the survey is {came['survey']!r}, wanted {text!r}")
 
 
 def button(words):
@@ -265,7 +272,7 @@ def button(words):
     return "[...document.querySelectorAll('#main button')].find((it) => it.textContent.startsWith(%s))" % json.dumps(words)
 
 
-STEPS = ("choose", "choose", "drop", "drop", "tick", "tick", "bytes", "again", "again", "stop", "late", "leave", "earlier", "row")
+STEPS = ("choose", "choose", "drop", "drop", "tick", "tick", "bytes", "again", "again", "stop", "late", "leave", "earlier", "row", "survey", "survey")
 
 
 def take_step(page, dice):
@@ -289,6 +296,8 @@ def take_step(page, dice):
         page.browser.choose("#setup-file", page.work / dice.choice(["told twice.csv", "never approved.csv", "no row.csv"]))
     elif kind == "row":
         page.value("(() => { const it = by('act-row'); if (it && !it.disabled) { it.value = %d; it.dispatchEvent(new KeyboardEvent('keydown', {key: 'Enter', bubbles: true})); } return 1; })()" % dice.randrange(1, 120))
+    elif kind == "survey":
+        page.click("by('survey-go')")
     else:
         page.press({"again": "by('again')", "late": button("Check as"), "leave": button("Leave out")}[kind])
     return kind
@@ -384,12 +393,12 @@ def try_started_before(page):
         want(page.program(name, ["--joined"])[0] == 0 and came["text"].startswith("verdict no\nrow 1\n"), f"{name}: {came['text']!r}")
         want(words in came["late"] and "No reset" not in came["late"], f"{name}: {came['late']!r}")
         first = "Read it with M and S exchanged" if "exchanged" in name else "Check as already running"
-        want(came["buttons"] == [first], f"{name}: {came['buttons']}")
+        want(came["buttons"] == [first, "Go on after row 1: survey the whole recording"], f"{name}: {came['buttons']}")
     page.choose("never approved.csv")
     came = page.settled()
     status, text, _ = page.program("never approved.csv", ["--joined"])
     want(status == 1 and text == came["text"] and "It makes no difference" in came["late"], came["late"])
-    want("broke the protocol here" in came["verdict"] and not came["buttons"], came["verdict"])
+    want("broke the protocol here" in came["verdict"] and [it[:5] for it in came["buttons"]] == ["Go on"], came["verdict"])
 
 
 def try_focus(page):
