@@ -20,20 +20,22 @@ function actAtRow(it, row) {
 
 const hasRow = (acts, i, row) => i >= 0 && Number.isInteger(row) && acts.first(i) <= row && row <= acts.last(i);
 
-// Whether an act comes after the row that cannot be.
+// Whether rows come after what was judged: after the row that cannot be, or after what a survey took.
 function isUnjudged(it, {first}) {
-  return it.answer === ANSWERS.NO && first > it.row;
+  return it.answer === ANSWERS.NO && first > (it.survey ? it.survey.judged : it.row);
 }
 
-// Whether an act has the row that cannot be, or comes after it.
-function isPast(it, {last}) {
-  return it.answer === ANSWERS.NO && last >= it.row;
+// The fault among some rows: the row that cannot be, or another one that a survey found. Null if there is none.
+function faultIn(it, {first, last}) {
+  if (it.answer !== ANSWERS.NO) return null;
+  if (first <= it.row && it.row <= last) return {row: it.row, rule: it.report.rule};
+  return it.survey ? faultBetween(it.survey, first, last) : null;
 }
 
 // An act's line, with links to where else the act is shown. What is apart from the list has no links to its rows.
 function actRow(it, i, isInList = false) {
   const acts = it.list, first = acts.first(i), last = acts.last(i), start = acts.start(i);
-  const bad = it.answer === ANSWERS.NO && it.row >= first && it.row <= last, here = isInList && isHere(it, first, last);
+  const bad = faultIn(it, {first, last}), here = isInList && isHere(it, first, last);
   const rows = first === last ? String(first) : `${first}–${last}`, entry = entryAt(it, first, last);
   return h(
       "tr", {
@@ -45,7 +47,7 @@ function actRow(it, i, isInList = false) {
       h("td", {class: "rows"}, isInList || it.isApart ? rows : rowLink(first, last)),
       h("td", {class: "wide"}, speaker(acts, i)), h("td", {class: "wide"}, KIND_WORDS[acts.kind(i)]),
       h("td", {}, h("span", {class: "narrow"}, `${shortSpeaker(acts, i)}: `), actWords(acts, i),
-        bad ? h("strong", {}, ` – cannot be: ${it.report.rule}`) :
+        bad ? h("strong", {}, ` – cannot be: ${bad.rule}`) :
             isUnjudged(it, {first}) ? h("span", {class: "soft"}, " – not judged") :
                                       null,
         entry < 0 ? null : [" ", entryLink(entry)]),
@@ -60,8 +62,7 @@ function quietPolls(it) {
     const device = acts.device(i);
     if (acts.kind(i) !== ASK || acts.byte(i, 0) !== POLLS[device]) continue;
     if (acts.kind(i + 1) !== ACK || acts.device(i + 1) !== device || i + 1 === it.hole) continue;
-    const bad = it.answer === ANSWERS.NO && it.row >= acts.first(i) && it.row <= acts.last(i + 1);
-    if (!bad) quiet[i] = quiet[i + 1] = 1;
+    if (!faultIn(it, {first: acts.first(i), last: acts.last(i + 1)})) quiet[i] = quiet[i + 1] = 1;
   }
   return quiet;
 }
@@ -266,6 +267,17 @@ function listAll(it, isPolls) {
   it.nextAct = -1;
 }
 
+// Lists all acts anew, of which a survey found more to be wrong.
+function relistActs(it) {
+  by("acts-judged")?.remove();
+  it.quiet = null;
+  if (!it.hits) return;
+  const first = it.hits[it.from] ?? 0;
+  listAll(it, by("act-polls").checked);
+  it.from = Math.floor(shownBefore(it, first) / PAGE_ACTS) * PAGE_ACTS;
+  drawActs(it);
+}
+
 // Why a row isn't listed.
 function unlistedWords(it, row) {
   const acts = it.list, end = acts.last(acts.count - 1), name = `Row ${number(row)} isn't listed`;
@@ -388,7 +400,9 @@ function actsSection(it) {
           h("tbody", {id: "act-rows"}))));
   made.tabIndex = -1;
   if (it.answer === ANSWERS.NO && ["Changer", "Bill", "Cashless"].includes(it.report.rule))
-    made.insertBefore(h("p", {class: "soft"}, "What comes after the impossible row isn't judged."), made.children[1]);
+    made.insertBefore(
+        h("p", {id: "acts-judged", class: "soft"}, "What comes after the impossible row isn't judged."),
+        made.children[1]);
   queueMicrotask(() => {
     listAll(it, false);
     if (it.answer === ANSWERS.NO) it.from = Math.floor(shownBefore(it, actAtRow(it, it.row)) / PAGE_ACTS) * PAGE_ACTS;

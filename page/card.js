@@ -165,9 +165,11 @@ const RECORDER = "This blame holds only if the file has every word of both lines
 const isFileLikely = (it) => it.report.blame === "other" || it.row <= 3;
 
 const judgedWords = (it) =>
-    h("p", {class: "soft"},
-      (it.row > 1 ? `The rows before row ${number(it.row)} are possible together. ` : "") +
-          `Nothing after row ${number(it.row)} was judged.`);
+    h("p", {class: "soft"}, it.row > 1 ? `The rows before row ${number(it.row)} are possible together. ` : "",
+      unjudgedWords(it));
+
+// What the card says of the rest, until a survey takes it.
+const unjudgedWords = (it) => h("span", {id: "unjudged"}, `Nothing after row ${number(it.row)} was judged.`);
 
 // Whether no act that is listed is one of a device that is followed.
 function isUnfollowed(it) {
@@ -183,8 +185,8 @@ function showUnfollowed(it) {
       "limit", `Not followed from row ${row} on: ${unfollowed(it).what}`,
       "This is a limit of the checker. It shows no fault of anybody.", storyList(profileStory(it)), leaveOut(it),
       h("p", {class: "soft"},
-        `Row ${row} falls under the rule Profile. ${
-            it.row > 1 ? `The rows before it are possible together. ` : ""}Nothing after it was judged.`),
+        `Row ${row} falls under the rule Profile. ${it.row > 1 ? `The rows before it are possible together. ` : ""}`,
+        unjudgedWords(it)),
       surveyOffer(it), nameWords(it));
 }
 

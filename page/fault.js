@@ -12,11 +12,17 @@ function faultSection(it) {
   return section(FAULT_TITLES[kind], "fault", ...inner, fileRows(it), gap(it));
 }
 
+// What is said of a row after the one that cannot be.
+function afterWords(it, row) {
+  const rows = {first: row, last: row}, fault = faultIn(it, rows);
+  return fault ? `cannot be: ${fault.rule}` : isUnjudged(it, rows) ? "not judged" : "";
+}
+
 // The rows of the file about it, as they stand there.
-function fileRows(it, after = "not judged") {
+function fileRows(it) {
   const kind = faultKind(it), lines = it.lines.filter((l) => l.row >= it.row - 6);
   const words = (line) => line.row > it.row ?
-      after :
+      afterWords(it, line.row) :
       line.row < it.row ?
       "" :
       {limit: "not followed from here on", no: "this row cannot be", none: "this line is no row"}[kind];

@@ -185,7 +185,7 @@ function outcomeWords(it, line) {
 
 // What of a line is judged, after a no.
 function partsJudged(it, parts) {
-  if (parts.some((m) => isPast(it, m) && !isUnjudged(it, m))) return h("strong", {}, "this cannot be");
+  if (parts.some((m) => faultIn(it, m))) return h("strong", {}, "this cannot be");
   const after = parts.filter((m) => isUnjudged(it, m)).length;
   return after === parts.length ? "not judged" : after ? "possible in part" : "possible";
 }
@@ -215,7 +215,7 @@ function lineCells(it, line, parts) {
 
 function lineRow(it, line) {
   const parts = line.parts.map(({i}) => it.found.money[i]), here = parts.some((m) => isHere(it, m.first, m.last));
-  const bad = parts.some((m) => isPast(it, m) && !isUnjudged(it, m));
+  const bad = parts.some((m) => faultIn(it, m));
   return h(
       "tr", {
         role: "row",
@@ -265,7 +265,7 @@ function csv(it) {
       m.acknowledged ? "yes" : "no",
       it.answer > ANSWERS.NO ? "" :
           isUnjudged(it, m)  ? "no" :
-          isPast(it, m)      ? "cannot be" :
+          faultIn(it, m)     ? "cannot be" :
                                "possible"
     ]);
   return rows.map((row) => row.map(field).join(",")).join("\r\n") + "\r\n";

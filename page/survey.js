@@ -71,7 +71,21 @@ function surveyOf(told) {
     it.to = isLast ? told.end : made.faults[it.number - 1].before;
   }
   made.rows = Math.max(last?.row ?? 0, made.stretches.at(-1)?.last ?? 0);
+  made.judged = some < all ? made.faults.at(-1).row : made.rows;
   return made;
+}
+
+// The fault among some rows; null if there is none.
+function faultBetween({faults}, first, last) {
+  let low = 0, high = faults.length;
+  while (low < high) {
+    const mid = (low + high) >> 1;
+    if (faults[mid].row < first)
+      low = mid + 1;
+    else
+      high = mid;
+  }
+  return low < faults.length && faults[low].row <= last ? faults[low] : null;
 }
 
 // The run ----
@@ -141,9 +155,13 @@ function showSurvey(it) {
   const after = by("time") ?? by("record"), made = [surveySection(it), stretchSection(it)];
   by("survey-offer")
       .replaceChildren(
-          `After this row the survey went on. ${surveyLead(it.survey)} `, partLink("survey", "All faults"));
+          `The survey went on after this row. ${surveyLead(it.survey)} `, partLink("survey", "All faults"));
   after.before(...made);
+  by("unjudged").remove();
+  by("fault")?.replaceWith(faultSection(it));
   showLine(it);
+  relistActs(it);
+  drawStatement(it);
   by("record").replaceWith(recordSection(it));
   by("figures").textContent = figures(it);
   showSum(it);
@@ -156,16 +174,17 @@ function showSurvey(it) {
 // What it says ----
 
 const senders = (counts) =>
-    Object.keys(BLAMES).filter((blame) => counts[blame]).map((blame) => `${BLAMES[blame]} ${number(counts[blame])}`);
+    Object.keys(BLAMES).filter((blame) => counts[blame]).map((blame) => `${BLAMES[blame]}: ${number(counts[blame])}`);
 
 // How many faults there are, and who sent them.
 function surveyLead({all, counts, rows}) {
   const count = `${counted(all, "fault")} in ${counted(rows, "row")}`;
   if (!counts) return `${count}, up to where the survey ends.`;
-  const by = senders(counts), more = counts.profile;
+  const sent = senders(counts), more = counts.profile;
   return [
-    `${count}.`, by.length ? `Of these, ${listed(by)}.` : "",
-    more ? `${counted(more, "row")} ${more === 1 ? "isn't" : "aren't"} followed (rule Profile): nobody's fault.` : ""
+    `${count}.`, sent.length ? `Sent by ${sent.join(", by ")}.` : "",
+    more ? `${counted(more, "row")} ${more === 1 ? "isn't" : "aren't"} followed (rule Profile): no fault of anybody.` :
+           ""
   ].filter(Boolean)
       .join(" ");
 }
@@ -297,8 +316,8 @@ function drawFaults(it) {
   made.faultFrom = Math.max(0, Math.min(made.faultFrom, Math.floor((count - 1) / PAGE_FAULTS) * PAGE_FAULTS));
   const last = Math.min(count, made.faultFrom + PAGE_FAULTS), some = made.faults.slice(made.faultFrom, last);
   by("survey-rows")
-      .replaceChildren(
-          ...some.flatMap((fault) => [faultLine(it, fault), ...fault.isOpen && fault.about ? [aboutLine(fault)] : []]));
+      .replaceChildren(...some.flatMap(
+          (fault) => [faultLine(it, fault), ...fault.isOpen && fault.about ? [aboutLine(it, fault)] : []]));
   tellPage("survey", "Faults", made.faultFrom, last, count);
 }
 
@@ -358,7 +377,7 @@ async function showAbout(it, fault, button) {
   }
   try {
     fault.about ??= await aboutFault(it, fault);
-    if (line.isConnected && fault.isOpen && !isOpen()) line.after(aboutLine(fault));
+    if (line.isConnected && fault.isOpen && !isOpen()) line.after(aboutLine(it, fault));
   } catch (why) {
     fault.isOpen = false;
     button.setAttribute("aria-expanded", false);
@@ -373,8 +392,9 @@ function setupsAt(it, row) {
 }
 
 // A fault as what `fileRows` and `actRow` show: the row that cannot be, with what is known of it.
-const asAnswer = ({row, rule, blame, about}) => ({
+const asAnswer = ({survey: made}, {row, rule, blame, about}) => ({
   answer: ANSWERS.NO,
+  survey: made,
   row,
   report: {rule, blame},
   lines: about.lines,
@@ -384,15 +404,15 @@ const asAnswer = ({row, rule, blame, about}) => ({
   isApart: true
 });
 
-function aboutLine(fault) {
-  const it = asAnswer(fault), rows = [];
+function aboutLine(whole, fault) {
+  const it = asAnswer(whole, fault), rows = [];
   for (let i = Math.max(0, it.list.count - 8); i < it.list.count; i++) rows.push(actRow(it, i));
   const said = rows.length ?
       [table("What was said up to there, in words", ACT_HEADS, rows)] :
       [h("p", {class: "soft"}, "No whole command stands between the row and the fault before it.")];
   return h(
       "tr", {class: "about", role: "row"},
-      h("td", {role: "cell", colspan: FAULT_HEADS.length}, ...said, fileRows(it, "next stretch"), gap(it)));
+      h("td", {role: "cell", colspan: FAULT_HEADS.length}, ...said, fileRows(it), gap(it)));
 }
 
 // Goes to a fault in the table.

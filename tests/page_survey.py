@@ -247,9 +247,9 @@ def compare_words(made, came, words):
     want(came["lead"].startswith(count), f"{came['lead']!r}, wanted {count!r}")
     if made.counts:
         senders = [it for it in SENDERS if made.counts.get(it)]
-        want(all(f"{SENDERS[it]} {made.counts[it]:,}" in came["lead"] for it in senders), f"{came['lead']!r}: {made.counts}")
+        want(all(f"by {SENDERS[it]}: {made.counts[it]:,}" in came["lead"] for it in senders), f"{came['lead']!r}: {made.counts}")
         profile = made.counts["profile"]
-        want((f"{profile:,} row" in came["lead"] and "nobody's fault" in came["lead"]) if profile else "Profile" not in came["lead"], came["lead"])
+        want((f"{profile:,} row" in came["lead"] and "no fault of anybody" in came["lead"]) if profile else "Profile" not in came["lead"], came["lead"])
     want(came["lead"] in came["offer"] and came["lead"] in came["announced"], f"{came['offer']!r}, {came['announced']!r}")
     row = made.faults[0][0]
     want(came["word"].startswith((f"No: row {row:,} ", f"Not followed from row {row:,} ")), f"the first no: {came['word']!r}")
@@ -284,6 +284,8 @@ def compare(page, data, words, name):
     compare_stretches(made, came)
     compare_lanes(made, came)
     want(not page.has_button(), "the button stays")
+    unjudged = page.value("[by('verdict').textContent.includes('was judged'), by('told').textContent.includes('not judged')]")
+    want(unjudged == [False, False] or made.status == 2 or len(made.faults) > MOST, f"what the survey took isn't judged: {unjudged}")
     return made
 
 
