@@ -315,11 +315,11 @@ function jumpToRow(row, from) {
   return true;
 }
 
-// A row in no act may stand among the rows of the file about the one that cannot be.
+// A row in no act may stand among the rows of the file about one that cannot be.
 function jumpToFileRow(it, row, from) {
-  const lines = fileLines(row, row),
-        [place] = lines.length ? lines : fileLines(row, Number(from?.dataset?.last ?? row));
-  if (!place) {
+  const last = Number(from?.dataset?.last ?? row), isAbout = Boolean(from?.closest?.(".about"));
+  const place = () => [...fileLines(row, row), ...fileLines(row, last)].at(isAbout ? -1 : 0);
+  if (!place()) {
     if (it.listed) tellRow(unlistedWords(it, row), true);
     by("jumps").hidden = false;
     return false;
@@ -327,16 +327,18 @@ function jumpToFileRow(it, row, from) {
   leave(it, from);
   tellRow("");
   markHere(it, {first: row, last: row});
-  place.classList.add("here");
-  place.setAttribute("aria-current", "true");
-  land(place);
+  const line = place();
+  line.classList.add("here");
+  line.setAttribute("aria-current", "true");
+  land(line);
   return true;
 }
 
 // The lines of the rows of the file, as far as they are shown.
 function fileLines(first, last) {
   const rowOf = (line) => Number(line.querySelector("th")?.textContent.replaceAll(",", ""));
-  return [...document.querySelectorAll("#fault tbody tr")].filter((it) => rowOf(it) >= first && rowOf(it) <= last);
+  return [...document.querySelectorAll("#fault tbody tr, .about tbody tr")].filter(
+      (it) => rowOf(it) >= first && rowOf(it) <= last);
 }
 
 // The fields above the list.

@@ -39,7 +39,7 @@ function leave(it, from) {
 // Marks rows in each part that shows them: `here` has the first and the last row, and when they were.
 function markHere(it, here) {
   it.here = here;
-  for (const line of document.querySelectorAll("#fault tr.here")) {
+  for (const line of document.querySelectorAll("#fault tr.here, .about tr.here")) {
     line.classList.remove("here");
     if (!line.classList.contains("mark")) line.removeAttribute("aria-current");
   }

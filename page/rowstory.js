@@ -2,8 +2,8 @@
 const FAR_BACK = 50000;
 const HEARD = [ACK, REPLY];
 
-// What may stand before the acts of a story: the start of the recording, a break, a RESET that was taken, or acts that
-// aren't listed.
+// What may stand before the acts of a story: the start of the recording, a break, a RESET that was taken, or what isn't
+// known: acts that aren't listed, or a fault.
 function beginWords(begin) {
   if (begin.what === "break") return ["since the break", ...inRows(begin.rows)];
   if (begin.what === "reset") return ["since the controller reset it", ...inRows(begin.rows)];
@@ -22,7 +22,7 @@ function actsBefore(it, i) {
       return {begin: {what: "reset", rows: actRows(acts, k)}, found: found.reverse()};
     found.push(k);
   }
-  return {begin: {what: i > FAR_BACK ? "unknown" : "start"}, found: found.reverse()};
+  return {begin: {what: it.isApart || i > FAR_BACK ? "unknown" : "start"}, found: found.reverse()};
 }
 
 // The kind of the act after one, where it is of the same device.

@@ -401,8 +401,16 @@ const asAnswer = ({survey: made}, {row, rule, blame, about}) => ({
   list: about.list,
   found: noNews(),
   here: null,
+  way: {bytes: [1]},
+  hole: -1,
   isApart: true
 });
+
+// What is wrong with a fault, in sentences: the first one's stand in the card, too.
+function faultStory(whole, fault) {
+  const told = storyOf(fault.number === 1 ? whole : asAnswer(whole, fault)).filter(({kind}) => kind !== "next");
+  return told.length ? [h("ul", {class: "plain"}, told.map(sentence))] : [];
+}
 
 function aboutLine(whole, fault) {
   const it = asAnswer(whole, fault), rows = [];
@@ -412,7 +420,8 @@ function aboutLine(whole, fault) {
       [h("p", {class: "soft"}, "No whole command stands between the row and the fault before it.")];
   return h(
       "tr", {class: "about", role: "row"},
-      h("td", {role: "cell", colspan: FAULT_HEADS.length}, ...said, fileRows(it), gap(it)));
+      h("td", {role: "cell", colspan: FAULT_HEADS.length}, ...faultStory(whole, fault), ...said, fileRows(it),
+        gap(it)));
 }
 
 // Goes to a fault in the table.

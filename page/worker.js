@@ -9,8 +9,8 @@ const MOST_NEWS = 1000000;
 const MOST_FAULTS = 20000;
 // What is told of each fault: its row, its place, and the times of the row, the row before it and the row after it.
 const FAULT_NUMBERS = 5;
-// So many rows before a fault are looked at for what was said: a block and more.
-const FAR_BACK = 80;
+// So many rows before a fault are looked at for what was said.
+const FAR_BACK = 2000;
 // So many bytes are summed up between two messages.
 const PIECE = 1 << 22;
 // So many bytes are checked first, to know how quick this computer is.

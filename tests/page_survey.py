@@ -19,6 +19,7 @@ width of a telephone. tests/page runs this, too. Ends with status 1 at the first
 import json
 import pathlib
 import random
+import re
 import subprocess
 import sys
 import tempfile
@@ -332,19 +333,41 @@ def generated(number, seed):
 
 
 def try_generated(page, number, seed):
-    counts, refused = [0, 0, 0], 0
+    counts, refused, told = [0, 0, 0], 0, 0
     for index, (data, words) in enumerate(generated(number, seed)):
         if b'"' in data:
             continue  # quotes are the import's
         try:
             made = compare(page, data, words, "recording.csv")
+            if made:
+                told += sum(try_story(page, made, it) for it in range(1, min(6, len(made.faults) + 1)))
         except Wrong as wrong:
             (TOP / "out" / "survey-wrong.csv").write_bytes(data)
             raise Wrong(f"damaged recording {index} of seed {seed}, {words} (out/survey-wrong.csv): {wrong}") from None
         if made:
             counts = [a + b for a, b in zip(counts, (1, len(made.faults), len(made.stretches)))]
             refused += made.status == 2
-    print("surveys of {} damaged recordings of {}: {} faults and {} stretches, {} end at a line that is no row".format(counts[0], number, *counts[1:], refused))
+    print("surveys of {} damaged recordings of {}: {} faults and {} stretches, {} end at a line that is no row; {} sentences on the faults".format(counts[0], number, *counts[1:], refused, told))
+
+
+STORY = """(() => { const it = document.querySelector('#survey-rows [data-number="%d"]').nextSibling;
+  return [[...it.querySelectorAll("li")].map((one) => [one.textContent, [...one.querySelectorAll("a.jump")].map((a) => [Number(a.dataset.row), Number(a.dataset.last)])]),
+    [...it.querySelectorAll("tr.mark")].map((one) => [...one.children].map((c) => c.textContent)).at(-1)]; })()"""
+
+
+def try_story(page, made, number):
+    """What is said of a fault of the table: sentences with rows of its stretch, and its row of the file."""
+    row, rule, _ = made.faults[number - 1]
+    before = made.faults[number - 2][0] if number > 1 else 0
+    page.browser.value(f"(() => {{ document.querySelector('#survey-rows [data-number=\"{number}\"] button').click(); return 1; }})()")
+    page.until(f"document.querySelector('#survey-rows [data-number=\"{number}\"]').nextSibling?.classList.contains('about')")
+    told, marked = page.value(STORY % number)
+    said = {"Profile": "not followed from here on"}.get(rule, "this row cannot be")
+    want(marked is not None and plain(marked[0]) == str(row) and marked[1].startswith(made.lines[row - 1][:20]) and marked[2] == said, f"the rows about row {row}: {marked}")
+    want(all(words.strip() and not re.search("undefined|null|NaN", words) for words, _ in told), f"row {row}: {told}")
+    rows = [it for _, links in told for it in links]
+    want(all(before < first <= last <= row for first, last in rows), f"row {row}, of which the stretch begins after {before}: {told}")
+    return len(told)
 
 
 def try_ends(page):
@@ -408,7 +431,7 @@ def try_about(page):
 
 def acts_about(made, row, before):
     """The last acts before a row and with it, as `mdbcheck show` has them of the rows from a command on."""
-    place = next(it for it in range(max(before + 1, row - 80), row) if made.lines[it - 1].split(",")[1:] and made.lines[it - 1].split(",")[1] == "M" and made.lines[it - 1].split(",")[2][0] == "1")
+    place = next(it for it in range(max(before + 1, row - 2000), row) if made.lines[it - 1].split(",")[1:] and made.lines[it - 1].split(",")[1] == "M" and made.lines[it - 1].split(",")[2][0] == "1")
     ran = subprocess.run([MDBCHECK, "show"], input=text_of(made.lines[place - 1:row]), capture_output=True)
     found = []
     for line in ran.stdout.decode().splitlines():
