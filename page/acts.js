@@ -318,7 +318,7 @@ function jumpToRow(row, from) {
 // A row in no act may stand among the rows of the file about one that cannot be.
 function jumpToFileRow(it, row, from) {
   const last = Number(from?.dataset?.last ?? row), isAbout = Boolean(from?.closest?.(".about"));
-  const place = () => [...fileLines(row, row), ...fileLines(row, last)].at(isAbout ? -1 : 0);
+  const place = () => fileLines(row, row).at(isAbout ? -1 : 0) ?? fileLines(row, last)[0];
   if (!place()) {
     if (it.listed) tellRow(unlistedWords(it, row), true);
     by("jumps").hidden = false;

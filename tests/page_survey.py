@@ -424,6 +424,12 @@ def try_about(page):
         before = made.faults[number - 2][0] if number > 1 else 0
         want(acts_about(made, row, before) == acts, f"what was said up to row {row}: {acts}")
         want(isOpen == "true", "the button doesn't say that it is open")
+    # A row of a sentence leads to the rows of the file beside it, and back.
+    page.browser.value("(() => { const it = document.querySelector('.about li a[data-row=\"138\"]'); it.focus(); it.click(); return 1; })()")
+    came = page.value("[document.activeElement.closest('.about') !== null, document.activeElement.querySelector('th')?.textContent, document.activeElement.getAttribute('aria-current')]")
+    want(came == [True, "138", "true"], f"the row of a sentence leads to {came}")
+    page.push("back")
+    want(page.value("[document.activeElement.dataset.row, document.querySelectorAll('.about').length]") == ["138", 2], "back to the sentence")
     page.browser.value("(() => { for (const it of document.querySelectorAll('#survey-rows button')) it.click(); return 1; })()")
     want(page.value("document.querySelectorAll('#survey-rows .about').length") == 0, "it doesn't close")
     print("the rows about each fault, and what was said up to it, as `show` has it")
