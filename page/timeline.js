@@ -415,10 +415,8 @@ const surveyCounts = ({survey}) =>
 // After a row that breaks a rule of the link no act is listed.
 function unlistedAfter({survey, link}) {
   if (!survey || link.answer !== ANSWERS.NO) return null;
-  return h(
-      "p", {class: "soft"},
-      `After row ${
-          number(link.row)} nothing is read as acts. So of the time after it the line has stretches and faults alone.`);
+  const words = `The list of what was said ends at row ${number(link.row)}.`;
+  return h("p", {class: "soft"}, `${words} After it the line shows stretches and faults alone.`);
 }
 
 // The time line anew, with what is known now.
