@@ -299,20 +299,22 @@ function survey({faults, room, lines}, length, skip) {
 // The survey of the recording: the lines of its faults and of the stretches that they end, piece by piece, and then
 // what the program prints after the last fault. Where not all faults are listed, the numbers of the last one follow.
 function surveyAll(spots) {
-  const text = new Uint8Array(call.memory.buffer, at.text, size), texts = [], numbers = [];
+  const text = new Uint8Array(call.memory.buffer, at.text, size), texts = [];
+  const faults = new Float64Array((spots.room + 1) * FAULT_NUMBERS);
+  const keep = (count, from) => faults.set(faultNumbers(text, spots, count), from * FAULT_NUMBERS);
   let listed = 0, end;
   do {
     end = survey(spots, size, listed);
     texts.push(textAt(spots.lines, layout.lines));
-    numbers.push(...faultNumbers(text, spots, end.news));
+    keep(end.news, listed);
     listed += end.news;
     if (listed < end.acts) tell("Listing the faults", listed / Math.min(end.acts, spots.room));
   } while (end.news > 0 && listed < Math.min(end.acts, spots.room));
   if (listed < end.acts) {
     survey({...spots, room: end.acts}, size, end.acts - 1);
-    numbers.push(...faultNumbers(text, spots, 1));
+    keep(1, listed);
   }
-  return {...end, listed, text: texts.join(""), last: answerText(), faults: Float64Array.from(numbers)};
+  return {...end, listed, text: texts.join(""), last: answerText(), faults};
 }
 
 function judgeSurvey(options) {
