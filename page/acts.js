@@ -47,7 +47,7 @@ function actRow(it, i, isInList = false) {
       h("td", {class: "rows"}, isInList || it.isApart ? rows : rowLink(first, last)),
       h("td", {class: "wide"}, speaker(acts, i)), h("td", {class: "wide"}, KIND_WORDS[acts.kind(i)]),
       h("td", {}, h("span", {class: "narrow"}, `${shortSpeaker(acts, i)}: `), actWords(acts, i),
-        bad ? h("strong", {}, ` – cannot be: ${bad.rule}`) :
+        bad ? h("strong", {}, ` – ${faultIs(bad.rule)}`) :
             isUnjudged(it, {first}) ? h("span", {class: "soft"}, " – not judged") :
                                       null,
         entry < 0 ? null : [" ", entryLink(entry)]),

@@ -15,7 +15,7 @@ function faultSection(it) {
 // What is said of a row after the one that cannot be.
 function afterWords(it, row) {
   const rows = {first: row, last: row}, fault = faultIn(it, rows);
-  return fault ? `cannot be: ${fault.rule}` : isUnjudged(it, rows) ? "not judged" : "";
+  return fault ? faultIs(fault.rule) : isUnjudged(it, rows) ? "not judged" : "";
 }
 
 // The rows of the file about it, as they stand there.

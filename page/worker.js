@@ -7,8 +7,6 @@ const MOST = 800000, HALF = MOST / 2;
 const MOST_NEWS = 1000000;
 // So many faults of a survey are listed at most: what is more than that is counted.
 const MOST_FAULTS = 20000;
-// What is told of each fault: its row, its place, and the times of the row, the row before it and the row after it.
-const FAULT_NUMBERS = 5;
 // So many rows before a fault are looked at for what was said.
 const FAR_BACK = 2000;
 // So many bytes are summed up between two messages.

@@ -232,7 +232,8 @@ def compare_lanes(made, came):
     stretches = [[made.time(it["first"]), made.time(it["last"]),
                   f"stretch {it['number']:,}: rows {it['first']:,} to {it['last']:,}, from {seconds(made.time(it['first']))} to {seconds(made.time(it['last']))}"]
                  for it in made.stretches]
-    faults = [[made.time(row), made.time(row), f"row {row:,} cannot be: {rule}, {SENDERS[blame]}, at {seconds(made.time(row))}"]
+    words = {"Profile": "isn't followed"}
+    faults = [[made.time(row), made.time(row), f"row {row:,} {words.get(rule, f'cannot be: {rule}')}, {SENDERS[blame]}, at {seconds(made.time(row))}"]
               for row, rule, blame in made.faults]
     for name, wanted, lane, drawn in zip(("stretches", "faults"), (stretches, faults), came["lanes"], came["drawn"]):
         want(lane == wanted, f"the lane {name}: {lane[:3]}, wanted {wanted[:3]}")
