@@ -145,7 +145,8 @@ function showSurvey(it) {
   const after = by("time") ?? by("record"), made = [surveySection(it), stretchSection(it)];
   by("survey-offer")
       .replaceChildren(
-          `The survey went on after this row. ${surveyLead(it.survey)} `, partLink("survey", "All faults"));
+          `The survey went on after this row. ${surveyLead(it.survey)} `,
+          h("span", {class: "noprint"}, partLink("survey", "All faults")));
   after.before(...made);
   by("unjudged").remove();
   by("fault")?.replaceWith(faultSection(it));
