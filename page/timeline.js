@@ -62,12 +62,17 @@ function faultTime(it, begin, end) {
   return at >= begin && at <= end * 2 ? Math.min(at, end) : null;
 }
 
-// From when to when the acts go; of a survey the whole recording.
+// From when to when the acts go; of a survey also its stretches and its faults, whose times may go back.
 function lineSpan({list: acts, survey}) {
-  const times = acts.count ? [acts.start(0), acts.end(acts.count - 1)] : [];
-  if (survey) times.push(survey.begin, survey.end, ...[survey.faults[0], survey.faults.at(-1)].map((it) => it?.time));
-  const known = times.filter(Number.isFinite), begin = Math.min(...known);
-  return [begin, Math.max(begin + 1, ...known)];
+  let begin = Infinity, end = -Infinity;
+  const take = (from, to) => {
+    if (from < begin) begin = from;
+    if (to > end) end = to;
+  };
+  if (acts.count) take(acts.start(0), acts.end(acts.count - 1));
+  for (const {from, to} of survey?.stretches ?? []) take(from, to);
+  for (const {time} of survey?.faults ?? []) take(time, time);
+  return [begin, Math.max(begin + 1, end)];
 }
 
 function makeLine(it) {

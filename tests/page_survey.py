@@ -376,7 +376,7 @@ def try_ends(page):
     for spoiled in ("x,M,108", "1;M;108", "7205000000,L,108", "7205000000,M,8"):
         made = compare(page, text_of([*rows[:120], spoiled, *rows[120:]]), [], "spoiled.csv")
         want(made.status == 2 and len(made.faults) == 1, f"{spoiled}: {made.ran}")
-    for given in (["1000,M,008"], ["1000,S,155", "1000,S,155"], ["1000,M,108", "900,M,008", "800,M,008"]):
+    for given in (["1000,M,008"], ["1000,S,155", "1000,S,155"], ["1000,M,108", "900,M,008", "800,M,008"], ["1000,M,108", "900000,B,500", "2000,B,500", "3000,B,500"]):
         made = compare(page, text_of(given), [], "short.csv")
         want(made is not None, f"{given} is possible")
     compare(page, b"\xef\xbb\xbf" + "\r\n".join(rows).encode() + b"\r\n\r\n", [], "windows.csv")
