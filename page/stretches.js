@@ -59,19 +59,25 @@ function stretchBody(it, stretch) {
       sumRows(report, (device) => report.decimals[device], head));
 }
 
-// The decimal places of a device in all stretches; nothing if they aren't the same in all that show them.
-function decimalsOf({stretches}, device) {
-  const all = new Set(stretches.map((it) => reportOf(it).decimals[device]).filter((it) => it !== null));
-  return all.size === 1 ? [...all][0] : null;
+// The decimal places that a device shows in the stretches, each number once.
+function placesIn({stretches}, device) {
+  return [...new Set(stretches.map((it) => reportOf(it).decimals[device]).filter((it) => it !== null))];
 }
 
+// The sums of all stretches. Where the decimal places of a device changed, its sums stand without any.
 function totalBody(made) {
   if (!made.totals) return null;
-  const head = [h("div", {}, "All stretches"), ...stretchNotes(made.totals)];
+  const places = Object.fromEntries(DEVICES.slice(1).map((device) => [device, placesIn(made, device)]));
+  const changed = DEVICES.slice(1).filter((device) => places[device].length > 1);
+  const head = [h("div", {}, "All stretches"), ...stretchNotes(made.totals), ...changed.map(changedNote)];
   return h(
       "tbody", {role: "rowgroup", id: "stretch-total", class: "total"},
-      sumRows(made.totals, (device) => decimalsOf(made, device), head, true));
+      sumRows(made.totals, (device) => places[device].length === 1 ? places[device][0] : null, head, true));
 }
+
+const changedNote = (device) =>
+    h("div", {class: "soft"},
+      `the decimal places of the ${DEVICE_NAMES[DEVICES.indexOf(device)]} changed: its sums here have none`);
 
 function drawStretches(it) {
   if (!by("stretch-table")) return;

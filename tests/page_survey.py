@@ -148,14 +148,14 @@ def places_of(report):
 
 
 def total_places(made):
-    """The decimals of a device that all stretches share."""
-    found = {}
+    """The decimals that each device has in the stretches."""
+    found = {it: set() for it in page_test.DEVICES}
     for it in made.stretches:
         words = it["report"]["decimals"]
         for device, places in zip(words[::2], words[1::2]):
             if places != "-":
-                found.setdefault(device, set()).add(int(places))
-    return lambda device: next(iter(found[device])) if len(found.get(device, ())) == 1 else 0
+                found[device].add(int(places))
+    return found
 
 
 def span(first, last):
@@ -222,8 +222,11 @@ def compare_stretches(made, came):
     if not made.totals:
         want(came["total"] is None, f"there are totals: {came['total']}")
         return
-    want(came["total"]["head"] == ["All stretches", *notes_of(made.totals)], f"the totals: {came['total']['head']}")
-    want(came["total"]["sums"] == list(sums_of(made.totals, total_places(made))), f"the totals: {came['total']['sums']}")
+    places = total_places(made)
+    changed = [f"the decimal places of the {DEVICE_WORDS[it]} changed: its sums here have none" for it in page_test.DEVICES if len(places[it]) > 1]
+    want(came["total"]["head"] == ["All stretches", *notes_of(made.totals), *changed], f"the totals: {came['total']['head']}")
+    shared = list(sums_of(made.totals, lambda device: next(iter(places[device])) if len(places[device]) == 1 else 0))
+    want(came["total"]["sums"] == shared, f"the totals: {came['total']['sums']}")
 
 
 def compare_lanes(made, came):
