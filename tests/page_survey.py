@@ -277,6 +277,9 @@ def compare(page, data, words, name):
     is_no = shown["card"] in ("card no", "card limit")
     want(page.has_button() == is_no, f"the button: {shown['card']}")
     if not is_no:
+        if shown["card"] == "card yes":
+            told = json.loads(page.browser.value("readyChecker().ask({surveyed: state.way.bytes}).then((it) => JSON.stringify([it.answer, it.text + it.last]))"))
+            want(told == [0, Survey(data, words).text], f"the module's survey of a yes: {told}")
         return None
     made, came = Survey(data, words), page.survey()
     if len(made.faults) <= MOST:
