@@ -9,13 +9,13 @@ use Rattle.mdb_bus.specs.declared.act.Act.TheVariants as acts
 use Rattle.mdb_bus.specs.declared.scope.Beginning.TheVariants.{Joined}
 use Rattle.mdb_cash.specs.declared.changer.activity.ChangerActivity.TheVariants.{CashBox}
 use Rattle.mdb_cash.specs.declared.changer.state.ChangerState.{ChangerState}
-use Rattle.mdb_cash.specs.declared.choice.Choice.{Choice}
-use Rattle.mdb_cash.specs.declared.gains.Gains.{Gains}
+use Rattle.mdb_machine.specs.declared.choice.Choice.{Choice}
+use Rattle.mdb_machine.specs.declared.gains.Gains.{Gains}
 use Rattle.mdb_cash.specs.Changer.{dispensed_value, is_last, machine}
 use Rattle.mdb_cash.specs.ChangerFacts.{tables}
-use Rattle.mdb_cash.specs.Gains.{controller_gains, no_gains}
-use Rattle.mdb_cash.specs.MidSession.{AsksNone, facts_recorded}
-use Rattle.mdb_cash.proofs.MidSession.{any_asked, some_told}
+use Rattle.mdb_machine.specs.Gains.{controller_gains, no_gains}
+use Rattle.mdb_machine.specs.MidSession.{AsksNone, facts_recorded}
+use Rattle.mdb_machine.proofs.MidSession.{any_asked, some_told}
 
 -- what a DISPENSE adds, by whether it is owed and the last one again
 abbrev adds : Bool → Bool → ℕ → Gains

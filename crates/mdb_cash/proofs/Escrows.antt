@@ -7,7 +7,7 @@ use Rattle.mdb_cash.specs.declared.bill.state.Escrow.TheVariants.{Empty, Waiting
 use Rattle.mdb_cash.specs.Bill.{MayReturn, MayStack, MovesBills, MovesBill}
 use Rattle.mdb_cash.specs.inner.BillCodes.{same_type}
 use Rattle.mdb_cash.specs.BillFacts.{Facts}
-use Rattle.mdb_cash.specs.Pair.{IsOnly}
+use Rattle.mdb_machine.specs.Pair.{IsOnly}
 
 -- a message that can be new
 pub stacks : (facts : Facts) {message : BillActivity} {escrow : Escrow} (bill : BillType) {number : ℕ} → message ≡ activity.Stacked number → bill.number ≡ number

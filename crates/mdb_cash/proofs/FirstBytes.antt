@@ -4,7 +4,7 @@ use Rattle.mdb_msgs.specs.declared.reply.changer.ChangerMsg.{ChangerMsg}
 use Rattle.mdb_msgs.specs.declared.reply.changer.ChangerMsg.TheVariants as messages
 use Rattle.mdb_cash.specs.declared.changer.activity.ChangerActivity.{ChangerActivity}
 use Rattle.mdb_cash.specs.declared.changer.activity.ChangerActivity.TheVariants.{Dispensed, CashBox, Tube}
-use Rattle.mdb_cash.specs.declared.kept.Part.TheVariants as part
+use Rattle.mdb_machine.specs.declared.kept.Part.TheVariants as part
 use Rattle.mdb_cash.specs.ChangerMessages.{first_byte, part_of}
 
 -- the first byte of a message that says this

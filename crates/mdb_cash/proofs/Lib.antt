@@ -1,14 +1,3 @@
 pub mod DispenseWays
 pub mod Escrows
-pub mod KeeperFacts
 pub mod FirstBytes
-pub mod KeeperSteps
-pub mod KeptLists
-pub mod Knowing
-pub mod Masks
-pub mod MidSession
-pub mod PastAfter
-pub mod PowerOn
-pub mod Sizes
-pub mod StepCodes
-pub mod Ways

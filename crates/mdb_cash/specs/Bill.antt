@@ -14,16 +14,15 @@ use Rattle.mdb_cash.specs.declared.bill.state.BillState.{BillState}
 use Rattle.mdb_cash.specs.declared.bill.state.BillType.{BillType}
 use Rattle.mdb_cash.specs.declared.bill.state.Escrow.{Escrow}
 use Rattle.mdb_cash.specs.declared.bill.state.Escrow.TheVariants.{Empty, Waiting, Ordered}
-use Rattle.mdb_cash.specs.declared.choice.Choice.{Choice}
-use Rattle.mdb_cash.specs.declared.choice.Choice.TheVariants.{Restart}
-use Rattle.mdb_cash.specs.declared.gains.Gains.{Gains}
+use Rattle.mdb_machine.specs.declared.choice.Choice.{Choice}
+use Rattle.mdb_machine.specs.declared.choice.Choice.TheVariants.{Restart}
+use Rattle.mdb_machine.specs.declared.gains.Gains.{Gains}
 use Rattle.mdb_cash.specs.BillFacts.{Facts, known_of, tables}
 use Rattle.mdb_cash.specs.Credits.{counted}
-use Rattle.mdb_cash.specs.Gains.{no_gains}
-use Rattle.mdb_cash.specs.KeeperSteps.{Conduct, KeeperStep, StepKnowing}
-use Rattle.mdb_cash.specs.Machine.{Machine, StartsIn}
-use Rattle.mdb_cash.specs.Pair.{Stays}
-use Rattle.mdb_cash.specs.Unvalued as amounts
+use Rattle.mdb_machine.specs.Gains.{Stays, no_gains}
+use Rattle.mdb_machine.specs.KeeperSteps.{Conduct, KeeperStep, StepKnowing}
+use Rattle.mdb_machine.specs.Machine.{Machine, StartsIn}
+use Rattle.mdb_machine.specs.Unvalued as amounts
 
 -- the power-on state: nothing in escrow, and nothing held
 abbrev pub power_on : BillState

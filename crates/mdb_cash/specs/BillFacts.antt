@@ -11,11 +11,11 @@ use Rattle.mdb_msgs.specs.declared.reply.setup.BillSetup.{BillSetup}
 use Rattle.mdb_bus.specs.declared.act.Act.{Act}
 use Rattle.mdb_bus.specs.declared.scope.Beginning.{Beginning}
 use Rattle.mdb_cash.specs.declared.bill.activity.BillActivity.{BillActivity}
-use Rattle.mdb_cash.specs.declared.past.Effect.{Effect}
-use Rattle.mdb_cash.specs.declared.past.Effect.TheVariants as effects
+use Rattle.mdb_machine.specs.declared.past.Effect.{Effect}
+use Rattle.mdb_machine.specs.declared.past.Effect.TheVariants as effects
 use Rattle.mdb_cash.specs.BillMessages.{parts_of}
-use Rattle.mdb_cash.specs.Keeper as keeper
-use Rattle.mdb_cash.specs.Keeper.{Tables}
+use Rattle.mdb_machine.specs.Keeper as keeper
+use Rattle.mdb_machine.specs.Keeper.{Tables}
 
 -- the command of the validator that a command is
 abbrev pub own : Command → Option BillCommand

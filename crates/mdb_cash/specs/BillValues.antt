@@ -5,9 +5,9 @@ use Rattle.mdb_msgs.specs.declared.reply.bill.BillMsg.{BillMsg}
 use Rattle.mdb_msgs.specs.declared.reply.setup.BillSetup.{BillSetup}
 use Rattle.mdb_cash.specs.declared.bill.Bill.{Bill}
 use Rattle.mdb_cash.specs.declared.bill.activity.BillActivity.{BillActivity}
-use Rattle.mdb_cash.specs.declared.keeper.KeeperKnown.{KeeperKnown}
+use Rattle.mdb_machine.specs.declared.keeper.KeeperKnown.{KeeperKnown}
 use Rattle.mdb_cash.specs.BillFacts.{KnownFacts}
-use Rattle.mdb_cash.specs.KeeperValues as keeper_values
+use Rattle.mdb_machine.specs.KeeperValues as keeper_values
 
 abbrev pub Value : Type 0
 Value = KeeperKnown Bill BillCommand BillSetup Infallible BillActivity BillMsg

@@ -11,16 +11,15 @@ use Rattle.mdb_bus.specs.declared.scope.Beginning.{Beginning}
 use Rattle.mdb_cash.specs.declared.changer.state.ChangerState.{ChangerState}
 use Rattle.mdb_cash.specs.declared.changer.activity.ChangerActivity.{ChangerActivity}
 use Rattle.mdb_cash.specs.declared.changer.activity.ChangerActivity.TheVariants.{Dispensed, CashBox, Tube}
-use Rattle.mdb_cash.specs.declared.choice.Choice.{Choice}
-use Rattle.mdb_cash.specs.declared.choice.Choice.TheVariants.{Lost}
-use Rattle.mdb_cash.specs.declared.gains.Gains.{Gains}
+use Rattle.mdb_machine.specs.declared.choice.Choice.{Choice}
+use Rattle.mdb_machine.specs.declared.choice.Choice.TheVariants.{Lost}
+use Rattle.mdb_machine.specs.declared.gains.Gains.{Gains}
 use Rattle.mdb_cash.specs.ChangerFacts.{Facts, known_of, tables}
-use Rattle.mdb_cash.specs.Gains.{no_gains, controller_gains, device_gains}
+use Rattle.mdb_machine.specs.Gains.{Stays, controller_gains, device_gains, no_gains}
 use Rattle.mdb_cash.specs.Credits.{counted}
-use Rattle.mdb_cash.specs.KeeperSteps.{Conduct, KeeperStep, StepKnowing}
-use Rattle.mdb_cash.specs.Machine.{Machine, StartsIn}
-use Rattle.mdb_cash.specs.Pair.{Stays}
-use Rattle.mdb_cash.specs.Unvalued as amounts
+use Rattle.mdb_machine.specs.KeeperSteps.{Conduct, KeeperStep, StepKnowing}
+use Rattle.mdb_machine.specs.Machine.{Machine, StartsIn}
+use Rattle.mdb_machine.specs.Unvalued as amounts
 
 -- the power-on state: nothing held, and no DISPENSE owed
 abbrev pub power_on : ChangerState

@@ -10,11 +10,11 @@ use Rattle.mdb_msgs.specs.declared.reply.setup.ChangerSetup.{ChangerSetup}
 use Rattle.mdb_bus.specs.declared.act.Act.{Act}
 use Rattle.mdb_bus.specs.declared.scope.Beginning.{Beginning}
 use Rattle.mdb_cash.specs.declared.changer.activity.ChangerActivity.{ChangerActivity}
-use Rattle.mdb_cash.specs.declared.past.Effect.{Effect}
-use Rattle.mdb_cash.specs.declared.past.Effect.TheVariants as effects
+use Rattle.mdb_machine.specs.declared.past.Effect.{Effect}
+use Rattle.mdb_machine.specs.declared.past.Effect.TheVariants as effects
 use Rattle.mdb_cash.specs.ChangerMessages.{parts_of}
-use Rattle.mdb_cash.specs.Keeper as keeper
-use Rattle.mdb_cash.specs.Keeper.{Tables}
+use Rattle.mdb_machine.specs.Keeper as keeper
+use Rattle.mdb_machine.specs.Keeper.{Tables}
 
 -- the command of the changer that a command is
 abbrev pub own : Command → Option ChangerCommand

@@ -7,8 +7,8 @@ use Rattle.mdb_msgs.specs.declared.reply.changer.ChangerMsg.TheVariants as messa
 use Rattle.mdb_msgs.specs.Changer.{changer_msg_bytes}
 use Rattle.mdb_cash.specs.declared.changer.activity.ChangerActivity.{ChangerActivity}
 use Rattle.mdb_cash.specs.declared.changer.activity.ChangerActivity.TheVariants.{Dispensed, CashBox, Tube}
-use Rattle.mdb_cash.specs.declared.kept.Part.{Part}
-use Rattle.mdb_cash.specs.declared.kept.Part.TheVariants as part
+use Rattle.mdb_machine.specs.declared.kept.Part.{Part}
+use Rattle.mdb_machine.specs.declared.kept.Part.TheVariants as part
 
 -- Deposits and coins dispensed by hand are kept. What such a message says is its first byte: the
 -- second one counts the coins that are then in the tube.

@@ -2,13 +2,3 @@ pub mod BillCodes
 pub mod BillWays
 pub mod ChangerCodes
 pub mod ChangerWays
-pub mod Guesses
-pub mod KeeperPlain
-pub mod KeeperWays
-pub mod KnowingWays
-pub mod OwnWays
-pub mod PastWays
-pub mod PlainKept
-pub mod Sizes
-pub mod StepWays
-pub mod ToldWays

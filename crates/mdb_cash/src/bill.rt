@@ -6,7 +6,7 @@ ghost use Rattle.mdb_bus.specs.declared.act.Act.{Act};
 ghost use Rattle.mdb_cash.specs.Bill as spec;
 ghost use Rattle.mdb_cash.specs.inner.BillCodes as codes;
 ghost use Rattle.mdb_cash.specs.BillFacts.{known_of, tables};
-ghost use Rattle.mdb_cash.specs.KeeperValues as values;
+ghost use Rattle.mdb_machine.specs.KeeperValues as values;
 ghost use Rattle.mdb_cash.specs.inner.BillWays as ways;
 
 pub(crate) mod activity;
@@ -16,14 +16,12 @@ pub(crate) mod state;
 pub(crate) mod tables;
 mod values;
 
-use crate::choice::Choice;
-use crate::conduct::{step_settled, steps, unvalued_by};
-use crate::gains::Gains;
-use crate::pair::{HasCode, Pair, coded};
 pub use activity::BillActivity;
 use arrayvec::ArrayVec;
 use matters::{concerns, heeds_choice, rests};
 use mdb_bus::{Act, Beginning};
+use mdb_machine::conduct::{step_settled, steps, unvalued_by};
+use mdb_machine::{Choice, Gains, HasCode, Pair, coded};
 use mdb_msgs::Device;
 pub use state::{BillState, BillType, Escrow};
 pub use tables::BillKnown;

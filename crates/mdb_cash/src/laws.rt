@@ -1,14 +1,11 @@
-//! Laws of kept messages, and of what counts of the acts so far. Each function's contract is the
-//! law.
+//! Laws of the changer and the validator. Each function's contract is the law.
 
-ghost use Rattle.std.specs.Prelude.{◌≡◌, ◌≢◌, ◌⊎◌, ◌↔◌, ℕ, Bool, true, false, List, [], ◌∷◌, All};
+ghost use Rattle.std.specs.Prelude.{◌≡◌, ◌≢◌, ◌⊎◌, ◌↔◌, ℕ, Bool, true, false, List, [], All};
 ghost use Rattle.mdb_msgs.specs.declared.command.BillCommand.{BillCommand};
 ghost use Rattle.mdb_msgs.specs.declared.command.BillCommand.TheVariants as bill_commands;
 ghost use Rattle.mdb_msgs.specs.declared.command.ChangerCommand.{ChangerCommand};
 ghost use Rattle.mdb_msgs.specs.declared.command.ChangerCommand.TheVariants as changer_commands;
-ghost use Rattle.mdb_msgs.specs.declared.command.Command.{Command};
 ghost use Rattle.mdb_msgs.specs.declared.command.Command.TheVariants as commands;
-ghost use Rattle.mdb_msgs.specs.declared.command.Device.{Device};
 ghost use Rattle.mdb_msgs.specs.declared.command.Device.TheVariants as devices;
 ghost use Rattle.mdb_msgs.specs.declared.reply.Reply.{Reply};
 ghost use Rattle.mdb_msgs.specs.declared.reply.changer.ChangerMsg.{ChangerMsg};
@@ -18,16 +15,13 @@ ghost use Rattle.mdb_bus.specs.declared.act.Act.{Act};
 ghost use Rattle.mdb_bus.specs.declared.act.Act.TheVariants as acts;
 ghost use Rattle.mdb_bus.specs.declared.scope.Beginning.{Beginning};
 ghost use Rattle.mdb_bus.specs.declared.scope.Beginning.TheVariants.{PowerOn, Joined};
-ghost use Rattle.mdb_bus.specs.LeavingOut.{has_part};
 ghost use Rattle.mdb_cash.specs.declared.bill.state.BillState.{BillState};
 ghost use Rattle.mdb_cash.specs.declared.changer.activity.ChangerActivity.{ChangerActivity};
 ghost use Rattle.mdb_cash.specs.declared.changer.state.ChangerState.{ChangerState};
-ghost use Rattle.mdb_cash.specs.declared.choice.Choice.{Choice};
-ghost use Rattle.mdb_cash.specs.declared.choice.Choice.TheVariants.{Plain};
-ghost use Rattle.mdb_cash.specs.declared.gains.Gains.{Gains};
-ghost use Rattle.mdb_cash.specs.declared.kept.Part.{Part};
-ghost use Rattle.mdb_cash.specs.declared.kept.Part.TheVariants as part;
-ghost use Rattle.mdb_cash.specs.declared.past.Effect.{Effect};
+ghost use Rattle.mdb_machine.specs.declared.choice.Choice.{Choice};
+ghost use Rattle.mdb_machine.specs.declared.choice.Choice.TheVariants.{Plain};
+ghost use Rattle.mdb_machine.specs.declared.gains.Gains.{Gains};
+ghost use Rattle.mdb_machine.specs.declared.kept.Part.TheVariants as part;
 ghost use Rattle.mdb_cash.specs.Bill as bill_machine;
 ghost use Rattle.mdb_cash.specs.BillFacts as bill;
 ghost use Rattle.mdb_cash.specs.BillMessages as bill_messages;
@@ -36,14 +30,12 @@ ghost use Rattle.mdb_cash.specs.Changer.{dispensed_value};
 ghost use Rattle.mdb_cash.specs.ChangerFacts as changer;
 ghost use Rattle.mdb_cash.specs.ChangerMessages as changer_messages;
 ghost use Rattle.mdb_cash.specs.ChangerMessages.{first_byte, part_of};
-ghost use Rattle.mdb_cash.specs.Gains.{controller_gains, no_gains};
-ghost use Rattle.mdb_cash.specs.Keeper.{AllowsFacts};
-ghost use Rattle.mdb_cash.specs.Kept.{kept_of};
-ghost use Rattle.mdb_cash.specs.MidSession.{AsksNone, IsSettled, TellsHeldFirst, TellsNone};
-ghost use Rattle.mdb_cash.specs.MidSession.{facts_recorded};
-ghost use Rattle.mdb_cash.specs.Pair.{IsActOf, IsBreak, Stays, own_acts};
-ghost use Rattle.mdb_cash.specs.Past.{past_of};
-ghost use Rattle.mdb_cash.specs.PastValues.{past_with};
+ghost use Rattle.mdb_machine.specs.Gains.{Stays, controller_gains, no_gains};
+ghost use Rattle.mdb_machine.specs.Keeper.{AllowsFacts};
+ghost use Rattle.mdb_machine.specs.Kept.{kept_of};
+ghost use Rattle.mdb_machine.specs.MidSession.{AsksNone, IsSettled, TellsHeldFirst, TellsNone};
+ghost use Rattle.mdb_machine.specs.MidSession.{facts_recorded};
+ghost use Rattle.mdb_machine.specs.Pair.{IsBreak, own_acts};
 
 /// Two kept messages of the changer say the same where their first bytes are the same.
 pub fn kept_messages_say_what_their_first_bytes_are()
@@ -51,25 +43,6 @@ pub fn kept_messages_say_what_their_first_bytes_are()
         → IsChangerMsg one → IsChangerMsg other
         → part_of one ≡ part.Kept first → part_of other ≡ part.Kept second
         → (first ≡ second) ↔ (first_byte one ≡ first_byte other) }
-{}
-
-/// What counts of acts goes on act by act.
-pub fn what_counts_goes_on_act_by_act<M>()
-    ensures { (effect_of : Command → Effect) (parts_by : Act → List (Part M))
-        (act : Act) (acts : List Act)
-        → past_with effect_of parts_by act (past_of effect_of parts_by acts)
-        ≡ past_of effect_of parts_by (act ∷ acts) }
-{}
-
-/// A device's own acts are those in which it has a part, in their order; and the test that picks
-/// them says of each act whether it has.
-pub fn own_acts_are_those_that_a_device_has_a_part_in()
-    ensures own { (device : Device) (act : Act) (acts : List Act) → IsActOf device act
-        → own_acts device (act ∷ acts) ≡ act ∷ own_acts device acts }
-    ensures other { (device : Device) (act : Act) (acts : List Act) → (IsActOf device act → ⊥)
-        → own_acts device (act ∷ acts) ≡ own_acts device acts }
-    ensures test { (device : Device) (act : Act)
-        → (has_part device act ≡ true) ↔ IsActOf device act }
 {}
 
 /// What is known of the changer after acts, and the amounts without a value that they tell of it,

@@ -1,13 +1,13 @@
 use Rattle.std.proofs.Common.{◌≡◌, ◌∙◌, ℕ, Bool, List, Option, Some, refl, ap, sym}
 use Rattle.mdb_msgs.specs.declared.command.ReaderCommand.{ReaderCommand}
 use Rattle.mdb_msgs.specs.declared.reply.Reply.{Reply}
-use Rattle.mdb_cash.specs.declared.choice.Choice.{Choice}
-use Rattle.mdb_cash.specs.declared.gains.Gains.{Gains}
-use Rattle.mdb_cash.specs.declared.kept.Part.{Part}
-use Rattle.mdb_cash.specs.Gains.{device_gains}
-use Rattle.mdb_cash.specs.Kept.{IsSummary, HasNews, held, holds_after, kept_of}
-use Rattle.mdb_cash.specs.Pair.{IsOnlyStep}
-use Rattle.mdb_cash.specs.Past.{or_else}
+use Rattle.mdb_machine.specs.declared.choice.Choice.{Choice}
+use Rattle.mdb_machine.specs.declared.gains.Gains.{Gains}
+use Rattle.mdb_machine.specs.declared.kept.Part.{Part}
+use Rattle.mdb_machine.specs.Gains.{device_gains}
+use Rattle.mdb_machine.specs.Kept.{IsSummary, HasNews, held, holds_after, kept_of}
+use Rattle.mdb_machine.specs.Pair.{IsOnlyStep}
+use Rattle.mdb_machine.specs.Past.{or_else}
 use Rattle.mdb_cashless.specs.declared.reader.device.DeviceState.{DeviceState}
 use Rattle.mdb_msgs.specs.declared.setups.ReaderConfig.{ReaderConfig}
 use Rattle.mdb_cashless.specs.declared.reader.messages.ReaderActivity.{ReaderActivity}

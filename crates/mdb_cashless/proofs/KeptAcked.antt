@@ -4,9 +4,9 @@ use Rattle.std.specs.List.{list_any}
 use Rattle.mdb_msgs.specs.declared.reply.reader.ReaderMsg.{ReaderMsg}
 use Rattle.mdb_msgs.specs.declared.reply.reader.ReaderMsg.TheVariants.{BeginSession, VendApproved, VendDenied, EndSession}
 use Rattle.mdb_msgs.specs.Reader.{is_kept}
-use Rattle.mdb_cash.specs.declared.choice.Choice.{Choice}
-use Rattle.mdb_cash.specs.declared.choice.Choice.TheVariants.{Plain, Lost, Restart}
-use Rattle.mdb_cash.specs.Kept.{holds_acked, kept_of}
+use Rattle.mdb_machine.specs.declared.choice.Choice.{Choice}
+use Rattle.mdb_machine.specs.declared.choice.Choice.TheVariants.{Plain, Lost, Restart}
+use Rattle.mdb_machine.specs.Kept.{holds_acked, kept_of}
 use Rattle.mdb_cashless.specs.ReaderMessages.{part_of}
 
 -- what the reader holds, by that

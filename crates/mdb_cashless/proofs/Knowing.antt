@@ -6,13 +6,13 @@ use Rattle.mdb_msgs.specs.declared.command.ReaderUnit.{ReaderUnit}
 use Rattle.mdb_msgs.specs.declared.reply.Reply.{Reply}
 use Rattle.mdb_bus.specs.declared.act.Act.{Act}
 use Rattle.mdb_bus.specs.declared.act.Act.TheVariants as acts
-use Rattle.mdb_cash.specs.declared.choice.Choice.{Choice}
-use Rattle.mdb_cash.specs.declared.gains.Gains.{Gains}
-use Rattle.mdb_cash.specs.Kept.{IsNew, held, kept_of}
-use Rattle.mdb_cash.specs.Known.{Allows, AllowsKept, Unknown}
-use Rattle.mdb_cash.specs.Pair.{IsOnlyStep}
-use Rattle.mdb_cash.specs.PastValues.{if_known}
-use Rattle.mdb_cash.specs.inner.PastWays.{same_past}
+use Rattle.mdb_machine.specs.declared.choice.Choice.{Choice}
+use Rattle.mdb_machine.specs.declared.gains.Gains.{Gains}
+use Rattle.mdb_machine.specs.Kept.{IsNew, held, kept_of}
+use Rattle.mdb_machine.specs.Known.{Allows, AllowsKept, Unknown}
+use Rattle.mdb_machine.specs.Pair.{IsOnlyStep}
+use Rattle.mdb_machine.specs.PastValues.{if_known}
+use Rattle.mdb_machine.specs.inner.PastWays.{same_past}
 use Rattle.mdb_cashless.specs.declared.reader.known.ReaderKnown.{ReaderKnown}
 use Rattle.mdb_cashless.specs.declared.reader.messages.ReaderActivity.{ReaderActivity}
 use Rattle.mdb_cashless.specs.declared.reader.messages.ReaderActivity.TheVariants.{VendDenied}

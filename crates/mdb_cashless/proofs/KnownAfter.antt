@@ -12,14 +12,14 @@ use Rattle.mdb_bus.specs.declared.act.Act.{Act}
 use Rattle.mdb_bus.specs.declared.act.Act.TheVariants as acts
 use Rattle.mdb_bus.specs.declared.scope.Beginning.{Beginning}
 use Rattle.mdb_bus.specs.declared.scope.Beginning.TheVariants.{PowerOn, Joined}
-use Rattle.mdb_cash.specs.declared.kept.Part.{Part}
-use Rattle.mdb_cash.specs.declared.past.Effect.{Effect}
-use Rattle.mdb_cash.specs.declared.past.Past.{Past}
-use Rattle.mdb_cash.specs.Kept.{kept_of}
-use Rattle.mdb_cash.specs.Known.{known_before}
-use Rattle.mdb_cash.specs.Past.{effect_by, effect_taken, or_else, powers_on, resets, tells_out_of_sequence, unless_empty}
-use Rattle.mdb_cash.specs.PastValues.{first_past, from_power_on, if_known, known_more, known_past_after, past_after, past_in, past_known}
-use Rattle.mdb_cash.specs.inner.PastWays.{same_known_past}
+use Rattle.mdb_machine.specs.declared.kept.Part.{Part}
+use Rattle.mdb_machine.specs.declared.past.Effect.{Effect}
+use Rattle.mdb_machine.specs.declared.past.Past.{Past}
+use Rattle.mdb_machine.specs.Kept.{kept_of}
+use Rattle.mdb_machine.specs.Known.{known_before}
+use Rattle.mdb_machine.specs.Past.{effect_by, effect_taken, or_else, powers_on, resets, tells_out_of_sequence, unless_empty}
+use Rattle.mdb_machine.specs.PastValues.{first_past, from_power_on, if_known, known_more, known_past_after, past_after, past_in, past_known}
+use Rattle.mdb_machine.specs.inner.PastWays.{same_known_past}
 use Rattle.mdb_cashless.specs.declared.reader.facts.ReaderFacts.{ReaderFacts}
 use Rattle.mdb_cashless.specs.declared.reader.known.ReaderKnown.{ReaderKnown}
 use Rattle.mdb_cashless.specs.declared.reader.transaction.Transaction.{Transaction}

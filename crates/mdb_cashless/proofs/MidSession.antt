@@ -15,13 +15,13 @@ use Rattle.mdb_msgs.specs.declared.setups.Setups.{Setups}
 use Rattle.mdb_bus.specs.declared.act.Act.{Act}
 use Rattle.mdb_bus.specs.declared.act.Act.TheVariants as acts
 use Rattle.mdb_bus.specs.declared.scope.Beginning.TheVariants.{Joined}
-use Rattle.mdb_cash.specs.declared.choice.Choice.{Choice}
-use Rattle.mdb_cash.specs.declared.gains.Gains.{Gains}
-use Rattle.mdb_cash.specs.Gains.{device_gains}
-use Rattle.mdb_cash.specs.Kept.{IsNew, MayBeKept, held, holds_after, kept_of}
-use Rattle.mdb_cash.specs.Known.{Allows, AllowsKept, known_by}
-use Rattle.mdb_cash.specs.Past.{last_list, last_told, or_else, powers_on, resets, unless_empty}
-use Rattle.mdb_cash.specs.inner.PastWays.{same_past}
+use Rattle.mdb_machine.specs.declared.choice.Choice.{Choice}
+use Rattle.mdb_machine.specs.declared.gains.Gains.{Gains}
+use Rattle.mdb_machine.specs.Gains.{device_gains}
+use Rattle.mdb_machine.specs.Kept.{IsNew, MayBeKept, held, holds_after, kept_of}
+use Rattle.mdb_machine.specs.Known.{Allows, AllowsKept, known_by}
+use Rattle.mdb_machine.specs.Past.{last_list, last_told, or_else, powers_on, resets, unless_empty}
+use Rattle.mdb_machine.specs.inner.PastWays.{same_past}
 use Rattle.mdb_cashless.specs.declared.reader.messages.ReaderActivity.{ReaderActivity}
 use Rattle.mdb_cashless.specs.declared.reader.messages.ReaderActivity.TheVariants.{VendDenied}
 use Rattle.mdb_cashless.specs.declared.reader.state.ReaderState.{ReaderState}
@@ -33,7 +33,7 @@ use Rattle.mdb_cashless.specs.ReaderMessages.{config_in, last_said, messages_of,
 use Rattle.mdb_cashless.specs.Transactions.{is_again, is_same, transaction_of}
 use Rattle.mdb_cashless.specs.Units.{own}
 use Rattle.mdb_cashless.specs.MidSession.{AckWay, AreHeld, IsSettled, ReplyWay, SendsNone, Takes, TakesNone, TellsNone, effected, facts_recorded, sale}
-use Rattle.mdb_cash.specs.inner.ToldWays.{allows_if, allows_told, as_allowed, asked_so, empty_unless, keeps_if, kept_so, kept_told, list_told, none_told, not_not, told_by_none, types_16}
+use Rattle.mdb_machine.specs.inner.ToldWays.{allows_if, allows_told, as_allowed, asked_so, empty_unless, keeps_if, kept_so, kept_told, list_told, none_told, not_not, told_by_none, types_16}
 use Rattle.mdb_cashless.proofs.Guesses.{ask_again, ask_same, guessing, held_before}
 use Rattle.mdb_cashless.proofs.Knowing.{Same, same_facts, step_same}
 use Rattle.mdb_cashless.proofs.PowerOn.{last_taken_is}

@@ -4,12 +4,12 @@ use Rattle.mdb_msgs.specs.declared.command.ReaderUnit.{ReaderUnit}
 use Rattle.std.proofs.Math.Path.{fun_ext}
 use Rattle.mdb_bus.specs.declared.act.Act.{Act}
 use Rattle.mdb_bus.specs.declared.scope.Beginning.TheVariants.{PowerOn}
-use Rattle.mdb_cash.specs.Known.{Allows, AllowsKept, known_by}
-use Rattle.mdb_cash.specs.declared.past.Effect.TheVariants as effects
-use Rattle.mdb_cash.specs.Past.{enables, last_list, last_told, or_else, past_of}
-use Rattle.mdb_cash.specs.inner.PastWays.{same_past}
-use Rattle.mdb_cash.specs.declared.choice.Choice.{Choice}
-use Rattle.mdb_cash.specs.declared.gains.Gains.{Gains}
+use Rattle.mdb_machine.specs.Known.{Allows, AllowsKept, known_by}
+use Rattle.mdb_machine.specs.declared.past.Effect.TheVariants as effects
+use Rattle.mdb_machine.specs.Past.{enables, last_list, last_told, or_else, past_of}
+use Rattle.mdb_machine.specs.inner.PastWays.{same_past}
+use Rattle.mdb_machine.specs.declared.choice.Choice.{Choice}
+use Rattle.mdb_machine.specs.declared.gains.Gains.{Gains}
 use Rattle.mdb_cashless.specs.declared.reader.state.ReaderState.{ReaderState}
 use Rattle.mdb_cashless.specs.Reader.{ReaderStep, StepKnowing}
 use Rattle.mdb_cashless.specs.ReaderFacts.{AllowsFacts, Facts, asked_by, config_by, effect_of, ends_transactions, facts_of, known_of, last_taken, parts_by, taken_told, transaction_taken_by}

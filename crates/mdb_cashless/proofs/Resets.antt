@@ -1,9 +1,9 @@
 use Rattle.std.proofs.Common.{◌≡◌, ◌||◌, ◌∙◌, Bool, true, false, List, [], ◌∷◌, refl, ap, sym, map}
 use Rattle.std.specs.Bool.{OnFalse}
 use Rattle.std.specs.List.{list_any}
-use Rattle.mdb_cash.specs.declared.choice.Choice.TheVariants.{Restart}
-use Rattle.mdb_cash.specs.declared.kept.Part.{Part}
-use Rattle.mdb_cash.specs.Kept.{MayBeRead, has_reset, is_reset}
+use Rattle.mdb_machine.specs.declared.choice.Choice.TheVariants.{Restart}
+use Rattle.mdb_machine.specs.declared.kept.Part.{Part}
+use Rattle.mdb_machine.specs.Kept.{MayBeRead, has_reset, is_reset}
 
 -- whether messages tell of a reset, by each of them
 reset_among : {T M : Type 0} (part_of : T → Part M) (messages : List T) → has_reset (map part_of messages) ≡ list_any (λ m. is_reset (part_of m)) messages

@@ -10,12 +10,12 @@ use Rattle.mdb_msgs.specs.declared.reply.Reply.{Reply}
 use Rattle.mdb_msgs.specs.declared.setups.Setups.{Setups}
 use Rattle.mdb_bus.specs.declared.act.Act.{Act}
 use Rattle.mdb_bus.specs.declared.act.Act.TheVariants as acts
-use Rattle.mdb_cash.specs.declared.choice.Choice.{Choice}
-use Rattle.mdb_cash.specs.declared.gains.Gains.{Gains}
-use Rattle.mdb_cash.specs.Gains.{device_gains}
-use Rattle.mdb_cash.specs.Kept.{MayBeKept, MayBeRead, holds_after, kept_of}
-use Rattle.mdb_cash.specs.MidSession.{past_recorded}
-use Rattle.mdb_cash.specs.Past.{or_else}
+use Rattle.mdb_machine.specs.declared.choice.Choice.{Choice}
+use Rattle.mdb_machine.specs.declared.gains.Gains.{Gains}
+use Rattle.mdb_machine.specs.Gains.{device_gains}
+use Rattle.mdb_machine.specs.Kept.{MayBeKept, MayBeRead, holds_after, kept_of}
+use Rattle.mdb_machine.specs.MidSession.{past_recorded}
+use Rattle.mdb_machine.specs.Past.{or_else}
 use Rattle.mdb_cashless.specs.declared.reader.messages.ReaderActivity.{ReaderActivity}
 use Rattle.mdb_cashless.specs.declared.reader.state.ReaderState.{ReaderState}
 use Rattle.mdb_cashless.specs.declared.reader.transaction.Transaction.{Transaction}

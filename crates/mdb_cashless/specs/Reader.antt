@@ -11,16 +11,15 @@ use Rattle.mdb_msgs.specs.declared.reply.reader.ReaderMsg.TheVariants as message
 use Rattle.mdb_bus.specs.declared.act.Act.{Act}
 use Rattle.mdb_bus.specs.declared.act.Act.TheVariants as acts
 use Rattle.mdb_bus.specs.declared.scope.Beginning.{Beginning}
-use Rattle.mdb_cash.specs.declared.choice.Choice.{Choice}
-use Rattle.mdb_cash.specs.declared.choice.Choice.TheVariants.{Lost, Restart}
-use Rattle.mdb_cash.specs.declared.gains.Gains.{Gains}
-use Rattle.mdb_cash.specs.Gains.{no_gains, controller_gains, device_gains}
-use Rattle.mdb_cash.specs.Kept.{HasNews, held, holds_acked, holds_after, kept_of}
-use Rattle.mdb_cash.specs.Machine.{Machine, StartsIn}
-use Rattle.mdb_cash.specs.Pair.{Stays}
-use Rattle.mdb_cash.specs.Past.{or_else, resets, tells_out_of_sequence}
-use Rattle.mdb_cash.specs.Unvalued as amounts
-use Rattle.mdb_cash.specs.Unvalued.{one_if}
+use Rattle.mdb_machine.specs.declared.choice.Choice.{Choice}
+use Rattle.mdb_machine.specs.declared.choice.Choice.TheVariants.{Lost, Restart}
+use Rattle.mdb_machine.specs.declared.gains.Gains.{Gains}
+use Rattle.mdb_machine.specs.Gains.{Stays, controller_gains, device_gains, no_gains}
+use Rattle.mdb_machine.specs.Kept.{HasNews, held, holds_acked, holds_after, kept_of}
+use Rattle.mdb_machine.specs.Machine.{Machine, StartsIn}
+use Rattle.mdb_machine.specs.Past.{or_else, resets, tells_out_of_sequence}
+use Rattle.mdb_machine.specs.Unvalued as amounts
+use Rattle.mdb_machine.specs.Unvalued.{one_if}
 use Rattle.mdb_cashless.specs.declared.reader.device.DeviceState.TheVariants as device
 use Rattle.mdb_msgs.specs.declared.setups.ReaderConfig.{ReaderConfig}
 use Rattle.mdb_cashless.specs.declared.reader.messages.ReaderActivity.{ReaderActivity}

@@ -8,11 +8,11 @@ use Rattle.mdb_msgs.specs.declared.reply.reader.ReaderMsg.{ReaderMsg}
 use Rattle.mdb_bus.specs.declared.act.Act.{Act}
 use Rattle.mdb_bus.specs.declared.act.Act.TheVariants as acts
 use Rattle.mdb_bus.specs.declared.scope.Beginning.{Beginning}
-use Rattle.mdb_cash.specs.declared.kept.Part.{Part}
-use Rattle.mdb_cash.specs.declared.past.Effect.{Effect}
-use Rattle.mdb_cash.specs.declared.past.Effect.TheVariants as effects
-use Rattle.mdb_cash.specs.Known.{Allows, Known, known_before, known_by}
-use Rattle.mdb_cash.specs.Past.{AllowsPast, KnownPast, PastFacts, known_past, last_told, or_else, past_of, powers_on, taken_by}
+use Rattle.mdb_machine.specs.declared.kept.Part.{Part}
+use Rattle.mdb_machine.specs.declared.past.Effect.{Effect}
+use Rattle.mdb_machine.specs.declared.past.Effect.TheVariants as effects
+use Rattle.mdb_machine.specs.Known.{Allows, Known, known_before, known_by}
+use Rattle.mdb_machine.specs.Past.{AllowsPast, KnownPast, PastFacts, known_past, last_told, or_else, past_of, powers_on, taken_by}
 use Rattle.mdb_msgs.specs.Setups.{config_known}
 use Rattle.mdb_msgs.specs.declared.setups.ReaderConfig.{ReaderConfig}
 use Rattle.mdb_cashless.specs.declared.reader.messages.ReaderActivity.{ReaderActivity}

@@ -6,9 +6,9 @@ use Rattle.mdb_msgs.specs.declared.reply.Reply.{Reply}
 use Rattle.mdb_msgs.specs.declared.reply.Reply.TheVariants as replies
 use Rattle.mdb_msgs.specs.declared.reply.reader.ReaderMsg.{ReaderMsg}
 use Rattle.mdb_msgs.specs.declared.reply.reader.ReaderMsg.TheVariants as messages
-use Rattle.mdb_cash.specs.declared.kept.Part.{Part}
-use Rattle.mdb_cash.specs.declared.kept.Part.TheVariants as part
-use Rattle.mdb_cash.specs.Past.{or_else}
+use Rattle.mdb_machine.specs.declared.kept.Part.{Part}
+use Rattle.mdb_machine.specs.declared.kept.Part.TheVariants as part
+use Rattle.mdb_machine.specs.Past.{or_else}
 use Rattle.mdb_msgs.specs.declared.setups.ReaderConfig.{ReaderConfig}
 use Rattle.mdb_cashless.specs.declared.reader.messages.ReaderActivity.{ReaderActivity}
 use Rattle.mdb_cashless.specs.declared.reader.messages.ReaderActivity.TheVariants.{SessionBegun, VendApproved, VendDenied, SessionEnded}

@@ -10,9 +10,9 @@ use Rattle.mdb_msgs.specs.declared.reply.reader.ReaderMsg.{ReaderMsg}
 use Rattle.mdb_msgs.specs.declared.setups.ReaderConfig.{ReaderConfig}
 use Rattle.mdb_bus.specs.declared.act.Act.{Act}
 use Rattle.mdb_bus.specs.declared.act.Act.TheVariants as acts
-use Rattle.mdb_cash.specs.declared.past.Effect.TheVariants as effects
-use Rattle.mdb_cash.specs.PastValues.{if_known, known_more, known_past_with, past_after, past_in, past_known, past_with}
-use Rattle.mdb_cash.specs.Past.{PastFacts, or_else, resets, tells_out_of_sequence}
+use Rattle.mdb_machine.specs.declared.past.Effect.TheVariants as effects
+use Rattle.mdb_machine.specs.PastValues.{if_known, known_more, known_past_with, past_after, past_in, past_known, past_with}
+use Rattle.mdb_machine.specs.Past.{PastFacts, or_else, resets, tells_out_of_sequence}
 use Rattle.mdb_cashless.specs.declared.reader.facts.ReaderFacts.{ReaderFacts}
 use Rattle.mdb_cashless.specs.declared.reader.known.ReaderKnown.{ReaderKnown}
 use Rattle.mdb_cashless.specs.declared.reader.messages.ReaderActivity.{ReaderActivity}

@@ -30,7 +30,7 @@ use arrayvec::ArrayVec;
 use guesses::{step_settled, steps};
 use known::ReaderKnown;
 use mdb_bus::{Act, Beginning};
-use mdb_cash::{Choice, Gains, HasCode, Pair, coded};
+use mdb_machine::{Choice, Gains, HasCode, Pair, coded};
 use mdb_msgs::Device;
 use state::ReaderState;
 use steps::{concerns, heeds_choice, rests};

@@ -22,7 +22,8 @@ use Rattle.mdb_verdict.specs.declared.fault.RunFault.TheVariants.{BadRow, TooLon
 use Rattle.mdb_explain.specs.Explain.{IsCutExplanation, IsExplainText, IsExplainedIn, explanation_text, record_line}
 use Rattle.mdb_verdict.specs.Headline.{IfNo, IfYes}
 use Rattle.mdb_text.specs.Text.{report_text}
-use Rattle.mdb_verdict.specs.Verdict.{AreRows, IsAnswer, IsImpossible, IsNoYes}
+use Rattle.mdb_verdict.specs.Verdict.{IsAnswer, IsImpossible, IsNoYes}
+use Rattle.mdb_verdict.specs.Rows.{AreRows}
 use Rattle.mdb_writing.specs.Written.{HasTaken}
 use Rattle.mdb_verdict.specs.Ending.{HasEnded, HasFollowed, IsTakenWhole}
 use Rattle.mdb_explain.specs.inner.Explaining.{HasKept, IsNoText, IsRowsText, IsTold, StopsKeeping, mark_line, marks_text, row_line, rows_text}

@@ -11,7 +11,7 @@ use Rattle.mdb_explained_runs.specs.declared.mark.Mark.{Mark}
 use Rattle.mdb_explained_runs.specs.declared.mark.Mark.TheVariants.{Lost, Restart}
 use Rattle.mdb_explain.specs.Explain.{explanation_records, explanation_text, mark_fields}
 use Rattle.mdb_explain.specs.Replay.{AreMarkRows, IsMarkRow, dash, mark_letter}
-use Rattle.mdb_verdict.specs.Verdict.{AreRows}
+use Rattle.mdb_verdict.specs.Rows.{AreRows}
 use Rattle.mdb_explain.proofs.PlainRecords.{ArePlain, IsPlain, IsPlainByte, plain_append, read_of_lines}
 use Rattle.mdb_explain.proofs.PlainRows.{IsWritten, decimal_is, one_plain, plain_of, row_written}
 

@@ -18,7 +18,7 @@ use Rattle.mdb_verdict.specs.declared.fault.RunFault.TheVariants as run
 use Rattle.mdb_explain.specs.declared.replaying.Replaying.{Replaying}
 use Rattle.mdb_explain.specs.Replay.{AreMarkRows, CanBe, HasMarkedCause, InputPart, IsReplayAnswer, LeadUpToPart, StopsAt, all_marks}
 use Rattle.mdb_records.specs.declared.ReadFault.{ReadFault}
-use Rattle.mdb_verdict.specs.Verdict.{AreRows}
+use Rattle.mdb_verdict.specs.Rows.{AreRows}
 use Rattle.mdb_verdict.specs.Batch.{AreAll}
 use Rattle.mdb_verdict.specs.Ending.{AreRead, HasEnded, IsStopped, IsTakenWhole}
 use Rattle.mdb_explain.specs.inner.Entries.{IsEntry, IsNoEntry}

@@ -36,7 +36,7 @@ use Rattle.mdb_explain.specs.Replay.{AreMarkRows, CanBe, DoesNotRise, IsForMark,
 use Rattle.mdb_explain.specs.Replay.{IsMarkRefusal, IsMarkRow, IsOneTooMany, IsRefusedAfter}
 use Rattle.mdb_explain.specs.Replay.{InputPart, IsOwnReplay, IsReplayAnswer, IsReplayed, IsStopAt, LeadUpToPart}
 use Rattle.mdb_explain.specs.Replay.{RiseAbove, StopsAt, all_marks, dash, mark_at, mark_letter, records_in}
-use Rattle.mdb_verdict.specs.Verdict.{AreRows}
+use Rattle.mdb_verdict.specs.Rows.{AreRows}
 use Rattle.mdb_explain.proofs.MarkSteps.{other_number, same_number}
 use Rattle.mdb_verdict.proofs.OneAnswer.{GoesOn, compared, one_refusal, row_not_refused, row_one}
 

@@ -24,7 +24,8 @@ use Rattle.mdb_explain.specs.declared.fault.MarkedFault.{MarkedFault}
 use Rattle.mdb_verdict.specs.declared.verdict.TheConstants.{BYTES_MAX}
 use Rattle.mdb_explain.specs.Explain.{ComesTo, IsExplanation, explanation_records, explanation_text, goal_range, mark_fields}
 use Rattle.mdb_explain.specs.Replay.{AreMarkRows, IsOwnReplay, IsReplayAnswer, IsReplayed}
-use Rattle.mdb_verdict.specs.Verdict.{AreRows, IsAnswer}
+use Rattle.mdb_verdict.specs.Verdict.{IsAnswer}
+use Rattle.mdb_verdict.specs.Rows.{AreRows}
 use Rattle.mdb_verdict.proofs.OneAnswer.{row_one}
 
 -- what the law of the marks of a run says

@@ -13,7 +13,8 @@ use Rattle.mdb_verdict.specs.declared.fault.RunFault.{RunFault}
 use Rattle.mdb_verdict.specs.declared.fault.RunFault.TheVariants as run
 use Rattle.mdb_verdict.specs.Headline.{HaveRun}
 use Rattle.mdb_explain.specs.Replay.{IsReplayed}
-use Rattle.mdb_verdict.specs.Verdict.{AreRows, IsAnswer, IsOwnAnswer, LeadUpTo}
+use Rattle.mdb_verdict.specs.Verdict.{IsAnswer, IsOwnAnswer, LeadUpTo}
+use Rattle.mdb_verdict.specs.Rows.{AreRows}
 use Rattle.mdb_verdict.proofs.Headline.{FrontsAreReached, as_many}
 use Rattle.mdb_verdict.proofs.OneAnswer.{compared, row_not_refused, row_one}
 

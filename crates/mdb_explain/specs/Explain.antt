@@ -13,17 +13,17 @@ use Rattle.mdb_follow.specs.declared.goal.Goal.{Goal}
 use Rattle.mdb_explained_runs.specs.declared.mark.Mark.{Mark}
 use Rattle.mdb_follow.specs.declared.range.Range.{Range}
 use Rattle.mdb_follow.specs.declared.report.Report.{Report}
-use Rattle.mdb_follow.specs.AccountNames.{account_word}
+use Rattle.mdb_follow.specs.AccountNames.{account_of, account_word}
 use Rattle.mdb_follow.specs.Ends.{end_of, side_range}
 use Rattle.mdb_explained_runs.specs.Goals.{Explains}
-use Rattle.mdb_follow.specs.Report.{account_of}
 use Rattle.mdb_text.specs.declared.outcome.Outcome.{Outcome}
 use Rattle.mdb_text.specs.declared.outcome.Outcome.TheVariants.{Yes, No}
 use Rattle.mdb_explain.specs.declared.fault.MarkedFault.{MarkedFault}
 use Rattle.mdb_text.specs.Accounts.{side_word}
 use Rattle.mdb_explain.specs.Replay.{dash, mark_letter}
 use Rattle.mdb_text.specs.Text.{line, report_text}
-use Rattle.mdb_verdict.specs.Verdict.{AreRows, IsAnswer}
+use Rattle.mdb_verdict.specs.Verdict.{IsAnswer}
+use Rattle.mdb_verdict.specs.Rows.{AreRows}
 use Rattle.mdb_writing.specs.Written.{HasTaken}
 
 -- the word of an end of a range

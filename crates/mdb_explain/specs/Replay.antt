@@ -21,7 +21,8 @@ use Rattle.mdb_explain.specs.declared.fault.MarkedFault.{MarkedFault}
 use Rattle.mdb_explain.specs.declared.fault.MarkedFault.TheVariants as marked
 use Rattle.mdb_verdict.specs.declared.fault.RunFault.TheVariants as run
 use Rattle.mdb_text.specs.Text.{report_text}
-use Rattle.mdb_verdict.specs.Verdict.{AreRows, IsOwnAnswer}
+use Rattle.mdb_verdict.specs.Verdict.{IsOwnAnswer}
+use Rattle.mdb_verdict.specs.Rows.{AreRows}
 use Rattle.mdb_writing.specs.Written.{HasTaken}
 
 -- the letter of a mark: `L` where something was lost, `R` for a restart

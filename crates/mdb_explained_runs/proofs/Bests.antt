@@ -8,8 +8,8 @@ use Rattle.std.proofs.lemmas.List.{get_or_default, length-set, take_all, take_mo
 use Rattle.std.proofs.lemmas.List.Elements.{Contains-append_left, Contains-push}
 use Rattle.std.proofs.lemmas.List.Elements.{Contains-get_or, Contains-push_cases}
 use Rattle.mdb_explained_runs.specs.declared.explain.best.Best.{Best}
-use Rattle.mdb_cash.specs.declared.choice.Choice.{Choice}
-use Rattle.mdb_cash.specs.declared.choice.Choice.TheVariants.{Plain, Lost, Restart}
+use Rattle.mdb_machine.specs.declared.choice.Choice.{Choice}
+use Rattle.mdb_machine.specs.declared.choice.Choice.TheVariants.{Plain, Lost, Restart}
 use Rattle.mdb_explained_runs.specs.Marks.{marks_at}
 use Rattle.mdb_explained_runs.specs.inner.Paths.{HasAsGood, HasCodeAt, IsAsGood, IsBestOf, TakesIn}
 use Rattle.mdb_follow.proofs.Listed.{contains-cases, contains-here, contains-none, contains-there}

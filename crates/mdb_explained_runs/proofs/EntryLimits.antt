@@ -2,8 +2,8 @@
 use Rattle.std.proofs.Common.{arith, ◌+◌, ◌^◌, ℕ, ◌≤◌, List, get_or}
 use Rattle.std.proofs.lemmas.Int.{ints}
 use Rattle.std.proofs.lemmas.List.Elements.{All-contains, Contains-get_or}
-use Rattle.mdb_cash.specs.declared.choice.Choice.{Choice}
-use Rattle.mdb_cash.specs.declared.gains.Gains.{Gains}
+use Rattle.mdb_machine.specs.declared.choice.Choice.{Choice}
+use Rattle.mdb_machine.specs.declared.gains.Gains.{Gains}
 use Rattle.mdb_explained_runs.specs.declared.explain.best.Best.{Best}
 use Rattle.mdb_explained_runs.specs.declared.explain.best.Weight.{Weight}
 use Rattle.mdb_explained_runs.specs.declared.explain.chains.Link.{Link}

@@ -16,9 +16,9 @@ use Rattle.mdb_bus.specs.Acts.{IsForeign, IsForeignOpening, Say, said_by}
 use Rattle.mdb_bus.specs.ActLists.{AskTail, ForeignMayCome, IsActList, IsPiece, IsTail, MayStand}
 use Rattle.mdb_bus.specs.ActLists.{Piece, RepeatTail, ReplyTail, Whole, acts_of, events_of, last_of}
 use Rattle.mdb_bus.specs.ActLists.{left_by, piece_events, position_of, with_act}
-use Rattle.mdb_cash.specs.declared.choice.Choice.{Choice}
-use Rattle.mdb_cash.specs.declared.choice.Choice.TheVariants.{Plain, Lost, Restart}
-use Rattle.mdb_cash.specs.Choices.{CanStand}
+use Rattle.mdb_machine.specs.declared.choice.Choice.{Choice}
+use Rattle.mdb_machine.specs.declared.choice.Choice.TheVariants.{Plain, Lost, Restart}
+use Rattle.mdb_machine.specs.Choices.{CanStand}
 use Rattle.mdb_explained_runs.specs.declared.mark.Mark.{Mark}
 use Rattle.mdb_follow.specs.Choosing.{AllFollow, Choices, choices_of}
 use Rattle.mdb_explained_runs.specs.Marks.{StandsWithin, marks_at, marks_of}

@@ -11,9 +11,9 @@ use Rattle.mdb_bus.specs.declared.act.Act.TheVariants as kinds
 use Rattle.mdb_bus.specs.declared.scope.Scope.{Scope}
 use Rattle.mdb_bus.specs.ActLists.{ArePieces, Piece, Whole, AskTail, ReplyTail, RepeatTail, acts_of}
 use Rattle.mdb_bus.specs.ActLists.{events_of}
-use Rattle.mdb_cash.specs.declared.choice.Choice.{Choice}
-use Rattle.mdb_cash.specs.declared.choice.Choice.TheVariants.{Plain, Lost, Restart}
-use Rattle.mdb_cash.specs.Choices.{CanStand}
+use Rattle.mdb_machine.specs.declared.choice.Choice.{Choice}
+use Rattle.mdb_machine.specs.declared.choice.Choice.TheVariants.{Plain, Lost, Restart}
+use Rattle.mdb_machine.specs.Choices.{CanStand}
 use Rattle.mdb_explained_runs.specs.declared.mark.Mark.{Mark}
 use Rattle.mdb_explained_runs.specs.declared.mark.Mark.TheVariants as marks
 use Rattle.mdb_follow.specs.Choosing.{Choices, ChoicesBy}

@@ -20,7 +20,7 @@ use Rattle.mdb_bus.specs.ActLists.{ArePieces, Piece, acts_of}
 use Rattle.mdb_bus.specs.LeavingOut.{acts_with, breaks_among, device_in}
 use Rattle.mdb_bus.specs.LinkFaults.{IsLinkFault, blame_on}
 use Rattle.mdb_bus.specs.Scopes.{IsFollowed, IsLeftOut}
-use Rattle.mdb_cash.specs.Pair.{IsBreak, own_acts}
+use Rattle.mdb_machine.specs.Pair.{IsBreak, own_acts}
 use Rattle.mdb_follow.specs.declared.account.Account.{Account}
 use Rattle.mdb_follow.specs.declared.account_name.AccountName.{AccountName}
 use Rattle.mdb_follow.specs.declared.account_name.AccountName.TheVariants.{CoinsIn, BillsIn}
@@ -28,11 +28,11 @@ use Rattle.mdb_follow.specs.declared.account_name.AccountName.TheVariants.{PaidO
 use Rattle.mdb_follow.specs.declared.offence.Offence.{Offence}
 use Rattle.mdb_follow.specs.declared.range.Range.{Range}
 use Rattle.mdb_follow.specs.declared.report.Report.{Report}
-use Rattle.mdb_follow.specs.AccountNames.{account_device, sums_of}
+use Rattle.mdb_follow.specs.AccountNames.{account_device, account_of, no_account, no_range, sums_of}
 use Rattle.mdb_follow.specs.LeavingOut.{HasNothingLeftOut, IsNotKnown}
 use Rattle.mdb_follow.specs.Ranges.{IsAccount, IsRange}
-use Rattle.mdb_follow.specs.Report.{account_of, decimals_of, device_decimals, device_silences}
-use Rattle.mdb_follow.specs.Report.{device_unvalued, no_account, no_range, report_of, unvalued_of}
+use Rattle.mdb_follow.specs.Report.{decimals_of, device_decimals, device_silences}
+use Rattle.mdb_follow.specs.Report.{device_unvalued, report_of, unvalued_of}
 use Rattle.mdb_follow.specs.Runs.{AllSums, Run}
 use Rattle.mdb_follow.specs.Senders.{sender_of}
 use Rattle.mdb_follow.specs.Silences.{silences}

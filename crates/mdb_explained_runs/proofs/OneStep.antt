@@ -22,22 +22,21 @@ use Rattle.mdb_cash.specs.declared.bill.state.BillState.{BillState}
 use Rattle.mdb_cash.specs.declared.bill.state.Escrow.{Escrow}
 use Rattle.mdb_cash.specs.declared.bill.state.Escrow.TheVariants.{Waiting}
 use Rattle.mdb_cash.specs.declared.changer.state.ChangerState.{ChangerState}
-use Rattle.mdb_cash.specs.declared.choice.Choice.{Choice}
-use Rattle.mdb_cash.specs.declared.gains.Gains.{Gains}
-use Rattle.mdb_cash.specs.declared.kept.Part.{Part}
+use Rattle.mdb_machine.specs.declared.choice.Choice.{Choice}
+use Rattle.mdb_machine.specs.declared.gains.Gains.{Gains}
+use Rattle.mdb_machine.specs.declared.kept.Part.{Part}
 use Rattle.mdb_cash.specs.Bill as bill
 use Rattle.mdb_cash.specs.BillFacts as bill_facts
 use Rattle.mdb_cash.specs.Changer as changer
 use Rattle.mdb_cash.specs.ChangerFacts as changer_facts
-use Rattle.mdb_cash.specs.Gains.{device_gains}
-use Rattle.mdb_cash.specs.Keeper.{AllowsFacts, Facts, Tables, known_of}
-use Rattle.mdb_cash.specs.KeeperSteps.{AckStep, Conduct, KeeperStep, ReplyStep, StepKnowing}
-use Rattle.mdb_cash.specs.Kept.{IsNew}
-use Rattle.mdb_cash.specs.Known.{Allows, AllowsKept, known_by}
-use Rattle.mdb_cash.specs.Machine.{Machine}
-use Rattle.mdb_cash.specs.Pair.{Stays}
-use Rattle.mdb_cash.specs.Past.{PastFacts, or_else}
-use Rattle.mdb_cash.specs.Steps.{ForOwn}
+use Rattle.mdb_machine.specs.Gains.{Stays, device_gains}
+use Rattle.mdb_machine.specs.Keeper.{AllowsFacts, Facts, Tables, known_of}
+use Rattle.mdb_machine.specs.KeeperSteps.{AckStep, Conduct, KeeperStep, ReplyStep, StepKnowing}
+use Rattle.mdb_machine.specs.Kept.{IsNew}
+use Rattle.mdb_machine.specs.Known.{Allows, AllowsKept, known_by}
+use Rattle.mdb_machine.specs.Machine.{Machine}
+use Rattle.mdb_machine.specs.Past.{PastFacts, or_else}
+use Rattle.mdb_machine.specs.Steps.{ForOwn}
 use Rattle.mdb_cash.specs.inner.BillCodes.{same_type}
 use Rattle.mdb_cashless.specs.declared.reader.device.DeviceState.{DeviceState}
 use Rattle.mdb_cashless.specs.declared.reader.messages.ReaderActivity.{ReaderActivity}

@@ -17,10 +17,10 @@ use Rattle.mdb_bus.specs.declared.scope.Scope.{Scope}
 use Rattle.mdb_bus.specs.ActLists.{ArePieces, Piece, Whole, AskTail, ReplyTail, RepeatTail, acts_of}
 use Rattle.mdb_bus.specs.ActLists.{events_of}
 use Rattle.mdb_bus.specs.LeavingOut.{are_one, has_part}
-use Rattle.mdb_cash.specs.declared.choice.Choice.{Choice}
-use Rattle.mdb_cash.specs.declared.choice.Choice.TheVariants.{Plain, Lost, Restart}
-use Rattle.mdb_cash.specs.Choices.{CanStand}
-use Rattle.mdb_cash.specs.Pair.{IsActOf}
+use Rattle.mdb_machine.specs.declared.choice.Choice.{Choice}
+use Rattle.mdb_machine.specs.declared.choice.Choice.TheVariants.{Plain, Lost, Restart}
+use Rattle.mdb_machine.specs.Choices.{CanStand}
+use Rattle.mdb_machine.specs.Pair.{IsActOf}
 use Rattle.mdb_explained_runs.specs.declared.mark.Mark.{Mark}
 use Rattle.mdb_follow.specs.Choosing.{Choices}
 use Rattle.mdb_explained_runs.specs.Marks.{Rise, marks_at, marks_of, own_marks}

@@ -10,13 +10,12 @@ use Rattle.mdb_msgs.specs.declared.command.Device.{Device}
 use Rattle.mdb_bus.specs.declared.act.Act.{Act}
 use Rattle.mdb_bus.specs.ActLists.{Piece, Whole, AskTail, ReplyTail, RepeatTail, IsTail, acts_of, events_of}
 use Rattle.mdb_bus.specs.LeavingOut.{has_part}
-use Rattle.mdb_cash.specs.declared.choice.Choice.{Choice}
-use Rattle.mdb_cash.specs.declared.choice.Choice.TheVariants.{Plain}
-use Rattle.mdb_cash.specs.declared.gains.Gains.{Gains}
-use Rattle.mdb_cash.specs.Choices.{CanStand}
-use Rattle.mdb_cash.specs.Gains.{no_gains}
-use Rattle.mdb_cash.specs.Machine.{Machine}
-use Rattle.mdb_cash.specs.Pair.{Stays}
+use Rattle.mdb_machine.specs.declared.choice.Choice.{Choice}
+use Rattle.mdb_machine.specs.declared.choice.Choice.TheVariants.{Plain}
+use Rattle.mdb_machine.specs.declared.gains.Gains.{Gains}
+use Rattle.mdb_machine.specs.Choices.{CanStand}
+use Rattle.mdb_machine.specs.Gains.{Stays, no_gains}
+use Rattle.mdb_machine.specs.Machine.{Machine}
 use Rattle.mdb_explained_runs.specs.declared.explain.best.Best.{Best}
 use Rattle.mdb_explained_runs.specs.declared.explain.best.Weight.{Weight}
 use Rattle.mdb_explained_runs.specs.declared.explain.chains.Link.{Link}

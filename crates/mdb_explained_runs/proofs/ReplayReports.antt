@@ -19,7 +19,7 @@ use Rattle.mdb_follow.specs.declared.goal.Goal.{Goal}
 use Rattle.mdb_explained_runs.specs.declared.mark.Mark.{Mark}
 use Rattle.mdb_follow.specs.declared.range.Range.{Range}
 use Rattle.mdb_follow.specs.declared.report.Report.{Report}
-use Rattle.mdb_follow.specs.AccountNames.{sums_of}
+use Rattle.mdb_follow.specs.AccountNames.{account_of, sums_of}
 use Rattle.mdb_follow.specs.Choosing.{AllFollow, Choices, choices_of}
 use Rattle.mdb_follow.specs.Ends.{IsAsFar, end_of, goal_value, side_range, side_value}
 use Rattle.mdb_explained_runs.specs.Goals.{Explains}
@@ -28,7 +28,7 @@ use Rattle.mdb_explained_runs.specs.Marks.{MarkedRun}
 use Rattle.mdb_follow.specs.Ranges.{IsAccount, IsRange}
 use Rattle.mdb_explained_runs.specs.ReplayFaults.{HasMarkedRun}
 use Rattle.mdb_explained_runs.specs.Replays.{IsReplayReport}
-use Rattle.mdb_follow.specs.Report.{IsReport, account_of, report_of}
+use Rattle.mdb_follow.specs.Report.{IsReport, report_of}
 use Rattle.mdb_follow.specs.Runs.{AllSums, Run}
 use Rattle.mdb_follow.specs.Sums.{AccountSums}
 use Rattle.mdb_follow.proofs.Following.{OneActList}

@@ -2,11 +2,11 @@
 use Rattle.std.proofs.Common.{arith, refl, sym, ap, subst, ◌∙◌, ◌≡◌, ◌≤◌, ◌+◌, ◌*◌, ◌^◌, ℕ, List, ◌∷◌}
 use Rattle.std.proofs.Common.{Some}
 use Rattle.mdb_bus.specs.declared.act.Act.{Act}
-use Rattle.mdb_cash.specs.declared.choice.Choice.{Choice}
-use Rattle.mdb_cash.specs.declared.gains.Gains.{Gains}
-use Rattle.mdb_cash.specs.Gains.{IsSmall}
-use Rattle.mdb_cash.specs.Machine.{Machine}
-use Rattle.mdb_cash.specs.Pair.{IsOnlyStep}
+use Rattle.mdb_machine.specs.declared.choice.Choice.{Choice}
+use Rattle.mdb_machine.specs.declared.gains.Gains.{Gains}
+use Rattle.mdb_machine.specs.Gains.{IsSmall}
+use Rattle.mdb_machine.specs.Machine.{Machine}
+use Rattle.mdb_machine.specs.Pair.{IsOnlyStep}
 use Rattle.mdb_explained_runs.specs.declared.track.Track.{Track}
 use Rattle.mdb_explained_runs.specs.declared.tracks.Tracks.{Tracks}
 use Rattle.mdb_follow.specs.Ranges.{IsCell}

@@ -13,11 +13,11 @@ use Rattle.mdb_bus.specs.declared.scope.Scope.{Scope}
 use Rattle.mdb_bus.specs.Acts.{IsAck}
 use Rattle.mdb_bus.specs.ActLists.{Piece, Whole, acts_of, events_of}
 use Rattle.mdb_bus.specs.LeavingOut.{has_part}
-use Rattle.mdb_cash.specs.declared.choice.Choice.{Choice}
-use Rattle.mdb_cash.specs.declared.choice.Choice.TheVariants as choices
+use Rattle.mdb_machine.specs.declared.choice.Choice.{Choice}
+use Rattle.mdb_machine.specs.declared.choice.Choice.TheVariants as choices
 use Rattle.mdb_cash.specs.BillMessages as bill
 use Rattle.mdb_cash.specs.ChangerMessages as changer
-use Rattle.mdb_cash.specs.Kept.{MayBeRead}
+use Rattle.mdb_machine.specs.Kept.{MayBeRead}
 use Rattle.mdb_cashless.specs.ReaderMessages as reader
 use Rattle.mdb_explained_runs.specs.declared.mark.Mark.{Mark}
 use Rattle.mdb_explained_runs.specs.declared.mark.Mark.TheVariants as marks

@@ -21,8 +21,8 @@ mod seeker;
 use self::all_paths::AllPaths;
 use crate::Mark;
 use mdb_bus::{Scope, laws as bus_laws};
-use mdb_cash::laws as cash_laws;
 use mdb_follow::{Follower, Goal, Offence, ROWS_MAX, laws};
+use mdb_machine::laws as machine_laws;
 use mdb_msgs::{Device, DeviceSet, ReaderUnit};
 use mdb_words::Event;
 use std::alloc::{AllocError, Global};
@@ -82,7 +82,7 @@ pub fn explain_reached(
 {
     laws::ways_with_choices_join();
     bus_laws::transcripts_have_one_act_list();
-    cash_laws::own_acts_are_those_that_a_device_has_a_part_in();
+    machine_laws::own_acts_are_those_that_a_device_has_a_part_in();
     let seeker = seeker::seek(alloc, &Scope::leaving_out(without), events, goal)?;
     let all = &seeker.all;
     let cash = marks_of_two(alloc, all, Device::Changer, Device::Bill)?;

@@ -25,13 +25,15 @@ ghost use Rattle.mdb_explained_runs.specs.Replays.{IsReplayReport};
 ghost use Rattle.mdb_explained_runs.specs.Replays as replays;
 ghost use Rattle.mdb_explained_runs.specs.declared.replay.Replay.{Replay};
 ghost use Rattle.mdb_explained_runs.specs.declared.replay.ReplayFault.{ReplayFault};
-ghost use Rattle.mdb_follow.specs.Report.{IsReport, account_of};
+ghost use Rattle.mdb_follow.specs.Report.{IsReport};
+ghost use Rattle.mdb_follow.specs.AccountNames.{account_of};
 ghost use Rattle.mdb_follow.specs.Runs.{AllSums};
 
 use mdb_bus::laws;
 use mdb_cash::laws as cash_laws;
 use mdb_cashless::laws as cashless_laws;
 use mdb_follow::laws as follow_laws;
+use mdb_machine::laws as machine_laws;
 
 /// Marks tell what is chosen of each act: choices with the same marks are the same.
 pub fn marks_tell_what_is_chosen()
@@ -72,7 +74,7 @@ pub fn marks_are_of_devices()
         → Contains (own_marks one pieces chosen) mark
         → Contains (own_marks other pieces chosen) next → mark.0 ≡ next.0 → one ≡ other }
 {
-    cash_laws::own_acts_are_those_that_a_device_has_a_part_in();
+    machine_laws::own_acts_are_those_that_a_device_has_a_part_in();
 }
 
 /// Lists of marks whose rows rise are one where they have the same elements.

@@ -1,14 +1,15 @@
 //! Marks: the choices about acts that aren't the plain ones.
 
 ghost use Rattle.std.specs.Prelude.{◌≡◌, ◌↔◌, IsTrue, Some};
-ghost use Rattle.mdb_cash.specs.declared.choice.Choice.TheVariants as choices;
-ghost use Rattle.mdb_cash.specs.Kept.{MayBeRead};
+ghost use Rattle.mdb_machine.specs.declared.choice.Choice.TheVariants as choices;
+ghost use Rattle.mdb_machine.specs.Kept.{MayBeRead};
 ghost use Rattle.mdb_cashless.specs.ReaderMessages as reader;
 ghost use Rattle.mdb_explained_runs.specs.Marks.{MayStandOn, MayTellOfRestart, choice_by};
 
 use mdb_bus::Act;
-use mdb_cash::keeper::Keeper;
-use mdb_cash::{Bill, Changer, Choice};
+use mdb_cash::{Bill, Changer};
+use mdb_machine::Choice;
+use mdb_machine::keeper::Keeper;
 use mdb_msgs::{Command, ReaderIter, ReaderMsg, Reply};
 
 /// A mark on the row that ends an act (this profile).

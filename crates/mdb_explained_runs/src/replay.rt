@@ -16,8 +16,8 @@ ghost use Rattle.mdb_explained_runs.specs.inner.TrackSteps.{AreTracksWithin};
 use crate::tracks::{Tracks, report_of};
 use crate::{Mark, laws};
 use mdb_bus::{Act, Bus, LinkFault, Scope, laws as bus_laws};
-use mdb_cash::Choice;
 use mdb_follow::{Offence, ROWS_MAX, Report, Silences, laws as follow_laws, sender_of};
+use mdb_machine::Choice;
 use mdb_msgs::DeviceSet;
 use mdb_words::{Event, Time};
 

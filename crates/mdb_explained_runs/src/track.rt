@@ -9,8 +9,8 @@ ghost use Rattle.mdb_explained_runs.specs.Tracks.{HasNoStepFrom, IsTrack};
 ghost use Rattle.mdb_explained_runs.specs.inner.TrackSteps.{IsTrackWithin, Leads};
 
 use mdb_bus::{Act, Beginning};
-use mdb_cash::{Choice, Pair};
 use mdb_follow::{Account, Cell};
+use mdb_machine::{Choice, Pair};
 
 /// A device and the controller, as a replay follows them in a recording from power-on. It keeps
 /// what is known after the acts so far, the state, the bounds of the accounts, each with one value,

@@ -17,9 +17,10 @@ ghost use Rattle.mdb_explained_runs.specs.inner.TrackSteps.{AreTracksWithin, Tra
 
 use crate::track::{self, Track};
 use mdb_bus::{Act, Rule};
-use mdb_cash::{Bill, BillKnown, BillState, Changer, ChangerKnown, ChangerState, Choice};
+use mdb_cash::{Bill, BillKnown, BillState, Changer, ChangerKnown, ChangerState};
 use mdb_cashless::{Reader, ReaderKnown, ReaderState};
 use mdb_follow::{Account, Report, Silences};
+use mdb_machine::Choice;
 use mdb_msgs::{Device, ReaderUnit};
 
 /// The tracks of the devices, in the order of a report.

@@ -10,10 +10,11 @@ use Rattle.mdb_bus.specs.Acts.{IsAck}
 use Rattle.mdb_bus.specs.Wish.{HearsAsWished}
 use Rattle.mdb_bus.specs.Loss.{IsHeard, Loss, LossFits}
 use Rattle.mdb_bus.specs.declared.scope.Beginning.{Beginning}
-use Rattle.mdb_cash.specs.declared.choice.Choice.{Choice}
-use Rattle.mdb_cash.specs.declared.choice.Choice.TheVariants.{Plain, Lost, Restart}
-use Rattle.mdb_cash.specs.declared.gains.Gains.{Gains}
-use Rattle.mdb_cash.specs.Machine.{IsMachineOf, Machine}
+use Rattle.mdb_machine.specs.declared.choice.Choice.{Choice}
+use Rattle.mdb_machine.specs.declared.choice.Choice.TheVariants.{Plain, Lost, Restart}
+use Rattle.mdb_machine.specs.declared.gains.Gains.{Gains}
+use Rattle.mdb_machine.specs.Machine.{Machine}
+use Rattle.mdb_machine.specs.Pair.{IsMachineOf}
 use Rattle.mdb_follow.specs.Arrivals.{EachArrives}
 use Rattle.mdb_follow.specs.Sums.{Sums}
 use Rattle.mdb_follow.specs.Machines.{machine_of}

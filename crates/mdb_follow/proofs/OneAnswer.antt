@@ -20,11 +20,11 @@ use Rattle.mdb_follow.specs.declared.account.Account.{Account}
 use Rattle.mdb_follow.specs.declared.offence.Offence.{Offence}
 use Rattle.mdb_follow.specs.declared.range.Range.{Range}
 use Rattle.mdb_follow.specs.declared.report.Report.{Report}
-use Rattle.mdb_follow.specs.AccountNames.{sums_of}
+use Rattle.mdb_follow.specs.AccountNames.{account_of, sums_of}
 use Rattle.mdb_follow.specs.Ranges.{IsAccount, IsRange}
 use Rattle.mdb_follow.specs.Sums.{AccountSums}
 use Rattle.mdb_follow.specs.Offences.{BreaksLink, BreaksMachine, IsOffence}
-use Rattle.mdb_follow.specs.Report.{AreAccounts, IsReport, account_of, report_of}
+use Rattle.mdb_follow.specs.Report.{AreAccounts, IsReport, report_of}
 use Rattle.mdb_follow.specs.Runs.{AllSums, IsReached, Run}
 use Rattle.mdb_follow.specs.Senders.{sender_of}
 use Rattle.mdb_follow.specs.Machines.{machine_of}

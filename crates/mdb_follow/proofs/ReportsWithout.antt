@@ -26,7 +26,7 @@ use Rattle.mdb_bus.specs.LinkFaults.{IsLinkFault, blame_on}
 use Rattle.mdb_bus.specs.Scopes.{IsFollowed, IsLeftOut}
 use Rattle.mdb_cash.specs.BillFacts as bill_facts
 use Rattle.mdb_cash.specs.ChangerFacts as changer_facts
-use Rattle.mdb_cash.specs.Pair.{IsBreak, own_acts}
+use Rattle.mdb_machine.specs.Pair.{IsBreak, own_acts}
 use Rattle.mdb_cashless.specs.ReaderFacts as reader_facts
 use Rattle.mdb_follow.specs.declared.account.Account.{Account}
 use Rattle.mdb_follow.specs.declared.account_name.AccountName.{AccountName}
@@ -35,13 +35,13 @@ use Rattle.mdb_follow.specs.declared.account_name.AccountName.TheVariants.{PaidO
 use Rattle.mdb_follow.specs.declared.offence.Offence.{Offence}
 use Rattle.mdb_follow.specs.declared.range.Range.{Range}
 use Rattle.mdb_follow.specs.declared.report.Report.{Report}
-use Rattle.mdb_follow.specs.AccountNames.{account_device, sums_of}
+use Rattle.mdb_follow.specs.AccountNames.{account_device, account_of, no_account, sums_of}
 use Rattle.mdb_follow.specs.LeavingOut.{AreSumsWithout, HasNothingLeftOut, HaveSameFollowed}
 use Rattle.mdb_follow.specs.LeavingOut.{IsNotKnown}
 use Rattle.mdb_follow.specs.Offences.{IsOffence}
 use Rattle.mdb_follow.specs.Ranges.{IsAccount, IsRange}
-use Rattle.mdb_follow.specs.Report.{IsReport, account_of, decimals_of}
-use Rattle.mdb_follow.specs.Report.{no_account, report_of, unvalued_of}
+use Rattle.mdb_follow.specs.Report.{IsReport, decimals_of}
+use Rattle.mdb_follow.specs.Report.{report_of, unvalued_of}
 use Rattle.mdb_follow.specs.Runs.{AllSums, IsReached, Run}
 use Rattle.mdb_follow.specs.Senders.{sender_of}
 use Rattle.mdb_follow.specs.Silences.{limit_of, reader_limit, silences}

@@ -12,8 +12,8 @@ use Rattle.mdb_bus.specs.declared.act.Act.{Act}
 use Rattle.mdb_bus.specs.declared.act.Act.TheVariants as acts
 use Rattle.mdb_bus.specs.ActLists.{ArePieces, Piece, Position, Whole, AskTail, ReplyTail}
 use Rattle.mdb_bus.specs.ActLists.{RepeatTail, Replied, Returned, acts_of, first_position, position_of}
-use Rattle.mdb_cash.specs.declared.gains.Gains.{Gains}
-use Rattle.mdb_cash.specs.declared.choice.Choice.{Choice}
+use Rattle.mdb_machine.specs.declared.gains.Gains.{Gains}
+use Rattle.mdb_machine.specs.declared.choice.Choice.{Choice}
 use Rattle.mdb_cashless.specs.declared.reader.state.ReaderState.{ReaderState}
 use Rattle.mdb_cashless.specs.Reader as reader
 use Rattle.mdb_cashless.specs.inner.SaleViews.{AcksLastReply, MayTellOfSale}

@@ -12,8 +12,8 @@ use Rattle.mdb_bus.specs.declared.fault.Rule.{Rule}
 use Rattle.mdb_bus.specs.declared.scope.Beginning.{Beginning}
 use Rattle.mdb_cash.specs.BillValues as bill_values
 use Rattle.mdb_cash.specs.ChangerValues as changer_values
-use Rattle.mdb_cash.specs.declared.choice.Choice.TheVariants.{Plain}
-use Rattle.mdb_cash.specs.Pair.{IsActOf, IsBreak}
+use Rattle.mdb_machine.specs.declared.choice.Choice.TheVariants.{Plain}
+use Rattle.mdb_machine.specs.Pair.{IsActOf, IsBreak}
 use Rattle.mdb_cash.specs.inner.BillWays as bill_ways
 use Rattle.mdb_cash.specs.inner.ChangerWays as changer_ways
 use Rattle.mdb_cashless.specs.ReaderValues as reader_values

@@ -5,13 +5,13 @@ use Rattle.std.specs.Prelude.{Contains}
 use Rattle.std.proofs.lemmas.Int.{ints}
 use Rattle.std.proofs.lemmas.List.Elements.{All-push, Contains-append_left, Contains-push}
 use Rattle.std.proofs.lemmas.List.Elements.{Contains-push_cases}
-use Rattle.mdb_cash.specs.Machine.{Machine}
+use Rattle.mdb_machine.specs.Machine.{Machine}
 use Rattle.mdb_follow.specs.declared.account.Account.{Account}
 use Rattle.mdb_follow.specs.declared.cell.Cell.{Cell}
 use Rattle.mdb_follow.specs.declared.range.Range.{Range}
 use Rattle.mdb_follow.specs.Arrivals.{Arrives}
 use Rattle.mdb_follow.specs.Ranges.{IsCell}
-use Rattle.mdb_follow.specs.Report.{no_account}
+use Rattle.mdb_follow.specs.AccountNames.{no_account}
 use Rattle.mdb_follow.specs.Sums.{Sums, no_sums}
 use Rattle.mdb_follow.specs.Tables.{ArrivesAt, IsTable}
 use Rattle.mdb_follow.specs.inner.Entries.{AreBelow}

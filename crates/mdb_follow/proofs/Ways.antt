@@ -3,19 +3,19 @@ use Rattle.std.proofs.Common.{arith, ℤ, pos, ◌-ℤ◌, ◌<◌, ◌+◌, len
 use Rattle.std.proofs.Common.{refl, sym, ◌∙◌, ap, subst, add-zero, List, [], ◌∷◌}
 use Rattle.std.specs.Prelude.{All, Contains, slice_index_or, ◌↔◌}
 use Rattle.mdb_bus.specs.declared.act.Act.{Act}
-use Rattle.mdb_cash.specs.declared.choice.Choice.{Choice}
-use Rattle.mdb_cash.specs.declared.choice.Choice.TheVariants.{Plain}
-use Rattle.mdb_cash.specs.declared.gains.Gains.{Gains}
-use Rattle.mdb_cash.specs.Gains.{no_gains}
-use Rattle.mdb_cash.specs.Pair.{IsMove}
-use Rattle.mdb_cash.specs.Machine.{Machine}
+use Rattle.mdb_machine.specs.declared.choice.Choice.{Choice}
+use Rattle.mdb_machine.specs.declared.choice.Choice.TheVariants.{Plain}
+use Rattle.mdb_machine.specs.declared.gains.Gains.{Gains}
+use Rattle.mdb_machine.specs.Gains.{no_gains}
+use Rattle.mdb_machine.specs.Pair.{IsMove}
+use Rattle.mdb_machine.specs.Machine.{Machine}
 use Rattle.mdb_follow.specs.declared.account.Account.{Account}
 use Rattle.mdb_follow.specs.declared.cell.Cell.{Cell}
 use Rattle.mdb_follow.specs.declared.range.Range.{Range}
 use Rattle.mdb_follow.specs.Arrivals.{Arrives}
 use Rattle.mdb_follow.specs.Cells.{joined_cell}
 use Rattle.mdb_follow.specs.Ranges.{IsAccount, IsCell, IsRange}
-use Rattle.mdb_follow.specs.Report.{no_account}
+use Rattle.mdb_follow.specs.AccountNames.{no_account}
 use Rattle.mdb_follow.specs.Sums.{AccountSums, Sums, added, no_sums}
 use Rattle.mdb_follow.specs.Tables.{ArrivesAnywhere, ArrivesAt, Bounds, IsTable}
 use Rattle.std.proofs.lemmas.Int.{ints}

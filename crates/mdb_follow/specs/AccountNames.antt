@@ -1,11 +1,14 @@
 -- The accounts of a report by name: the word, the device, the place, and what each is in a run.
-use Rattle.std.specs.Prelude.{ℕ, List, codes}
+use Rattle.std.specs.Prelude.{ℕ, List, codes, get_or, pos}
 use Rattle.mdb_msgs.specs.declared.command.Device.{Device}
 use Rattle.mdb_msgs.specs.declared.command.Device.TheVariants as devices
 use Rattle.mdb_msgs.specs.declared.command.ReaderUnit.TheVariants.{First, Second}
+use Rattle.mdb_follow.specs.declared.account.Account.{Account}
 use Rattle.mdb_follow.specs.declared.account_name.AccountName.{AccountName}
 use Rattle.mdb_follow.specs.declared.account_name.AccountName.TheVariants.{CoinsIn, BillsIn}
 use Rattle.mdb_follow.specs.declared.account_name.AccountName.TheVariants.{PaidOut, Approved, Sold}
+use Rattle.mdb_follow.specs.declared.range.Range.{Range}
+use Rattle.mdb_follow.specs.declared.report.Report.{Report}
 use Rattle.mdb_follow.specs.Runs.{AllSums}
 use Rattle.mdb_follow.specs.Sums.{AccountSums}
 
@@ -44,3 +47,18 @@ sums_of BillsIn sums = (sums devices.Bill).first
 sums_of PaidOut sums = (sums devices.Changer).second
 sums_of (Approved unit) sums = (sums (devices.Reader unit)).first
 sums_of (Sold unit) sums = (sums (devices.Reader unit)).second
+
+-- what stands for an account that a list lacks; a report lacks none
+abbrev pub no_range : Range
+no_range = record { least = pos 0; greatest = pos 0 }
+
+abbrev pub no_account : Account
+no_account = record { device = no_range; controller = no_range; difference = no_range }
+
+-- an account of a list in the order of a report
+abbrev pub account_in : AccountName → List Account → Account
+account_in account accounts = get_or accounts (account_place account) no_account
+
+-- what a report has of an account
+abbrev pub account_of : AccountName → Report → Account
+account_of account report = account_in account report.accounts

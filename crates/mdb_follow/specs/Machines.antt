@@ -6,7 +6,7 @@ use Rattle.mdb_cash.specs.declared.bill.state.BillState.{BillState}
 use Rattle.mdb_cash.specs.declared.changer.state.ChangerState.{ChangerState}
 use Rattle.mdb_cash.specs.Bill as bill
 use Rattle.mdb_cash.specs.Changer as changer
-use Rattle.mdb_cash.specs.Machine.{Machine}
+use Rattle.mdb_machine.specs.Machine.{Machine}
 use Rattle.mdb_cashless.specs.declared.reader.state.ReaderState.{ReaderState}
 use Rattle.mdb_cashless.specs.Reader as reader
 

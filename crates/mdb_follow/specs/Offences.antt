@@ -10,10 +10,10 @@ use Rattle.mdb_bus.specs.declared.fault.Rule.TheVariants as rules
 use Rattle.mdb_bus.specs.ActLists.{Piece, Whole, IsActList, acts_of}
 use Rattle.mdb_bus.specs.LinkFaults.{IsLinkFault}
 use Rattle.mdb_bus.specs.declared.scope.Beginning.{Beginning}
-use Rattle.mdb_cash.specs.declared.choice.Choice.{Choice}
-use Rattle.mdb_cash.specs.declared.gains.Gains.{Gains}
-use Rattle.mdb_cash.specs.Choices.{CanStand}
-use Rattle.mdb_cash.specs.Machine.{Machine}
+use Rattle.mdb_machine.specs.declared.choice.Choice.{Choice}
+use Rattle.mdb_machine.specs.declared.gains.Gains.{Gains}
+use Rattle.mdb_machine.specs.Choices.{CanStand}
+use Rattle.mdb_machine.specs.Machine.{Machine}
 use Rattle.mdb_follow.specs.Arrivals.{Arrives}
 use Rattle.mdb_follow.specs.Machines.{machine_of}
 use Rattle.mdb_follow.specs.Sums.{Sums}

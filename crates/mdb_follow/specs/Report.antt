@@ -1,5 +1,5 @@
 -- What is reported of rows that can have been.
-use Rattle.std.specs.Prelude.{◌≡◌, ℕ, List, length, map, Option, None, get_or, option_map, pos}
+use Rattle.std.specs.Prelude.{◌≡◌, ℕ, List, length, map, Option, None, get_or, option_map}
 use Rattle.mdb_words.specs.declared.event.Event.{Event}
 use Rattle.mdb_msgs.specs.declared.command.Device.{Device}
 use Rattle.mdb_msgs.specs.declared.command.Device.TheVariants as devices
@@ -15,30 +15,14 @@ use Rattle.mdb_cashless.specs.ReaderFacts as reader_facts
 use Rattle.mdb_follow.specs.declared.account_name.AccountName.{AccountName}
 use Rattle.mdb_follow.specs.declared.account_name.TheConstants.AccountName.{ALL}
 use Rattle.mdb_follow.specs.declared.account.Account.{Account}
-use Rattle.mdb_follow.specs.declared.range.Range.{Range}
 use Rattle.mdb_follow.specs.declared.report.Report.{Report}
 use Rattle.mdb_follow.specs.declared.report.TheConstants.Report.{DEVICES}
-use Rattle.mdb_follow.specs.AccountNames.{account_place, sums_of}
+use Rattle.mdb_follow.specs.AccountNames.{sums_of}
 use Rattle.mdb_follow.specs.Devices.{device_place}
 use Rattle.mdb_follow.specs.Ranges.{IsAccount}
 use Rattle.mdb_follow.specs.Runs.{AllSums, IsReached, Run}
 use Rattle.mdb_follow.specs.Silences.{silences}
 use Rattle.mdb_bus.specs.declared.scope.Scope.{Scope}
-
--- what stands for an account that a list lacks; a report lacks none
-abbrev pub no_range : Range
-no_range = record { least = pos 0; greatest = pos 0 }
-
-abbrev pub no_account : Account
-no_account = record { device = no_range; controller = no_range; difference = no_range }
-
--- an account of a list in the order of a report
-abbrev pub account_in : AccountName → List Account → Account
-account_in account accounts = get_or accounts (account_place account) no_account
-
--- what a report has of an account
-abbrev pub account_of : AccountName → Report → Account
-account_of account report = account_in account report.accounts
 
 -- The accounts are those of sums of a kind.
 abbrev pub AreAccounts : (AllSums → Type 0) → (AccountName → Account) → Type 0

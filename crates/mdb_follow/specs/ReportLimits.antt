@@ -5,7 +5,8 @@ use Rattle.mdb_msgs.specs.declared.command.Device.{Device}
 use Rattle.mdb_follow.specs.declared.account_name.AccountName.{AccountName}
 use Rattle.mdb_follow.specs.declared.report.Report.{Report}
 use Rattle.mdb_follow.specs.Limits.{IsAccountWithin}
-use Rattle.mdb_follow.specs.Report.{account_of, device_silences, device_unvalued}
+use Rattle.mdb_follow.specs.Report.{device_silences, device_unvalued}
+use Rattle.mdb_follow.specs.AccountNames.{account_of}
 
 -- all ends of a report's ranges are at most so far from 0, and so are its counts
 pub record IsReportWithin (limit : ℕ) (report : Report) : Type 0 where

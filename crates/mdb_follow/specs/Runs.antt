@@ -8,10 +8,10 @@ use Rattle.mdb_bus.specs.ActLists.{Piece, Whole, IsActList, acts_of, events_of}
 use Rattle.mdb_bus.specs.Acts.{IsAck}
 use Rattle.mdb_bus.specs.Loss.{IsHeard, Loss, LossFits}
 use Rattle.mdb_bus.specs.declared.scope.Beginning.{Beginning}
-use Rattle.mdb_cash.specs.declared.choice.Choice.{Choice}
-use Rattle.mdb_cash.specs.declared.choice.Choice.TheVariants.{Lost}
-use Rattle.mdb_cash.specs.declared.gains.Gains.{Gains}
-use Rattle.mdb_cash.specs.Choices.{CanStand}
+use Rattle.mdb_machine.specs.declared.choice.Choice.{Choice}
+use Rattle.mdb_machine.specs.declared.choice.Choice.TheVariants.{Lost}
+use Rattle.mdb_machine.specs.declared.gains.Gains.{Gains}
+use Rattle.mdb_machine.specs.Choices.{CanStand}
 use Rattle.mdb_follow.specs.Machines.{StateOf, machine_of}
 use Rattle.mdb_follow.specs.Sums.{Sums, added, no_sums}
 use Rattle.mdb_bus.specs.declared.scope.Scope.{Scope}

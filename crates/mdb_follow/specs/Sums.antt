@@ -1,6 +1,6 @@
 -- What the accounts of a pair have come to, in smallest units of money (this profile).
 use Rattle.std.specs.Prelude.{ℕ, ◌+◌, slice_index}
-use Rattle.mdb_cash.specs.declared.gains.Gains.{Gains}
+use Rattle.mdb_machine.specs.declared.gains.Gains.{Gains}
 
 -- what an account has come to: as the device has it, and as the controller has it
 pub record AccountSums : Type 0 where

@@ -1,12 +1,12 @@
 //! The bounds of all sums of a device.
 
 ghost use Rattle.std.specs.Prelude.{◌≡◌, ◌^◌};
-ghost use Rattle.mdb_cash.specs.Gains.{IsSmall};
+ghost use Rattle.mdb_machine.specs.Gains.{IsSmall};
 ghost use Rattle.mdb_follow.specs.Cells.{joined_cell, moved_cell};
 ghost use Rattle.mdb_follow.specs.Limits.{IsCellWithin};
 
 use crate::Account;
-use mdb_cash::Gains;
+use mdb_machine::Gains;
 
 /// The bounds of a pair's two accounts.
 #[derive(Clone, Copy, PartialEq, Eq, Debug, Default)]

@@ -12,7 +12,7 @@ ghost use Rattle.mdb_bus.specs.LeavingOut.{LeavesOutMore};
 ghost use Rattle.mdb_bus.specs.LinkFaults.{blame_on};
 ghost use Rattle.mdb_bus.specs.Scopes.{IsFollowed, IsLeftOut};
 ghost use Rattle.mdb_bus.specs.Loss.{Loss, LossFits};
-ghost use Rattle.mdb_follow.specs.AccountNames.{sums_of};
+ghost use Rattle.mdb_follow.specs.AccountNames.{account_of, sums_of};
 ghost use Rattle.mdb_follow.specs.Arrivals.{EachArrives};
 ghost use Rattle.mdb_follow.specs.Choosing.{AllFollow, Choices, choices_of};
 ghost use Rattle.mdb_follow.specs.EndedActs.{IsEndedAct};
@@ -29,7 +29,7 @@ ghost use Rattle.mdb_follow.specs.LeavingOut.{AreSumsWithout, HasNothingLeftOut}
 ghost use Rattle.mdb_follow.specs.LeavingOut.{HaveSameFollowed};
 ghost use Rattle.mdb_follow.specs.Offences.{HasOffence, IsOffence};
 ghost use Rattle.mdb_follow.specs.Ranges.{IsAccount};
-ghost use Rattle.mdb_follow.specs.Report.{IsReport, account_of, decimals_of};
+ghost use Rattle.mdb_follow.specs.Report.{IsReport, decimals_of};
 ghost use Rattle.mdb_follow.specs.Report.{device_decimals, device_silences, device_unvalued};
 ghost use Rattle.mdb_follow.specs.Report.{unvalued_of};
 ghost use Rattle.mdb_follow.specs.Runs.{AllSums, HearSameAcks, IsReached, IsWay, Run, States};
@@ -41,6 +41,7 @@ ghost use Rattle.mdb_follow.specs.Slices.{Tells, TellsInSlices, joined};
 use mdb_bus::laws;
 use mdb_cash::laws as cash_laws;
 use mdb_cashless::laws as cashless_laws;
+use mdb_machine::laws as machine_laws;
 
 /// A way of all devices is a way of each device.
 pub fn ways_split()
@@ -228,7 +229,7 @@ pub fn runs_go_on_without_further_devices()
     laws::act_lists_stay_without_further_devices();
     laws::act_lists_without_further_devices_are_what_is_left();
     laws::acts_of_followed_devices_stay();
-    cash_laws::own_acts_are_those_that_a_device_has_a_part_in();
+    machine_laws::own_acts_are_those_that_a_device_has_a_part_in();
 }
 
 /// If rows are reached, each run of them without further devices comes from a run with these
@@ -242,7 +243,7 @@ pub fn runs_without_further_devices_come_from_runs()
     laws::act_lists_stay_without_further_devices();
     laws::act_lists_without_further_devices_are_what_is_left();
     laws::acts_of_followed_devices_stay();
-    cash_laws::own_acts_are_those_that_a_device_has_a_part_in();
+    machine_laws::own_acts_are_those_that_a_device_has_a_part_in();
 }
 
 /// Rows that are reached are reached without further devices.
@@ -259,7 +260,7 @@ pub fn runs_add_nothing_of_devices_left_out()
         → (device : Device) → IsLeftOut scope device → sums device ≡ no_sums }
 {
     laws::devices_left_out_have_a_part_in_breaks_alone();
-    cash_laws::own_acts_are_those_that_a_device_has_a_part_in();
+    machine_laws::own_acts_are_those_that_a_device_has_a_part_in();
 }
 
 /// A report without further devices is the same for the devices that both reports follow.

@@ -31,7 +31,8 @@ impl Report {
     ghost use Rattle.mdb_follow.specs.declared.account_name.AccountName.{AccountName};
     ghost use Rattle.mdb_follow.specs.declared.account_name.TheConstants.AccountName.{ALL};
     ghost use Rattle.mdb_follow.specs.declared.account.Account.{Account};
-    ghost use Rattle.mdb_follow.specs.Report.{account_of, device_decimals, device_silences};
+    ghost use Rattle.mdb_follow.specs.Report.{device_decimals, device_silences};
+    ghost use Rattle.mdb_follow.specs.AccountNames.{account_of};
     ghost use Rattle.mdb_follow.specs.Report.{device_unvalued, report_of};
     ghost use Rattle.mdb_follow.specs.Sides.{AreSides, side_in};
     ghost use Rattle.mdb_follow.specs.Silences.{asks_of};

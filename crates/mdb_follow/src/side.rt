@@ -13,7 +13,7 @@ ghost use Rattle.mdb_follow.specs.Tables.{ArrivesAnywhere};
 
 use crate::{Cell, Table};
 use mdb_bus::{Act, Beginning, Rule};
-use mdb_cash::Pair;
+use mdb_machine::Pair;
 
 /// A device and the controller, as a follower follows them: what is known after the acts so far,
 /// the states that are possible now, and how many amounts without a value were told.

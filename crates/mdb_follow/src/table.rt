@@ -5,10 +5,10 @@ ghost use Rattle.std.specs.Prelude.{Contains, Some, IfSome, length, true};
 ghost use Rattle.std.specs.Bool.{OnFalse, OnTrue};
 ghost use Rattle.mdb_bus.specs.declared.act.Act.{Act};
 ghost use Rattle.mdb_bus.specs.declared.scope.Beginning.{Beginning};
-ghost use Rattle.mdb_cash.specs.declared.choice.Choice.TheVariants.{Plain};
-ghost use Rattle.mdb_cash.specs.declared.gains.Gains.{Gains};
-ghost use Rattle.mdb_cash.specs.Gains.{IsSmall};
-ghost use Rattle.mdb_cash.specs.Pair.{IsMove, IsStep};
+ghost use Rattle.mdb_machine.specs.declared.choice.Choice.TheVariants.{Plain};
+ghost use Rattle.mdb_machine.specs.declared.gains.Gains.{Gains};
+ghost use Rattle.mdb_machine.specs.Gains.{IsSmall};
+ghost use Rattle.mdb_machine.specs.Pair.{IsMove, IsStep};
 ghost use Rattle.mdb_follow.specs.Arrivals.{Arrives};
 ghost use Rattle.mdb_follow.specs.Limits.{IsCellWithin, IsTableWithin};
 ghost use Rattle.mdb_follow.specs.Ranges.{IsCell};
@@ -21,7 +21,7 @@ use crate::Cell;
 use crate::entries::steps::{add_all, add_steps, lead_only};
 use crate::entries::{Entries, join_all};
 use mdb_bus::{Act, Beginning};
-use mdb_cash::{Choice, Gains, Pair, other_choice};
+use mdb_machine::{Choice, Gains, Pair, other_choice};
 use std::marker::Model;
 
 /// The states of a pair that are possible now, by their codes, each with what the sums may be.

@@ -13,7 +13,8 @@ use Rattle.mdb_follow.specs.declared.goal.AccountSide.TheVariants as sides
 use Rattle.mdb_follow.specs.declared.range.Range.{Range}
 use Rattle.mdb_follow.specs.declared.report.Report.{Report}
 use Rattle.mdb_follow.specs.Ends.{side_range}
-use Rattle.mdb_follow.specs.Report.{account_in, device_decimals}
+use Rattle.mdb_follow.specs.Report.{device_decimals}
+use Rattle.mdb_follow.specs.AccountNames.{account_in}
 use Rattle.mdb_text.specs.declared.outcome.Outcome.{Outcome}
 use Rattle.mdb_text.specs.declared.outcome.Outcome.TheVariants.{Yes, No}
 use Rattle.mdb_json.specs.Reports.{account_data, accounts_data, device_data, devices_data, outcome_data, places_data, range_data, yes_data}

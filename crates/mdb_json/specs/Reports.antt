@@ -21,7 +21,8 @@ use Rattle.mdb_follow.specs.declared.offence.Offence.{Offence}
 use Rattle.mdb_follow.specs.declared.range.Range.{Range}
 use Rattle.mdb_follow.specs.declared.report.Report.{Report}
 use Rattle.mdb_follow.specs.Ends.{side_range}
-use Rattle.mdb_follow.specs.Report.{account_in, device_decimals, device_silences, device_unvalued}
+use Rattle.mdb_follow.specs.Report.{device_decimals, device_silences, device_unvalued}
+use Rattle.mdb_follow.specs.AccountNames.{account_in}
 use Rattle.mdb_text.specs.declared.outcome.Outcome.{Outcome}
 use Rattle.mdb_text.specs.declared.outcome.Outcome.TheVariants.{Yes, No}
 use Rattle.mdb_text.specs.Known.{known_devices}

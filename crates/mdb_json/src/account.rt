@@ -2,7 +2,7 @@
 
 ghost use Rattle.std.specs.Prelude.{◌≡◌, IfOk};
 ghost use Rattle.serde_json.specs.View.{view};
-ghost use Rattle.mdb_follow.specs.Report.{account_in};
+ghost use Rattle.mdb_follow.specs.AccountNames.{account_in};
 ghost use Rattle.mdb_json.specs.Reports.{account_data, accounts_data, range_data};
 
 use mdb_follow::{Account, AccountName, Range};

@@ -8,9 +8,9 @@ use Rattle.mdb_msgs.specs.declared.reply.Reply.TheVariants as replies
 use Rattle.mdb_msgs.specs.declared.setups.Setups.{Setups}
 use Rattle.mdb_bus.specs.Acts.{IsReply}
 use Rattle.mdb_bus.specs.declared.scope.Beginning.{Beginning}
-use Rattle.mdb_cash.specs.declared.choice.Choice.{Choice}
-use Rattle.mdb_cash.specs.declared.gains.Gains.{Gains}
-use Rattle.mdb_cash.specs.Kept.{kept_of}
+use Rattle.mdb_machine.specs.declared.choice.Choice.{Choice}
+use Rattle.mdb_machine.specs.declared.gains.Gains.{Gains}
+use Rattle.mdb_machine.specs.Kept.{kept_of}
 use Rattle.mdb_late_start.specs.MidSession.{StaysInMidSession}
 use Rattle.mdb_late_start.proofs.Keepers.{AlsoSteps, IsEnabledIn, IsSteady, in_end, step_in_end, told_first, told_on}
 use Rattle.mdb_msgs.specs.Changer.{IsChangerMsg}
@@ -24,7 +24,7 @@ use Rattle.mdb_cash.specs.declared.changer.state.ChangerState.{ChangerState}
 use Rattle.mdb_cash.specs.Changer.{AskStep, MayBeNew, TakeStep, asks_coins, conduct, deposited, dispensed_value, is_last, paid_by_hand}
 use Rattle.mdb_cash.specs.ChangerFacts.{Facts, KnownFacts, tables}
 use Rattle.mdb_cash.specs.ChangerMessages.{part_of}
-use Rattle.mdb_cash.specs.Gains.{controller_gains, device_gains, no_gains}
+use Rattle.mdb_machine.specs.Gains.{controller_gains, device_gains, no_gains}
 
 -- a deposit is of a type below 16
 abbrev Fits : ChangerActivity → Type 0

@@ -12,13 +12,13 @@ use Rattle.mdb_msgs.specs.declared.setups.Setups.{Setups}
 use Rattle.mdb_bus.specs.declared.act.Act.{Act}
 use Rattle.mdb_bus.specs.declared.scope.Beginning.{Beginning}
 use Rattle.mdb_bus.specs.declared.scope.Beginning.TheVariants.{PowerOn, Joined}
-use Rattle.mdb_cash.specs.declared.kept.Part.{Part}
-use Rattle.mdb_cash.specs.declared.past.Effect.{Effect}
-use Rattle.mdb_cash.specs.declared.past.Effect.TheVariants as effects
-use Rattle.mdb_cash.specs.Kept.{has_reset, kept_of}
-use Rattle.mdb_cash.specs.Keeper.{KnownFacts, Tables, asked_by, effect_of, known_of, parts_by, setup_by}
-use Rattle.mdb_cash.specs.Known.{Known, Unknown, Is, known_before, known_by}
-use Rattle.mdb_cash.specs.Past.{acts_from, effect_by, enables, known_past, last_list, last_told, or_else, powers_on, runs_on, unless_empty}
+use Rattle.mdb_machine.specs.declared.kept.Part.{Part}
+use Rattle.mdb_machine.specs.declared.past.Effect.{Effect}
+use Rattle.mdb_machine.specs.declared.past.Effect.TheVariants as effects
+use Rattle.mdb_machine.specs.Kept.{has_reset, kept_of}
+use Rattle.mdb_machine.specs.Keeper.{KnownFacts, Tables, asked_by, effect_of, known_of, parts_by, setup_by}
+use Rattle.mdb_machine.specs.Known.{Known, Unknown, Is, known_before, known_by}
+use Rattle.mdb_machine.specs.Past.{acts_from, effect_by, enables, known_past, last_list, last_told, or_else, powers_on, runs_on, unless_empty}
 use Rattle.mdb_late_start.specs.MidSession.{IsNothingOr}
 
 -- what one knows, the other knows too

@@ -11,7 +11,8 @@ use Rattle.mdb_text.specs.declared.outcome.Outcome.{Outcome}
 use Rattle.mdb_text.specs.declared.outcome.Outcome.TheVariants.{Yes, No}
 use Rattle.mdb_verdict.specs.declared.fault.RunFault.{RunFault}
 use Rattle.mdb_verdict.specs.declared.fault.RunFault.TheVariants.{BadRow, TooLong, Read, Write, Memory}
-use Rattle.mdb_verdict.specs.Verdict.{AreRows, IsAnswer, IsOwnAnswer, LeadUpTo}
+use Rattle.mdb_verdict.specs.Verdict.{IsAnswer, IsOwnAnswer, LeadUpTo}
+use Rattle.mdb_verdict.specs.Rows.{AreRows}
 
 -- what the crates below say of rows
 pub record RowLaws : Type 0 where

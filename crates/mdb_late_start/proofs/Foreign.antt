@@ -13,10 +13,9 @@ use Rattle.mdb_bus.specs.ActLists.{Piece, Whole, acts_of}
 use Rattle.mdb_bus.specs.LeavingOut.{has_part, with_foreign}
 use Rattle.mdb_cash.specs.inner.BillWays as bill_ways
 use Rattle.mdb_cash.specs.inner.ChangerWays as changer_ways
-use Rattle.mdb_cash.specs.declared.choice.Choice.TheVariants.{Plain}
-use Rattle.mdb_cash.specs.Gains.{no_gains}
-use Rattle.mdb_cash.specs.Machine.{IsMachineOf}
-use Rattle.mdb_cash.specs.Pair.{own_acts}
+use Rattle.mdb_machine.specs.declared.choice.Choice.TheVariants.{Plain}
+use Rattle.mdb_machine.specs.Gains.{no_gains}
+use Rattle.mdb_machine.specs.Pair.{IsMachineOf, own_acts}
 use Rattle.mdb_cashless.specs.inner.ReaderWays as reader_ways
 use Rattle.mdb_follow.specs.Arrivals.{Arrives}
 use Rattle.mdb_follow.specs.Machines.{StateOf, machine_of}

@@ -13,19 +13,19 @@ use Rattle.mdb_bus.specs.declared.act.Act.{Act}
 use Rattle.mdb_bus.specs.declared.act.Act.TheVariants as acts
 use Rattle.mdb_bus.specs.declared.scope.Beginning.{Beginning}
 use Rattle.mdb_bus.specs.declared.scope.Beginning.TheVariants.{PowerOn, Joined}
-use Rattle.mdb_cash.specs.declared.choice.Choice.{Choice}
-use Rattle.mdb_cash.specs.declared.choice.Choice.TheVariants.{Lost, Plain, Restart}
-use Rattle.mdb_cash.specs.declared.gains.Gains.{Gains}
-use Rattle.mdb_cash.specs.declared.kept.Part.{Part}
-use Rattle.mdb_cash.specs.Gains.{controller_gains, device_gains}
-use Rattle.mdb_cash.specs.Keeper.{Facts, KnownFacts, Tables, known_of, parts_by, setup_by}
-use Rattle.mdb_cash.specs.KeeperSteps.{AckStep, Conduct, KeeperStep, ReplyStep, StepKnowing, VmcAckStep}
-use Rattle.mdb_cash.specs.Kept.{IsNew, has_reset, held, holds_acked, holds_after, holds_read, kept_of}
-use Rattle.mdb_cash.specs.Known.{Allows, AllowsKept, Known, Unknown, Is, known_before, known_by}
-use Rattle.mdb_cash.specs.Machine.{StartsIn}
-use Rattle.mdb_cash.specs.Past.{last_list, last_told, or_else, unless_empty}
-use Rattle.mdb_cash.specs.Steps.{ForOwn}
-use Rattle.mdb_cash.specs.Unvalued.{amounts_in, one_if, unvalued, unvalued_by}
+use Rattle.mdb_machine.specs.declared.choice.Choice.{Choice}
+use Rattle.mdb_machine.specs.declared.choice.Choice.TheVariants.{Lost, Plain, Restart}
+use Rattle.mdb_machine.specs.declared.gains.Gains.{Gains}
+use Rattle.mdb_machine.specs.declared.kept.Part.{Part}
+use Rattle.mdb_machine.specs.Gains.{controller_gains, device_gains}
+use Rattle.mdb_machine.specs.Keeper.{Facts, KnownFacts, Tables, known_of, parts_by, setup_by}
+use Rattle.mdb_machine.specs.KeeperSteps.{AckStep, Conduct, KeeperStep, ReplyStep, StepKnowing, VmcAckStep}
+use Rattle.mdb_machine.specs.Kept.{IsNew, has_reset, held, holds_acked, holds_after, holds_read, kept_of}
+use Rattle.mdb_machine.specs.Known.{Allows, AllowsKept, Known, Unknown, Is, known_before, known_by}
+use Rattle.mdb_machine.specs.Machine.{StartsIn}
+use Rattle.mdb_machine.specs.Past.{last_list, last_told, or_else, unless_empty}
+use Rattle.mdb_machine.specs.Steps.{ForOwn}
+use Rattle.mdb_machine.specs.Unvalued.{amounts_in, one_if, unvalued, unvalued_by}
 use Rattle.mdb_late_start.specs.MidSession.{AnswersLast, HasTold, IsNothingOr}
 use Rattle.mdb_late_start.proofs.Covering.{Covers, known_in_end, known_setup_end, same_setup}
 

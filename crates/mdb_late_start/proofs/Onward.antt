@@ -6,7 +6,7 @@ use Rattle.mdb_bus.specs.declared.act.Act.{Act}
 use Rattle.mdb_bus.specs.declared.scope.Beginning.{Beginning}
 use Rattle.mdb_bus.specs.ActLists.{Piece, Whole, AskTail, ReplyTail, RepeatTail, acts_of}
 use Rattle.mdb_bus.specs.Loss.{Loss}
-use Rattle.mdb_cash.specs.Machine.{Machine}
+use Rattle.mdb_machine.specs.Machine.{Machine}
 use Rattle.mdb_follow.specs.Arrivals.{Arrives, ArrivesBy}
 use Rattle.mdb_follow.specs.Machines.{machine_of}
 use Rattle.mdb_follow.specs.Runs.{AllSums, IsWay, States}

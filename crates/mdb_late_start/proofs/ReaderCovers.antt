@@ -7,9 +7,9 @@ use Rattle.mdb_msgs.specs.Setups.{config_known}
 use Rattle.mdb_bus.specs.declared.act.Act.{Act}
 use Rattle.mdb_bus.specs.declared.scope.Beginning.{Beginning}
 use Rattle.mdb_bus.specs.declared.scope.Beginning.TheVariants.{PowerOn, Joined}
-use Rattle.mdb_cash.specs.Known.{Allows, AllowsKept, Known, Is, Unknown}
-use Rattle.mdb_cash.specs.Past.{last_told, or_else}
-use Rattle.mdb_cash.specs.PastValues.{known_more}
+use Rattle.mdb_machine.specs.Known.{Allows, AllowsKept, Known, Is, Unknown}
+use Rattle.mdb_machine.specs.Past.{last_told, or_else}
+use Rattle.mdb_machine.specs.PastValues.{known_more}
 use Rattle.mdb_cashless.specs.ReaderFacts.{KnownFacts, amount_by, config_by, known_of}
 use Rattle.mdb_cashless.specs.ReaderValues.{known_with}
 use Rattle.mdb_cashless.specs.inner.ReaderWays.{goes_on}

@@ -8,14 +8,14 @@ use Rattle.mdb_bus.specs.declared.act.Act.{Act}
 use Rattle.mdb_bus.specs.declared.act.Act.TheVariants as acts
 use Rattle.mdb_bus.specs.declared.scope.Beginning.{Beginning}
 use Rattle.mdb_bus.specs.declared.scope.Beginning.TheVariants.{PowerOn, Joined}
-use Rattle.mdb_cash.specs.declared.choice.Choice.{Choice}
-use Rattle.mdb_cash.specs.declared.choice.Choice.TheVariants.{Plain, Lost, Restart}
-use Rattle.mdb_cash.specs.declared.gains.Gains.{Gains}
-use Rattle.mdb_cash.specs.Kept.{holds_acked, holds_after, kept_of}
-use Rattle.mdb_cash.specs.Known.{Known}
-use Rattle.mdb_cash.specs.Machine.{StartsIn}
-use Rattle.mdb_cash.specs.Past.{unless_empty}
-use Rattle.mdb_cash.specs.PastValues.{known_more}
+use Rattle.mdb_machine.specs.declared.choice.Choice.{Choice}
+use Rattle.mdb_machine.specs.declared.choice.Choice.TheVariants.{Plain, Lost, Restart}
+use Rattle.mdb_machine.specs.declared.gains.Gains.{Gains}
+use Rattle.mdb_machine.specs.Kept.{holds_acked, holds_after, kept_of}
+use Rattle.mdb_machine.specs.Known.{Known}
+use Rattle.mdb_machine.specs.Machine.{StartsIn}
+use Rattle.mdb_machine.specs.Past.{unless_empty}
+use Rattle.mdb_machine.specs.PastValues.{known_more}
 use Rattle.mdb_cashless.specs.declared.reader.messages.ReaderActivity.{ReaderActivity}
 use Rattle.mdb_cashless.specs.declared.reader.state.ReaderState.{ReaderState}
 use Rattle.mdb_cashless.specs.Reader.{AckStep, AskStep, ForOwn, ReaderStep, ReplyStep, VmcAckStep, before_messages, drops, is_repeated, power_on, read, take, take_any, taken}

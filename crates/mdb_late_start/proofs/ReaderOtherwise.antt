@@ -11,12 +11,12 @@ use Rattle.mdb_msgs.specs.declared.reply.reader.ReaderMsg.TheVariants as message
 use Rattle.mdb_msgs.specs.declared.setups.ReaderConfig.{ReaderConfig}
 use Rattle.mdb_bus.specs.declared.act.Act.{Act}
 use Rattle.mdb_bus.specs.declared.act.Act.TheVariants as acts
-use Rattle.mdb_cash.specs.declared.choice.Choice.{Choice}
-use Rattle.mdb_cash.specs.declared.gains.Gains.{Gains}
-use Rattle.mdb_cash.specs.Gains.{controller_gains, device_gains}
-use Rattle.mdb_cash.specs.Kept.{IsNew, kept_of}
-use Rattle.mdb_cash.specs.Past.{or_else, resets, tells_out_of_sequence}
-use Rattle.mdb_cash.specs.Unvalued.{one_if}
+use Rattle.mdb_machine.specs.declared.choice.Choice.{Choice}
+use Rattle.mdb_machine.specs.declared.gains.Gains.{Gains}
+use Rattle.mdb_machine.specs.Gains.{controller_gains, device_gains}
+use Rattle.mdb_machine.specs.Kept.{IsNew, kept_of}
+use Rattle.mdb_machine.specs.Past.{or_else, resets, tells_out_of_sequence}
+use Rattle.mdb_machine.specs.Unvalued.{one_if}
 use Rattle.mdb_cashless.specs.declared.reader.device.DeviceState.{DeviceState}
 use Rattle.mdb_cashless.specs.declared.reader.messages.ReaderActivity.{ReaderActivity}
 use Rattle.mdb_cashless.specs.declared.reader.state.ReaderState.{ReaderState}

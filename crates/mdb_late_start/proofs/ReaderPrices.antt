@@ -11,9 +11,9 @@ use Rattle.mdb_msgs.specs.declared.setups.ReaderConfig.{ReaderConfig}
 use Rattle.mdb_bus.specs.declared.act.Act.{Act}
 use Rattle.mdb_bus.specs.declared.act.Act.TheVariants as acts
 use Rattle.mdb_bus.specs.declared.scope.Beginning.{Beginning}
-use Rattle.mdb_cash.specs.Past.{or_else}
-use Rattle.mdb_cash.specs.Unvalued as amounts
-use Rattle.mdb_cash.specs.Unvalued.{one_if}
+use Rattle.mdb_machine.specs.Past.{or_else}
+use Rattle.mdb_machine.specs.Unvalued as amounts
+use Rattle.mdb_machine.specs.Unvalued.{one_if}
 use Rattle.mdb_cashless.specs.Reader.{asks_sale, is_unpriced, unvalued, unvalued_by}
 use Rattle.mdb_cashless.specs.ReaderFacts.{Facts, KnownFacts, config_by, known_of, messages_by}
 use Rattle.mdb_cashless.specs.ReaderMessages.{config_in, last_said, messages_of}

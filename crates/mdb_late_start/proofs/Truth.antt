@@ -13,17 +13,17 @@ use Rattle.mdb_bus.specs.declared.levels.Levels.{Levels}
 use Rattle.mdb_bus.specs.declared.scope.Beginning.{Beginning}
 use Rattle.mdb_bus.specs.declared.scope.Beginning.TheVariants.{Joined}
 use Rattle.mdb_bus.specs.declared.scope.Scope.{Scope}
-use Rattle.mdb_cash.specs.Pair.{own_acts}
+use Rattle.mdb_machine.specs.Pair.{own_acts}
 use Rattle.mdb_follow.specs.declared.account.Account.{Account}
 use Rattle.mdb_follow.specs.declared.account_name.AccountName.{AccountName}
 use Rattle.mdb_follow.specs.declared.account_name.AccountName.TheVariants.{CoinsIn, BillsIn}
 use Rattle.mdb_follow.specs.declared.account_name.AccountName.TheVariants.{PaidOut, Approved, Sold}
 use Rattle.mdb_follow.specs.declared.range.Range.{Range}
 use Rattle.mdb_follow.specs.declared.report.Report.{Report}
-use Rattle.mdb_follow.specs.AccountNames.{account_device, sums_of}
+use Rattle.mdb_follow.specs.AccountNames.{account_device, account_of, sums_of}
 use Rattle.mdb_follow.specs.LeavingOut.{AreSumsWithout}
 use Rattle.mdb_follow.specs.Ranges.{IsAccount, IsRange}
-use Rattle.mdb_follow.specs.Report.{IsReport, account_of, device_unvalued, unvalued_of}
+use Rattle.mdb_follow.specs.Report.{IsReport, device_unvalued, unvalued_of}
 use Rattle.mdb_follow.specs.Runs.{AllSums, Run}
 use Rattle.mdb_late_start.specs.Cuts.{BeginAnew}
 use Rattle.mdb_late_start.specs.Ends.{CameToWithin, IsInside, Passes, both_accounts, both_sums}

@@ -4,9 +4,9 @@ use Rattle.std.specs.List.{AllByRecursion}
 use Rattle.mdb_msgs.specs.declared.command.Device.TheVariants as devices
 use Rattle.mdb_msgs.specs.declared.setups.Setups.{Setups}
 use Rattle.mdb_bus.specs.declared.scope.Beginning.{Beginning}
-use Rattle.mdb_cash.specs.declared.choice.Choice.{Choice}
-use Rattle.mdb_cash.specs.declared.gains.Gains.{Gains}
-use Rattle.mdb_cash.specs.Kept.{kept_of}
+use Rattle.mdb_machine.specs.declared.choice.Choice.{Choice}
+use Rattle.mdb_machine.specs.declared.gains.Gains.{Gains}
+use Rattle.mdb_machine.specs.Kept.{kept_of}
 use Rattle.mdb_late_start.specs.MidSession.{StaysInMidSession}
 use Rattle.mdb_late_start.proofs.Keepers.{IsEnabledIn, IsSteady, in_end, step_in_end, told_first, told_on}
 use Rattle.mdb_msgs.specs.declared.command.BillCommand.{BillCommand}

@@ -10,11 +10,11 @@ use Rattle.mdb_bus.specs.declared.act.Act.TheVariants as acts
 use Rattle.mdb_bus.specs.declared.scope.Beginning.{Beginning}
 use Rattle.mdb_bus.specs.declared.scope.Beginning.TheVariants.{PowerOn, Joined}
 use Rattle.mdb_bus.specs.Acts.{NamesAReply}
-use Rattle.mdb_cash.specs.declared.choice.Choice.{Choice}
-use Rattle.mdb_cash.specs.declared.gains.Gains.{Gains}
+use Rattle.mdb_machine.specs.declared.choice.Choice.{Choice}
+use Rattle.mdb_machine.specs.declared.gains.Gains.{Gains}
 use Rattle.mdb_cash.specs.BillFacts as bill
 use Rattle.mdb_cash.specs.ChangerFacts as changer
-use Rattle.mdb_cash.specs.Known.{Known, Is}
+use Rattle.mdb_machine.specs.Known.{Known, Is}
 use Rattle.mdb_cashless.specs.ReaderFacts as reader
 use Rattle.mdb_cashless.specs.Sales.{EndsInReply}
 use Rattle.mdb_follow.specs.LeavingOut.{IsNotKnown}

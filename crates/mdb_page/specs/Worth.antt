@@ -7,8 +7,8 @@ use Rattle.mdb_cash.specs.Changer.{deposited, paid_by_hand}
 use Rattle.mdb_cash.specs.declared.bill.activity.BillActivity.{BillActivity}
 use Rattle.mdb_cash.specs.declared.bill.activity.BillActivity.TheVariants.{Escrow, Returned, Stacked}
 use Rattle.mdb_cash.specs.declared.changer.activity.ChangerActivity.{ChangerActivity}
-use Rattle.mdb_cash.specs.declared.kept.Part.{Part}
-use Rattle.mdb_cash.specs.declared.kept.Part.TheVariants as part
+use Rattle.mdb_machine.specs.declared.kept.Part.{Part}
+use Rattle.mdb_machine.specs.declared.kept.Part.TheVariants as part
 use Rattle.mdb_page.specs.declared.worth.Worth.{Worth}
 use Rattle.mdb_page.specs.declared.worth.Worth.TheVariants.{Known, Nothing, Unknown}
 

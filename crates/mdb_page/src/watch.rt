@@ -8,9 +8,9 @@ ghost use Rattle.mdb_follow.specs.SilenceSteps.{AreFew};
 
 use crate::rows::Rows;
 use mdb_bus::{Act, Beginning};
-use mdb_cash::Pair;
 use mdb_cashless::{Reader, ReaderKnown};
 use mdb_follow::{ROWS_MAX, Silences};
+use mdb_machine::Pair;
 use mdb_msgs::{Device, ReaderUnit};
 use mdb_words::Time;
 

@@ -18,7 +18,8 @@ use Rattle.mdb_show.specs.Show.{AreShown, IsShowingIn, IsShownInPartIn, IsShownT
 use Rattle.mdb_writing.specs.Output.{Output, Puts, begun, output}
 use Rattle.mdb_show.specs.inner.ShowSteps.{HasAdded, HasShown, HasStopped, IsAdded, IsAddedInPart, IsAddedToFault, IsNotTaken, IsShownAs, LeadInto, PutsShowing, cut_text}
 use Rattle.mdb_show.specs.Lines.{LineForm, closed_pieces, lines_of}
-use Rattle.mdb_verdict.specs.Verdict.{AreRows, run_fault_of}
+use Rattle.mdb_verdict.specs.Verdict.{run_fault_of}
+use Rattle.mdb_verdict.specs.Rows.{AreRows}
 use Rattle.mdb_writing.proofs.Outputs.{break_both, put_begun, put_both}
 use Rattle.mdb_verdict.proofs.Rows.{IsReadBefore, IsReadUpTo, are_rows, read_before, read_up_to}
 use Rattle.mdb_show.proofs.ShowTexts.{all_shown}

@@ -13,7 +13,7 @@ use Rattle.mdb_verdict.specs.declared.fault.RunFault.TheVariants.{BadRow, TooLon
 use Rattle.mdb_show.specs.Lines.{LineForm, closed_pieces, lines_of}
 use Rattle.mdb_show.specs.ShowJson.{json_lines}
 use Rattle.mdb_show.specs.ShowText.{text_lines}
-use Rattle.mdb_verdict.specs.Verdict.{AreRows}
+use Rattle.mdb_verdict.specs.Rows.{AreRows}
 use Rattle.mdb_writing.specs.Written.{HasTaken}
 use Rattle.mdb_bus.specs.declared.scope.Scope.{Scope}
 

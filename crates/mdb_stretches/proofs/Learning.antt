@@ -21,9 +21,9 @@ use Rattle.mdb_bus.specs.declared.scope.Beginning.TheVariants.{PowerOn, Joined}
 use Rattle.mdb_bus.specs.ActLists.{Piece, Whole, acts_of, levels_after, levels_of}
 use Rattle.mdb_cash.specs.BillFacts as bill
 use Rattle.mdb_cash.specs.ChangerFacts as changer
-use Rattle.mdb_cash.specs.Keeper.{setup_by}
-use Rattle.mdb_cash.specs.Known.{known_before}
-use Rattle.mdb_cash.specs.Past.{last_told, or_else}
+use Rattle.mdb_machine.specs.Keeper.{setup_by}
+use Rattle.mdb_machine.specs.Known.{known_before}
+use Rattle.mdb_machine.specs.Past.{last_told, or_else}
 use Rattle.mdb_cashless.specs.ReaderFacts as reader
 use Rattle.mdb_cashless.specs.ReaderMessages.{config_in, last_said}
 use Rattle.mdb_stretches.specs.declared.told.Told.{Told}

@@ -1,5 +1,5 @@
 -- What a surveyor stands for, row by row.
-use Rattle.std.proofs.Common.{arith, refl, ap, sym, subst, ◌∙◌, ◌≡◌, ◌+◌, ◌*◌, ◌^◌, ◌≤◌, ◌<◌, ℕ, List, [], ◌∷◌, ◌++◌, Option, Some, None, length, map}
+use Rattle.std.proofs.Common.{arith, refl, ap, sym, subst, ◌∙◌, ◌≡◌, ◌+◌, ℕ, List, [], ◌∷◌, ◌++◌, Option, Some, None, length, map}
 use Rattle.std.proofs.lemmas.List.{length-map}
 use Rattle.std.specs.Prelude.{IsSomeAnd}
 use Rattle.mdb_words.specs.declared.event.Event.{Event}
@@ -7,16 +7,12 @@ use Rattle.mdb_msgs.specs.declared.device_set.DeviceSet.{DeviceSet}
 use Rattle.mdb_bus.specs.declared.act.Act.{Act}
 use Rattle.mdb_bus.specs.declared.scope.Scope.{Scope}
 use Rattle.mdb_bus.specs.ActLists.{IsActList, Piece, acts_of, with_act}
-use Rattle.mdb_follow.specs.declared.account.Account.{Account}
 use Rattle.mdb_follow.specs.declared.offence.Offence.{Offence}
-use Rattle.mdb_follow.specs.declared.range.Range.{Range}
 use Rattle.mdb_follow.specs.declared.report.Report.{Report}
 use Rattle.mdb_follow.specs.EndedActs.{IsEndedAct}
 use Rattle.mdb_follow.specs.Follower as follow
-use Rattle.mdb_follow.specs.Limits.{IsAccountWithin, IsRangeWithin}
 use Rattle.mdb_follow.specs.Offences.{IsOffence}
 use Rattle.mdb_follow.specs.Report.{IsReport}
-use Rattle.mdb_follow.specs.ReportLimits.{IsReportWithin}
 use Rattle.mdb_stretches.specs.declared.counts.FaultCounts.{FaultCounts}
 use Rattle.mdb_stretches.specs.declared.stretch.Ended.{Ended}
 use Rattle.mdb_stretches.specs.declared.stretch.Stretch.{Stretch}
@@ -24,11 +20,11 @@ use Rattle.mdb_stretches.specs.declared.summary.Summary.{Summary}
 use Rattle.mdb_stretches.specs.declared.surveyor.Surveyor.{Surveyor}
 use Rattle.mdb_stretches.specs.declared.told.Told.{Told}
 use Rattle.mdb_stretches.specs.declared.totals.Totals.{Totals}
-use Rattle.mdb_stretches.specs.Counts.{AreFew, counts_of, counts_of_faults}
-use Rattle.mdb_stretches.specs.Stretches.{EndsBy, IsStretch, IsSurvey, LeadFrom, StretchStart, first_place, place_after, scope_after, stretch_at}
+use Rattle.mdb_stretches.specs.Counts.{counts_of, counts_of_faults}
+use Rattle.mdb_stretches.specs.Stretches.{IsSurvey, LeadFrom, StretchStart, first_place, place_after, scope_after, stretch_at}
 use Rattle.mdb_stretches.specs.Surveyor.{StandsFor}
-use Rattle.mdb_stretches.specs.Told.{learnt_by, learnt_if, told_after}
-use Rattle.mdb_stretches.specs.Totals.{AreWithin, CanBeAdded, totals_of, with_report}
+use Rattle.mdb_stretches.specs.Told.{learnt_if, told_after}
+use Rattle.mdb_stretches.specs.Totals.{with_report}
 use Rattle.mdb_stretches.specs.inner.Halts.{HasHalted}
 use Rattle.mdb_stretches.proofs.Leading.{lead_faults, lead_more, lead_on}
 
@@ -106,20 +102,20 @@ pub halted_by : (old now : Surveyor) (scope : Scope) (rows : List Event) (row : 
     → HasHalted now scope rows row ended
 halted_by old now scope rows row ended on accepted met same_scope told so before faults totals =
     let it = the_offence (follow.offence_of now.follower) _ met in record {
-  offence = it.0;
-  noted = it.1;
-  running = on.running;
-  place = on.place;
-  lead = on.lead;
-  accepted = accepted on.running on.follows;
-  followed_so = same_scope ∙ on.followed_so;
-  taken_so = so ∙ on.taken_so;
-  is = subst (λ s. IsOffence s on.running row it.0) on.followed_so (it.2 on.running on.follows);
-  told = λ pieces list. told ∙ on.told pieces list;
-  before = before ∙ on.before;
-  faults = faults ∙ on.faults;
-  totals = totals ∙ on.totals;
-}
+      offence = it.0;
+      noted = it.1;
+      running = on.running;
+      place = on.place;
+      lead = on.lead;
+      accepted = accepted on.running on.follows;
+      followed_so = same_scope ∙ on.followed_so;
+      taken_so = so ∙ on.taken_so;
+      is = subst (λ s. IsOffence s on.running row it.0) on.followed_so (it.2 on.running on.follows);
+      told = λ pieces list. told ∙ on.told pieces list;
+      before = before ∙ on.before;
+      faults = faults ∙ on.faults;
+      totals = totals ∙ on.totals;
+    }
 
 -- a stretch by its parts
 abbrev made : ℕ → ℕ → ℕ → Scope → Report → Stretch

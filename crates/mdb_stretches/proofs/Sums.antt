@@ -1,5 +1,5 @@
 -- What totals come to with a report more.
-use Rattle.std.proofs.Common.{arith, refl, ◌≡◌, ◌+◌, ◌≤◌, ◌≤ℤ◌, ◌+ℤ◌, ℕ, pos, neg_ℤ}
+use Rattle.std.proofs.Common.{arith, refl, ◌≡◌, ◌+◌, ◌≤◌, ℕ}
 use Rattle.std.proofs.lemmas.Int.{ints}
 use Rattle.mdb_msgs.specs.declared.command.Device.{Device}
 use Rattle.mdb_msgs.specs.declared.command.Device.TheVariants.{Changer, Bill, Reader}
@@ -11,7 +11,8 @@ use Rattle.mdb_follow.specs.declared.range.Range.{Range}
 use Rattle.mdb_follow.specs.declared.report.Report.{Report}
 use Rattle.mdb_follow.specs.Limits.{IsAccountWithin, IsRangeWithin}
 use Rattle.mdb_follow.specs.ReportLimits.{IsReportWithin}
-use Rattle.mdb_follow.specs.Report.{account_of, device_silences, device_unvalued}
+use Rattle.mdb_follow.specs.Report.{device_silences, device_unvalued}
+use Rattle.mdb_follow.specs.AccountNames.{account_of}
 use Rattle.mdb_stretches.specs.declared.totals.Totals.{Totals}
 use Rattle.mdb_stretches.specs.Totals.{AreWithin, added_account, added_range, total_of, total_silences, total_unvalued, with_report}
 

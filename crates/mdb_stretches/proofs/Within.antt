@@ -1,11 +1,11 @@
 -- Numbers far from the limits of their types.
-use Rattle.std.proofs.Common.{arith, ◌≡◌, ◌+◌, ◌*◌, ◌^◌, ◌≤◌, ◌<◌, ℕ}
+use Rattle.std.proofs.Common.{arith, ◌≡◌, ◌+◌, ◌*◌, ◌^◌, ◌≤◌, ℕ}
 use Rattle.std.proofs.lemmas.Int.{ints}
 use Rattle.mdb_follow.specs.declared.account.Account.{Account}
 use Rattle.mdb_follow.specs.declared.range.Range.{Range}
 use Rattle.mdb_follow.specs.declared.report.Report.{Report}
 use Rattle.mdb_follow.specs.Limits.{IsAccountWithin, IsRangeWithin}
-use Rattle.mdb_follow.specs.Report.{account_of}
+use Rattle.mdb_follow.specs.AccountNames.{account_of}
 use Rattle.mdb_follow.specs.ReportLimits.{IsReportWithin}
 use Rattle.mdb_stretches.specs.declared.counts.FaultCounts.{FaultCounts}
 use Rattle.mdb_stretches.specs.declared.totals.Totals.{Totals}

@@ -2,7 +2,8 @@
 
 ghost use Rattle.std.specs.Prelude.{◌≡◌, ◌+◌, ◌^◌, ◌+ℤ◌, ◌≤ℤ◌, neg_ℤ, pos};
 ghost use Rattle.mdb_follow.specs.Limits.{IsAccountWithin, IsRangeWithin};
-ghost use Rattle.mdb_follow.specs.Report.{account_of, device_silences, device_unvalued};
+ghost use Rattle.mdb_follow.specs.Report.{device_silences, device_unvalued};
+ghost use Rattle.mdb_follow.specs.AccountNames.{account_of};
 ghost use Rattle.mdb_stretches.specs.Totals as spec;
 ghost use Rattle.mdb_stretches.specs.Totals.{CanBeAdded, added_account, total_of, total_silences, total_unvalued, with_report};
 

@@ -11,10 +11,10 @@ use Rattle.mdb_follow.specs.declared.account_name.AccountName.TheVariants.{Coins
 use Rattle.mdb_follow.specs.declared.account_name.AccountName.TheVariants.{PaidOut, Approved, Sold}
 use Rattle.mdb_follow.specs.declared.follower.Follower.{Follower}
 use Rattle.mdb_follow.specs.declared.report.Report.{Report}
-use Rattle.mdb_follow.specs.AccountNames.{sums_of}
+use Rattle.mdb_follow.specs.AccountNames.{no_account, no_range, sums_of}
 use Rattle.mdb_follow.specs.Follower.{StandsFor, scope_of}
 use Rattle.mdb_follow.specs.Ranges.{IsAccount, IsRange}
-use Rattle.mdb_follow.specs.Report.{IsReport, no_account, no_range, report_of}
+use Rattle.mdb_follow.specs.Report.{IsReport, report_of}
 use Rattle.mdb_follow.specs.Runs.{AllSums, IsReached, IsWay, Run}
 use Rattle.mdb_follow.specs.Sums.{AccountSums, Sums, no_sums}
 

@@ -12,7 +12,7 @@ use Rattle.mdb_stretches.specs.Stretches.{IsSurvey}
 use Rattle.mdb_stretches.specs.Summaries.{summary_of}
 use Rattle.mdb_verdict.specs.declared.fault.RunFault.{RunFault}
 use Rattle.mdb_verdict.specs.declared.fault.RunFault.TheVariants.{BadRow, TooLong, Read, Write, Memory}
-use Rattle.mdb_verdict.specs.Verdict.{AreRows}
+use Rattle.mdb_verdict.specs.Rows.{AreRows}
 use Rattle.mdb_writing.specs.Written.{HasTaken}
 use Rattle.mdb_stretches.specs.declared.summary.Summary.{Summary}
 use Rattle.mdb_survey_text.specs.Lines.{LineForm, lines_of}

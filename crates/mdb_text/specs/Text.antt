@@ -15,9 +15,9 @@ use Rattle.mdb_follow.specs.declared.offence.Offence.{Offence}
 use Rattle.mdb_follow.specs.declared.range.Range.{Range}
 use Rattle.mdb_follow.specs.declared.report.Report.{Report}
 use Rattle.mdb_follow.specs.declared.report.TheConstants.Report.{DEVICES}
-use Rattle.mdb_follow.specs.AccountNames.{account_word}
+use Rattle.mdb_follow.specs.AccountNames.{account_of, account_word}
 use Rattle.mdb_follow.specs.Ends.{side_range}
-use Rattle.mdb_follow.specs.Report.{account_of, device_decimals, device_silences, device_unvalued}
+use Rattle.mdb_follow.specs.Report.{device_decimals, device_silences, device_unvalued}
 use Rattle.mdb_text.specs.declared.outcome.Outcome.{Outcome}
 use Rattle.mdb_text.specs.declared.outcome.Outcome.TheVariants.{Yes, No}
 use Rattle.mdb_text.specs.Accounts.{side_word}

@@ -6,9 +6,9 @@ use Rattle.mdb_follow.specs.declared.account_name.AccountName.{AccountName}
 use Rattle.mdb_follow.specs.declared.account.Account.{Account}
 use Rattle.mdb_follow.specs.declared.offence.Offence.{Offence}
 use Rattle.mdb_follow.specs.declared.report.Report.{Report}
-use Rattle.mdb_follow.specs.AccountNames.{sums_of}
+use Rattle.mdb_follow.specs.AccountNames.{account_of, sums_of}
 use Rattle.mdb_follow.specs.Ranges.{IsAccount, IsRange}
-use Rattle.mdb_follow.specs.Report.{IsReport, account_of}
+use Rattle.mdb_follow.specs.Report.{IsReport}
 use Rattle.mdb_follow.specs.Runs.{AllSums, IsReached, Run}
 use Rattle.mdb_follow.specs.Sales.{SalesFollowApprovals}
 use Rattle.mdb_follow.specs.Sums.{AccountSums}
@@ -18,7 +18,8 @@ use Rattle.mdb_follow.specs.declared.goal.AccountSide.{AccountSide}
 use Rattle.mdb_follow.specs.declared.goal.AccountSide.TheVariants as sides
 use Rattle.mdb_follow.specs.Ends.{side_range, side_value}
 use Rattle.mdb_verdict.specs.Headline.{AreFirstRows, HasApprovedSales, HasBounds, HaveRun, Headline, NamesFirstRow}
-use Rattle.mdb_verdict.specs.Verdict.{AreRows, IsAnswer, IsImpossible, IsPossible}
+use Rattle.mdb_verdict.specs.Verdict.{IsAnswer, IsImpossible, IsPossible}
+use Rattle.mdb_verdict.specs.Rows.{AreRows}
 use Rattle.mdb_verdict.proofs.OneAnswer.{row_one}
 use Rattle.mdb_verdict.proofs.Rows.{rows_push}
 use Rattle.mdb_bus.specs.declared.scope.Scope.{Scope}

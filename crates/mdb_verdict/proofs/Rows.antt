@@ -4,7 +4,7 @@ use Rattle.mdb_words.specs.declared.event.Event.{Event}
 use Rattle.mdb_words.specs.Row.{IsRow}
 use Rattle.mdb_verdict.specs.Batch.{AreAll}
 use Rattle.mdb_verdict.specs.Ending.{AreRead, HasFirst}
-use Rattle.mdb_verdict.specs.Verdict.{AreRows}
+use Rattle.mdb_verdict.specs.Rows.{AreRows}
 
 -- what answers isn't refused
 pub not_refused : {T E : Type 0} (answer : Result T E) (e : E) → answer ≡ Err e → IsOk answer → ⊥

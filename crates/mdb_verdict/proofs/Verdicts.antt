@@ -16,7 +16,8 @@ use Rattle.mdb_text.specs.declared.outcome.Outcome.TheVariants.{Yes, No}
 use Rattle.mdb_verdict.specs.declared.fault.RunFault.{RunFault}
 use Rattle.mdb_verdict.specs.declared.fault.RunFault.TheVariants.{BadRow, TooLong, Read, Write, Memory}
 use Rattle.mdb_verdict.specs.Ending.{AreRead, HasEnded, HasFollowed, HasTakenOrStopped, IsStopped, IsTakenWhole}
-use Rattle.mdb_verdict.specs.Verdict.{AreRows, IsAnswer, IsImpossible, IsYes}
+use Rattle.mdb_verdict.specs.Verdict.{IsAnswer, IsImpossible, IsYes}
+use Rattle.mdb_verdict.specs.Rows.{AreRows}
 use Rattle.mdb_verdict.proofs.Rows.{IsReadUpTo, are_rows, read_up_to}
 use Rattle.mdb_bus.specs.declared.scope.Scope.{Scope}
 

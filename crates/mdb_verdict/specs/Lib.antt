@@ -2,4 +2,5 @@ pub mod Batch
 pub mod CutReport
 pub mod Ending
 pub mod Headline
+pub mod Rows
 pub mod Verdict

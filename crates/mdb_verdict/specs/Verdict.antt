@@ -1,5 +1,5 @@
 -- What is answered to the records of a text, where it may have so many rows (`limit`).
-use Rattle.std.specs.Prelude.{◌≡◌, ◌⊎◌, ◌+◌, ◌<◌, ◌≤◌, ℕ, List, [], ◌∷◌, ◌++◌, length, ⊤, Option, Some, Result, Ok, Err}
+use Rattle.std.specs.Prelude.{◌≡◌, ◌⊎◌, ◌+◌, ◌<◌, ◌≤◌, ℕ, List, ◌∷◌, ◌++◌, length, ⊤, Option, Some, Result, Ok, Err}
 use Rattle.mdb_words.specs.declared.event.Event.{Event}
 use Rattle.mdb_words.specs.declared.row.RowFault.{RowFault}
 use Rattle.mdb_words.specs.Row.{IsRow, IsRefusal}
@@ -16,13 +16,7 @@ use Rattle.mdb_text.specs.declared.outcome.Outcome.TheVariants.{Yes, No}
 use Rattle.mdb_verdict.specs.declared.fault.RunFault.{RunFault}
 use Rattle.mdb_verdict.specs.declared.fault.RunFault.TheVariants.{BadRow, TooLong, Read, Write, Memory}
 use Rattle.mdb_bus.specs.declared.scope.Scope.{Scope}
-
--- each record is a row, and these are their events
-abbrev pub AreRows : List (List (List ℕ)) → List Event → Type 0
-AreRows [] [] = ⊤
-AreRows (fields ∷ records) (event ∷ rows) = IsRow fields event × AreRows records rows
-AreRows [] (event ∷ rows) = ⊥
-AreRows (fields ∷ records) [] = ⊥
+use Rattle.mdb_verdict.specs.Rows.{AreRows}
 
 -- All records are rows, and the controller and its peripherals can have said these words at these
 -- times: the rows have a run. The report is what their runs tell, and in each of them every sale at

@@ -1,38 +1,36 @@
 -- That acts of other devices change nothing and tell nothing, so that facts and steps depend on its
 -- own acts alone. This proves laws of the trait `Pair` for the validator.
-use Rattle.std.specs.Prelude.{◌≡◌, ◌↔◌, Bool, true, List, [], ◌∷◌, Option, Some, None, refl, option_map}
+use Rattle.std.specs.Prelude.{◌≡◌, ◌↔◌, true, List, [], ◌∷◌, Option, Some, None, refl, option_map}
 use Rattle.std.specs.List.{All}
 use Rattle.std.specs.declared.convert.Infallible.{Infallible}
 use Rattle.std.proofs.Common.{ap, ◌∙◌, inl}
 use Rattle.mdb_msgs.specs.declared.command.Device.TheVariants as devices
 use Rattle.mdb_msgs.specs.declared.command.Command.TheVariants.{Changer, Bill, Reader}
 use Rattle.mdb_bus.specs.declared.act.Act.{Act}
-use Rattle.mdb_bus.specs.declared.act.Act.TheVariants as acts
 use Rattle.mdb_bus.specs.declared.scope.Beginning.{Beginning}
-use Rattle.mdb_bus.specs.declared.scope.Beginning.TheVariants.{PowerOn, Joined}
+use Rattle.mdb_bus.specs.declared.scope.Beginning.TheVariants.{PowerOn}
 use Rattle.mdb_cash.specs.declared.bill.activity.BillActivity.{BillActivity}
 use Rattle.mdb_cash.specs.declared.bill.activity.BillActivity.TheVariants as activity
 use Rattle.mdb_cash.specs.declared.bill.activity.BillActivity.TheVariants.{Stacked}
 use Rattle.mdb_cash.specs.declared.bill.state.Escrow.{Escrow}
-use Rattle.mdb_cash.specs.declared.choice.Choice.TheVariants.{Plain}
+use Rattle.mdb_machine.specs.declared.choice.Choice.TheVariants.{Plain}
 use Rattle.mdb_cash.specs.declared.bill.state.BillState.{BillState}
-use Rattle.mdb_cash.specs.declared.choice.Choice.{Choice}
-use Rattle.mdb_cash.specs.declared.gains.Gains.{Gains}
+use Rattle.mdb_machine.specs.declared.choice.Choice.{Choice}
+use Rattle.mdb_machine.specs.declared.gains.Gains.{Gains}
 use Rattle.mdb_cash.specs.Bill.{BillStep, MovesBill, MovesBills, conduct, machine, power_on, unvalued}
 use Rattle.mdb_cash.specs.BillFacts.{Facts, KnownFacts, known_of, own, tables}
-use Rattle.mdb_cash.specs.Gains.{no_gains}
-use Rattle.mdb_cash.specs.inner.KeeperPlain.{LooksAway, as_plain}
-use Rattle.mdb_cash.specs.inner.Guesses.{Overlooks, guessing}
-use Rattle.mdb_cash.specs.inner.KeeperWays as keeper_ways
-use Rattle.mdb_cash.specs.inner.KnowingWays.{all_known, all_settled, as_choice, knows, some_facts, starts_in, stays}
-use Rattle.mdb_cash.specs.Machine.{IsMachineOf}
+use Rattle.mdb_machine.specs.Gains.{Stays, no_gains}
+use Rattle.mdb_machine.specs.inner.KeeperPlain.{LooksAway, as_plain}
+use Rattle.mdb_machine.specs.inner.Guesses.{Overlooks, guessing}
+use Rattle.mdb_machine.specs.inner.KeeperWays as keeper_ways
+use Rattle.mdb_machine.specs.inner.KnowingWays.{all_known, all_settled, as_choice, knows, some_facts, starts_in, stays}
 use Rattle.mdb_cash.specs.BillValues.{Value, known_in}
-use Rattle.mdb_cash.specs.Keeper.{asked_by, parts_by}
-use Rattle.mdb_cash.specs.KeeperValues.{settled}
-use Rattle.mdb_cash.specs.Past.{last_list, last_told}
-use Rattle.mdb_cash.specs.Pair.{IsActOf, IsBreak, Stays, own_acts}
-use Rattle.mdb_cash.specs.inner.StepWays as step_ways
-use Rattle.mdb_cash.specs.inner.StepWays.{IsOwnOf}
+use Rattle.mdb_machine.specs.Keeper.{asked_by, parts_by}
+use Rattle.mdb_machine.specs.KeeperValues.{settled}
+use Rattle.mdb_machine.specs.Past.{last_list, last_told}
+use Rattle.mdb_machine.specs.Pair.{IsActOf, IsBreak, IsMachineOf, own_acts}
+use Rattle.mdb_machine.specs.inner.StepWays as step_ways
+use Rattle.mdb_machine.specs.inner.StepWays.{IsOwnOf}
 
 -- commands that aren't to it are none of its own
 is_own : IsOwnOf devices.Bill own

@@ -9,30 +9,28 @@ use Rattle.mdb_msgs.specs.declared.command.Command.TheVariants.{Changer, Bill, R
 use Rattle.mdb_msgs.specs.declared.command.ChangerCommand.{ChangerCommand}
 use Rattle.mdb_msgs.specs.declared.command.ChangerCommand.TheVariants as changer
 use Rattle.mdb_bus.specs.declared.act.Act.{Act}
-use Rattle.mdb_bus.specs.declared.act.Act.TheVariants as acts
 use Rattle.mdb_bus.specs.declared.scope.Beginning.{Beginning}
-use Rattle.mdb_bus.specs.declared.scope.Beginning.TheVariants.{PowerOn, Joined}
+use Rattle.mdb_bus.specs.declared.scope.Beginning.TheVariants.{PowerOn}
 use Rattle.mdb_cash.specs.declared.changer.activity.ChangerActivity.{ChangerActivity}
 use Rattle.mdb_cash.specs.declared.changer.activity.ChangerActivity.TheVariants.{CashBox, Dispensed, Tube}
 use Rattle.mdb_cash.specs.declared.changer.state.ChangerState.{ChangerState}
-use Rattle.mdb_cash.specs.declared.choice.Choice.{Choice}
-use Rattle.mdb_cash.specs.declared.choice.Choice.TheVariants.{Plain, Restart}
-use Rattle.mdb_cash.specs.declared.gains.Gains.{Gains}
+use Rattle.mdb_machine.specs.declared.choice.Choice.{Choice}
+use Rattle.mdb_machine.specs.declared.choice.Choice.TheVariants.{Plain, Restart}
+use Rattle.mdb_machine.specs.declared.gains.Gains.{Gains}
 use Rattle.mdb_cash.specs.Changer.{AskStep, ChangerStep, MayBeNew, TakeStep, conduct, dispensed_value, is_last, machine, power_on, unvalued}
 use Rattle.mdb_cash.specs.ChangerFacts.{Facts, KnownFacts, asked_of, known_of, own, tables}
-use Rattle.mdb_cash.specs.Gains.{controller_gains, no_gains}
-use Rattle.mdb_cash.specs.inner.KeeperPlain.{LooksAway, as_plain}
-use Rattle.mdb_cash.specs.inner.Guesses.{Overlooks, guessing}
-use Rattle.mdb_cash.specs.inner.KeeperWays as keeper_ways
-use Rattle.mdb_cash.specs.inner.KnowingWays.{all_known, all_settled, as_choice, knows, some_facts, starts_in, stays}
-use Rattle.mdb_cash.specs.Machine.{IsMachineOf}
+use Rattle.mdb_machine.specs.Gains.{Stays, controller_gains, no_gains}
+use Rattle.mdb_machine.specs.inner.KeeperPlain.{LooksAway, as_plain}
+use Rattle.mdb_machine.specs.inner.Guesses.{Overlooks, guessing}
+use Rattle.mdb_machine.specs.inner.KeeperWays as keeper_ways
+use Rattle.mdb_machine.specs.inner.KnowingWays.{all_known, all_settled, as_choice, knows, some_facts, starts_in, stays}
 use Rattle.mdb_cash.specs.ChangerValues.{Value, known_in}
-use Rattle.mdb_cash.specs.Keeper.{asked_by, parts_by}
-use Rattle.mdb_cash.specs.KeeperValues.{settled}
-use Rattle.mdb_cash.specs.Past.{last_list, last_told}
-use Rattle.mdb_cash.specs.Pair.{IsActOf, IsBreak, Stays, own_acts}
-use Rattle.mdb_cash.specs.inner.StepWays as step_ways
-use Rattle.mdb_cash.specs.inner.StepWays.{IsOwnOf}
+use Rattle.mdb_machine.specs.Keeper.{asked_by, parts_by}
+use Rattle.mdb_machine.specs.KeeperValues.{settled}
+use Rattle.mdb_machine.specs.Past.{last_list, last_told}
+use Rattle.mdb_machine.specs.Pair.{IsActOf, IsBreak, IsMachineOf, own_acts}
+use Rattle.mdb_machine.specs.inner.StepWays as step_ways
+use Rattle.mdb_machine.specs.inner.StepWays.{IsOwnOf}
 
 -- commands that aren't to it are none of its own
 is_own : IsOwnOf devices.Changer own

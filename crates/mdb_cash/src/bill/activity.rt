@@ -2,7 +2,7 @@
 
 ghost use Rattle.mdb_cash.specs.BillMessages as spec;
 
-use crate::kept::{KeptMessage, Message, Part};
+use mdb_machine::kept::{KeptAmong, KeptMessage, Part};
 use mdb_msgs::BillMsg;
 
 /// The meaning of a kept message of the validator (MDB/ICP 4.3, bill validator).
@@ -28,13 +28,13 @@ impl KeptMessage for BillActivity {
     }
 }
 
-impl Message for BillMsg {
-    type Kept = BillActivity;
+impl KeptAmong for BillActivity {
+    type Message = BillMsg;
 
     ghost part_of = { spec.part_of };
 
-    fn part(self) -> Part<BillActivity> {
-        match self {
+    fn part(message: BillMsg) -> Part<BillActivity> {
+        match message {
             BillMsg::Stacked(bill) => Part::Kept(BillActivity::Stacked(bill)),
             BillMsg::Escrow(bill) => Part::Kept(BillActivity::Escrow(bill)),
             BillMsg::Returned(bill) => Part::Kept(BillActivity::Returned(bill)),

@@ -4,17 +4,16 @@ ghost use Rattle.std.proofs.Common.{rules};
 ghost use Rattle.mdb_cash.specs.declared.bill.activity.BillActivity.TheVariants.{Stacked};
 ghost use Rattle.mdb_cash.specs.Bill as spec;
 ghost use Rattle.mdb_cash.specs.inner.BillWays as ways;
-ghost use Rattle.mdb_cash.specs.KeeperValues.{facts_in};
-ghost use Rattle.mdb_cash.specs.Pair.{IsOnly};
+ghost use Rattle.mdb_machine.specs.KeeperValues.{facts_in};
+ghost use Rattle.mdb_machine.specs.Pair.{IsOnly};
 
 use super::Bill;
 use super::activity::BillActivity;
 use super::state::{BillState, BillType, Escrow};
 use super::tables::BillFacts;
 use super::values::stacked;
-use crate::choice::Choice;
-use crate::conduct::Conduct;
-use crate::gains::Gains;
+use mdb_machine::conduct::Conduct;
+use mdb_machine::{Choice, Gains};
 use mdb_msgs::BillCommand;
 
 impl Conduct for Bill {

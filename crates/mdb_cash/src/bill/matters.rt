@@ -3,21 +3,23 @@
 ghost use Rattle.std.specs.Prelude.{◌↔◌};
 ghost use Rattle.std.specs.Bool.{OnFalse, OnTrue};
 ghost use Rattle.mdb_msgs.specs.declared.command.Device.TheVariants as devices;
-ghost use Rattle.mdb_cash.specs.declared.choice.Choice.{Choice};
-ghost use Rattle.mdb_cash.specs.declared.choice.Choice.TheVariants.{Plain};
-ghost use Rattle.mdb_cash.specs.declared.gains.Gains.{Gains};
+ghost use Rattle.mdb_machine.specs.declared.choice.Choice.{Choice};
+ghost use Rattle.mdb_machine.specs.declared.choice.Choice.TheVariants.{Plain};
+ghost use Rattle.mdb_machine.specs.declared.gains.Gains.{Gains};
 ghost use Rattle.mdb_cash.specs.Bill.{BillStep};
 ghost use Rattle.mdb_cash.specs.BillFacts.{Facts};
-ghost use Rattle.mdb_cash.specs.Choices.{CanStand};
-ghost use Rattle.mdb_cash.specs.Pair.{IsActOf, Stays};
+ghost use Rattle.mdb_machine.specs.Choices.{CanStand};
+ghost use Rattle.mdb_machine.specs.Pair.{IsActOf};
+ghost use Rattle.mdb_machine.specs.Gains.{Stays};
 ghost use Rattle.mdb_cash.specs.declared.bill.state.BillState.{BillState};
 
 use super::Bill;
+use super::activity::BillActivity;
 use super::state::BillState;
-use crate::choice::Choice;
-use crate::keeper::Keeper;
-use crate::kept::may_all_be_read;
 use mdb_bus::Act;
+use mdb_machine::Choice;
+use mdb_machine::keeper::Keeper;
+use mdb_machine::kept::may_all_be_read;
 use mdb_msgs::{BillCommand, Command};
 
 /// Whether an act may change a state or a sum of the validator.
@@ -59,7 +61,7 @@ pub(super) fn heeds_choice(act: &Act, state: BillState) -> bool
 {
     match act {
         Act::Reply(Command::Bill(_), reply) => {
-            may_all_be_read(Choice::Restart, Bill::messages_in(reply))
+            may_all_be_read::<BillActivity>(Choice::Restart, Bill::messages_in(reply))
         }
         Act::VmcAck(Command::Bill(_), _) => state.holds,
         _ => false,

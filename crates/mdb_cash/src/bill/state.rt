@@ -2,7 +2,7 @@
 
 ghost use Rattle.std.specs.Prelude.{◌≡◌, ◌<◌, ◌≤◌, ◌↔◌, IfSome, IfNone, IsTrue};
 
-use crate::choice::Choice;
+use mdb_machine::Choice;
 
 /// A type of bills, 0 to 15 (MDB/ICP 4.3, bill validator).
 #[derive(Clone, Copy, PartialEq, Eq, Debug)]

@@ -5,8 +5,8 @@ ghost use Rattle.mdb_cash.specs.BillFacts as spec;
 
 use super::Bill;
 use super::activity::BillActivity;
-use crate::keeper::{Keeper, KeeperFacts, KeeperKnown};
-use crate::past::Effect;
+use mdb_machine::keeper::{Keeper, KeeperFacts, KeeperKnown};
+use mdb_machine::past::Effect;
 use mdb_msgs::{BillCommand, BillMsg, BillSetup, Command, Reply, Setups};
 use std::convert::Infallible;
 
@@ -25,8 +25,6 @@ impl Keeper for Bill {
     type Asked = Infallible;
 
     type Kept = BillActivity;
-
-    type Message = BillMsg;
 
     ghost tables = { spec.tables };
 

@@ -2,7 +2,7 @@
 
 ghost use Rattle.mdb_cash.specs.ChangerMessages as spec;
 
-use crate::kept::{KeptMessage, Message, Part};
+use mdb_machine::kept::{KeptAmong, KeptMessage, Part};
 use mdb_msgs::ChangerMsg;
 
 /// The meaning of a kept message of the changer (MDB/ICP 4.3, coin changer). Two such messages are
@@ -35,13 +35,13 @@ impl KeptMessage for ChangerActivity {
     }
 }
 
-impl Message for ChangerMsg {
-    type Kept = ChangerActivity;
+impl KeptAmong for ChangerActivity {
+    type Message = ChangerMsg;
 
     ghost part_of = { spec.part_of };
 
-    fn part(self) -> Part<ChangerActivity> {
-        match self {
+    fn part(message: ChangerMsg) -> Part<ChangerActivity> {
+        match message {
             ChangerMsg::ManualDispense { count, coin, .. } => {
                 Part::Kept(ChangerActivity::Dispensed { count, coin })
             }

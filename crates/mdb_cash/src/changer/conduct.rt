@@ -6,18 +6,17 @@ ghost use Rattle.std.specs.List.{AllByRecursion};
 ghost use Rattle.mdb_cash.specs.declared.changer.activity.ChangerActivity.TheVariants.{CashBox};
 ghost use Rattle.mdb_cash.specs.Changer as spec;
 ghost use Rattle.mdb_cash.specs.inner.ChangerWays as ways;
-ghost use Rattle.mdb_cash.specs.Gains.{IsSmall};
-ghost use Rattle.mdb_cash.specs.KeeperValues.{facts_in};
-ghost use Rattle.mdb_cash.specs.Pair.{IsOnlyStep};
+ghost use Rattle.mdb_machine.specs.Gains.{IsSmall};
+ghost use Rattle.mdb_machine.specs.KeeperValues.{facts_in};
+ghost use Rattle.mdb_machine.specs.Pair.{IsOnlyStep};
 
 use super::Changer;
 use super::activity::ChangerActivity;
 use super::state::ChangerState;
 use super::tables::ChangerFacts;
 use super::values::{deposited, dispensed_value, paid_by_hand};
-use crate::choice::Choice;
-use crate::conduct::Conduct;
-use crate::gains::Gains;
+use mdb_machine::conduct::Conduct;
+use mdb_machine::{Choice, Gains};
 use mdb_msgs::ChangerCommand;
 
 impl Conduct for Changer {

@@ -3,21 +3,23 @@
 ghost use Rattle.std.specs.Prelude.{◌↔◌};
 ghost use Rattle.std.specs.Bool.{OnFalse, OnTrue};
 ghost use Rattle.mdb_msgs.specs.declared.command.Device.TheVariants as devices;
-ghost use Rattle.mdb_cash.specs.declared.choice.Choice.{Choice};
-ghost use Rattle.mdb_cash.specs.declared.choice.Choice.TheVariants.{Plain};
-ghost use Rattle.mdb_cash.specs.declared.gains.Gains.{Gains};
+ghost use Rattle.mdb_machine.specs.declared.choice.Choice.{Choice};
+ghost use Rattle.mdb_machine.specs.declared.choice.Choice.TheVariants.{Plain};
+ghost use Rattle.mdb_machine.specs.declared.gains.Gains.{Gains};
 ghost use Rattle.mdb_cash.specs.Changer.{ChangerStep};
 ghost use Rattle.mdb_cash.specs.ChangerFacts.{Facts};
-ghost use Rattle.mdb_cash.specs.Choices.{CanStand};
-ghost use Rattle.mdb_cash.specs.Pair.{IsActOf, Stays};
+ghost use Rattle.mdb_machine.specs.Choices.{CanStand};
+ghost use Rattle.mdb_machine.specs.Pair.{IsActOf};
+ghost use Rattle.mdb_machine.specs.Gains.{Stays};
 ghost use Rattle.mdb_cash.specs.declared.changer.state.ChangerState.{ChangerState};
 
 use super::Changer;
+use super::activity::ChangerActivity;
 use super::state::ChangerState;
-use crate::choice::Choice;
-use crate::keeper::Keeper;
-use crate::kept::may_all_be_read;
 use mdb_bus::Act;
+use mdb_machine::Choice;
+use mdb_machine::keeper::Keeper;
+use mdb_machine::kept::may_all_be_read;
 use mdb_msgs::{ChangerCommand, Command};
 
 /// Whether an act may change a state or a sum of the changer.
@@ -64,7 +66,7 @@ pub(super) fn heeds_choice(act: &Act, state: ChangerState) -> bool
     match act {
         Act::Ack(Command::Changer(ChangerCommand::Dispense(_))) => state.dispense_owed,
         Act::Reply(Command::Changer(_), reply) => {
-            may_all_be_read(Choice::Restart, Changer::messages_in(reply))
+            may_all_be_read::<ChangerActivity>(Choice::Restart, Changer::messages_in(reply))
         }
         Act::VmcAck(Command::Changer(_), _) => state.holds,
         _ => false,

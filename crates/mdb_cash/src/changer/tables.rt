@@ -5,8 +5,8 @@ ghost use Rattle.mdb_cash.specs.ChangerFacts as spec;
 
 use super::Changer;
 use super::activity::ChangerActivity;
-use crate::keeper::{Keeper, KeeperFacts, KeeperKnown};
-use crate::past::Effect;
+use mdb_machine::keeper::{Keeper, KeeperFacts, KeeperKnown};
+use mdb_machine::past::Effect;
 use mdb_msgs::{ChangerCommand, ChangerMsg, ChangerSetup, Command, Reply, Setups};
 
 /// What counts of the acts so far for the changer (this profile): a running value, which doesn't
@@ -24,8 +24,6 @@ impl Keeper for Changer {
     type Asked = u8;
 
     type Kept = ChangerActivity;
-
-    type Message = ChangerMsg;
 
     ghost tables = { spec.tables };
 

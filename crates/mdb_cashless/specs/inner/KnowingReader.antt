@@ -6,12 +6,12 @@ use Rattle.mdb_bus.specs.declared.act.Act.{Act}
 use Rattle.mdb_bus.specs.declared.act.Act.TheVariants as acts
 use Rattle.mdb_bus.specs.declared.scope.Beginning.{Beginning}
 use Rattle.mdb_bus.specs.declared.scope.Beginning.TheVariants.{PowerOn, Joined}
-use Rattle.mdb_cash.specs.declared.choice.Choice.{Choice}
-use Rattle.mdb_cash.specs.declared.gains.Gains.{Gains}
-use Rattle.mdb_cash.specs.Known.{Allows, AllowsKept, Known, Unknown, Is, known_by}
-use Rattle.mdb_cash.specs.Machine.{StartsIn}
-use Rattle.mdb_cash.specs.Pair.{Stays}
-use Rattle.mdb_cash.specs.PastValues.{if_known}
+use Rattle.mdb_machine.specs.declared.choice.Choice.{Choice}
+use Rattle.mdb_machine.specs.declared.gains.Gains.{Gains}
+use Rattle.mdb_machine.specs.Known.{Allows, AllowsKept, Known, Unknown, Is, known_by}
+use Rattle.mdb_machine.specs.Machine.{StartsIn}
+use Rattle.mdb_machine.specs.Gains.{Stays}
+use Rattle.mdb_machine.specs.PastValues.{if_known}
 use Rattle.mdb_msgs.specs.declared.command.ReaderUnit.{ReaderUnit}
 use Rattle.mdb_cashless.specs.declared.reader.known.ReaderKnown.{ReaderKnown}
 use Rattle.mdb_cashless.specs.declared.reader.messages.ReaderActivity.{ReaderActivity}

@@ -5,12 +5,12 @@ use Rattle.mdb_msgs.specs.declared.command.ReaderCommand.{ReaderCommand}
 use Rattle.mdb_msgs.specs.declared.command.ReaderUnit.{ReaderUnit}
 use Rattle.mdb_bus.specs.declared.act.Act.{Act}
 use Rattle.mdb_bus.specs.declared.act.Act.TheVariants as acts
-use Rattle.mdb_cash.specs.declared.choice.Choice.{Choice}
-use Rattle.mdb_cash.specs.declared.choice.Choice.TheVariants.{Plain, Lost, Restart}
-use Rattle.mdb_cash.specs.declared.gains.Gains.{Gains}
-use Rattle.mdb_cash.specs.Choices.{CanStand}
-use Rattle.mdb_cash.specs.Kept.{kept_of}
-use Rattle.mdb_cash.specs.inner.PlainKept.{acked_plain}
+use Rattle.mdb_machine.specs.declared.choice.Choice.{Choice}
+use Rattle.mdb_machine.specs.declared.choice.Choice.TheVariants.{Plain, Lost, Restart}
+use Rattle.mdb_machine.specs.declared.gains.Gains.{Gains}
+use Rattle.mdb_machine.specs.Choices.{CanStand}
+use Rattle.mdb_machine.specs.Kept.{kept_of}
+use Rattle.mdb_machine.specs.inner.PlainKept.{acked_plain}
 use Rattle.mdb_cashless.specs.declared.reader.state.ReaderState.{ReaderState}
 use Rattle.mdb_cashless.specs.Reader.{AckStep, ForOwn, ReaderStep, ReplyStep, VmcAckStep, taken, view_answered}
 use Rattle.mdb_cashless.specs.ReaderFacts.{Facts}

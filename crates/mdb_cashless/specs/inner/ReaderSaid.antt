@@ -2,8 +2,8 @@
 use Rattle.std.specs.Prelude.{◌≡◌, List, map}
 use Rattle.std.specs.List.{list_any}
 use Rattle.mdb_msgs.specs.declared.reply.reader.ReaderMsg.{ReaderMsg}
-use Rattle.mdb_cash.specs.Kept.{IsSummary}
-use Rattle.mdb_cash.specs.Past.{is_out_of_sequence}
+use Rattle.mdb_machine.specs.Kept.{IsSummary}
+use Rattle.mdb_machine.specs.Past.{is_out_of_sequence}
 use Rattle.mdb_cashless.specs.declared.reader.messages.Said.{Said}
 use Rattle.mdb_cashless.specs.ReaderMessages.{amount_in, begin_session, config_in, last_said, part_of}
 

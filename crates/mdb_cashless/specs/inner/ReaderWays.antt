@@ -18,21 +18,20 @@ use Rattle.mdb_msgs.specs.Setups.{config_known}
 use Rattle.mdb_bus.specs.declared.act.Act.{Act}
 use Rattle.mdb_bus.specs.declared.act.Act.TheVariants as acts
 use Rattle.mdb_bus.specs.declared.scope.Beginning.{Beginning}
-use Rattle.mdb_cash.specs.declared.choice.Choice.{Choice}
-use Rattle.mdb_cash.specs.declared.choice.Choice.TheVariants.{Plain}
-use Rattle.mdb_cash.specs.declared.gains.Gains.{Gains}
-use Rattle.mdb_cash.specs.declared.past.Effect.{Effect}
-use Rattle.mdb_cash.specs.declared.past.Effect.TheVariants as effects
-use Rattle.mdb_cash.specs.Gains.{no_gains}
-use Rattle.mdb_cash.specs.Known.{known_before, known_by}
-use Rattle.mdb_cash.specs.Machine.{IsMachineOf}
-use Rattle.mdb_cash.specs.Pair.{IsActOf, IsBreak, own_acts}
-use Rattle.mdb_cash.specs.Past.{effect_by, last_told, or_else, powers_on, resets, tells_out_of_sequence}
-use Rattle.mdb_cash.specs.PastValues.{known_more, known_past_after}
-use Rattle.mdb_cash.specs.Unvalued as amounts
-use Rattle.mdb_cash.specs.Unvalued.{one_if}
-use Rattle.mdb_cash.specs.inner.OwnWays.{IsOfOwn, part_of_none, same_known}
-use Rattle.mdb_cash.specs.inner.PastWays as past_ways
+use Rattle.mdb_machine.specs.declared.choice.Choice.{Choice}
+use Rattle.mdb_machine.specs.declared.choice.Choice.TheVariants.{Plain}
+use Rattle.mdb_machine.specs.declared.gains.Gains.{Gains}
+use Rattle.mdb_machine.specs.declared.past.Effect.{Effect}
+use Rattle.mdb_machine.specs.declared.past.Effect.TheVariants as effects
+use Rattle.mdb_machine.specs.Gains.{no_gains}
+use Rattle.mdb_machine.specs.Known.{known_before, known_by}
+use Rattle.mdb_machine.specs.Pair.{IsActOf, IsBreak, IsMachineOf, own_acts}
+use Rattle.mdb_machine.specs.Past.{effect_by, last_told, or_else, powers_on, resets, tells_out_of_sequence}
+use Rattle.mdb_machine.specs.PastValues.{known_more, known_past_after}
+use Rattle.mdb_machine.specs.Unvalued as amounts
+use Rattle.mdb_machine.specs.Unvalued.{one_if}
+use Rattle.mdb_machine.specs.inner.OwnWays.{IsOfOwn, part_of_none, same_known}
+use Rattle.mdb_machine.specs.inner.PastWays as past_ways
 use Rattle.mdb_cashless.specs.declared.reader.state.ReaderState.{ReaderState}
 use Rattle.mdb_cashless.specs.declared.reader.transaction.Transaction.{Transaction}
 use Rattle.mdb_cashless.specs.inner.KnowingReader.{as_choice, some_facts, starts_in, stays}

@@ -5,7 +5,7 @@ use Rattle.mdb_msgs.specs.declared.command.ReaderUnit.{ReaderUnit}
 use Rattle.mdb_bus.specs.declared.act.Act.{Act}
 use Rattle.mdb_bus.specs.declared.act.Act.TheVariants as acts
 use Rattle.mdb_bus.specs.declared.scope.Beginning.{Beginning}
-use Rattle.mdb_cash.specs.Past.{last_told}
+use Rattle.mdb_machine.specs.Past.{last_told}
 use Rattle.mdb_cashless.specs.declared.reader.transaction.Transaction.TheVariants.{Success}
 use Rattle.mdb_cashless.specs.declared.reader.view.View.{View}
 use Rattle.mdb_cashless.specs.declared.reader.view.View.TheVariants.{Asked, Waiting, Approved, SuccessOwed}

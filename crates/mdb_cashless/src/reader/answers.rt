@@ -2,15 +2,15 @@
 
 ghost use Rattle.std.specs.Prelude.{◌≡◌, ◌≤◌, ◌<◌, ◌^◌, ◌||◌, IfSome, IfNone, List, length, map};
 ghost use Rattle.std.specs.Bool.{OnFalse};
-ghost use Rattle.mdb_cash.specs.Gains.{IsSmall};
+ghost use Rattle.mdb_machine.specs.Gains.{IsSmall};
 ghost use Rattle.std.specs.List.{list_any};
-ghost use Rattle.mdb_cash.specs.Kept.{MayBeRead, holds_acked, kept_of};
-ghost use Rattle.mdb_cash.specs.Past.{is_out_of_sequence};
+ghost use Rattle.mdb_machine.specs.Kept.{MayBeRead, holds_acked, kept_of};
+ghost use Rattle.mdb_machine.specs.Past.{is_out_of_sequence};
 ghost use Rattle.mdb_msgs.specs.declared.reply.Reply.{Reply};
 ghost use Rattle.mdb_msgs.specs.declared.reply.reader.ReaderMsg.{ReaderMsg};
 ghost use Rattle.mdb_msgs.specs.Reader.{is_kept};
 ghost use Rattle.mdb_cashless.specs.ReaderMessages.{messages_of, part_of, parts_of};
-ghost use Rattle.mdb_cash.specs.Pair.{IsOnlyStep};
+ghost use Rattle.mdb_machine.specs.Pair.{IsOnlyStep};
 ghost use Rattle.mdb_cashless.specs.Reader as spec;
 ghost use Rattle.mdb_cashless.specs.ReaderDevice as reader_device;
 ghost use Rattle.mdb_cashless.specs.ReaderValues.{facts_in};
@@ -24,9 +24,9 @@ use super::taking::{is_poll, sold, take};
 use super::transaction::{Transaction, transaction_of};
 use super::values::{all_approved, approved_to};
 use super::view::View;
-use mdb_cash::kept::{held, holds_after};
-use mdb_cash::past::tells_out_of_sequence;
-use mdb_cash::{Choice, Gains};
+use mdb_machine::kept::{held, holds_after};
+use mdb_machine::past::tells_out_of_sequence;
+use mdb_machine::{Choice, Gains};
 use mdb_msgs::{ReaderCommand, ReaderConfig, ReaderIter, Reply};
 
 /// The command that the reader takes by a reply that refuses it or doesn't: that says that it came

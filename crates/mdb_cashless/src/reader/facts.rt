@@ -8,7 +8,7 @@ use super::transaction::{Transaction, transaction_of};
 use super::unit::own;
 use arrayvec::ArrayVec;
 use mdb_bus::{Act, Beginning};
-use mdb_cash::past::{Effect, Past};
+use mdb_machine::past::{Effect, Past};
 use mdb_msgs::{Command, ReaderCommand, ReaderConfig, ReaderUnit, Reply};
 
 /// What counts of the acts so far for a reader (this profile): a running value, which doesn't grow
@@ -31,11 +31,11 @@ impl ReaderFacts {
     ghost use Rattle.std.specs.Prelude.{◌≤◌, None, length};
     ghost use Rattle.mdb_msgs.specs.Setups.{config_known};
     ghost use Rattle.mdb_bus.specs.declared.act.Act.TheVariants as acts;
-    ghost use Rattle.mdb_cash.specs.Known.{known_before};
-    ghost use Rattle.mdb_cash.specs.PastValues.{first_past, past_in};
+    ghost use Rattle.mdb_machine.specs.Known.{known_before};
+    ghost use Rattle.mdb_machine.specs.PastValues.{first_past, past_in};
     ghost use Rattle.mdb_cashless.specs.Reader.{taken as answered};
     ghost use Rattle.mdb_cashless.specs.ReaderMessages.{messages_of};
-    ghost use Rattle.mdb_cash.specs.Past.{or_else};
+    ghost use Rattle.mdb_machine.specs.Past.{or_else};
     ghost use Rattle.mdb_msgs.specs.declared.reply.reader.ReaderMsg.{ReaderMsg};
     ghost use Rattle.mdb_cashless.specs.inner.ReaderSaid.{IsSaid};
     ghost use Rattle.mdb_cashless.specs.ReaderValues.{facts_in, powered, taken, told, told_in, told_with};

@@ -4,11 +4,11 @@
 
 ghost use Rattle.std.specs.Prelude.{◌≡◌, ◌<◌, ◌≤◌, ◌+◌, ◌↔◌, ◌⊎◌, Contains, IfSome, Option, Some, false, true};
 ghost use Rattle.arrayvec.specs.ArrayVec.{array_vec_len};
-ghost use Rattle.mdb_cash.specs.declared.gains.Gains.{Gains};
-ghost use Rattle.mdb_cash.specs.Gains.{IsSmall};
-ghost use Rattle.mdb_cash.specs.Known.{Unknown};
-ghost use Rattle.mdb_cash.specs.Pair.{IsOnlyStep};
-ghost use Rattle.mdb_cash.specs.PastValues.{if_known};
+ghost use Rattle.mdb_machine.specs.declared.gains.Gains.{Gains};
+ghost use Rattle.mdb_machine.specs.Gains.{IsSmall};
+ghost use Rattle.mdb_machine.specs.Known.{Unknown};
+ghost use Rattle.mdb_machine.specs.Pair.{IsOnlyStep};
+ghost use Rattle.mdb_machine.specs.PastValues.{if_known};
 ghost use Rattle.mdb_cashless.specs.declared.reader.state.ReaderState.{ReaderState};
 ghost use Rattle.mdb_cashless.specs.Reader as spec;
 ghost use Rattle.mdb_cashless.specs.ReaderFacts.{own_transaction};
@@ -25,8 +25,8 @@ use super::transaction::{Transaction, transaction_of};
 use super::unit::own;
 use arrayvec::ArrayVec;
 use mdb_bus::Act;
-use mdb_cash::past::tells_out_of_sequence;
-use mdb_cash::{Choice, Gains};
+use mdb_machine::past::tells_out_of_sequence;
+use mdb_machine::{Choice, Gains};
 use mdb_msgs::{ReaderCommand, ReaderUnit, Reply};
 
 /// The step by an act that is settled, under a choice and from a state.

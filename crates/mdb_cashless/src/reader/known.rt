@@ -2,9 +2,9 @@
 
 ghost use Rattle.std.specs.Prelude.{◌≡◌};
 ghost use Rattle.std.specs.Option.{is_some};
-ghost use Rattle.mdb_cash.specs.Kept.{kept_of};
-ghost use Rattle.mdb_cash.specs.Past.{unless_empty};
-ghost use Rattle.mdb_cash.specs.PastValues.{from_power_on};
+ghost use Rattle.mdb_machine.specs.Kept.{kept_of};
+ghost use Rattle.mdb_machine.specs.Past.{unless_empty};
+ghost use Rattle.mdb_machine.specs.PastValues.{from_power_on};
 ghost use Rattle.mdb_cashless.specs.ReaderFacts as spec;
 ghost use Rattle.mdb_cashless.specs.ReaderMessages.{parts_of};
 ghost use Rattle.mdb_cashless.specs.ReaderValues as values;

@@ -3,10 +3,10 @@
 ghost use Rattle.std.specs.Prelude.{◌≡◌, ◌≤◌, length, map};
 ghost use Rattle.std.specs.List.{list_any};
 ghost use Rattle.mdb_msgs.specs.Reader.{is_kept};
-ghost use Rattle.mdb_cash.specs.Kept.{IsSummary, is_reset};
+ghost use Rattle.mdb_machine.specs.Kept.{IsSummary, is_reset};
 ghost use Rattle.mdb_cashless.specs.ReaderMessages as spec;
 
-use mdb_cash::kept::{KeptMessage, Part, Summary};
+use mdb_machine::kept::{KeptMessage, Part, Summary};
 use mdb_msgs::{ReaderConfig, ReaderIter, ReaderMsg, Reply};
 
 /// The meaning of a kept message of a cashless reader (MDB/ICP 4.3, cashless device; which messages
@@ -81,8 +81,8 @@ pub(crate) struct Said {
 impl Said {
     ghost use Rattle.std.specs.Prelude.{◌+◌, ◌<◌, ◌||◌, ◌++◌, List, [], ◌∷◌};
     ghost use Rattle.arrayvec.specs.ArrayVec.{array_vec_len};
-    ghost use Rattle.mdb_cash.specs.Past.{is_out_of_sequence, or_else};
-    ghost use Rattle.mdb_cash.specs.declared.kept.Part.{Part};
+    ghost use Rattle.mdb_machine.specs.Past.{is_out_of_sequence, or_else};
+    ghost use Rattle.mdb_machine.specs.declared.kept.Part.{Part};
     ghost use Rattle.mdb_cashless.specs.declared.reader.messages.ReaderActivity.{ReaderActivity};
     ghost use Rattle.mdb_cashless.specs.inner.ReaderSaid.{IsSaid};
 

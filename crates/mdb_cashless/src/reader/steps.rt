@@ -4,12 +4,12 @@ ghost use Rattle.std.specs.Prelude.{◌≡◌, ◌≤◌, ◌↔◌, IfSome};
 ghost use Rattle.std.specs.Bool.{OnFalse, OnTrue};
 ghost use Rattle.mdb_msgs.specs.declared.command.Device.TheVariants as devices;
 ghost use Rattle.mdb_msgs.specs.declared.command.ReaderUnit.{ReaderUnit};
-ghost use Rattle.mdb_cash.specs.declared.choice.Choice.{Choice};
-ghost use Rattle.mdb_cash.specs.declared.choice.Choice.TheVariants.{Plain};
-ghost use Rattle.mdb_cash.specs.declared.gains.Gains.{Gains};
-ghost use Rattle.mdb_cash.specs.Choices.{CanStand};
-ghost use Rattle.mdb_cash.specs.Gains.{IsSmall, no_gains};
-ghost use Rattle.mdb_cash.specs.Pair.{IsActOf, IsOnlyStep};
+ghost use Rattle.mdb_machine.specs.declared.choice.Choice.{Choice};
+ghost use Rattle.mdb_machine.specs.declared.choice.Choice.TheVariants.{Plain};
+ghost use Rattle.mdb_machine.specs.declared.gains.Gains.{Gains};
+ghost use Rattle.mdb_machine.specs.Choices.{CanStand};
+ghost use Rattle.mdb_machine.specs.Gains.{IsSmall, no_gains};
+ghost use Rattle.mdb_machine.specs.Pair.{IsActOf, IsOnlyStep};
 ghost use Rattle.mdb_cashless.specs.declared.reader.state.ReaderState.{ReaderState};
 ghost use Rattle.mdb_cashless.specs.ReaderFacts.{Facts};
 ghost use Rattle.mdb_cashless.specs.Reader as spec;
@@ -25,7 +25,7 @@ use super::unit::own;
 use super::values::value;
 use super::view::View;
 use mdb_bus::Act;
-use mdb_cash::{Choice, Gains};
+use mdb_machine::{Choice, Gains};
 use mdb_msgs::{Command, ReaderCommand, ReaderUnit};
 
 /// The step by an act under a choice, from a state: the state after it, and its gains. `None`

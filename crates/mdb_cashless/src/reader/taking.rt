@@ -10,7 +10,7 @@ use super::state::ReaderState;
 use super::transaction::{is_again, transaction_of};
 use super::values::value;
 use super::view::View;
-use mdb_cash::Choice;
+use mdb_machine::Choice;
 use mdb_msgs::ReaderCommand;
 
 /// The view after an answer that takes a command, which the controller heard or didn't hear.

@@ -1,9 +1,9 @@
 //! Amounts without a value: nothing tells yet how the reader is set up.
 
 ghost use Rattle.std.specs.Prelude.{◌≡◌, ◌≤◌, length, sum_by};
-ghost use Rattle.mdb_cash.specs.Past.{or_else};
-ghost use Rattle.mdb_cash.specs.Unvalued as amounts;
-ghost use Rattle.mdb_cash.specs.Unvalued.{one_if};
+ghost use Rattle.mdb_machine.specs.Past.{or_else};
+ghost use Rattle.mdb_machine.specs.Unvalued as amounts;
+ghost use Rattle.mdb_machine.specs.Unvalued.{one_if};
 ghost use Rattle.mdb_cashless.specs.Reader as spec;
 ghost use Rattle.mdb_cashless.specs.ReaderMessages.{config_in, last_said, messages_of};
 ghost use Rattle.mdb_cashless.specs.ReaderValues.{known_in};

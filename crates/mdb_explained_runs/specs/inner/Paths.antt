@@ -5,11 +5,11 @@ use Rattle.std.specs.Prelude.{All, Contains, List, ◌++◌, length, slice_index
 use Rattle.mdb_msgs.specs.declared.command.Device.{Device}
 use Rattle.mdb_bus.specs.declared.act.Act.{Act}
 use Rattle.mdb_bus.specs.ActLists.{Piece, acts_of}
-use Rattle.mdb_cash.specs.declared.choice.Choice.{Choice}
-use Rattle.mdb_cash.specs.declared.gains.Gains.{Gains}
-use Rattle.mdb_cash.specs.Gains.{IsSmall}
-use Rattle.mdb_cash.specs.Machine.{Machine}
-use Rattle.mdb_cash.specs.Pair.{IsStep}
+use Rattle.mdb_machine.specs.declared.choice.Choice.{Choice}
+use Rattle.mdb_machine.specs.declared.gains.Gains.{Gains}
+use Rattle.mdb_machine.specs.Gains.{IsSmall}
+use Rattle.mdb_machine.specs.Machine.{Machine}
+use Rattle.mdb_machine.specs.Pair.{IsStep}
 use Rattle.mdb_explained_runs.specs.declared.explain.best.Best.{Best}
 use Rattle.mdb_explained_runs.specs.declared.explain.best.Weight.{Weight}
 use Rattle.mdb_explained_runs.specs.declared.explain.chains.Link.{Link}

@@ -2,7 +2,7 @@
 use Rattle.std.specs.Prelude.{◌≡◌, ◌+◌, ℕ, Some}
 use Rattle.mdb_bus.specs.declared.act.Act.{Act}
 use Rattle.mdb_bus.specs.declared.fault.Rule.{Rule}
-use Rattle.mdb_cash.specs.declared.choice.Choice.{Choice}
+use Rattle.mdb_machine.specs.declared.choice.Choice.{Choice}
 use Rattle.mdb_explained_runs.specs.declared.replay.Replay.{Replay}
 use Rattle.mdb_explained_runs.specs.declared.replay.ReplayFault.{ReplayFault}
 use Rattle.mdb_explained_runs.specs.declared.replay.ReplayFault.TheVariants as faults

@@ -5,9 +5,9 @@ use Rattle.mdb_msgs.specs.declared.command.Device.{Device}
 use Rattle.mdb_bus.specs.declared.act.Act.{Act}
 use Rattle.mdb_bus.specs.declared.fault.Rule.{Rule}
 use Rattle.mdb_bus.specs.declared.scope.Beginning.TheVariants.{PowerOn}
-use Rattle.mdb_cash.specs.declared.choice.Choice.{Choice}
-use Rattle.mdb_cash.specs.Choices.{CanStand}
-use Rattle.mdb_cash.specs.Machine.{Machine}
+use Rattle.mdb_machine.specs.declared.choice.Choice.{Choice}
+use Rattle.mdb_machine.specs.Choices.{CanStand}
+use Rattle.mdb_machine.specs.Machine.{Machine}
 use Rattle.mdb_explained_runs.specs.declared.track.Track.{Track}
 use Rattle.mdb_explained_runs.specs.declared.tracks.Tracks.{Tracks}
 use Rattle.mdb_follow.specs.Choosing.{Choices}

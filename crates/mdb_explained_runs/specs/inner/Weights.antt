@@ -1,7 +1,7 @@
 -- What sums and gains count for a goal, so that less is always better. This serves private
 -- functions.
 use Rattle.std.specs.Prelude.{ℕ, ℤ, pos, neg_ℤ, slice_index}
-use Rattle.mdb_cash.specs.declared.gains.Gains.{Gains}
+use Rattle.mdb_machine.specs.declared.gains.Gains.{Gains}
 use Rattle.mdb_explained_runs.specs.declared.explain.best.Weight.{Weight}
 use Rattle.mdb_explained_runs.specs.declared.explain.best.Weight.TheVariants as weights
 use Rattle.mdb_follow.specs.declared.goal.Bound.{Bound}

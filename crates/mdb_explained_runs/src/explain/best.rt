@@ -2,15 +2,15 @@
 
 ghost use Rattle.std.specs.Prelude.{◌≡◌, ◌<◌, ◌^◌, ℕ, ℤ, pos, neg_ℤ, ◌≤ℤ◌, length};
 ghost use Rattle.std.specs.Bool.{OnFalse, OnTrue};
-ghost use Rattle.mdb_cash.specs.Gains.{IsSmall};
+ghost use Rattle.mdb_machine.specs.Gains.{IsSmall};
 ghost use Rattle.mdb_follow.specs.Ends.{side_value};
 ghost use Rattle.mdb_explained_runs.specs.Marks.{marks_at};
 ghost use Rattle.mdb_explained_runs.specs.inner.Paths.{IsAsGood};
 ghost use Rattle.mdb_explained_runs.specs.inner.Weights.{towards, weight_of};
 
 use super::chains::Chain;
-use mdb_cash::{Choice, Gains};
 use mdb_follow::{AccountSide, Bound};
+use mdb_machine::{Choice, Gains};
 
 /// What the gains of a device count for a goal: less is always better.
 #[derive(Clone, Copy)]

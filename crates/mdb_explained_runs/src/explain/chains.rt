@@ -6,7 +6,7 @@ ghost use Rattle.mdb_explained_runs.specs.declared.mark.Mark.{Mark};
 ghost use Rattle.mdb_explained_runs.specs.inner.Chains.{Denotes, GoBack, IsChain, KeepChains};
 
 use crate::Mark;
-use mdb_cash::Choice;
+use mdb_machine::Choice;
 use std::alloc::{AllocError, Global};
 
 /// A mark with its row, and the chain that it goes on from.

@@ -6,7 +6,7 @@ ghost use Rattle.std.specs.Bool.{OnFalse, OnTrue};
 ghost use Rattle.mdb_bus.specs.declared.act.Act.{Act};
 ghost use Rattle.mdb_bus.specs.declared.scope.Beginning.TheVariants.{PowerOn};
 ghost use Rattle.mdb_bus.specs.ActLists.{Piece, Whole, acts_of, events_of};
-ghost use Rattle.mdb_cash.specs.Choices.{CanStand};
+ghost use Rattle.mdb_machine.specs.Choices.{CanStand};
 ghost use Rattle.mdb_words.specs.declared.event.Event.{Event};
 ghost use Rattle.mdb_follow.specs.Choosing.{Choices, Follows};
 ghost use Rattle.mdb_explained_runs.specs.Marks.{marks_at};
@@ -22,7 +22,7 @@ ghost use Rattle.mdb_explained_runs.specs.declared.explain.best.Weight.{Weight};
 use super::best::{Best, Weight, marks_of};
 use super::chains::Chains;
 use mdb_bus::{Act, Beginning};
-use mdb_cash::{Choice, Pair, other_choice};
+use mdb_machine::{Choice, Pair, other_choice};
 use std::alloc::{AllocError, Global};
 use std::mem;
 

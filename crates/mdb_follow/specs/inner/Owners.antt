@@ -2,7 +2,7 @@
 use Rattle.std.specs.Prelude.{◌≡◌}
 use Rattle.mdb_msgs.specs.declared.command.Device.{Device}
 use Rattle.mdb_bus.specs.declared.act.Act.{Act}
-use Rattle.mdb_cash.specs.Pair.{IsActOf, IsBreak}
+use Rattle.mdb_machine.specs.Pair.{IsActOf, IsBreak}
 use Rattle.mdb_follow.specs.declared.owner.Owner.{Owner}
 use Rattle.mdb_follow.specs.declared.owner.Owner.TheVariants.{One, All, Nobody}
 

@@ -5,7 +5,7 @@ use Rattle.mdb_msgs.specs.declared.command.Device.{Device}
 use Rattle.mdb_bus.specs.declared.act.Act.{Act}
 use Rattle.mdb_bus.specs.declared.fault.Rule.{Rule}
 use Rattle.mdb_bus.specs.declared.scope.Beginning.{Beginning}
-use Rattle.mdb_cash.specs.Machine.{Machine}
+use Rattle.mdb_machine.specs.Machine.{Machine}
 use Rattle.mdb_follow.specs.declared.side.Side.{Side}
 use Rattle.mdb_follow.specs.declared.sides.Sides.{Sides}
 use Rattle.mdb_follow.specs.Machines.{machine_of}

@@ -3,8 +3,8 @@
 ghost use Rattle.std.specs.Prelude.{◌≡◌, ◌<◌, ◌^◌, [], ◌∷◌, ◌↔◌, ℕ, List, IsTrue, None, IfSome};
 ghost use Rattle.std.specs.Prelude.{All, length};
 ghost use Rattle.std.specs.Bool.{OnFalse, OnTrue};
-ghost use Rattle.mdb_cash.specs.Gains.{IsSmall};
-ghost use Rattle.mdb_cash.specs.declared.gains.Gains.{Gains};
+ghost use Rattle.mdb_machine.specs.Gains.{IsSmall};
+ghost use Rattle.mdb_machine.specs.declared.gains.Gains.{Gains};
 ghost use Rattle.mdb_follow.specs.declared.cell.Cell.{Cell};
 ghost use Rattle.mdb_follow.specs.Cells.{moved_cell};
 ghost use Rattle.mdb_follow.specs.inner.Entries.{AreMoves, HasAt, IsKeyed, IsPlaced, LeadTo};
@@ -13,7 +13,7 @@ ghost use Rattle.mdb_follow.specs.Limits.{IsCellWithin, IsTableWithin};
 
 use super::Entries;
 use crate::Cell;
-use mdb_cash::Gains;
+use mdb_machine::Gains;
 
 /// Whether the entry at a place has a code.
 fn has_at(entries: &[(usize, Cell)], place: usize, code: usize) -> bool

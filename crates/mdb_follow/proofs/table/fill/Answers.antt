@@ -2,10 +2,10 @@ use Rattle.std.proofs.Common.{rules, ◌≡◌, ◌<◌, ℕ, Option, refl, sym,
 use Rattle.std.proofs.lemmas.List.{take_all}
 use Rattle.std.proofs.lemmas.List.Elements.{Contains-get_or}
 use Rattle.std.specs.Prelude.{IfSome}
-use Rattle.mdb_cash.specs.declared.gains.Gains.{Gains}
-use Rattle.mdb_cash.specs.Gains.{IsSmall}
-use Rattle.mdb_cash.specs.Pair.{IsMove}
-use Rattle.mdb_cash.proofs.Ways.{small_moves}
+use Rattle.mdb_machine.specs.declared.gains.Gains.{Gains}
+use Rattle.mdb_machine.specs.Gains.{IsSmall}
+use Rattle.mdb_machine.specs.Pair.{IsMove}
+use Rattle.mdb_machine.proofs.Ways.{small_moves}
 use Rattle.mdb_follow.specs.Arrivals.{Arrives}
 use Rattle.mdb_follow.specs.Tables.{ArrivesAt, Bounds}
 use Rattle.mdb_follow.proofs.Led.{Led, led-read, moves-below, moves-small, within-read}

@@ -1,7 +1,7 @@
 use Rattle.std.proofs.Common.{refl, subst}
 use Rattle.std.proofs.lemmas.List.{take_all}
 use Rattle.std.proofs.lemmas.List.Elements.{Contains-get_or}
-use Rattle.mdb_cash.specs.Pair.{IsMove}
+use Rattle.mdb_machine.specs.Pair.{IsMove}
 use Rattle.mdb_follow.specs.Arrivals.{Arrives}
 use Rattle.mdb_follow.specs.Tables.{ArrivesAt, Bounds}
 use Rattle.mdb_follow.proofs.Led.{Led, led-read, within-read}

@@ -1,7 +1,7 @@
 use Rattle.std.proofs.Common.{ℕ, List, ◌+◌, ◌^◌, take}
 use Rattle.mdb_bus.specs.declared.act.Act.{Act}
 use Rattle.mdb_bus.specs.declared.scope.Beginning.{Beginning}
-use Rattle.mdb_cash.specs.Pair.{IsMove}
+use Rattle.mdb_machine.specs.Pair.{IsMove}
 use Rattle.mdb_follow.specs.Arrivals.{Arrives}
 use Rattle.mdb_follow.specs.Limits.{IsTableWithin}
 use Rattle.mdb_follow.specs.Tables.{ArrivesAt, Bounds, IsTable}

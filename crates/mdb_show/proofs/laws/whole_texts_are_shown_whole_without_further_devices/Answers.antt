@@ -3,7 +3,7 @@ use Rattle.mdb_bus.specs.ActLists.{events_of}
 use Rattle.mdb_bus.specs.LeavingOut.{leave_out}
 use Rattle.mdb_follow.specs.declared.follower.TheConstants.{ROWS_MAX}
 use Rattle.mdb_show.specs.Lines.{lines_of}
-use Rattle.mdb_verdict.specs.Verdict.{AreRows}
+use Rattle.mdb_verdict.specs.Rows.{AreRows}
 use Rattle.mdb_show.proofs.laws.whole_texts_are_shown_whole_without_further_devices.Goals as goal
 
 pub returns : goal.returns

@@ -1,7 +1,7 @@
 use Rattle.std.proofs.Common.{[], ap, get_or}
 use Rattle.mdb_follow.specs.declared.account_name.AccountName.TheVariants.{CoinsIn}
 use Rattle.mdb_follow.specs.declared.account_name.TheConstants.AccountName.{ALL}
-use Rattle.mdb_follow.specs.Report.{account_of}
+use Rattle.mdb_follow.specs.AccountNames.{account_of}
 use Rattle.mdb_text.specs.Text.{account_line}
 use Rattle.mdb_text.proofs.Texts.{all_parts, one_part_more}
 use Rattle.mdb_text.proofs.text.write_accounts.Goals as goal

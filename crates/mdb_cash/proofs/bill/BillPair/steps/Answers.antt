@@ -1,14 +1,14 @@
 use Rattle.std.proofs.Common.{◌≡◌, ◌↔◌, List, subst}
 use Rattle.std.specs.List.{Contains}
 use Rattle.mdb_bus.specs.declared.act.Act.{Act}
-use Rattle.mdb_cash.specs.declared.choice.Choice.{Choice}
-use Rattle.mdb_cash.specs.declared.gains.Gains.{Gains}
+use Rattle.mdb_machine.specs.declared.choice.Choice.{Choice}
+use Rattle.mdb_machine.specs.declared.gains.Gains.{Gains}
 use Rattle.mdb_cash.specs.Bill.{conduct, machine}
-use Rattle.mdb_cash.specs.BillFacts.{KnownFacts, known_of, tables}
+use Rattle.mdb_cash.specs.BillFacts.{KnownFacts, tables}
 use Rattle.mdb_cash.specs.inner.BillCodes.{apart, below, code_of}
-use Rattle.mdb_cash.specs.KeeperSteps.{StepKnowing}
+use Rattle.mdb_machine.specs.KeeperSteps.{StepKnowing}
 use Rattle.mdb_cash.specs.declared.bill.state.BillState.{BillState}
-use Rattle.mdb_cash.proofs.StepCodes.{AreCoded, coded_below, steps_coded}
+use Rattle.mdb_machine.proofs.StepCodes.{AreCoded, coded_below, steps_coded}
 use Rattle.mdb_cash.proofs.bill.BillPair.steps.Goals as goal
 
 -- what is known is what is known of the acts

@@ -4,7 +4,7 @@ use Rattle.mdb_bus.specs.declared.act.Act.TheVariants as acts
 use Rattle.mdb_cash.specs.Bill.{conduct}
 use Rattle.mdb_cash.specs.BillFacts.{tables}
 use Rattle.mdb_cash.specs.BillMessages.{part_of}
-use Rattle.mdb_cash.proofs.KeeperSteps.{idle}
+use Rattle.mdb_machine.proofs.KeeperSteps.{idle}
 use Rattle.mdb_cash.proofs.bill.matters.concerns.Goals as goal
 
 pub returns-in-VmcAck-Bill-default-clause-still : goal.returns-in-VmcAck-Bill-default-clause-still

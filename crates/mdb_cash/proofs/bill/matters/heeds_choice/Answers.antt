@@ -4,7 +4,7 @@ use Rattle.mdb_bus.specs.declared.act.Act.TheVariants as acts
 use Rattle.mdb_cash.specs.Bill.{conduct}
 use Rattle.mdb_cash.specs.BillFacts.{tables}
 use Rattle.mdb_cash.specs.BillMessages.{part_of}
-use Rattle.mdb_cash.proofs.KeeperSteps.{unheard, unread}
+use Rattle.mdb_machine.proofs.KeeperSteps.{unheard, unread}
 use Rattle.mdb_cash.proofs.bill.matters.heeds_choice.Goals as goal
 
 pub returns-in-Reply-Bill-default : goal.returns-in-Reply-Bill-default

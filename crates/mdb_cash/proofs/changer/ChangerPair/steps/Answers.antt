@@ -1,14 +1,14 @@
 use Rattle.std.proofs.Common.{◌≡◌, ◌↔◌, List, subst}
 use Rattle.std.specs.List.{Contains}
 use Rattle.mdb_bus.specs.declared.act.Act.{Act}
-use Rattle.mdb_cash.specs.declared.choice.Choice.{Choice}
-use Rattle.mdb_cash.specs.declared.gains.Gains.{Gains}
+use Rattle.mdb_machine.specs.declared.choice.Choice.{Choice}
+use Rattle.mdb_machine.specs.declared.gains.Gains.{Gains}
 use Rattle.mdb_cash.specs.Changer.{conduct, machine}
-use Rattle.mdb_cash.specs.ChangerFacts.{KnownFacts, known_of, tables}
+use Rattle.mdb_cash.specs.ChangerFacts.{KnownFacts, tables}
 use Rattle.mdb_cash.specs.inner.ChangerCodes.{apart, below, code_of}
-use Rattle.mdb_cash.specs.KeeperSteps.{StepKnowing}
+use Rattle.mdb_machine.specs.KeeperSteps.{StepKnowing}
 use Rattle.mdb_cash.specs.declared.changer.state.ChangerState.{ChangerState}
-use Rattle.mdb_cash.proofs.StepCodes.{AreCoded, coded_below, steps_coded}
+use Rattle.mdb_machine.proofs.StepCodes.{AreCoded, coded_below, steps_coded}
 use Rattle.mdb_cash.proofs.changer.ChangerPair.steps.Goals as goal
 
 -- what is known is what is known of the acts

@@ -4,7 +4,7 @@ use Rattle.mdb_bus.specs.declared.act.Act.TheVariants as acts
 use Rattle.mdb_cash.specs.Changer.{conduct}
 use Rattle.mdb_cash.specs.ChangerFacts.{tables}
 use Rattle.mdb_cash.specs.ChangerMessages.{part_of}
-use Rattle.mdb_cash.proofs.KeeperSteps.{idle}
+use Rattle.mdb_machine.proofs.KeeperSteps.{idle}
 use Rattle.mdb_cash.proofs.changer.matters.concerns.Goals as goal
 
 pub returns-in-VmcAck-Changer-default-clause-still : goal.returns-in-VmcAck-Changer-default-clause-still

@@ -2,9 +2,9 @@ use Rattle.std.proofs.Common.{◌≡◌, ◌↔◌, List, subst}
 use Rattle.std.specs.List.{Contains}
 use Rattle.mdb_msgs.specs.declared.command.ReaderUnit.{ReaderUnit}
 use Rattle.mdb_bus.specs.declared.act.Act.{Act}
-use Rattle.mdb_cash.specs.declared.choice.Choice.{Choice}
-use Rattle.mdb_cash.specs.declared.gains.Gains.{Gains}
-use Rattle.mdb_cash.proofs.StepCodes.{AreCoded, coded_below, steps_coded}
+use Rattle.mdb_machine.specs.declared.choice.Choice.{Choice}
+use Rattle.mdb_machine.specs.declared.gains.Gains.{Gains}
+use Rattle.mdb_machine.proofs.StepCodes.{AreCoded, coded_below, steps_coded}
 use Rattle.mdb_cashless.specs.declared.reader.state.ReaderState.{ReaderState}
 use Rattle.mdb_cashless.specs.Reader.{StepKnowing, machine}
 use Rattle.mdb_cashless.specs.ReaderFacts.{KnownFacts}

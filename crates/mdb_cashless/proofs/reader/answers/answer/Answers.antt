@@ -1,6 +1,6 @@
 use Rattle.std.proofs.Common.{◌∙◌, ap, subst, sym}
-use Rattle.mdb_cash.specs.Kept.{held, holds_after}
-use Rattle.mdb_cash.specs.Past.{or_else}
+use Rattle.mdb_machine.specs.Kept.{held, holds_after}
+use Rattle.mdb_machine.specs.Past.{or_else}
 use Rattle.mdb_cashless.specs.Reader.{last_transaction, owes_reset, sold_any, take_any, taken}
 use Rattle.mdb_cashless.specs.inner.ReaderSaid.{IsSaid}
 use Rattle.mdb_cashless.specs.ReaderValues.{facts_in}

@@ -1,5 +1,5 @@
 use Rattle.std.proofs.Common.{◌∙◌, ap, subst}
-use Rattle.mdb_cash.specs.Pair.{IsOnlyStep}
+use Rattle.mdb_machine.specs.Pair.{IsOnlyStep}
 use Rattle.mdb_cashless.specs.Reader as spec
 use Rattle.mdb_cashless.specs.ReaderFacts.{Facts}
 use Rattle.mdb_cashless.specs.ReaderValues.{facts_in, known_in}

@@ -1,6 +1,6 @@
 use Rattle.std.proofs.Common.{◌≡◌, ◌+◌, ◌∙◌, [], ◌∷◌, arith, length, subst, take}
-use Rattle.mdb_cash.specs.Kept.{kept_of}
-use Rattle.mdb_cash.specs.Pair.{IsOnlyStep}
+use Rattle.mdb_machine.specs.Kept.{kept_of}
+use Rattle.mdb_machine.specs.Pair.{IsOnlyStep}
 use Rattle.mdb_cashless.specs.declared.reader.messages.ReaderActivity.TheVariants.{VendDenied}
 use Rattle.mdb_cashless.specs.Reader as spec
 use Rattle.mdb_cashless.specs.ReaderFacts.{Facts}

@@ -1,5 +1,5 @@
 use Rattle.std.proofs.Common.{subst, sym}
-use Rattle.mdb_cash.specs.PastValues.{if_known}
+use Rattle.mdb_machine.specs.PastValues.{if_known}
 use Rattle.mdb_cashless.specs.Reader as spec
 use Rattle.mdb_cashless.specs.ReaderValues.{facts_in}
 use Rattle.mdb_cashless.specs.inner.Guesses.{IsReplyKeeping}

@@ -1,5 +1,5 @@
 use Rattle.std.proofs.Common.{◌∙◌, ◌⊎◌, None, Some, ap, subst}
-use Rattle.mdb_cash.specs.PastValues.{if_known}
+use Rattle.mdb_machine.specs.PastValues.{if_known}
 use Rattle.mdb_cashless.specs.Reader as spec
 use Rattle.mdb_cashless.specs.ReaderFacts.{Facts, own_transaction}
 use Rattle.mdb_cashless.specs.ReaderValues.{facts_in, known_in}

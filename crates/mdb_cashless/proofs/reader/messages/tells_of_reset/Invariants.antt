@@ -1,6 +1,6 @@
 use Rattle.std.proofs.Common.{◌≡◌}
 use Rattle.std.specs.List.{list_any}
-use Rattle.mdb_cash.specs.Kept.{is_reset}
+use Rattle.mdb_machine.specs.Kept.{is_reset}
 use Rattle.mdb_cashless.specs.ReaderMessages.{messages_of, part_of}
 use Rattle.mdb_cashless.proofs.reader.messages.tells_of_reset.Given as goal
 

@@ -1,7 +1,7 @@
 use Rattle.std.proofs.Common.{rules, ℕ, List, subst}
 use Rattle.std.proofs.lemmas.List.{take_all}
 use Rattle.mdb_bus.specs.declared.scope.Beginning.TheVariants.{PowerOn}
-use Rattle.mdb_cash.specs.Choices.{CanStand}
+use Rattle.mdb_machine.specs.Choices.{CanStand}
 use Rattle.mdb_explained_runs.specs.declared.explain.best.Best.{Best}
 use Rattle.mdb_explained_runs.specs.inner.Paths.{AreLed}
 use Rattle.mdb_explained_runs.proofs.EntryLimits.{entry-within-kept}

@@ -2,10 +2,10 @@ use Rattle.std.proofs.Common.{◌≡◌, ◌∙◌, inl, inr, refl, subst, sym}
 use Rattle.std.proofs.lemmas.Option.{none-some, same_Some}
 use Rattle.mdb_bus.specs.declared.act.Act.{Act}
 use Rattle.mdb_bus.specs.declared.scope.Beginning.TheVariants.{PowerOn}
-use Rattle.mdb_cash.specs.Choices.{CanStand}
-use Rattle.mdb_cash.specs.declared.choice.Choice.{Choice}
-use Rattle.mdb_cash.specs.declared.choice.Choice.TheVariants.{Plain}
-use Rattle.mdb_cash.proofs.Ways.{plain_or_not}
+use Rattle.mdb_machine.specs.Choices.{CanStand}
+use Rattle.mdb_machine.specs.declared.choice.Choice.{Choice}
+use Rattle.mdb_machine.specs.declared.choice.Choice.TheVariants.{Plain}
+use Rattle.mdb_machine.proofs.Ways.{plain_or_not}
 use Rattle.mdb_explained_runs.proofs.Steps.{takes-alone, takes-both}
 use Rattle.mdb_explained_runs.proofs.explain.paths.take_steps.Goals as goal
 

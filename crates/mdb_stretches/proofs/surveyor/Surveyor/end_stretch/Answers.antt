@@ -1,4 +1,4 @@
-use Rattle.std.proofs.Common.{arith, refl, ap, sym, subst, ◌∙◌, ◌≡◌, ◌+◌, ◌*◌, ◌^◌, ◌≤◌, ℕ, List, [], ◌∷◌, ◌++◌, Some, None}
+use Rattle.std.proofs.Common.{arith, refl, sym, subst, ◌∙◌, ◌+◌, ◌*◌, ◌^◌}
 use Rattle.mdb_follow.specs.Follower as follow
 use Rattle.mdb_stretches.specs.Totals.{AreWithin}
 use Rattle.mdb_stretches.proofs.Standing.{next_stands}

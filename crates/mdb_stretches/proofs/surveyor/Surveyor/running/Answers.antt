@@ -1,4 +1,3 @@
-use Rattle.std.proofs.Common.{arith, refl, ap, sym, subst, ◌∙◌, ◌≡◌, ◌+◌, ◌*◌, ◌^◌, ◌≤◌, ℕ, List, [], ◌∷◌, ◌++◌, Some, None}
 use Rattle.mdb_follow.specs.Follower as follow
 use Rattle.mdb_stretches.proofs.Standing.{runs}
 use Rattle.mdb_stretches.proofs.Within.{can_be_added}

@@ -1,7 +1,5 @@
-use Rattle.std.proofs.Common.{arith, refl, ap, sym, subst, ◌∙◌, ◌≡◌, ◌+◌, ◌*◌, ◌^◌, ◌≤◌, ℕ, List, [], ◌∷◌, ◌++◌, Some, None}
+use Rattle.std.proofs.Common.{refl, ◌∙◌, []}
 use Rattle.mdb_stretches.specs.Stretches.{first_place}
-use Rattle.mdb_stretches.specs.Told.{told_after}
-use Rattle.mdb_bus.specs.ActLists.{acts_of}
 use Rattle.mdb_stretches.proofs.Standing.{told_nothing}
 use Rattle.mdb_stretches.proofs.surveyor.Surveyor.scoped.Goals as goal
 

@@ -1,9 +1,0 @@
-use Rattle.std.proofs.Common.{Bool, Some, sym, subst, ◌∙◌}
-use Rattle.mdb_cash.specs.KeeperSteps.{AckStep}
-use Rattle.mdb_cash.specs.KeeperValues.{facts_in}
-use Rattle.mdb_cash.specs.Pair.{IsOnlyStep}
-use Rattle.mdb_cash.proofs.conduct.ack.Goals as goal
-
-pub returns-then-not-is_poll-clause-step : goal.returns-then-not-is_poll-clause-step
-returns-then-not-is_poll-clause-step g c =
-    subst (λ (p : Bool). IsOnlyStep (AckStep g.K.Conduct.conduct (facts_in c.args.facts.now) p c.args.command c.args.choice c.args.before) (Some c.ack.result)) (sym c.if-not-is_poll.true ∙ c.is_poll.ensures) c.ack.ensures.step

@@ -1,9 +1,0 @@
-use Rattle.mdb_cash.proofs.Knowing.{all_unvalued}
-use Rattle.std.proofs.Common.{ap, sym, ◌∙◌}
-use Rattle.mdb_cash.proofs.conduct.unvalued_by.Goals as goal
-
-pub returns-else-is_some-clause-adds : goal.returns-else-is_some-clause-adds
-returns-else-is_some-clause-adds g c begins acts stands =
-    all_unvalued g.K.Keeper.tables g.K.Conduct.conduct begins c.args.act.now acts c.args.known.now.facts.setup
-    c.amounts_in.result (ap (λ known. known.setup) stands) (sym c.is_some.ensures ∙ c.if-is_some.false)
-    c.amounts_in.ensures.count

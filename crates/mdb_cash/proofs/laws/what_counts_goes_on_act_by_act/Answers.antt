@@ -1,5 +1,0 @@
-use Rattle.mdb_cash.specs.inner.PastWays.{past_more}
-use Rattle.mdb_cash.proofs.laws.what_counts_goes_on_act_by_act.Goals as goal
-
-pub returns : goal.returns
-returns g c = past_more

@@ -1,7 +1,0 @@
-use Rattle.mdb_cash.proofs.Ways.{still_elsewhere}
-use Rattle.mdb_cash.proofs.pair.Pair.concerns.Goals as goal
-
-pub returns-clause-still : goal.returns-clause-still
-returns-clause-still g c =
-    still_elsewhere g.Self.Pair.device c.device.result g.Self.Pair.machine c.args.act.now
-    c.is_act_of.result g.met.Self.Pair.is_machine c.device.ensures c.is_act_of.ensures

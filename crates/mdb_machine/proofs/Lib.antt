@@ -1,0 +1,11 @@
+pub mod KeeperFacts
+pub mod KeeperSteps
+pub mod KeptLists
+pub mod Knowing
+pub mod Masks
+pub mod MidSession
+pub mod PastAfter
+pub mod PowerOn
+pub mod Sizes
+pub mod StepCodes
+pub mod Ways

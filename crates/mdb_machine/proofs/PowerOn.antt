@@ -1,0 +1,91 @@
+-- From power-on all is known of a device that keeps messages.
+use Rattle.std.proofs.Common.{◌≡◌, ◌∙◌, ◌↔◌, ◌&&◌, ◌||◌, not, Bool, true, false, List, [], Option, Some, None, option_map, refl, ap, sym, subst, unwrap_or}
+use Rattle.std.proofs.Math.Path.{fun_ext}
+use Rattle.mdb_bus.specs.declared.act.Act.{Act}
+use Rattle.mdb_bus.specs.declared.scope.Beginning.TheVariants.{PowerOn}
+use Rattle.mdb_machine.specs.declared.choice.Choice.{Choice}
+use Rattle.mdb_machine.specs.declared.gains.Gains.{Gains}
+use Rattle.mdb_machine.specs.declared.past.Effect.TheVariants as effects
+use Rattle.mdb_machine.specs.Keeper.{AllowsFacts, Facts, Tables, asked_by, effect_of, facts_of, known_of, parts_by, setup_by}
+use Rattle.mdb_machine.specs.KeeperSteps.{Conduct, KeeperStep, StepKnowing}
+use Rattle.mdb_machine.specs.Known.{Allows, AllowsKept, known_by}
+use Rattle.mdb_machine.specs.Past.{enables, last_list, last_told, or_else, past_of}
+use Rattle.mdb_machine.specs.inner.PastWays.{same_past}
+
+-- the facts are the same where their fields are
+pub same_facts : {Setup Asked M : Type 0} {one other : Facts Setup Asked M}
+    → one.setup ≡ other.setup → one.last_asked ≡ other.last_asked → one.past ≡ other.past
+    → one ≡ other
+same_facts {Setup} {Asked} {M} {one} {other} setup asked past =
+    let same : record one { setup = one.setup } ≡ record other { setup = other.setup } =
+    cc (setup, asked, past) in
+    same
+
+or_none : {X : Type 0} (told : Option X) → or_else told None ≡ told
+or_none (Some x) = refl
+or_none None = refl
+
+asked_known : {X : Type 0} (told asked : Option X)
+    → Allows (known_by PowerOn None (option_map (λ (x : X). Some x) told)) asked ↔ (asked ≡ told)
+asked_known None asked = (λ e. e, λ e. e)
+asked_known (Some x) asked = (λ e. e, λ e. e)
+
+kept_known : {M : Type 0} (told : Option (List M)) (holds : Bool) (kept : List M)
+    → AllowsKept (known_by PowerOn [] told) holds kept ↔ (kept ≡ unwrap_or told [])
+kept_known None holds kept = (λ e. e, λ e. e)
+kept_known (Some list) holds kept = (λ e. e, λ e. e)
+
+no_more : (a b : Bool) → (a || (false && b)) ≡ a
+no_more true b = refl
+no_more false b = refl
+
+owed_so : (a : Bool) → (a && not false) ≡ a
+owed_so true = refl
+owed_so false = refl
+
+pub power_on_known : {Own Setup Asked M : Type 0} (tables : Tables Own Setup Asked M)
+    (so_far : List Act) (holds : Bool) (facts : Facts Setup Asked M)
+    → AllowsFacts (known_of tables PowerOn so_far) holds facts ↔ (facts ≡ facts_of tables so_far)
+power_on_known {Setup = Setup} {Asked = Asked} {M = M} tables so_far holds facts =
+    let setup = or_none (last_told (setup_by tables) so_far) in
+    let asked = asked_known (last_told (asked_by tables) so_far) in
+    let past = past_of (effect_of tables) (parts_by tables) so_far in
+    let kept = kept_known (last_list (parts_by tables) so_far) holds in
+    let all = effects.Enable 65535 in (
+      λ is. same_facts (is.setup ∙ setup) ((asked facts.last_asked).0 is.last_asked)
+          (same_past
+          (λ kind. ap (λ e. e kind) is.past.enabled ∙ no_more (past.enabled kind) (enables kind all))
+          (is.past.reset_owed ∙ owed_so past.reset_owed)
+          ((kept facts.past.last_kept).0 is.past.last_kept)),
+      λ same. record {
+        setup = ap (λ (f : Facts Setup Asked M). f.setup) same ∙ sym setup;
+        last_asked = (asked facts.last_asked).1
+            (ap (λ (f : Facts Setup Asked M). f.last_asked) same);
+        past = record {
+          enabled = fun_ext (λ kind. ap (λ (f : Facts Setup Asked M). f.past.enabled kind) same
+              ∙ sym (no_more (past.enabled kind) (enables kind all)));
+          reset_owed = ap (λ (f : Facts Setup Asked M). f.past.reset_owed) same
+              ∙ sym (owed_so past.reset_owed);
+          last_kept = (kept facts.past.last_kept).1
+              (ap (λ (f : Facts Setup Asked M). f.past.last_kept) same);
+        };
+      },
+    )
+
+-- so a step is the one after the facts that the acts leave
+pub power_on_steps : {Own Setup Asked M State : Type 0} (tables : Tables Own Setup Asked M)
+    (conduct : Conduct Own Setup Asked M State) (so_far : List Act) (act : Act) (choice : Choice)
+    (before after : State) (gains : Gains)
+    → StepKnowing tables conduct (known_of tables PowerOn so_far) act choice before after gains
+    ↔ KeeperStep tables conduct (facts_of tables so_far) act choice before after gains
+power_on_steps tables conduct so_far act choice before after gains =
+    let holds = conduct.holds before in
+    let facts = facts_of tables so_far in (
+      λ step. subst (λ f. KeeperStep tables conduct f act choice before after gains)
+          ((power_on_known tables so_far holds step.facts).0 step.allowed) step.step,
+      λ step. record {
+        facts = facts;
+        allowed = (power_on_known tables so_far holds facts).1 refl;
+        step = step;
+      },
+    )

@@ -1,0 +1,9 @@
+use Rattle.std.proofs.Common.{ap, ◌∙◌}
+use Rattle.mdb_machine.specs.KeeperValues.{known_with}
+use Rattle.mdb_machine.specs.inner.KeeperWays.{known_more_of}
+use Rattle.mdb_machine.proofs.keeper.KeeperKnown.learn.Goals as goal
+
+pub returns : goal.returns
+returns g c = λ begins acts before.
+    let tables = g.K.Keeper.tables in
+    c.note.ensures ∙ (ap (known_with tables c.args.act.now) before ∙ known_more_of tables begins c.args.act.now acts)

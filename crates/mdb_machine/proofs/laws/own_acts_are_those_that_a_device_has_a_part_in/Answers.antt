@@ -1,0 +1,11 @@
+use Rattle.mdb_machine.specs.inner.OwnWays.{decides, with_other, with_own}
+use Rattle.mdb_machine.proofs.laws.own_acts_are_those_that_a_device_has_a_part_in.Goals as goal
+
+pub returns-clause-own : goal.returns-clause-own
+returns-clause-own c = with_own
+
+pub returns-clause-other : goal.returns-clause-other
+returns-clause-other c = with_other
+
+pub returns-clause-test : goal.returns-clause-test
+returns-clause-test c = decides

@@ -1,0 +1,70 @@
+-- How the code keeps the facts of a device that keeps messages. `facts_in` says what a value of
+-- facts stands for; the rest serves private functions.
+use Rattle.std.specs.Prelude.{Bool, true, ◌||◌, Some, option_and_then, option_map}
+use Rattle.std.specs.Option.{is_none}
+use Rattle.mdb_msgs.specs.declared.reply.Reply.{Reply}
+use Rattle.mdb_bus.specs.declared.act.Act.{Act}
+use Rattle.mdb_bus.specs.declared.act.Act.TheVariants as acts
+use Rattle.mdb_machine.specs.declared.keeper.KeeperFacts.{KeeperFacts}
+use Rattle.mdb_machine.specs.declared.keeper.KeeperKnown.{KeeperKnown}
+use Rattle.mdb_machine.specs.Keeper.{Facts, KnownFacts, Tables, asked_by, effect_of, parts_by, setup_by}
+use Rattle.mdb_machine.specs.Past.{effect_answered, or_else, resets}
+use Rattle.mdb_machine.specs.PastValues.{if_known, known_more, known_past_with, past_after, past_in, past_known, past_with}
+
+-- the facts that are kept
+abbrev pub facts_in : {K Own Setup Asked M Message : Type 0}
+    → KeeperFacts K Own Setup Asked M Message → Facts Setup Asked M
+facts_in facts =
+    record { setup = facts.setup; last_asked = facts.last_asked; past = past_in facts.past }
+
+-- the facts after one act more
+abbrev pub facts_with : {Own Setup Asked M : Type 0} → Tables Own Setup Asked M → Act
+    → Facts Setup Asked M → Facts Setup Asked M
+facts_with tables act facts =
+    record {
+      setup = or_else (setup_by tables act) facts.setup;
+      last_asked = or_else (asked_by tables act) facts.last_asked;
+      past = past_with (effect_of tables) (parts_by tables) act facts.past;
+    }
+
+-- the facts after a reply of the device to its command
+abbrev pub facts_told : {Own Setup Asked M : Type 0} → Tables Own Setup Asked M → Own → Reply
+    → Facts Setup Asked M → Facts Setup Asked M
+facts_told tables command reply facts =
+    let effect = effect_answered (tables.effect_of command) reply in
+    record {
+      setup = or_else (tables.setup_of reply) facts.setup;
+      last_asked = facts.last_asked;
+      past = past_after (resets effect) effect (tables.parts_of reply) facts.past;
+    }
+
+-- what is known of the facts
+abbrev pub known_in : {K Own Setup Asked M Message : Type 0}
+    → KeeperKnown K Own Setup Asked M Message → KnownFacts Setup Asked M
+known_in known =
+    record {
+      setup = known.facts.setup;
+      last_asked = if_known known.knows_asked known.facts.last_asked;
+      past = past_known known.knows_kept known.facts.past;
+    }
+
+-- what is known after one act more
+abbrev pub known_with : {Own Setup Asked M : Type 0} → Tables Own Setup Asked M → Act
+    → KnownFacts Setup Asked M → KnownFacts Setup Asked M
+known_with tables act known =
+    record {
+      setup = or_else (setup_by tables act) known.setup;
+      last_asked = known_more (option_map (λ asked. Some asked) (asked_by tables act))
+          known.last_asked;
+      past = known_past_with (effect_of tables) (parts_by tables) act known.past;
+    }
+
+-- Whether what is known settles an act: an ask of what counts, where it is known what was asked
+-- last, and a reply, where the last kept list is known. All other acts it settles.
+abbrev pub settled : {Own Setup Asked M : Type 0} → Tables Own Setup Asked M → Bool → Bool → Act
+    → Bool
+settled tables knows_asked knows_kept (acts.Ask command) =
+    knows_asked || is_none (option_and_then tables.asked_of (tables.own command))
+settled tables knows_asked knows_kept (acts.Reply command reply) =
+    knows_kept || is_none (tables.own command)
+settled tables knows_asked knows_kept act = true

@@ -1,0 +1,15 @@
+pub mod Choices
+pub mod Gains
+pub mod Keeper
+pub mod KeeperSteps
+pub mod KeeperValues
+pub mod Kept
+pub mod Known
+pub mod Machine
+pub mod MidSession
+pub mod Pair
+pub mod Past
+pub mod PastValues
+pub mod Steps
+pub mod Unvalued
+pub mod inner
