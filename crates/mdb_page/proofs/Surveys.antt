@@ -16,7 +16,7 @@ use Rattle.mdb_survey_text.specs.SurveyText.{stretch_text, summary_text}
 use Rattle.mdb_page.specs.Answers.{written}
 use Rattle.mdb_page.specs.Lines as texts
 use Rattle.mdb_page.specs.Lines.{HasRead, IsLine, IsUnmarked, TellsRow}
-use Rattle.mdb_page.specs.Surveys.{AreShown, EndsSo, HasNoRoom, IsSurveyed, IsWhole, faultless, faulty, no_row, too_long, unread}
+use Rattle.mdb_page.specs.Surveys.{EndsSo, HasNoRoom, IsSurveyed, IsWhole, faultless, faulty, no_row, too_long, unread}
 use Rattle.mdb_page.specs.inner.Surveying.{AreLater, EndsWith, HasListed, HasSurveyed, StopsFor}
 use Rattle.mdb_page.specs.declared.answer.PageTold.{PageTold}
 use Rattle.mdb_page.specs.declared.faults.FaultListing.{FaultListing}

@@ -1,7 +1,4 @@
 use Rattle.std.proofs.Common.{true, ◌∷◌, ◌++◌, ◌∙◌, ap, arith, inl, inr, refl, subst, sym}
-use Rattle.std.proofs.lemmas.List.{length-append}
-use Rattle.mdb_survey_text.specs.Lines.{ended_lines}
-use Rattle.mdb_survey_text.specs.SurveyText.{text_lines}
 use Rattle.mdb_page.specs.Surveys.{written_lines}
 use Rattle.mdb_page.specs.inner.Surveying.{HasListed}
 use Rattle.mdb_page.specs.declared.faults.FaultListing.{FaultListing}
