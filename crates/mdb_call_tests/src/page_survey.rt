@@ -111,6 +111,14 @@ fn are_texts(bytes: &[u8], count: u64, first: &[u8], second: &[u8]) -> bool {
         && bytes[first.len()..].starts_with(second)
 }
 
+/// Whether so many first bytes end with a text.
+fn is_ended_by(bytes: &[u8], count: u64, end: &[u8]) -> bool {
+    match bytes.get(..count as usize) {
+        Some(text) => text.ends_with(end),
+        None => false,
+    }
+}
+
 #[test]
 fn faults_are_listed_and_the_whole_is_answered(rt: HostRuntime) {
     let mut lines = PageLines {
@@ -158,7 +166,7 @@ fn a_survey_that_ends_early_answers_with_its_stretch(rt: HostRuntime) {
             .starts_with(b"stretch 1 rows 1-1\ndecimals changer -")
     );
     let end = b"unvalued changer 0 bill 0 cashless 0 cashless-2 0\n";
-    assert!(rt; answer.bytes[..answer.count as usize].ends_with(end));
+    assert!(rt; is_ended_by(&answer.bytes, answer.count, end));
     let (number, told, answer) = surveyed(b"\n\"0\",M,108\n", 0, &mut [], &mut lines);
     assert_eq!(rt; (number, told.row, told.offset), (4, 1, 1));
     assert_eq!(rt; (answer.count, lines.count), (0, 0));
