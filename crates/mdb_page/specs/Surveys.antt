@@ -36,8 +36,8 @@ pub record HasNoRoom (room : ℕ) (later shown : List Ended) : Type 0 where
   pub full : (length shown ≡ room)
       ⊎ (LINES_ROOM < length (lines_of text_lines (next ∷ shown)))
 
--- Of all faults the first are passed over, so many as there are of them. After these come those that
--- are shown, and after these come later ones, if the first of them has no room.
+-- Of all faults the first are passed over, so many as there are of them. After these come those
+-- that are shown, and after these come later ones, if the first of them has no room.
 pub record AreShown (skip room : ℕ) (ended shown : List Ended) : Type 0 where
   pub later : List Ended
   pub passed : List Ended
@@ -71,8 +71,8 @@ pub record IsPart (rows : List Event) (last : Stretch) (row : ℕ) (text : List 
   pub number : row ≡ length rows + 1
   pub is : text ≡ stretch_text last
 
--- Why a survey ended after rows, where a text is left: the row and the fault that are told, the text
--- of the answer, and the answer.
+-- Why a survey ended after rows, where a text is left: the row and the fault that are told, the
+-- text of the answer, and the answer.
 pub data EndsSo (rows : List Event) (ended : List Ended) (last : Stretch) (rest : List ℕ)
     (row fault : ℕ) (text : List ℕ) : ℕ → Type 0 where
   -- All lines were read, and there is no fault.
@@ -92,8 +92,8 @@ pub data EndsSo (rows : List Event) (ended : List Ended) (last : Stretch) (rest 
       → IsUnread bare → EndsSo rows ended last rest row fault text 4
 
 -- The first lines of a text are rows that have a survey, and the reading ended after them. Of its
--- faults those after the first `skip` are listed, as far as they have room. The number of all, and of
--- these, is told, and how many bytes stand before what is left.
+-- faults those after the first `skip` are listed, as far as they have room. The number of all, and
+-- of these, is told, and how many bytes stand before what is left.
 pub record IsSurveyed (scope : Scope) (text : List ℕ) (skip : ℕ) (faults : List PageFault)
     (lines : PageLines) (told : PageTold) (answer : PageText) (number : ℕ) : Type 0 where
   pub body : List ℕ

@@ -61,8 +61,8 @@ impl FaultListing {
         self.listed as u64
     }
 
-    /// Takes a fault, with the stretch that it ended. So many bytes are left of the text from its line
-    /// on. Returns whether `entry` had room for its lines.
+    /// Takes a fault, with the stretch that it ended. So many bytes are left of the text from its
+    /// line on. Returns whether `entry` had room for its lines.
     pub(crate) fn take(
         &mut self,
         faults: &mut [PageFault],

@@ -2,10 +2,10 @@
 //!
 //! The recording lies in memory as text. [`mdb_page_check`] puts the verdict and its text into
 //! memory that the page provides. [`mdb_page_list`] puts there the acts, and the news: what the
-//! acts report of money, sales, resets, breaks and silences. [`mdb_page_survey`] puts there the lines
-//! of a survey and the places of its faults. [`mdb_page_layout`] has the sizes of what is put there.
-//! The crate allocates nothing. Each call reads the whole text, and keeps
-//! nothing for the next call. Rows are numbered from 1, and times are in microseconds.
+//! acts report of money, sales, resets, breaks and silences. [`mdb_page_survey`] puts there the
+//! lines of a survey and the places of its faults. [`mdb_page_layout`] has the sizes of what is put
+//! there. The crate allocates nothing. Each call reads the whole text, and keeps nothing for the
+//! next call. Rows are numbered from 1, and times are in microseconds.
 #![tactic(auto)]
 
 mod acts;

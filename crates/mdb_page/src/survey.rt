@@ -44,17 +44,17 @@ enum Stop {
 /// - 5: the options aren't valid;
 /// - 6: the text of the answer, or of a fault with its stretch, has no room in `answer`.
 ///
-/// With 0 and 1 `answer` has the lines of the last stretch, if that has a row, and of the whole. With
-/// 2, 3 and 4 it has those of the stretch that ran.
+/// With 0 and 1 `answer` has the lines of the last stretch, if that has a row, and of the whole.
+/// With 2, 3 and 4 it has those of the stretch that ran.
 ///
 /// `faults` and `lines` have the faults after the first `skip`, as far as there is room in both:
-/// `faults` has an entry for each, and `lines` has, in the same order, the lines of the stretch that
-/// the fault ended, and the fault's own. Where one has no room, no later one is listed. So what
-/// `mdbcheck survey` prints is the lines of all faults, by several calls where there isn't room for
-/// all, and after these `answer`.
+/// `faults` has an entry for each, and `lines` has, in the same order, the lines of the stretch
+/// that the fault ended, and the fault's own. Where one has no room, no later one is listed. So
+/// what `mdbcheck survey` prints is the lines of all faults, by several calls where there isn't
+/// room for all, and after these `answer`.
 ///
-/// `told` shows where the reading ended, how many faults there are in all (`acts`), and how many are
-/// listed (`news`).
+/// `told` shows where the reading ended, how many faults there are in all (`acts`), and how many
+/// are listed (`news`).
 #[unsafe(no_mangle)]
 pub extern "C" fn mdb_page_survey(
     options: &PageOptions,

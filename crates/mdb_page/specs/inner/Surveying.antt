@@ -1,5 +1,5 @@
--- How the survey of a text comes about, row by row. This file serves private functions and proofs: no
--- public clause cites it.
+-- How the survey of a text comes about, row by row. This file serves private functions and proofs:
+-- no public clause cites it.
 use Rattle.std.specs.Prelude.{◌≡◌, ◌≢◌, ◌+◌, ◌<◌, ◌≤◌, ℕ, Bool, true, false, List, [], ◌++◌, length}
 use Rattle.mdb_words.specs.declared.event.Event.{Event}
 use Rattle.mdb_bus.specs.declared.scope.Scope.{Scope}
