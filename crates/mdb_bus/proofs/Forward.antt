@@ -1,7 +1,7 @@
 -- A row that a position leads on by extends the act list.
 use Rattle.std.proofs.Common.{◌⊎◌, arith, refl, ap, sym, subst, ◌∙◌, ◌≡◌, ◌+◌, ◌<◌, ◌≤◌, ℕ, List, [], ◌∷◌, ◌++◌, inl, inr, Some, length, length-append, append_assoc}
 use Rattle.std.proofs.lemmas.List.Elements.{All-append, All-from_recursion}
-use Rattle.mdb_words.specs.declared.limits.TheConstants.{BLOCK_GAP_MAX, BREAK_LENGTH_MIN}
+use Rattle.mdb_words.specs.declared.limits.TheConstants.{WORD_GAP_MIN, BLOCK_GAP_MAX, BREAK_LENGTH_MIN}
 use Rattle.mdb_words.specs.declared.event.Event.{Event}
 use Rattle.mdb_words.specs.declared.event.Event.TheVariants.{Word, Break}
 use Rattle.mdb_words.specs.declared.word.Line.{Line}
@@ -15,7 +15,7 @@ use Rattle.mdb_bus.specs.declared.act.Act.TheVariants as acts
 use Rattle.mdb_bus.specs.inner.Step.{Step}
 use Rattle.mdb_bus.specs.inner.Step as step
 use Rattle.mdb_bus.specs.Acts.{Say}
-use Rattle.mdb_bus.specs.ActLists.{Piece, Whole, AskTail, ReplyTail, RepeatTail, Position, Quiet, InAsk, Asked, InReply, Replied, Returned, InRepeat, InForeign, ArePieces, AreSpaced, InTime, IsPiece, IsReplyFront, IsSaid, IsTail, MayCome, MayStand, PieceFitsLevels, act_in, acts_of, events_of, first_position, last_of, left_open, levels_of, piece_events, position_of, with_act}
+use Rattle.mdb_bus.specs.ActLists.{Piece, Whole, AskTail, ReplyTail, RepeatTail, Position, Quiet, InAsk, Asked, InReply, Replied, Returned, InRepeat, InForeign, ArePieces, AreSpaced, Within, IsPiece, IsReplyFront, IsSaid, IsTail, MayCome, MayStand, PieceFitsLevels, act_in, acts_of, events_of, first_position, last_of, left_open, levels_of, piece_events, position_of, with_act}
 use Rattle.mdb_bus.specs.Bus.{Grown}
 use Rattle.mdb_bus.specs.LinkFaults.{asked_device, situation_of}
 use Rattle.mdb_bus.specs.inner.Steps.{Answers, AnswersReply, BeginsRepeat, GoesOnAsking, GoesOnRepeating, GoesOnReplying, Leads, Opens, WordLeads, act_after, asked_after, grown, levels_after_step, piece_after, pieces_after, position_after}
@@ -279,12 +279,12 @@ longer : (scope : Scope) (tail : Piece) (pieces : List Piece) (row : Event) (nex
     → MayCome (piece (piece_events tail ++ row ∷ [])) (position_of scope pieces)
     (last_of (events_of pieces)) first)
     → PieceFitsLevels (levels_of scope.levels pieces) (piece (piece_events tail ++ row ∷ []))
-    → InTime BLOCK_GAP_MAX (last_of (events_of (tail ∷ pieces))) row
+    → Within WORD_GAP_MIN BLOCK_GAP_MAX (last_of (events_of (tail ∷ pieces))) row
     → Extended scope (tail ∷ pieces) row next
 longer scope tail pieces row next piece is_tail adds added made are said comes levels gap =
     let stood = are.1 in
     let old = piece_events tail in
-    let Timed : List Event → Type 0 = λ es. InTime BLOCK_GAP_MAX (last_of (events_of pieces ++ es))
+    let Timed : List Event → Type 0 = λ es. Within WORD_GAP_MIN BLOCK_GAP_MAX (last_of (events_of pieces ++ es))
     row in
     let Spaced : List Event → Type 0 = λ es. AreSpaced es in
     let Longer : List Event → Type 0 = λ es. AreSpaced (es ++ row ∷ []) in

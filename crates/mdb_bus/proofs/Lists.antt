@@ -10,7 +10,7 @@ use Rattle.mdb_words.specs.declared.word.Line.TheVariants.{Controller}
 use Rattle.mdb_words.specs.Event.{AtLeast, AtMost}
 use Rattle.mdb_blocks.specs.Block.{controller_words, peripheral_words}
 use Rattle.mdb_bus.specs.Acts.{Say, said_by}
-use Rattle.mdb_bus.specs.ActLists.{AreSpaced, InTime, last_of}
+use Rattle.mdb_bus.specs.ActLists.{AreSpaced, Within, last_of}
 
 -- a list that isn't empty has a last element
 pub front_and_last : {X : Type 0} (xs : List X) → xs ≢ [] → (front : List X) × (last : X)
@@ -135,12 +135,12 @@ spaced_front (x ∷ y ∷ ys) from to spaced =
 -- the same after other events
 pub inside : (before front : List Event) (event : Event) → front ≢ []
     → AreSpaced (front ++ event ∷ [])
-    → AreSpaced front × InTime BLOCK_GAP_MAX (last_of (before ++ front)) event
+    → AreSpaced front × Within WORD_GAP_MIN BLOCK_GAP_MAX (last_of (before ++ front)) event
 inside before front event some spaced =
     let split = front_and_last front some in
     let Longer : List Event → Type 0 = λ es. AreSpaced (es ++ event ∷ []) in
     let Alone : List Event → Type 0 = λ es. AreSpaced es in
-    let In : Option Event → Type 0 = λ from. InTime BLOCK_GAP_MAX from event in
+    let In : Option Event → Type 0 = λ from. Within WORD_GAP_MIN BLOCK_GAP_MAX from event in
     let apart = spaced_front split.0 split.1 event (subst Longer split.2 spaced) in
     let joined : before ++ front ≡ (before ++ split.0) ++ split.1 ∷ [] =
     ap (λ es. before ++ es) split.2 ∙ sym (append_assoc before split.0 (split.1 ∷ [])) in

@@ -9,7 +9,7 @@ use Rattle.mdb_words.specs.declared.word.Line.TheVariants.{Controller, Periphera
 use Rattle.mdb_words.specs.Event.{AtLeast, AtMost}
 use Rattle.mdb_blocks.specs.Block.{block_of, controller_words, peripheral_words}
 use Rattle.mdb_bus.specs.Acts.{IsBlockWord, Say, said_by}
-use Rattle.mdb_bus.specs.ActLists.{AreSpaced, InTime, last_of}
+use Rattle.mdb_bus.specs.ActLists.{AreSpaced, Within, last_of}
 
 -- a list that begins with an element has a last one
 front_and_last : {X : Type 0} (x : X) (xs : List X) → (front : List X) × (last : X)
@@ -101,7 +101,7 @@ spaced_push (x ∷ y ∷ ys) from to spaced least most =
 -- the newest events with a row in time for their block
 pub spaced_more : (rows : List Event) (first : Event) (others : List Event) (row : Event)
     → AreSpaced (first ∷ others)
-    → InTime BLOCK_GAP_MAX (last_of (rows ++ first ∷ others)) row
+    → Within WORD_GAP_MIN BLOCK_GAP_MAX (last_of (rows ++ first ∷ others)) row
     → AreSpaced ((first ∷ others) ++ row ∷ [])
 spaced_more rows first others row spaced gap =
     let split = front_and_last first others in
@@ -109,8 +109,8 @@ spaced_more rows first others row spaced gap =
     ap (λ es. rows ++ es) split.2 ∙ sym (append_assoc rows split.0 (split.1 ∷ [])) in
     let last : last_of (rows ++ first ∷ others) ≡ Some split.1 =
     ap last_of joined ∙ last_push (rows ++ split.0) split.1 in
-    let Near : Option Event → Type 0 = λ from. InTime BLOCK_GAP_MAX from row in
-    let here : InTime BLOCK_GAP_MAX (Some split.1) row = subst Near last gap in
+    let Near : Option Event → Type 0 = λ from. Within WORD_GAP_MIN BLOCK_GAP_MAX from row in
+    let here : Within WORD_GAP_MIN BLOCK_GAP_MAX (Some split.1) row = subst Near last gap in
     let Spaced : List Event → Type 0 = λ es. AreSpaced es in
     let Longer : List Event → Type 0 = λ es. AreSpaced (es ++ row ∷ []) in
     subst Longer (sym split.2) (spaced_push split.0 split.1 row (subst Spaced split.2 spaced) here.0

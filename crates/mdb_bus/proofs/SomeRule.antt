@@ -29,7 +29,7 @@ use Rattle.mdb_bus.specs.declared.levels.Levels.{Levels}
 use Rattle.mdb_bus.specs.inner.Step.{Step}
 use Rattle.mdb_bus.specs.inner.Step as step
 use Rattle.mdb_bus.specs.Acts.{IsReply, reply_words}
-use Rattle.mdb_bus.specs.ActLists.{Position, Quiet, InAsk, Asked, InReply, Replied, Returned, InRepeat, InForeign, BlockMayCome, InTime, IsAskFront, IsLow, IsReplyFront, NotBefore, NotAfter, level_for, rest_before_block, rest_before_break, tells_high}
+use Rattle.mdb_bus.specs.ActLists.{Position, Quiet, InAsk, Asked, InReply, Replied, Returned, InRepeat, InForeign, BlockMayCome, Within, IsAskFront, IsLow, IsReplyFront, NotBefore, NotAfter, level_for, rest_before_block, rest_before_break, tells_high}
 use Rattle.mdb_bus.specs.LinkFaults.{HasBadMessage, HasHighLevels, IsBefore, IsAfter, IsChanged, IsFirstBroken, IsBeyondProfile, IsOutside, OutOfOrder, RowBreaks, Situation, TooEarly, TooFarApart, TooLate, TooShort, WrongAnswer, WrongLength, WrongMode, WrongSpeaker, WrongSum}
 use Rattle.mdb_bus.specs.inner.Steps.{GoesOnAsking, IsSound, Leads, Opens}
 use Rattle.mdb_bus.proofs.Decided.{Decided, Found, all_three, both, denied, either, first_or_none, held, is_true, less, meant, never, next_in, same, within}
@@ -383,7 +383,7 @@ opens scope grammar position from to word high inside comes =
 ask_whole : (scope : Scope) → Grammar scope → (bytes : List ℕ) (from : Option Event) (to : Event) (word : ℕ)
     → All IsByte bytes
     → needed_in scope bytes ≡ need.Exactly (length bytes + 1) → word < 256 → word ≡ sum bytes % 256
-    → InTime BLOCK_GAP_MAX from to
+    → Within WORD_GAP_MIN BLOCK_GAP_MAX from to
     → (next : Step) × GoesOnAsking scope bytes from to word next
 ask_whole scope grammar bytes from to word low told small total near =
     let found = grammar.is_command bytes low told in
@@ -394,7 +394,7 @@ ask_whole scope grammar bytes from to word low told small total near =
 ask_longer : (scope : Scope) → Grammar scope → (bytes : List ℕ) (from : Option Event) (to : Event) (word n : ℕ) → bytes ≢ []
     → All IsByte bytes
     → needed_in scope (bytes ++ word ∷ []) ≡ need.Exactly n → length bytes + 1 < n → word < 256
-    → InTime BLOCK_GAP_MAX from to
+    → Within WORD_GAP_MIN BLOCK_GAP_MAX from to
     → (next : Step) × GoesOnAsking scope bytes from to word next
 ask_longer scope grammar bytes from to word n some low told long small near =
     let longer = bytes ++ word ∷ [] in
@@ -413,7 +413,7 @@ ask_longer scope grammar bytes from to word n some low told long small near =
 second_byte : (scope : Scope) → Grammar scope → (first : ℕ) (from : Option Event) (to : Event) (word : ℕ)
     → All IsByte (first ∷ [])
     → needed_in scope (first ∷ []) ≡ need.More → (needed_in scope (first ∷ word ∷ []) ≡ need.Outside → ⊥) → word < 256
-    → InTime BLOCK_GAP_MAX from to
+    → Within WORD_GAP_MIN BLOCK_GAP_MAX from to
     → (n : Need) → needed_in scope (first ∷ word ∷ []) ≡ n → (next : Step) × GoesOnAsking scope (first ∷ []) from
     to word next
 second_byte scope grammar first from to word low more inside small near (need.Exactly n) told =
@@ -432,7 +432,7 @@ asks_second : (scope : Scope) → Grammar scope → (bytes : List ℕ) (from : O
     → length bytes ≡ 1
     → All IsByte bytes
     → needed_in scope bytes ≡ need.More → (needed_in scope (bytes ++ word ∷ []) ≡ need.Outside → ⊥) → word < 256
-    → InTime BLOCK_GAP_MAX from to
+    → Within WORD_GAP_MIN BLOCK_GAP_MAX from to
     → (next : Step) × GoesOnAsking scope bytes from to word next
 asks_second scope grammar [] from to word one low more inside small near = absurd (omega (arith, one))
 asks_second scope grammar (first ∷ []) from to word one low more inside small near =
@@ -447,7 +447,7 @@ asks_further : (scope : Scope) → Grammar scope → (bytes : List ℕ) (from : 
     → All IsByte bytes
     → needed_in scope bytes ≡ need.Exactly n → length bytes + 1 ≤ n
     → ((needed_in scope bytes ≡ need.Exactly (length bytes + 1)) × (word ≢ sum bytes % 256) → ⊥) → word < 256
-    → InTime BLOCK_GAP_MAX from to
+    → Within WORD_GAP_MIN BLOCK_GAP_MAX from to
     → Decided (n ≡ length bytes + 1) → (next : Step) × GoesOnAsking scope bytes from to word next
 asks_further scope grammar bytes from to word n some low told enough summed small near (inl is) =
     let whole : needed_in scope bytes ≡ need.Exactly (length bytes + 1) = told ∙ ap need.Exactly is in
@@ -464,7 +464,7 @@ asks : (scope : Scope) → Grammar scope → (bytes : List ℕ) (from : Option E
     → length bytes + 1 ≤ whole
     → ((needed_in scope bytes ≡ need.Exactly (length bytes + 1)) × (word ≢ sum bytes % 256) → ⊥)
     → ((needed_in scope bytes ≡ need.More) × (needed_in scope (bytes ++ word ∷ []) ≡ need.Outside) → ⊥) → word < 256
-    → InTime BLOCK_GAP_MAX from to
+    → Within WORD_GAP_MIN BLOCK_GAP_MAX from to
     → (n : Need) → needed_in scope bytes ≡ n → IsTold n (length bytes) whole
     → (next : Step) × GoesOnAsking scope bytes from to word next
 asks scope grammar bytes from to word whole some low enough summed inside small near (need.Exactly n) told
@@ -486,7 +486,7 @@ goes_on_asking : (scope : Scope) → Grammar scope → (bytes : List ℕ) (from 
     → LeadsOn scope (InAsk bytes) from levels (Word at Controller word)
 goes_on_asking scope grammar bytes from levels at word front none =
     let small : word < 256 = held (less word 256) (λ high. none rule.Mode (omega (arith, high))) in
-    let near : InTime BLOCK_GAP_MAX from (Word at Controller word) = (
+    let near : Within WORD_GAP_MIN BLOCK_GAP_MAX from (Word at Controller word) = (
       not_before WORD_GAP_MIN from (Word at Controller word) (none rule.Early),
       not_after BLOCK_GAP_MAX from (Word at Controller word) (none rule.Spacing),
     ) in
@@ -519,7 +519,7 @@ when_asked scope command from levels at word none (inr high) =
     marked (same word (answer_word Peripheral answers.Ack))
     (same word (answer_word Peripheral answers.Nak))
   where
-    near : InTime ANSWER_GAP_MAX from (Word at Peripheral word)
+    near : Within WORD_GAP_MIN ANSWER_GAP_MAX from (Word at Peripheral word)
     near = (
       not_before WORD_GAP_MIN from (Word at Peripheral word) (none rule.Early),
       not_after ANSWER_GAP_MAX from (Word at Peripheral word) (none rule.Late),
@@ -537,7 +537,7 @@ when_asked scope command from levels at word none (inr high) =
 reply_longer : (scope : Scope) (command : Command) (bytes : List ℕ) (from : Option Event) (levels : Levels)
     (at word : ℕ)
     → NoneBroken scope (InReply command bytes) from levels (Word at Peripheral word) → word < 256
-    → InTime BLOCK_GAP_MAX from (Word at Peripheral word)
+    → Within WORD_GAP_MIN BLOCK_GAP_MAX from (Word at Peripheral word)
     → LeadsOn scope (InReply command bytes) from levels (Word at Peripheral word)
 reply_longer scope command bytes from levels at word none low near =
     let short : length bytes < 35 =
@@ -548,7 +548,7 @@ reply_longer scope command bytes from levels at word none low near =
 reply_whole : (scope : Scope) → Grammar scope → (command : Command) (bytes : List ℕ) (from : Option Event) (levels : Levels)
     (at word : ℕ)
     → NoneBroken scope (InReply command bytes) from levels (Word at Peripheral word) → 256 ≤ word
-    → InTime BLOCK_GAP_MAX from (Word at Peripheral word) → Read command bytes
+    → Within WORD_GAP_MIN BLOCK_GAP_MAX from (Word at Peripheral word) → Read command bytes
     → LeadsOn scope (InReply command bytes) from levels (Word at Peripheral word)
 reply_whole scope grammar command bytes from levels at word none high near (inl good) =
     let total : word ≡ 256 + sum bytes % 256 =
@@ -588,7 +588,7 @@ replies : (scope : Scope) → Grammar scope → (command : Command) (bytes : Lis
     → LeadsOn scope (InReply command bytes) from levels (Word at Peripheral word)
 replies scope grammar command bytes from levels at word front none sized = by sized
   where
-    near : InTime BLOCK_GAP_MAX from (Word at Peripheral word)
+    near : Within WORD_GAP_MIN BLOCK_GAP_MAX from (Word at Peripheral word)
     near = (
       not_before WORD_GAP_MIN from (Word at Peripheral word) (none rule.Early),
       not_after BLOCK_GAP_MAX from (Word at Peripheral word) (none rule.Spacing),
@@ -611,7 +611,7 @@ vmc_answers : (scope : Scope) (command : Command) (reply : Reply) (from : Option
     → LeadsOn scope (Replied command reply) from levels (Word at Controller word)
 vmc_answers scope command reply from levels at word none low ack nak ret = by ack nak ret
   where
-    near : InTime ANSWER_GAP_MAX from (Word at Controller word)
+    near : Within WORD_GAP_MIN ANSWER_GAP_MAX from (Word at Controller word)
     near = (
       not_before WORD_GAP_MIN from (Word at Controller word)
           (λ early. none rule.Early (inr (low, early))),
@@ -686,7 +686,7 @@ words_long command reply good =
 repeat_begins : (scope : Scope) (command : Command) (reply : Reply) (from : Option Event) (levels : Levels)
     (at word : ℕ)
     → IsReply command reply
-    → InTime ANSWER_GAP_MAX from (Word at Peripheral word) → (rest : List ℕ)
+    → Within WORD_GAP_MIN ANSWER_GAP_MAX from (Word at Peripheral word) → (rest : List ℕ)
     → word ∷ rest ≡ reply_words reply
     → LeadsOn scope (Returned command reply) from levels (Word at Peripheral word)
 repeat_begins scope command reply from levels at word good near [] is =
@@ -728,7 +728,7 @@ not_empty (w ∷ words) word none = cc
 repeat_goes_on : (scope : Scope) (command : Command) (reply : Reply) (words : List ℕ) (from : Option Event)
     (levels : Levels)
     (at word : ℕ)
-    → InTime BLOCK_GAP_MAX from (Word at Peripheral word) → (rest : List ℕ)
+    → Within WORD_GAP_MIN BLOCK_GAP_MAX from (Word at Peripheral word) → (rest : List ℕ)
     → words ++ word ∷ rest ≡ reply_words reply
     → LeadsOn scope (InRepeat command reply words) from levels (Word at Peripheral word)
 repeat_goes_on scope command reply words from levels at word near [] is = (step.Repeat, (is, near))

@@ -26,7 +26,7 @@ use Rattle.mdb_bus.specs.declared.levels.Levels.{Levels}
 use Rattle.mdb_bus.specs.inner.Step.{Step}
 use Rattle.mdb_bus.specs.inner.Step as step
 use Rattle.mdb_bus.specs.Acts.{IsForeignOpening, IsForeignWord, IsReply, reply_words}
-use Rattle.mdb_bus.specs.ActLists.{Position, Quiet, InAsk, Asked, InReply, Replied, Returned, InRepeat, InForeign, BlockMayCome, InTime, IsAskFront, IsLow, IsRepeatFront, NotBefore, NotAfter, level_for, rest_before_block, rest_before_break, tells_high}
+use Rattle.mdb_bus.specs.ActLists.{Position, Quiet, InAsk, Asked, InReply, Replied, Returned, InRepeat, InForeign, BlockMayCome, Within, IsAskFront, IsLow, IsRepeatFront, NotBefore, NotAfter, level_for, rest_before_block, rest_before_break, tells_high}
 use Rattle.mdb_bus.specs.LinkFaults.{HasHighLevels, IsBefore, IsAfter, IsNext, IsOutside, OutOfOrder, RowBreaks, Situation}
 use Rattle.mdb_bus.specs.inner.Steps.{Answers, AnswersReply, BeginsRepeat, GoesOnAsking, GoesOnForeign, GoesOnRepeating, GoesOnReplying, IsSound, Leads, Opens, WordLeads}
 use Rattle.mdb_bus.specs.inner.Grammar.{Grammar}
@@ -250,7 +250,7 @@ vmc_answers : (scope : Scope) (command : Command) (reply : Reply) (from : Option
     (answer : Answer) (broken : Rule)
     → Broken scope (Replied command reply) from levels (Word at Controller word) broken
     → word < 256 → word ≡ answer_word Controller answer
-    → InTime ANSWER_GAP_MAX from (Word at Controller word) → ⊥
+    → Within WORD_GAP_MIN ANSWER_GAP_MAX from (Word at Controller word) → ⊥
 vmc_answers scope command reply from levels at word answer rule.Order breaks low is near =
     in_order WORD_GAP_MIN from (Word at Controller word) (omega arith) breaks near.0
 vmc_answers scope command reply from levels at word answer rule.Early (inl breaks) low is near =
@@ -336,7 +336,7 @@ ask_goes_on : (scope : Scope) → Grammar scope → (bytes : List ℕ) (from : O
     (broken : Rule)
     → bytes ≢ [] → Broken scope (InAsk bytes) from levels (Word at Controller word) broken
     → word ≡ byte → word < 256 → IsAskFront scope (bytes ++ byte ∷ [])
-    → InTime BLOCK_GAP_MAX from (Word at Controller word) → ⊥
+    → Within WORD_GAP_MIN BLOCK_GAP_MAX from (Word at Controller word) → ⊥
 ask_goes_on scope grammar bytes from levels at word byte rule.Order some breaks is low front near =
     in_order WORD_GAP_MIN from (Word at Controller word) (omega arith) breaks near.0
 ask_goes_on scope grammar bytes from levels at word byte rule.Mode some breaks is low front near =
@@ -366,7 +366,7 @@ ask_ends : (scope : Scope) → Grammar scope → (bytes : List ℕ) (from : Opti
     (broken : Rule)
     → Broken scope (InAsk bytes) from levels (Word at Controller word) broken
     → word < 256 → Asks scope command (bytes ++ word ∷ [])
-    → InTime BLOCK_GAP_MAX from (Word at Controller word) → ⊥
+    → Within WORD_GAP_MIN BLOCK_GAP_MAX from (Word at Controller word) → ⊥
 ask_ends scope grammar bytes from levels at word command rule.Order breaks low spelled near =
     in_order WORD_GAP_MIN from (Word at Controller word) (omega arith) breaks near.0
 ask_ends scope grammar bytes from levels at word command rule.Mode breaks low spelled near =
@@ -396,7 +396,7 @@ foreign_begins : (scope : Scope) (bytes : List ℕ) (from : Option Event) (level
     (broken : Rule)
     → bytes ≢ [] → Broken scope (InAsk bytes) from levels (Word at Controller word) broken
     → word < 256 → IsForeignOpening scope (bytes ++ word ∷ [])
-    → InTime BLOCK_GAP_MAX from (Word at Controller word) → ⊥
+    → Within WORD_GAP_MIN BLOCK_GAP_MAX from (Word at Controller word) → ⊥
 foreign_begins scope bytes from levels at word rule.Order some breaks low opening near =
     in_order WORD_GAP_MIN from (Word at Controller word) (omega arith) breaks near.0
 foreign_begins scope bytes from levels at word rule.Mode some breaks low opening near =
@@ -434,7 +434,7 @@ ack_comes : (scope : Scope) (command : Command) (from : Option Event) (levels : 
     (broken : Rule)
     → Broken scope (Asked command) from levels (Word at Peripheral word) broken
     → (word ≡ answer_word Peripheral answers.Ack) ⊎ (word ≡ answer_word Peripheral answers.Nak)
-    → InTime ANSWER_GAP_MAX from (Word at Peripheral word) → ⊥
+    → Within WORD_GAP_MIN ANSWER_GAP_MAX from (Word at Peripheral word) → ⊥
 ack_comes scope command from levels at word rule.Order breaks is near =
     in_order WORD_GAP_MIN from (Word at Peripheral word) (omega arith) breaks near.0
 ack_comes scope command from levels at word rule.Early breaks is near =
@@ -453,7 +453,8 @@ ack_comes scope command from levels at word other breaks is near = breaks
 reply_begins : (scope : Scope) (command : Command) (from : Option Event) (levels : Levels) (at word : ℕ)
     (broken : Rule)
     → Broken scope (Asked command) from levels (Word at Peripheral word) broken
-    → word < 256 → MayHaveData command → InTime ANSWER_GAP_MAX from (Word at Peripheral word) → ⊥
+    → word < 256 → MayHaveData command
+    → Within WORD_GAP_MIN ANSWER_GAP_MAX from (Word at Peripheral word) → ⊥
 reply_begins scope command from levels at word rule.Order breaks low may near =
     in_order WORD_GAP_MIN from (Word at Peripheral word) (omega arith) breaks near.0
 reply_begins scope command from levels at word rule.Early breaks low may near =
@@ -483,7 +484,8 @@ reply_goes_on : (scope : Scope) (command : Command) (bytes : List ℕ) (from : O
     (at word : ℕ)
     (broken : Rule)
     → Broken scope (InReply command bytes) from levels (Word at Peripheral word) broken
-    → word < 256 → length bytes < 35 → InTime BLOCK_GAP_MAX from (Word at Peripheral word) → ⊥
+    → word < 256 → length bytes < 35
+    → Within WORD_GAP_MIN BLOCK_GAP_MAX from (Word at Peripheral word) → ⊥
 reply_goes_on scope command bytes from levels at word rule.Order breaks low short near =
     in_order WORD_GAP_MIN from (Word at Peripheral word) (omega arith) breaks near.0
 reply_goes_on scope command bytes from levels at word rule.Early breaks low short near =
@@ -546,7 +548,7 @@ reply_ends : (scope : Scope) → Grammar scope → (command : Command) (bytes : 
     → Broken scope (InReply command bytes) from levels (Word at Peripheral word) broken
     → word ≡ 256 + sum bytes % 256 → IsReply command reply → bytes ≡ reply_bytes reply
     → (tells_high reply ≡ true → IsLow (level_for command levels))
-    → InTime BLOCK_GAP_MAX from (Word at Peripheral word) → ⊥
+    → Within WORD_GAP_MIN BLOCK_GAP_MAX from (Word at Peripheral word) → ⊥
 reply_ends scope grammar command bytes from levels at word reply rule.Order breaks is good same low near =
     in_order WORD_GAP_MIN from (Word at Peripheral word) (omega arith) breaks near.0
 reply_ends scope grammar command bytes from levels at word reply rule.Early breaks is good same low near =
@@ -592,7 +594,8 @@ repeat_begins : (scope : Scope) (command : Command) (reply : Reply) (from : Opti
     (at word : ℕ)
     (broken : Rule)
     → Broken scope (Returned command reply) from levels (Word at Peripheral word) broken
-    → IsRepeatFront reply (word ∷ []) → InTime ANSWER_GAP_MAX from (Word at Peripheral word) → ⊥
+    → IsRepeatFront reply (word ∷ [])
+    → Within WORD_GAP_MIN ANSWER_GAP_MAX from (Word at Peripheral word) → ⊥
 repeat_begins scope command reply from levels at word rule.Order breaks front near =
     in_order WORD_GAP_MIN from (Word at Peripheral word) (omega arith) breaks near.0
 repeat_begins scope command reply from levels at word rule.Early breaks front near =
@@ -618,7 +621,8 @@ repeat_goes_on : (scope : Scope) (command : Command) (reply : Reply) (words : Li
     (levels : Levels)
     (at word : ℕ) (broken : Rule)
     → Broken scope (InRepeat command reply words) from levels (Word at Peripheral word) broken
-    → IsNext (reply_words reply) words word → InTime BLOCK_GAP_MAX from (Word at Peripheral word)
+    → IsNext (reply_words reply) words word
+    → Within WORD_GAP_MIN BLOCK_GAP_MAX from (Word at Peripheral word)
     → ⊥
 repeat_goes_on scope command reply words from levels at word rule.Order breaks next near =
     in_order WORD_GAP_MIN from (Word at Peripheral word) (omega arith) breaks near.0

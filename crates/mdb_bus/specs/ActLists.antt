@@ -169,9 +169,9 @@ abbrev pub rest_before_break : Option Event → ℕ
 rest_before_break (Some (Break at length)) = 0
 rest_before_break _ = WORD_GAP_MIN
 
--- a row comes in time: not too soon after the row before it, and at most so long after it
-abbrev pub InTime : ℕ → Option Event → Event → Type 0
-InTime most from to = NotBefore WORD_GAP_MIN from to × NotAfter most from to
+-- a row comes at least, and at most, so long after the row before it
+abbrev pub Within : ℕ → ℕ → Option Event → Event → Type 0
+Within least most from to = NotBefore least from to × NotAfter most from to
 
 -- a block of the controller may begin: an ask, or a foreign opening
 abbrev pub BlockMayCome : Position → Option Event → Event → Type 0
@@ -187,17 +187,17 @@ BlockMayCome InForeign from to = NotBefore WORD_GAP_MIN from to
 -- a peripheral's ACK, NAK or reply to a command may come
 abbrev pub AnswerMayCome : Command → Position → Option Event → Event → Type 0
 AnswerMayCome command position from to = (position ≡ Asked command)
-    × InTime ANSWER_GAP_MAX from to
+    × Within WORD_GAP_MIN ANSWER_GAP_MAX from to
 
 -- the controller's ACK, NAK or RET to a reply may come
 abbrev pub VmcAnswerMayCome : Command → Reply → Position → Option Event → Event → Type 0
 VmcAnswerMayCome command reply position from to = (position ≡ Replied command reply)
-    × InTime ANSWER_GAP_MAX from to
+    × Within WORD_GAP_MIN ANSWER_GAP_MAX from to
 
 -- a repeat of a reply may come
 abbrev pub RepeatMayCome : Command → Reply → Position → Option Event → Event → Type 0
 RepeatMayCome command reply position from to = (position ≡ Returned command reply)
-    × InTime ANSWER_GAP_MAX from to
+    × Within WORD_GAP_MIN ANSWER_GAP_MAX from to
 
 -- a foreign act may come: a block where its first event is a marked word of the controller, and
 -- else a further word

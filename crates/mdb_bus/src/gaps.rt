@@ -55,7 +55,8 @@ pub(crate) fn is_later_than(last: &Option<Event>, row: &Event, most: u64) -> boo
 /// Refuses a row that is no answer in its time: it comes too soon, or too late.
 #[inline(always)]
 pub(crate) fn in_answer_time(last: &Option<Event>, row: &Event) -> Result<(), Rule>
-    ensures timely { OnOk result (lists.InTime limits.ANSWER_GAP_MAX last.now row.now) }
+    ensures timely { OnOk result
+        (lists.Within limits.WORD_GAP_MIN limits.ANSWER_GAP_MAX last.now row.now) }
     ensures untimely { IfErr result
         (IsUntimely rules.Late limits.ANSWER_GAP_MAX last.now row.now) }
 {
@@ -72,7 +73,8 @@ pub(crate) fn in_answer_time(last: &Option<Event>, row: &Event) -> Result<(), Ru
 /// the word before it.
 #[inline(always)]
 pub(crate) fn in_block_time(last: &Option<Event>, row: &Event) -> Result<(), Rule>
-    ensures timely { OnOk result (lists.InTime limits.BLOCK_GAP_MAX last.now row.now) }
+    ensures timely { OnOk result
+        (lists.Within limits.WORD_GAP_MIN limits.BLOCK_GAP_MAX last.now row.now) }
     ensures untimely { IfErr result
         (IsUntimely rules.Spacing limits.BLOCK_GAP_MAX last.now row.now) }
 {

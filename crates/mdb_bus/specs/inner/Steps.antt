@@ -32,7 +32,7 @@ use Rattle.mdb_bus.specs.inner.Step as step
 use Rattle.mdb_bus.specs.declared.scope.Scope.{Scope}
 use Rattle.mdb_bus.specs.Scopes.{Asks}
 use Rattle.mdb_bus.specs.Acts.{IsForeignOpening, IsReply, reply_words}
-use Rattle.mdb_bus.specs.ActLists.{Piece, Whole, AskTail, ReplyTail, RepeatTail, Position, Quiet, InAsk, Asked, InReply, Replied, Returned, InRepeat, InForeign, BlockMayCome, BreakMayCome, InTime, IsAskFront, IsLow, IsRepeatFront, IsReplyFront, NotBefore, act_in, left_by, level_for, levels_after, position_of, tells_high}
+use Rattle.mdb_bus.specs.ActLists.{Piece, Whole, AskTail, ReplyTail, RepeatTail, Position, Quiet, InAsk, Asked, InReply, Replied, Returned, InRepeat, InForeign, BlockMayCome, BreakMayCome, Within, IsAskFront, IsLow, IsRepeatFront, IsReplyFront, NotBefore, act_in, left_by, level_for, levels_after, position_of, tells_high}
 use Rattle.mdb_bus.specs.LinkFaults.{HasHighLevels, IsBefore, IsAfter, IsFirstBroken, IsOutside, Situation}
 
 -- the rule of time that a row breaks which doesn't come in time: it is early, or it is late by this
@@ -53,54 +53,59 @@ Opens scope position from to word _ = ⊥
 -- a word goes on with a block of the controller, or ends it
 abbrev pub GoesOnAsking : Scope → List ℕ → Option Event → Event → ℕ → Step → Type 0
 GoesOnAsking scope bytes from to word (step.AskByte byte) =
-    (word ≡ byte) × (word < 256) × IsAskFront scope (bytes ++ byte ∷ []) × InTime BLOCK_GAP_MAX from to
+    (word ≡ byte) × (word < 256) × IsAskFront scope (bytes ++ byte ∷ [])
+    × Within WORD_GAP_MIN BLOCK_GAP_MAX from to
 GoesOnAsking scope bytes from to word (step.Ask command) =
-    (word < 256) × Asks scope command (bytes ++ word ∷ []) × InTime BLOCK_GAP_MAX from to
+    (word < 256) × Asks scope command (bytes ++ word ∷ [])
+    × Within WORD_GAP_MIN BLOCK_GAP_MAX from to
 GoesOnAsking scope bytes from to word step.Foreign =
-    (word < 256) × IsForeignOpening scope (bytes ++ word ∷ []) × InTime BLOCK_GAP_MAX from to
+    (word < 256) × IsForeignOpening scope (bytes ++ word ∷ [])
+    × Within WORD_GAP_MIN BLOCK_GAP_MAX from to
 GoesOnAsking scope bytes from to word _ = ⊥
 
 -- a word answers a command, or begins to
 abbrev pub Answers : Command → Option Event → Event → ℕ → Step → Type 0
 Answers command from to word step.Ack =
-    (word ≡ answer_word Peripheral answers.Ack) × InTime ANSWER_GAP_MAX from to
+    (word ≡ answer_word Peripheral answers.Ack) × Within WORD_GAP_MIN ANSWER_GAP_MAX from to
 Answers command from to word step.Nak =
-    (word ≡ answer_word Peripheral answers.Nak) × InTime ANSWER_GAP_MAX from to
+    (word ≡ answer_word Peripheral answers.Nak) × Within WORD_GAP_MIN ANSWER_GAP_MAX from to
 Answers command from to word (step.ReplyByte byte) =
-    (word ≡ byte) × (word < 256) × MayHaveData command × InTime ANSWER_GAP_MAX from to
+    (word ≡ byte) × (word < 256) × MayHaveData command × Within WORD_GAP_MIN ANSWER_GAP_MAX from to
 Answers command from to word _ = ⊥
 
 -- a word goes on with a reply, or ends it
 abbrev pub GoesOnReplying : Command → List ℕ → Option Event → Levels → Event → ℕ → Step → Type 0
 GoesOnReplying command bytes from levels to word (step.ReplyByte byte) =
-    (word ≡ byte) × (word < 256) × (length bytes < 35) × InTime BLOCK_GAP_MAX from to
+    (word ≡ byte) × (word < 256) × (length bytes < 35) × Within WORD_GAP_MIN BLOCK_GAP_MAX from to
 GoesOnReplying command bytes from levels to word (step.Reply reply) =
     (word ≡ 256 + sum bytes % 256) × IsReply command reply × (bytes ≡ reply_bytes reply)
-    × (tells_high reply ≡ true → IsLow (level_for command levels)) × InTime BLOCK_GAP_MAX from to
+    × (tells_high reply ≡ true → IsLow (level_for command levels))
+    × Within WORD_GAP_MIN BLOCK_GAP_MAX from to
 GoesOnReplying command bytes from levels to word _ = ⊥
 
 -- a word of the controller answers a reply, or begins a block
 abbrev pub AnswersReply : Scope → Command → Reply → Option Event → Event → ℕ → Step → Type 0
 AnswersReply scope command reply from to word step.VmcAck =
-    (word ≡ answer_word Controller answers.Ack) × InTime ANSWER_GAP_MAX from to
+    (word ≡ answer_word Controller answers.Ack) × Within WORD_GAP_MIN ANSWER_GAP_MAX from to
 AnswersReply scope command reply from to word step.VmcNak =
-    (word ≡ answer_word Controller answers.Nak) × InTime ANSWER_GAP_MAX from to
+    (word ≡ answer_word Controller answers.Nak) × Within WORD_GAP_MIN ANSWER_GAP_MAX from to
 AnswersReply scope command reply from to word step.VmcRet =
-    (word ≡ answer_word Controller answers.Ret) × InTime ANSWER_GAP_MAX from to
+    (word ≡ answer_word Controller answers.Ret) × Within WORD_GAP_MIN ANSWER_GAP_MAX from to
 AnswersReply scope command reply from to word next = Opens scope (Replied command reply) from to word next
 
 -- a word begins a repeat
 abbrev pub BeginsRepeat : Reply → Option Event → Event → ℕ → Step → Type 0
 BeginsRepeat reply from to word (step.RepeatWord said) =
-    (word ≡ said) × IsRepeatFront reply (word ∷ []) × InTime ANSWER_GAP_MAX from to
+    (word ≡ said) × IsRepeatFront reply (word ∷ []) × Within WORD_GAP_MIN ANSWER_GAP_MAX from to
 BeginsRepeat reply from to word _ = ⊥
 
 -- a word goes on with a repeat, or ends it
 abbrev pub GoesOnRepeating : Reply → List ℕ → Option Event → Event → ℕ → Step → Type 0
 GoesOnRepeating reply words from to word (step.RepeatWord said) =
-    (word ≡ said) × IsRepeatFront reply (words ++ word ∷ []) × InTime BLOCK_GAP_MAX from to
+    (word ≡ said) × IsRepeatFront reply (words ++ word ∷ [])
+    × Within WORD_GAP_MIN BLOCK_GAP_MAX from to
 GoesOnRepeating reply words from to word step.Repeat =
-    (words ++ word ∷ [] ≡ reply_words reply) × InTime BLOCK_GAP_MAX from to
+    (words ++ word ∷ [] ≡ reply_words reply) × Within WORD_GAP_MIN BLOCK_GAP_MAX from to
 GoesOnRepeating reply words from to word _ = ⊥
 
 -- a further word of foreign traffic
