@@ -1,8 +1,12 @@
 -- Statements that hold or don't, and the first of some rules that does.
-use Rattle.std.proofs.Common.{arith, refl, ap, sym, subst, ◌∙◌, ◌≡◌, ◌+◌, ◌<◌, ◌≤◌, ℕ, zero, suc, Bool, true, false, List, [], ◌∷◌, ◌++◌, ◌⊎◌, inl, inr, get_or}
+use Rattle.std.proofs.Common.{arith, refl, ap, ◌≡◌, ◌+◌, ◌<◌, ◌≤◌, ℕ, zero, suc, Bool, true, false, List, [], ◌∷◌, ◌++◌, ◌⊎◌, inl, inr, take, drop, ◌-◌}
+use Rattle.std.proofs.lemmas.List.Elements.{All-from_recursion}
+use Rattle.std.specs.List.{AllByRecursion}
 use Rattle.mdb_bus.specs.declared.fault.Rule.{Rule}
 use Rattle.mdb_bus.specs.declared.fault.Rule.TheVariants as rule
-use Rattle.mdb_bus.specs.LinkFaults.{IsNext, place_of}
+use Rattle.mdb_words.specs.declared.event.Event.{Event}
+use Rattle.mdb_bus.specs.LinkFaults.{IsFirstBroken, IsNext, RowBreaks, Situation, order}
+use Rattle.mdb_bus.specs.inner.RulePlaces.{IsFirstByPlace, place_of}
 
 -- it holds, or it doesn't
 abbrev pub Decided : Type 0 → Type 0
@@ -84,109 +88,110 @@ next_in (w ∷ words) (s ∷ said) word = meant to from (both (same s w) (next_i
 
 -- the first broken rule
 
--- the rules by their places
-abbrev rules_in_order : List Rule
-rules_in_order =
-    rule.Order ∷ rule.Speaker ∷ rule.Mode ∷ rule.Early ∷ rule.Late ∷ rule.Spacing ∷ rule.Length
-    ∷ rule.Sum ∷ rule.Break
-    ∷ rule.Answer ∷ rule.Message ∷ rule.Same ∷ rule.Profile ∷ rule.Changer ∷ rule.Bill
-    ∷ rule.Cashless ∷ []
-
--- each rule is the one at its place
-placed : (r : Rule) → get_or (rule.Order ∷ rules_in_order) (place_of r) rule.Order ≡ r
-placed rule.Order = refl
-placed r = refl
-
--- two rules at one place are one
-one_place : (one other : Rule) → place_of one ≡ place_of other → one ≡ other
-one_place one other is =
-    sym (placed one) ∙ (ap (λ n. get_or (rule.Order ∷ rules_in_order) n rule.Order) is
-    ∙ placed other)
-
--- a broken rule that has no broken one before it
-pub record Found (Breaks : Rule → Type 0) : Type 0 where
+-- of some rules the first that is broken: those before it aren't
+pub record Found (Breaks : Rule → Type 0) (rules : List Rule) : Type 0 where
   pub rule : Rule
-  pub broken : Breaks rule
-  pub first : (other : Rule) → Breaks other → place_of rule ≤ place_of other
+  pub before : List Rule
+  pub after : List Rule
+  pub stands : rules ≡ before ++ rule ∷ after
+  pub breaks : Breaks rule
+  pub keeps : AllByRecursion (λ other. Breaks other → ⊥) before
 
--- rules that stand from this place on, up to the last one
-abbrev StandFrom : ℕ → List Rule → Type 0
-StandFrom place [] = 17 ≤ place
-StandFrom place (r ∷ order) = (place_of r ≡ place) × StandFrom (place + 1) order
-
--- no rule has a place after the last
-last_place : (r : Rule) → place_of r < 17
-last_place rule.Order = omega arith
-last_place r = omega arith
-
--- where no rule before a place is broken, some rule is the first broken one, or none is broken
-first_from : (Breaks : Rule → Type 0) → ((r : Rule) → Decided (Breaks r))
-    → (place : ℕ) (order : List Rule)
-    → StandFrom place order
-    → ((other : Rule) → Breaks other → place ≤ place_of other)
-    → Found Breaks ⊎ ((r : Rule) → Breaks r → ⊥)
-first_from Breaks decided place [] stand none =
-    inr (λ r broken. absurd (omega (arith, stand, none r broken, last_place r)))
-first_from Breaks decided place (r ∷ order) stand none =
-    here (decided r) (λ clear. first_from Breaks decided (place + 1) order stand.1 (later clear))
+first_from : (Breaks : Rule → Type 0) → ((r : Rule) → Decided (Breaks r)) → (rules : List Rule)
+    → Found Breaks rules ⊎ AllByRecursion (λ other. Breaks other → ⊥) rules
+first_from Breaks decided [] = inr tt
+first_from Breaks decided (r ∷ rules) = here (decided r) (first_from Breaks decided rules)
   where
-    later : (Breaks r → ⊥) → (other : Rule) → Breaks other → place + 1 ≤ place_of other
-    later clear other broken = at (same place (place_of other))
-      where
-        at : Decided (place ≡ place_of other) → place + 1 ≤ place_of other
-        at (inl is) =
-            absurd (clear (subst Breaks (one_place other r (sym is ∙ sym stand.0)) broken))
-        at (inr not_is) = omega (arith, not_is, none other broken)
-
-    here : Decided (Breaks r) → ((Breaks r → ⊥) → Found Breaks ⊎ ((r : Rule) → Breaks r → ⊥))
-        → Found Breaks ⊎ ((r : Rule) → Breaks r → ⊥)
-    here (inl broken) rest =
+    here : Decided (Breaks r) → Found Breaks rules ⊎ AllByRecursion (λ other. Breaks other → ⊥) rules
+        → Found Breaks (r ∷ rules) ⊎ AllByRecursion (λ other. Breaks other → ⊥) (r ∷ rules)
+    here (inl breaks) later =
         inl (record {
           rule = r;
-          broken = broken;
-          first = λ other breaks. omega (arith, stand.0, none other breaks);
+          before = [];
+          after = rules;
+          stands = refl;
+          breaks = breaks;
+          keeps = tt;
         })
-    here (inr clear) rest = rest clear
+    here (inr kept) (inl found) =
+        inl (record {
+          rule = found.rule;
+          before = r ∷ found.before;
+          after = found.after;
+          stands = ap (λ rs. r ∷ rs) found.stands;
+          breaks = found.breaks;
+          keeps = (kept, found.keeps);
+        })
+    here (inr kept) (inr none) = inr (kept, none)
+
+-- each rule stands in the order
+pub all_kept : (Keeps : Rule → Type 0) → AllByRecursion Keeps order → (r : Rule) → Keeps r
+all_kept Keeps all rule.Order = all.0
+all_kept Keeps all rule.Speaker = all.1.0
+all_kept Keeps all rule.Mode = all.1.1.0
+all_kept Keeps all rule.Early = all.1.1.1.0
+all_kept Keeps all rule.Late = all.1.1.1.1.0
+all_kept Keeps all rule.Spacing = all.1.1.1.1.1.0
+all_kept Keeps all rule.Length = all.1.1.1.1.1.1.0
+all_kept Keeps all rule.Sum = all.1.1.1.1.1.1.1.0
+all_kept Keeps all rule.Break = all.1.1.1.1.1.1.1.1.0
+all_kept Keeps all rule.Answer = all.1.1.1.1.1.1.1.1.1.0
+all_kept Keeps all rule.Message = all.1.1.1.1.1.1.1.1.1.1.0
+all_kept Keeps all rule.Same = all.1.1.1.1.1.1.1.1.1.1.1.0
+all_kept Keeps all rule.Profile = all.1.1.1.1.1.1.1.1.1.1.1.1.0
+all_kept Keeps all rule.Changer = all.1.1.1.1.1.1.1.1.1.1.1.1.1.0
+all_kept Keeps all rule.Bill = all.1.1.1.1.1.1.1.1.1.1.1.1.1.1.0
+all_kept Keeps all rule.Cashless = all.1.1.1.1.1.1.1.1.1.1.1.1.1.1.1.0
 
 -- where each rule is broken or isn't, some rule is the first broken one, or none is broken
 pub first_or_none : (Breaks : Rule → Type 0) → ((r : Rule) → Decided (Breaks r))
-    → Found Breaks ⊎ ((r : Rule)
-    → Breaks r → ⊥)
-first_or_none Breaks decided = first_from Breaks decided 1 rules_in_order stand placed_after
-  where
-    stand : StandFrom 1 rules_in_order
-    stand = (
-      refl,
-      (
-        refl,
-        (
-          refl,
-          (
-            refl,
-            (
-              refl,
-              (
-                refl,
-                (
-                  refl,
-                  (
-                    refl,
-                    (
-                      refl,
-                      (refl, (refl, (refl, (refl, (refl, (refl, (refl, omega arith))))))),
-                    ),
-                  ),
-                ),
-              ),
-            ),
-          ),
-        ),
-      ),
-    )
+    → Found Breaks order ⊎ ((r : Rule) → Breaks r → ⊥)
+first_or_none Breaks decided = elim (first_from Breaks decided order) [
+  | inl found ↦ inl found
+  | inr none ↦ inr (all_kept (λ r. Breaks r → ⊥) none)
+]
 
-    some_place : (other : Rule) → 1 ≤ place_of other
-    some_place rule.Order = omega arith
-    some_place other = omega arith
+-- what is the first broken rule by its place is so by the order
 
-    placed_after : (other : Rule) → Breaks other → 1 ≤ place_of other
-    placed_after other broken = some_place other
+-- rules that stand one after the other from a place on
+abbrev StandFrom : ℕ → List Rule → Type 0
+StandFrom place [] = Unit {0}
+StandFrom place (r ∷ rules) = (place_of r ≡ place) × StandFrom (place + 1) rules
+
+-- the rules of so many places have lower places
+below : (bound count place : ℕ) (rules : List Rule) → place + count ≤ bound → StandFrom place rules
+    → AllByRecursion (λ r. place_of r < bound) (take count rules)
+below bound zero place rules few stand = tt
+below bound (suc count) place [] few stand = tt
+below bound (suc count) place (r ∷ rules) few stand =
+    (omega (arith, few, stand.0), below bound count (place + 1) rules (omega (arith, few)) stand.1)
+
+-- each rule stands at its place
+at_place : (r : Rule) → order ≡ take (place_of r - 1) order ++ r ∷ drop (place_of r) order
+at_place rule.Order = refl
+at_place r = refl
+
+some_place : (r : Rule) → 1 ≤ place_of r
+some_place rule.Order = omega arith
+some_place r = omega arith
+
+not_below : (Breaks : Rule → Type 0) (bound : ℕ) (rules : List Rule)
+    → ((other : Rule) → Breaks other → bound ≤ place_of other)
+    → AllByRecursion (λ r. place_of r < bound) rules
+    → AllByRecursion (λ r. Breaks r → ⊥) rules
+not_below Breaks bound [] first low = tt
+not_below Breaks bound (r ∷ rules) first low =
+    (λ breaks. omega (arith, low.0, first r breaks), not_below Breaks bound rules first low.1)
+
+pub by_place : (s : Situation) (row : Event) (broken : Rule) → IsFirstByPlace s row broken
+    → IsFirstBroken s row broken
+by_place s row broken first = record {
+  before = take (place_of broken - 1) order;
+  after = drop (place_of broken) order;
+  stands = at_place broken;
+  breaks = first.breaks;
+  keeps = All-from_recursion _ (take (place_of broken - 1) order)
+      (not_below (RowBreaks s row) (place_of broken) _ first.first
+      (below (place_of broken) (place_of broken - 1) 1 order
+      (omega (arith, some_place broken)) (omega arith)));
+}

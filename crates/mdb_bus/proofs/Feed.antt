@@ -20,6 +20,8 @@ use Rattle.mdb_bus.specs.ActLists.{ArePieces, HasActList, Piece, Position, Quiet
 use Rattle.mdb_bus.specs.Bus.{GoesOn, Grown, StandsFor, ended_act, position_at}
 use Rattle.mdb_bus.specs.inner.Gone.{HasGone}
 use Rattle.mdb_bus.specs.LinkFaults.{IsFirstBroken, IsLinkFault, RowBreaks, Situation, asked_device, blame_of, situation_of}
+use Rattle.mdb_bus.specs.inner.RulePlaces.{IsFirstByPlace}
+use Rattle.mdb_bus.proofs.Decided.{by_place}
 use Rattle.mdb_bus.specs.inner.Steps.{HasAdvanced, IsAt, IsEnded, IsJudged, IsReadAt, IsSound, Leads, WordLeads, act_after, asked_after, levels_after_step, pieces_after, position_after}
 use Rattle.mdb_bus.specs.declared.judged.Judged.{Judged}
 use Rattle.mdb_bus.specs.declared.judged.Judged.TheVariants as judged
@@ -185,17 +187,17 @@ pub read_breaks : (old : Bus) (pieces : List Piece) (row : Event) (broken : Rule
     → StandsFor old pieces
     → IsEnded (situation_at old) row
     → IsReadAt (position_at old.place) old.levels (Err broken)
-    → IsFirstBroken (situation_at old) row broken
+    → IsFirstByPlace (situation_at old) row broken
 read_breaks old pieces row broken stands ended read = ended (Err broken) read
 
 -- the fault of a row that is refused
 pub fault_of : (old : Bus) (pieces : List Piece) (row : Event) (broken told : Rule) (blamed : Blame)
     → StandsFor old pieces
-    → IsFirstBroken (situation_at old) row broken → told ≡ broken
+    → IsFirstByPlace (situation_at old) row broken → told ≡ broken
     → blamed ≡ blame_of (position_at old.place) old.asked row broken
     → IsLinkFault old.scope pieces row told blamed
 fault_of old pieces row broken told blamed stands judged same blame =
-    let first : IsFirstBroken (situation_at old) row broken = judged in
+    let first = by_place (situation_at old) row broken judged in
     let There : Situation → Type 0 = λ s. IsFirstBroken s row told in
     let Meant : Rule → Type 0 = λ r. IsFirstBroken (situation_at old) row r in
     record {

@@ -1,40 +1,41 @@
 -- A row has one fault.
-use Rattle.std.proofs.Common.{arith, refl, ap, sym, ◌∙◌, ◌≡◌, ◌≤◌, ◌==◌, ℕ, if◌then◌else◌, List}
+use Rattle.std.proofs.Common.{ap, sym, subst, ◌∙◌, ◌≡◌, List, [], ◌∷◌, ◌++◌}
+use Rattle.std.proofs.lemmas.List.Elements.{recursion_from_All}
+use Rattle.std.specs.List.{AllByRecursion}
 use Rattle.mdb_words.specs.declared.event.Event.{Event}
 use Rattle.mdb_bus.specs.declared.fault.Blame.{Blame}
 use Rattle.mdb_bus.specs.declared.fault.Rule.{Rule}
-use Rattle.mdb_bus.specs.declared.fault.Rule.TheVariants as rule
 use Rattle.mdb_bus.specs.ActLists.{Piece, position_of}
-use Rattle.mdb_bus.specs.LinkFaults.{IsLinkFault, asked_device, blame_of, place_of}
+use Rattle.mdb_bus.specs.LinkFaults.{IsFirstBroken, IsLinkFault, RowBreaks, Situation, asked_device, blame_of}
 use Rattle.mdb_bus.specs.declared.scope.Scope.{Scope}
 
--- the rule that has a place
-abbrev rule_at : ℕ → Rule
-rule_at n =
-    if n == 1 then rule.Order else if n == 2 then rule.Speaker else if n == 3 then rule.Mode
-    else if n == 4 then rule.Early else if n == 5 then rule.Late else if n == 6 then rule.Spacing
-    else if n == 7 then rule.Length else if n == 8 then rule.Sum else if n == 9 then rule.Break
-    else if n == 10 then rule.Answer else if n == 11 then rule.Message else if n == 12 then
-    rule.Same
-    else if n == 13 then rule.Profile else if n == 14 then rule.Changer else if n == 15 then
-    rule.Bill
-    else rule.Cashless
+-- of rules in an order, one is the first that is broken
+one_first : (Breaks : Rule → Type 0) (r s : Rule) (before other after rest : List Rule)
+    → before ++ r ∷ after ≡ other ++ s ∷ rest → Breaks r → Breaks s
+    → AllByRecursion (λ x. Breaks x → ⊥) before → AllByRecursion (λ x. Breaks x → ⊥) other → r ≡ s
+one_first Breaks r s [] [] after rest same breaks too keeps also = cc
+one_first Breaks r s [] (x ∷ other) after rest same breaks too keeps also =
+    let is : r ≡ x = cc in
+    absurd (also.0 (subst Breaks is breaks))
+one_first Breaks r s (x ∷ before) [] after rest same breaks too keeps also =
+    let is : s ≡ x = cc in
+    absurd (keeps.0 (subst Breaks is too))
+one_first Breaks r s (x ∷ before) (y ∷ other) after rest same breaks too keeps also =
+    let others : before ++ r ∷ after ≡ other ++ s ∷ rest = cc in
+    one_first Breaks r s before other after rest others breaks too keeps.1 also.1
 
-rule_back : (r : Rule) → rule_at (place_of r) ≡ r
-rule_back rule.Order = refl
-rule_back r = refl
-
--- two rules of one place are one
-place_one : (r s : Rule) → place_of r ≡ place_of s → r ≡ s
-place_one r s same = sym (rule_back r) ∙ (ap rule_at same ∙ rule_back s)
+one_broken : (s : Situation) (row : Event) (one other : Rule) → IsFirstBroken s row one
+    → IsFirstBroken s row other → one ≡ other
+one_broken s row one other first second =
+    one_first (RowBreaks s row) one other first.before second.before first.after second.after
+    (sym first.stands ∙ second.stands) first.breaks second.breaks
+    (recursion_from_All _ first.before first.keeps) (recursion_from_All _ second.before second.keeps)
 
 pub one_fault : (scope : Scope) (pieces : List Piece) (row : Event) (r s : Rule) (a b : Blame)
     → IsLinkFault scope pieces row r a
     → IsLinkFault scope pieces row s b → (r ≡ s) × (a ≡ b)
 one_fault scope pieces row r s a b first second =
-    let up : place_of r ≤ place_of s = first.rule.first s second.rule.breaks in
-    let down : place_of s ≤ place_of r = second.rule.first r first.rule.breaks in
-    let same : r ≡ s = place_one r s (omega arith) in (
+    let same : r ≡ s = one_broken _ row r s first.rule second.rule in (
       same,
       first.blame ∙ (ap (λ x. blame_of (position_of scope pieces) (asked_device pieces) row x) same
           ∙ sym second.blame),

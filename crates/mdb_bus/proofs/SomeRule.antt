@@ -1,6 +1,6 @@
 -- A row that breaks no rule of the link leads somewhere.
 use Rattle.std.proofs.Common.{arith, refl, ap, sym, subst, ◌∙◌, ◌≡◌, ◌≢◌, ◌+◌, ◌-◌, ◌%◌, ◌<◌, ◌≤◌, ℕ, true, List, [], ◌∷◌, ◌++◌, ◌⊎◌, inl, inr, Option, Some, None, IsSome, All, length, length-append, append_assoc, sum}
-use Rattle.std.proofs.lemmas.List.Elements.{All-push}
+use Rattle.std.proofs.lemmas.List.Elements.{All-from_recursion, All-push}
 use Rattle.mdb_words.specs.declared.event.Event.{Event}
 use Rattle.mdb_words.specs.declared.event.Event.TheVariants.{Word, Break}
 use Rattle.mdb_words.specs.declared.limits.TheConstants.{WORD_GAP_MIN, BLOCK_GAP_MAX, ANSWER_GAP_MAX, NEW_BLOCK_GAP_MIN, BREAK_LENGTH_MIN}
@@ -30,7 +30,7 @@ use Rattle.mdb_bus.specs.inner.Step.{Step}
 use Rattle.mdb_bus.specs.inner.Step as step
 use Rattle.mdb_bus.specs.Acts.{IsReply, reply_words}
 use Rattle.mdb_bus.specs.ActLists.{Position, Quiet, InAsk, Asked, InReply, Replied, Returned, InRepeat, InForeign, BlockMayCome, Within, IsAskFront, IsLow, IsReplyFront, NotBefore, NotAfter, level_for, rest_before_block, rest_before_break, tells_high}
-use Rattle.mdb_bus.specs.LinkFaults.{HasBadMessage, HasHighLevels, IsBefore, IsAfter, IsChanged, IsFirstBroken, IsBeyondProfile, IsOutside, OutOfOrder, RowBreaks, Situation, TooEarly, TooFarApart, TooLate, TooShort, WrongAnswer, WrongLength, WrongMode, WrongSpeaker, WrongSum}
+use Rattle.mdb_bus.specs.LinkFaults.{HasBadMessage, HasHighLevels, IsBefore, IsAfter, IsChanged, IsFirstBroken, IsBeyondProfile, IsOutside, OutOfOrder, RowBreaks, Situation, TooEarly, TooFarApart, TooLate, TooShort, WrongAnswer, WrongLength, WrongMode, WrongSpeaker, WrongSum, order}
 use Rattle.mdb_bus.specs.inner.Steps.{GoesOnAsking, IsSound, Leads, Opens}
 use Rattle.mdb_bus.proofs.Decided.{Decided, Found, all_three, both, denied, either, first_or_none, held, is_true, less, meant, never, next_in, same, within}
 use Rattle.mdb_bus.proofs.Fronts.{first_byte, front_bytes, front_of, need_ends, need_three, needed_stays}
@@ -846,7 +846,17 @@ pub decide : (s : Situation) → Grammar s.scope → (row : Event) → IsSound s
 decide s grammar row sound replied =
     told (first_or_none (RowBreaks s row) (breaks s grammar row sound))
   where
-    told : Found (RowBreaks s row) ⊎ ((r : Rule) → RowBreaks s row r → ⊥)
+    told : Found (RowBreaks s row) order ⊎ ((r : Rule) → RowBreaks s row r → ⊥)
         → ((next : Step) × Leads s row next) ⊎ ((broken : Rule) × IsFirstBroken s row broken)
-    told (inl found) = inr (found.rule, record { breaks = found.broken; first = found.first })
+    told (inl found) =
+        inr (
+          found.rule,
+          record {
+            before = found.before;
+            after = found.after;
+            stands = found.stands;
+            breaks = found.breaks;
+            keeps = All-from_recursion _ found.before found.keeps;
+          },
+        )
     told (inr none) = inl (leads_on s grammar row sound replied none)

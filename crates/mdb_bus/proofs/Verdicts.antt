@@ -36,7 +36,8 @@ use Rattle.mdb_bus.specs.ActLists.{Asked, InAsk, InReply, IsRepeatFront, NotBefo
 use Rattle.mdb_bus.specs.declared.phase.Phase.{Phase}
 use Rattle.mdb_bus.specs.declared.phase.Phase.TheVariants as phase
 use Rattle.mdb_bus.specs.Bus.{position_at, position_in}
-use Rattle.mdb_bus.specs.LinkFaults.{IsBefore, IsAfter, IsFirstBroken, OutOfOrder, RowBreaks, Situation, WrongLength, place_of}
+use Rattle.mdb_bus.specs.LinkFaults.{IsBefore, IsAfter, OutOfOrder, RowBreaks, Situation, WrongLength}
+use Rattle.mdb_bus.specs.inner.RulePlaces.{IsFirstByPlace, place_of}
 use Rattle.mdb_bus.specs.inner.Steps.{Belongs, IsCommandFront, IsGoingOn, IsJudged, IsOpened, IsRead, IsReplyEnd, IsSettled, IsSound, IsUnknownExpansion, MayAsk, rule_of}
 use Rattle.mdb_bus.proofs.Needs.{at_least_two, at_most_32, not_left, stays, narrows}
 use Rattle.mdb_bus.specs.declared.scope.Scope.{Scope}
@@ -372,7 +373,7 @@ pub no_answer : (scope : Scope) (command : Command) (from : Option Event) (at wo
     → (IsAfter ANSWER_GAP_MAX from (Word at Peripheral word) → ⊥) → 256 ≤ word → word < 512
     → byte ≡ word % 256
     → ((answer : Answer) → answer_byte answer ≢ byte)
-    → IsFirstBroken (record { scope = scope; position = Asked command; last = from; levels = levels })
+    → IsFirstByPlace (record { scope = scope; position = Asked command; last = from; levels = levels })
     (Word at Peripheral word)
     rule.Answer
 no_answer scope command from at word byte levels order early late marked small low none = record {

@@ -1,6 +1,6 @@
 -- Which rule of the link a row breaks, and who is to blame (this profile, by the format and timing
 -- of MDB/ICP 4.3).
-use Rattle.std.specs.Prelude.{◌≡◌, ◌≢◌, ◌+◌, ◌%◌, ◌<◌, ◌≤◌, ◌⊎◌, ℕ, true, List, [], ◌∷◌, ◌++◌, length, sum, Option, Some, None}
+use Rattle.std.specs.Prelude.{◌≡◌, ◌≢◌, ◌+◌, ◌%◌, ◌<◌, ◌≤◌, ◌⊎◌, ℕ, true, List, [], ◌∷◌, ◌++◌, length, sum, All, Option, Some, None}
 use Rattle.mdb_words.specs.declared.limits.TheConstants.{WORD_GAP_MIN, BLOCK_GAP_MAX, ANSWER_GAP_MAX, NEW_BLOCK_GAP_MIN, BREAK_LENGTH_MIN}
 use Rattle.mdb_words.specs.declared.event.Event.{Event}
 use Rattle.mdb_words.specs.declared.event.Event.TheVariants.{Word, Break}
@@ -224,29 +224,20 @@ RowBreaks s row rule.Changer = ⊥
 RowBreaks s row rule.Bill = ⊥
 RowBreaks s row rule.Cashless = ⊥
 
--- a rule's place in the order
-abbrev pub place_of : Rule → ℕ
-place_of rule.Order = 1
-place_of rule.Speaker = 2
-place_of rule.Mode = 3
-place_of rule.Early = 4
-place_of rule.Late = 5
-place_of rule.Spacing = 6
-place_of rule.Length = 7
-place_of rule.Sum = 8
-place_of rule.Break = 9
-place_of rule.Answer = 10
-place_of rule.Message = 11
-place_of rule.Same = 12
-place_of rule.Profile = 13
-place_of rule.Changer = 14
-place_of rule.Bill = 15
-place_of rule.Cashless = 16
+-- the rules in their order
+abbrev pub order : List Rule
+order =
+    rule.Order ∷ rule.Speaker ∷ rule.Mode ∷ rule.Early ∷ rule.Late ∷ rule.Spacing ∷ rule.Length
+    ∷ rule.Sum ∷ rule.Break ∷ rule.Answer ∷ rule.Message ∷ rule.Same ∷ rule.Profile ∷ rule.Changer
+    ∷ rule.Bill ∷ rule.Cashless ∷ []
 
--- the first rule of the order that a row breaks
+-- the first rule of the order that a row breaks: it breaks this one, and none of those before it
 pub record IsFirstBroken (s : Situation) (row : Event) (broken : Rule) : Type 0 where
+  pub before : List Rule
+  pub after : List Rule
+  pub stands : order ≡ before ++ broken ∷ after
   pub breaks : RowBreaks s row broken
-  pub first : (other : Rule) → RowBreaks s row other → place_of broken ≤ place_of other
+  pub keeps : All (λ other. ¬ RowBreaks s row other) before
 
 -- a device as the one to blame, and `other` where none was asked
 abbrev pub blame_on : Option Device → Blame

@@ -33,7 +33,8 @@ use Rattle.mdb_bus.specs.declared.scope.Scope.{Scope}
 use Rattle.mdb_bus.specs.Scopes.{Asks}
 use Rattle.mdb_bus.specs.Acts.{IsForeignOpening, IsReply, reply_words}
 use Rattle.mdb_bus.specs.ActLists.{Piece, Whole, AskTail, ReplyTail, RepeatTail, Position, Quiet, InAsk, Asked, InReply, Replied, Returned, InRepeat, InForeign, BlockMayCome, BreakMayCome, Within, IsAskFront, IsLow, IsRepeatFront, IsReplyFront, NotBefore, act_in, left_by, level_for, levels_after, position_of, tells_high}
-use Rattle.mdb_bus.specs.LinkFaults.{HasHighLevels, IsBefore, IsAfter, IsFirstBroken, IsOutside, Situation}
+use Rattle.mdb_bus.specs.LinkFaults.{HasHighLevels, IsBefore, IsAfter, IsOutside, Situation}
+use Rattle.mdb_bus.specs.inner.RulePlaces.{IsFirstByPlace}
 
 -- the rule of time that a row breaks which doesn't come in time: it is early, or it is late by this
 -- rule
@@ -166,7 +167,7 @@ IsReadAt _ levels result = ⊥
 -- what is made of a row that ends a reply, once the reply was read
 abbrev pub IsSettled : Situation → Event → Result Reply Rule → Type 0
 IsSettled s row (Ok reply) = Leads s row (step.Reply reply)
-IsSettled s row (Err broken) = IsFirstBroken s row broken
+IsSettled s row (Err broken) = IsFirstByPlace s row broken
 
 -- What is made of a row that ends a reply is as the reply is read. This says nothing of the rows of
 -- other positions, at which nothing is read.
@@ -178,7 +179,7 @@ IsEnded s row = (result : Result Reply Rule) → IsReadAt s.position s.levels re
 abbrev pub IsJudged : Situation → Event → Result Judged Rule → Type 0
 IsJudged s row (Ok judged.Reply) = IsEnded s row
 IsJudged s row (Ok found) = SomeStep found row (Leads s row)
-IsJudged s row (Err broken) = IsFirstBroken s row broken
+IsJudged s row (Err broken) = IsFirstByPlace s row broken
 
 -- the rule that a block breaks whose content can't be read
 abbrev pub rule_of : MsgFault → Rule
