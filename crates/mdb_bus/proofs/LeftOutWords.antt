@@ -1,6 +1,6 @@
 -- What is said where further devices are left out: the words of a piece that stays, and those of
 -- one that becomes foreign acts.
-use Rattle.std.proofs.Common.{ap, refl, sym, subst, ◌∙◌, ◌≡◌, ◌<◌, ◌-◌, ◌+◌, arith, inl, inr, Bool, true, false, ℕ, List, [], ◌∷◌, Option, Some, All, slice_index, if◌then◌else◌}
+use Rattle.std.proofs.Common.{ap, refl, sym, subst, ◌∙◌, ◌≡◌, ◌<◌, ◌-◌, ◌+◌, arith, inl, inr, Bool, true, false, ◌&&◌, nat_le, le-leb, ℕ, List, [], ◌∷◌, Option, Some, All, slice_index, if◌then◌else◌}
 use Rattle.std.specs.List.{AllByRecursion}
 use Rattle.std.proofs.lemmas.Bool.{false_from_ne_true}
 use Rattle.std.proofs.lemmas.List.Elements.{recursion_from_All}
@@ -150,8 +150,10 @@ begin_to scope byte bytes (Word at Controller word ∷ events) says =
     let other : Line × ℕ = (Controller, 256 + byte) in
     let same : one ≡ other = cc in
     let is : word ≡ 256 + byte = ap (λ (p : Line × ℕ). p.1) same in
+    let marked : nat_le 256 word ≡ true = le-leb 256 word (omega (arith, is)) in
     let rest : word - 256 ≡ byte = omega (arith, is) in
-    ap (is_to_one_of scope.without) rest
+    ap (λ b. b && is_to_one_of scope.without (word - 256)) marked
+    ∙ ap (is_to_one_of scope.without) rest
 begin_to scope byte bytes (Word at Peripheral word ∷ events) says =
     let one : Line × ℕ = (Peripheral, word) in
     let other : Line × ℕ = (Controller, 256 + byte) in

@@ -1,7 +1,7 @@
 -- Leaving out further devices: what becomes of an act list where a recording is taken without them
 -- (this profile). Lists of pieces and of acts are written newest first, lists of events oldest
 -- first.
-use Rattle.std.specs.Prelude.{◌≡◌, ◌-◌, Bool, true, false, if◌then◌else◌}
+use Rattle.std.specs.Prelude.{◌≡◌, ◌-◌, Bool, true, false, ◌&&◌, nat_le, if◌then◌else◌}
 use Rattle.std.specs.Prelude.{List, [], ◌∷◌, Option, Some, None, slice_index}
 use Rattle.std.specs.List.{filter}
 use Rattle.mdb_words.specs.declared.event.Event.{Event}
@@ -47,9 +47,10 @@ is_one_left_out scope None = false
 is_one_left_out scope (Some device) = has scope.without device
 
 -- whether events begin by the marked word of a block to a device that is left out: a marked word is
--- 256 and its byte (of one that isn't, nothing is left, and 0 is no device's address)
+-- 256 and its byte
 abbrev pub begin_left_out : Scope → List Event → Bool
-begin_left_out scope (Word at Controller word ∷ events) = is_to_one_of scope.without (word - 256)
+begin_left_out scope (Word at Controller word ∷ events) =
+    nat_le 256 word && is_to_one_of scope.without (word - 256)
 begin_left_out scope _ = false
 
 -- whether a piece is of a device that is left out: said to it, or by it
