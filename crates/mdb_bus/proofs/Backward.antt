@@ -299,23 +299,15 @@ first_holds (Joined setups) = tt
 
 replied : (scope : Scope) (pieces : List Piece) → ArePieces scope pieces → Holds (position_of scope pieces)
 replied scope [] right = first_holds scope.begins
-replied scope (Whole (acts.Ask command) events ∷ pieces) right = tt
-replied scope (Whole (acts.Ack command) events ∷ pieces) right = tt
-replied scope (Whole (acts.Nak command) events ∷ pieces) right = tt
 replied scope (Whole (acts.Reply command reply) events ∷ pieces) right = right.0.said.0.content.at_least
-replied scope (Whole (acts.VmcAck command reply) events ∷ pieces) right = tt
-replied scope (Whole (acts.VmcNak command reply) events ∷ pieces) right = tt
 replied scope (Whole (acts.VmcRet command reply) events ∷ pieces) right =
     let P : Position → Type 0 = λ p. Holds p in
     subst P right.1.comes.0 (replied scope pieces right.2)
 replied scope (Whole (acts.Repeat command reply) events ∷ pieces) right =
     let P : Position → Type 0 = λ p. Holds p in
     subst P right.1.comes.0 (replied scope pieces right.2)
-replied scope (Whole acts.Foreign events ∷ pieces) right = tt
-replied scope (Whole (acts.Break length) events ∷ pieces) right = tt
-replied scope (AskTail bytes events ∷ pieces) right = tt
-replied scope (ReplyTail command bytes events ∷ pieces) right = tt
 replied scope (RepeatTail command reply words events ∷ pieces) right = tt
+replied scope (piece ∷ pieces) right = tt
 
 -- a block of a reply is no single word
 reply_long : (reply : Reply) (events : List Event) (row : Event) → 1 ≤ length (reply_bytes reply)

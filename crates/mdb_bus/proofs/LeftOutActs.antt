@@ -1,19 +1,18 @@
 -- The acts in which a device has a part, where further devices are left out: those of a device that
 -- stays followed stay, and a device that is left out has a part in breaks alone.
-use Rattle.std.proofs.Common.{ap, refl, sym, ◌∙◌, ◌≡◌, ◌↔◌, Bool, true, false, if◌then◌else◌, List, [], ◌∷◌, Some}
+use Rattle.std.proofs.Common.{ap, refl, sym, ◌∙◌, ◌≡◌, ◌↔◌, Bool, true, false, if◌then◌else◌, Option, Some, None, List, [], ◌∷◌}
 use Rattle.std.proofs.lemmas.Bool.{cond_both}
 use Rattle.mdb_words.specs.declared.event.Event.{Event}
 use Rattle.mdb_msgs.specs.declared.command.Device.{Device}
 use Rattle.mdb_msgs.specs.declared.command.Device.TheVariants as devices
 use Rattle.mdb_msgs.specs.declared.command.ReaderUnit.TheVariants.{First, Second}
 use Rattle.mdb_msgs.specs.declared.device_set.DeviceSet.{DeviceSet}
-use Rattle.mdb_msgs.specs.Commands.{device_of}
 use Rattle.mdb_msgs.specs.DeviceSets.{has}
 use Rattle.mdb_bus.specs.declared.act.Act.{Act}
 use Rattle.mdb_bus.specs.declared.act.Act.TheVariants as acts
 use Rattle.mdb_bus.specs.declared.scope.Scope.{Scope}
 use Rattle.mdb_bus.specs.ActLists.{Piece, Whole, ArePieces, acts_of, piece_events}
-use Rattle.mdb_bus.specs.LeavingOut.{acts_with, are_one, breaks_among, device_in, has_part, is_break, is_left_out, leave_out, with_foreign}
+use Rattle.mdb_bus.specs.LeavingOut.{acts_with, are_one, breaks_among, device_in, has_part, is_break, is_left_out, is_one_left_out, is_this, leave_out, with_foreign}
 use Rattle.mdb_bus.specs.Scopes.{IsFollowed, IsLeftOut}
 use Rattle.mdb_bus.proofs.Named.{IsOneFollowed, in_act, the_one}
 
@@ -68,28 +67,27 @@ foreign_acts device [] pieces = refl
 foreign_acts device (event ∷ events) pieces =
     foreign_acts device events (Whole acts.Foreign (event ∷ []) ∷ pieces)
 
+-- a device that is followed isn't the one that is named, if that is left out
+not_named : (scope : Scope) (device : Device) (named : Option Device) → IsFollowed scope device
+    → is_one_left_out scope named ≡ true → is_this device named ≡ false
+not_named scope device None followed out = refl
+not_named scope device (Some one) followed out =
+    apart scope.without device one false followed out
+
+-- and one that is left out isn't, if that is followed
+nor_named : (scope : Scope) (device : Device) (named : Option Device) → IsLeftOut scope device
+    → IsOneFollowed scope named → is_this device named ≡ false
+nor_named scope device None out followed = refl
+nor_named scope device (Some one) out followed =
+    apart scope.without device one true out followed
+
 -- a device that is followed has no part in what is of one that is left out
 pub no_part : (scope : Scope) (act : Act) (events : List Event) (device : Device)
     → is_left_out scope (Whole act events) ≡ true → IsFollowed scope device
     → has_part device act ≡ false
-no_part scope (acts.Ask command) events device out followed =
-    apart scope.without device (device_of command) false followed out
-no_part scope (acts.Ack command) events device out followed =
-    apart scope.without device (device_of command) false followed out
-no_part scope (acts.Nak command) events device out followed =
-    apart scope.without device (device_of command) false followed out
-no_part scope (acts.Reply command reply) events device out followed =
-    apart scope.without device (device_of command) false followed out
-no_part scope (acts.VmcAck command reply) events device out followed =
-    apart scope.without device (device_of command) false followed out
-no_part scope (acts.VmcNak command reply) events device out followed =
-    apart scope.without device (device_of command) false followed out
-no_part scope (acts.VmcRet command reply) events device out followed =
-    apart scope.without device (device_of command) false followed out
-no_part scope (acts.Repeat command reply) events device out followed =
-    apart scope.without device (device_of command) false followed out
 no_part scope acts.Foreign events device out followed = refl
 no_part scope (acts.Break length) events device out followed = cc
+no_part scope act events device out followed = not_named scope device (device_in act) followed out
 
 not_its_acts : (scope : Scope) (device : Device) (piece : Piece) (pieces : List Piece)
     → IsFollowed scope device → is_left_out scope piece ≡ true
@@ -123,24 +121,8 @@ own_acts_stay scope (piece ∷ pieces) device followed =
 -- a device that is left out has a part in an act of others only if that is a break
 part_of_breaks : (scope : Scope) (device : Device) (act : Act) → IsLeftOut scope device
     → IsOneFollowed scope (device_in act) → has_part device act ≡ is_break act
-part_of_breaks scope device (acts.Ask command) out followed =
-    apart scope.without device (device_of command) true out followed
-part_of_breaks scope device (acts.Ack command) out followed =
-    apart scope.without device (device_of command) true out followed
-part_of_breaks scope device (acts.Nak command) out followed =
-    apart scope.without device (device_of command) true out followed
-part_of_breaks scope device (acts.Reply command reply) out followed =
-    apart scope.without device (device_of command) true out followed
-part_of_breaks scope device (acts.VmcAck command reply) out followed =
-    apart scope.without device (device_of command) true out followed
-part_of_breaks scope device (acts.VmcNak command reply) out followed =
-    apart scope.without device (device_of command) true out followed
-part_of_breaks scope device (acts.VmcRet command reply) out followed =
-    apart scope.without device (device_of command) true out followed
-part_of_breaks scope device (acts.Repeat command reply) out followed =
-    apart scope.without device (device_of command) true out followed
-part_of_breaks scope device acts.Foreign out followed = refl
 part_of_breaks scope device (acts.Break length) out followed = refl
+part_of_breaks scope device act out followed = nor_named scope device (device_in act) out followed
 
 -- breaks with one act more, where the device has a part in it as it has in a break
 newest_break : (device : Device) (act : Act) (one other : List Act)
@@ -165,16 +147,9 @@ breaks_alone scope (piece ∷ pieces) device order out =
 -- what stays names a device that is followed, or none
 kept_followed : (scope : Scope) (act : Act) (events : List Event)
     → is_left_out scope (Whole act events) ≡ false → IsOneFollowed scope (device_in act)
-kept_followed scope (acts.Ask command) events kept = kept
-kept_followed scope (acts.Ack command) events kept = kept
-kept_followed scope (acts.Nak command) events kept = kept
-kept_followed scope (acts.Reply command reply) events kept = kept
-kept_followed scope (acts.VmcAck command reply) events kept = kept
-kept_followed scope (acts.VmcNak command reply) events kept = kept
-kept_followed scope (acts.VmcRet command reply) events kept = kept
-kept_followed scope (acts.Repeat command reply) events kept = kept
 kept_followed scope acts.Foreign events kept = tt
 kept_followed scope (acts.Break length) events kept = tt
+kept_followed scope act events kept = kept
 
 pub stays_followed : (scope : Scope) (act : Act) (events : List Event) (device : Device)
     → is_left_out scope (Whole act events) ≡ false → device_in act ≡ Some device

@@ -28,33 +28,16 @@ after_foreign : (scope : Scope) (loss : Loss) (pieces : List Piece) (next : Act)
 after_foreign scope loss [] next here nothing = tt
 after_foreign scope loss (Whole acts.Foreign events ∷ pieces) next here nothing =
     untold loss acts.Foreign next (length (events_of pieces)) (length events) nothing
-after_foreign scope loss (Whole (acts.Ask command) events ∷ pieces) next here nothing = cc here
-after_foreign scope loss (Whole (acts.Ack command) events ∷ pieces) next here nothing = cc here
-after_foreign scope loss (Whole (acts.Nak command) events ∷ pieces) next here nothing = cc here
-after_foreign scope loss (Whole (acts.Reply command reply) events ∷ pieces) next here nothing =
-    cc here
-after_foreign scope loss (Whole (acts.VmcAck command reply) events ∷ pieces) next here nothing =
-    cc here
-after_foreign scope loss (Whole (acts.VmcNak command reply) events ∷ pieces) next here nothing =
-    cc here
-after_foreign scope loss (Whole (acts.VmcRet command reply) events ∷ pieces) next here nothing =
-    cc here
-after_foreign scope loss (Whole (acts.Repeat command reply) events ∷ pieces) next here nothing =
-    cc here
-after_foreign scope loss (Whole (acts.Break length) events ∷ pieces) next here nothing = cc here
-after_foreign scope loss (AskTail bytes events ∷ pieces) next here nothing = tt
-after_foreign scope loss (ReplyTail command bytes events ∷ pieces) next here nothing = tt
-after_foreign scope loss (RepeatTail command reply words events ∷ pieces) next here nothing = tt
+after_foreign scope loss (Whole act events ∷ pieces) next here nothing = cc here
+after_foreign scope loss (piece ∷ pieces) next here nothing = tt
 
 -- an act that may come in foreign traffic tells nothing of it
 tells_nothing : (act : Act) (events : List Event) (position : Position) (from : Option Event)
     (to : Event)
     → MayCome (Whole act events) position from to → position ≡ InForeign
     → told_by act acts.Foreign ≡ Open
-tells_nothing (acts.Ask command) events position from to comes here = refl
 tells_nothing (acts.Ack command) events position from to comes here =
     let both : Asked command ≡ InForeign = sym comes.0 ∙ here in cc both
-tells_nothing (acts.Nak command) events position from to comes here = refl
 tells_nothing (acts.Reply command reply) events position from to comes here =
     let both : Asked command ≡ InForeign = sym comes.0 ∙ here in cc both
 tells_nothing (acts.VmcAck command reply) events position from to comes here =
@@ -65,8 +48,7 @@ tells_nothing (acts.VmcRet command reply) events position from to comes here =
     let both : Replied command reply ≡ InForeign = sym comes.0 ∙ here in cc both
 tells_nothing (acts.Repeat command reply) events position from to comes here =
     let both : Returned command reply ≡ InForeign = sym comes.0 ∙ here in cc both
-tells_nothing acts.Foreign events position from to comes here = refl
-tells_nothing (acts.Break length) events position from to comes here = refl
+tells_nothing act events position from to comes here = refl
 
 -- a loss fits the same act after other rows that are as many
 fits_still : (loss : Loss) (piece : Piece) (one other : List Piece) (next : Act)

@@ -100,22 +100,16 @@ block_waits InForeign from to comes = comes
 of_its_device : (scope : Scope) (piece : Piece) (device : Device)
     → device_at (left_by piece) ≡ Some device → is_left_out scope piece ≡ has scope.without device
 of_its_device scope (Whole (acts.Ask command) events) device is = ap (is_one_left_out scope) is
-of_its_device scope (Whole (acts.Ack command) events) device is = cc
-of_its_device scope (Whole (acts.Nak command) events) device is = cc
 of_its_device scope (Whole (acts.Reply command reply) events) device is =
     ap (is_one_left_out scope) is
-of_its_device scope (Whole (acts.VmcAck command reply) events) device is = cc
-of_its_device scope (Whole (acts.VmcNak command reply) events) device is = cc
 of_its_device scope (Whole (acts.VmcRet command reply) events) device is =
     ap (is_one_left_out scope) is
 of_its_device scope (Whole (acts.Repeat command reply) events) device is =
     ap (is_one_left_out scope) is
-of_its_device scope (Whole acts.Foreign events) device is = cc
-of_its_device scope (Whole (acts.Break length) events) device is = cc
-of_its_device scope (AskTail bytes events) device is = cc
 of_its_device scope (ReplyTail command bytes events) device is = ap (is_one_left_out scope) is
 of_its_device scope (RepeatTail command reply words events) device is =
     ap (is_one_left_out scope) is
+of_its_device scope piece device is = cc
 
 -- Where the bus is without further devices, by where it is with them.
 pub record Moves (scope : Scope) (position without : Position) : Type 0 where
@@ -186,20 +180,11 @@ said_stays : FirstTells → (less more : Scope) → LeavesOutMore less more → 
     → is_left_out more piece ≡ false → IsSaid less piece → IsSaid more piece
 said_stays law less more wider (Whole (acts.Ask command) events) kept said =
     (record { spells = said.0.spells; followed = kept }, said.1)
-said_stays law less more wider (Whole (acts.Ack command) events) kept said = said
-said_stays law less more wider (Whole (acts.Nak command) events) kept said = said
-said_stays law less more wider (Whole (acts.Reply command reply) events) kept said = said
-said_stays law less more wider (Whole (acts.VmcAck command reply) events) kept said = said
-said_stays law less more wider (Whole (acts.VmcNak command reply) events) kept said = said
-said_stays law less more wider (Whole (acts.VmcRet command reply) events) kept said = said
-said_stays law less more wider (Whole (acts.Repeat command reply) events) kept said = said
 said_stays law less more wider (Whole acts.Foreign events) kept said =
     foreign_stays less more wider events kept said
-said_stays law less more wider (Whole (acts.Break length) events) kept said = said
 said_stays law less more wider (AskTail bytes events) kept said =
     (front_followed law more bytes (plain_front less bytes said.0) kept, said.1)
-said_stays law less more wider (ReplyTail command bytes events) kept said = said
-said_stays law less more wider (RepeatTail command reply words events) kept said = said
+said_stays law less more wider piece kept said = said
 
 -- and it may come where it came
 pub comes_as_it_did : (scope : Scope) (piece : Piece) (position without : Position)

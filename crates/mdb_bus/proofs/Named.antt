@@ -16,7 +16,7 @@ use Rattle.mdb_bus.specs.declared.fault.Rule.TheVariants as rule
 use Rattle.mdb_bus.specs.declared.scope.Beginning.{Beginning}
 use Rattle.mdb_bus.specs.declared.scope.Beginning.TheVariants.{PowerOn, Joined}
 use Rattle.mdb_bus.specs.declared.scope.Scope.{Scope}
-use Rattle.mdb_bus.specs.ActLists.{Piece, Whole, AskTail, ReplyTail, RepeatTail, Position, Asked, InReply, Replied, Returned, InRepeat, ArePieces, first_position, position_of}
+use Rattle.mdb_bus.specs.ActLists.{Piece, Whole, ReplyTail, RepeatTail, Position, Asked, InReply, Replied, Returned, InRepeat, ArePieces, first_position, position_of}
 use Rattle.mdb_bus.specs.LeavingOut.{device_in}
 use Rattle.mdb_bus.specs.LinkFaults.{IsLinkFault, asked_device, blame_of, blame_on, vmc_blame}
 use Rattle.mdb_bus.specs.Scopes.{IsFollowed}
@@ -53,44 +53,26 @@ open_followed : (scope : Scope) (pieces : List Piece) → ArePieces scope pieces
     → IsOneFollowed scope (device_at (position_of scope pieces))
 open_followed scope [] order = first_followed scope scope.begins
 open_followed scope (Whole (acts.Ask command) events ∷ pieces) order = order.0.said.0.followed
-open_followed scope (Whole (acts.Ack command) events ∷ pieces) order = tt
-open_followed scope (Whole (acts.Nak command) events ∷ pieces) order = tt
 open_followed scope (Whole (acts.Reply command reply) events ∷ pieces) order =
     at_position scope _ _ order.1.comes.0 (open_followed scope pieces order.2)
-open_followed scope (Whole (acts.VmcAck command reply) events ∷ pieces) order = tt
-open_followed scope (Whole (acts.VmcNak command reply) events ∷ pieces) order = tt
 open_followed scope (Whole (acts.VmcRet command reply) events ∷ pieces) order =
     at_position scope _ _ order.1.comes.0 (open_followed scope pieces order.2)
 open_followed scope (Whole (acts.Repeat command reply) events ∷ pieces) order =
     at_position scope _ _ order.1.comes.0 (open_followed scope pieces order.2)
-open_followed scope (Whole acts.Foreign events ∷ pieces) order = tt
-open_followed scope (Whole (acts.Break length) events ∷ pieces) order = tt
-open_followed scope (AskTail bytes events ∷ pieces) order = tt
 open_followed scope (ReplyTail command bytes events ∷ pieces) order =
     at_position scope _ _ order.1.comes.0 (open_followed scope pieces order.2)
 open_followed scope (RepeatTail command reply words events ∷ pieces) order =
     at_position scope _ _ order.1.comes.0 (open_followed scope pieces order.2)
+open_followed scope (piece ∷ pieces) order = tt
 
 -- so the device that an act names is followed: an answer names the one whose command is open
 pub in_act : (scope : Scope) (act : Act) (events : List Event) (pieces : List Piece)
     → ArePieces scope (Whole act events ∷ pieces) → IsOneFollowed scope (device_in act)
 in_act scope (acts.Ask command) events pieces order = order.0.said.0.followed
-in_act scope (acts.Ack command) events pieces order =
-    at_position scope _ _ order.1.comes.0 (open_followed scope pieces order.2)
-in_act scope (acts.Nak command) events pieces order =
-    at_position scope _ _ order.1.comes.0 (open_followed scope pieces order.2)
-in_act scope (acts.Reply command reply) events pieces order =
-    at_position scope _ _ order.1.comes.0 (open_followed scope pieces order.2)
-in_act scope (acts.VmcAck command reply) events pieces order =
-    at_position scope _ _ order.1.comes.0 (open_followed scope pieces order.2)
-in_act scope (acts.VmcNak command reply) events pieces order =
-    at_position scope _ _ order.1.comes.0 (open_followed scope pieces order.2)
-in_act scope (acts.VmcRet command reply) events pieces order =
-    at_position scope _ _ order.1.comes.0 (open_followed scope pieces order.2)
-in_act scope (acts.Repeat command reply) events pieces order =
-    at_position scope _ _ order.1.comes.0 (open_followed scope pieces order.2)
 in_act scope acts.Foreign events pieces order = tt
 in_act scope (acts.Break length) events pieces order = tt
+in_act scope act events pieces order =
+    at_position scope _ _ order.1.comes.0 (open_followed scope pieces order.2)
 
 -- a device that is there
 pub the_one : (scope : Scope) (some : Option Device) (device : Device) → IsOneFollowed scope some

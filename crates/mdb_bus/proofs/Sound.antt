@@ -31,19 +31,10 @@ first_replied (Joined setups) = tt
 -- the position after pieces in order is sound
 pub is_sound : (scope : Scope) (pieces : List Piece) → ArePieces scope pieces → IsSound scope (position_of scope pieces)
 is_sound scope [] order = first_sound scope scope.begins
-is_sound scope (Whole (acts.Ask command) events ∷ pieces) order = tt
-is_sound scope (Whole (acts.Ack command) events ∷ pieces) order = tt
-is_sound scope (Whole (acts.Nak command) events ∷ pieces) order = tt
-is_sound scope (Whole (acts.Reply command reply) events ∷ pieces) order = tt
-is_sound scope (Whole (acts.VmcAck command reply) events ∷ pieces) order = tt
-is_sound scope (Whole (acts.VmcNak command reply) events ∷ pieces) order = tt
-is_sound scope (Whole (acts.VmcRet command reply) events ∷ pieces) order = tt
-is_sound scope (Whole (acts.Repeat command reply) events ∷ pieces) order = tt
-is_sound scope (Whole acts.Foreign events ∷ pieces) order = tt
-is_sound scope (Whole (acts.Break length) events ∷ pieces) order = tt
 is_sound scope (AskTail bytes events ∷ pieces) order = order.0.said.0
 is_sound scope (ReplyTail command bytes events ∷ pieces) order = order.0.said.0
-is_sound scope (RepeatTail command reply words events ∷ pieces) order = tt
+is_sound scope (Whole acts.Foreign events ∷ pieces) order = tt
+is_sound scope (piece ∷ pieces) order = tt
 
 -- the last of some rows after others
 rest_last : (front : List Event) (first : Event) (others : List Event)
@@ -120,32 +111,21 @@ last_is_long scope (piece ∷ pieces) order =
 -- after a reply or a repeat, and where it was asked for again, there is a reply
 pub has_reply : (scope : Scope) (pieces : List Piece) → ArePieces scope pieces → HasReply (position_of scope pieces)
 has_reply scope [] order = first_replied scope.begins
-has_reply scope (Whole (acts.Ask command) events ∷ pieces) order = tt
-has_reply scope (Whole (acts.Ack command) events ∷ pieces) order = tt
-has_reply scope (Whole (acts.Nak command) events ∷ pieces) order = tt
 has_reply scope (Whole (acts.Reply command reply) events ∷ pieces) order = order.0.said.0
-has_reply scope (Whole (acts.VmcAck command reply) events ∷ pieces) order = tt
-has_reply scope (Whole (acts.VmcNak command reply) events ∷ pieces) order = tt
 has_reply scope (Whole (acts.VmcRet command reply) events ∷ pieces) order =
     let P : Position → Type 0 = λ position. HasReply position in
     subst P order.1.comes.0 (has_reply scope pieces order.2)
 has_reply scope (Whole (acts.Repeat command reply) events ∷ pieces) order =
     let P : Position → Type 0 = λ position. HasReply position in
     subst P order.1.comes.0 (has_reply scope pieces order.2)
-has_reply scope (Whole acts.Foreign events ∷ pieces) order = tt
-has_reply scope (Whole (acts.Break length) events ∷ pieces) order = tt
-has_reply scope (AskTail bytes events ∷ pieces) order = tt
-has_reply scope (ReplyTail command bytes events ∷ pieces) order = tt
 has_reply scope (RepeatTail command reply words events ∷ pieces) order =
     let P : Position → Type 0 = λ position. HasReply position in
     subst P order.1.comes.0 (has_reply scope pieces order.2)
+has_reply scope (piece ∷ pieces) order = tt
 
 -- so the reply that an act names is one
 pub names_a_reply : (scope : Scope) (act : Act) (events : List Event) (pieces : List Piece)
     → ArePieces scope (Whole act events ∷ pieces) → NamesAReply act
-names_a_reply scope (acts.Ask command) events pieces order = tt
-names_a_reply scope (acts.Ack command) events pieces order = tt
-names_a_reply scope (acts.Nak command) events pieces order = tt
 names_a_reply scope (acts.Reply command reply) events pieces order = order.0.said.0
 names_a_reply scope (acts.VmcAck command reply) events pieces order =
     subst HasReply order.1.comes.0 (has_reply scope pieces order.2)
@@ -155,5 +135,4 @@ names_a_reply scope (acts.VmcRet command reply) events pieces order =
     subst HasReply order.1.comes.0 (has_reply scope pieces order.2)
 names_a_reply scope (acts.Repeat command reply) events pieces order =
     subst HasReply order.1.comes.0 (has_reply scope pieces order.2)
-names_a_reply scope acts.Foreign events pieces order = tt
-names_a_reply scope (acts.Break length) events pieces order = tt
+names_a_reply scope act events pieces order = tt
