@@ -22,7 +22,8 @@ use Rattle.mdb_bus.specs.Acts.{IsBlockWord, IsForeignOpening, IsForeignWord, Say
 use Rattle.mdb_bus.specs.ActLists.{AreSpaced, ArePieces, AskTail, Asked, BlockMayCome, InAsk, InForeign, InRepeat, InReply, IsAskFront, IsPiece, IsRepeatFront, IsReplyFront, MayCome, MayStand, Piece, PieceFitsLevels, Position, Quiet, RepeatTail, Replied, ReplyTail, Returned, Whole, events_of, first_position, last_of, levels_of, piece_events, position_of}
 use Rattle.mdb_bus.specs.LinkFaults.{Situation, situation_of}
 use Rattle.mdb_bus.specs.inner.Steps.{Leads, WordLeads, grown, piece_after, pieces_after}
-use Rattle.mdb_bus.proofs.Commands.{command_some, more_low, spelled_low}
+use Rattle.mdb_msgs.proofs.CommandBytes.{spelled_low}
+use Rattle.mdb_bus.proofs.Commands.{command_some, more_low}
 use Rattle.mdb_bus.proofs.Lists.{all_front, all_last, controller_last, controller_length, first_stays, front_and_last, inside, not_empty, one_alone, peripheral_push, say_last, say_length, some_length}
 use Rattle.mdb_bus.specs.Scopes.{Asks}
 use Rattle.mdb_bus.specs.inner.Grammar.{OpenIsAFront}
@@ -214,7 +215,7 @@ not_both (Word at Controller word) marked unmarked = omega (arith, marked, unmar
 not_both (Word at Peripheral word) marked unmarked = marked
 not_both (Break at length) marked unmarked = marked
 
-marked_not_foreign : (event : Event) (byte : ℕ) → said_by event ≡ Some (Controller, 256 + byte)
+pub marked_not_foreign : (event : Event) (byte : ℕ) → said_by event ≡ Some (Controller, 256 + byte)
     → IsForeignWord event
     → ⊥
 marked_not_foreign (Word at Controller word) byte said foreign =
@@ -726,7 +727,7 @@ more_reply_tail scope command bytes rest front row some right stands earlier =
     }
 
 -- the words of a front are some
-some_words : (words : List ℕ) (front : List Event) → front ≢ [] → Say Peripheral words front
+pub some_words : (words : List ℕ) (front : List Event) → front ≢ [] → Say Peripheral words front
     → words ≢ []
 some_words words front some says none =
     absurd (omega (
@@ -806,7 +807,7 @@ more_repeat scope command reply rest front row some right stands earlier =
     }
 
 -- an answer of one byte is one event
-answer_alone : (line : Line) (word : ℕ) (events front : List Event) (row : Event) → front ≢ []
+pub answer_alone : (line : Line) (word : ℕ) (events front : List Event) (row : Event) → front ≢ []
     → Say line (word ∷ []) events
     → events ≡ front ++ row ∷ [] → ⊥
 answer_alone line word events front row some says is =

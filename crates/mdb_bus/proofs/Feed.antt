@@ -30,7 +30,7 @@ use Rattle.mdb_bus.specs.inner.Step.{EachStep, SomeStep}
 use Rattle.mdb_bus.proofs.EachSteps.{leads_of, some_each}
 use Rattle.mdb_bus.proofs.Forward.{forward}
 use Rattle.mdb_bus.proofs.Verdicts.{sealed}
-use Rattle.mdb_bus.proofs.Rows.{last_push}
+use Rattle.mdb_bus.proofs.Lists.{last_push}
 use Rattle.mdb_bus.proofs.Sound.{is_sound}
 use Rattle.mdb_bus.specs.declared.scope.Scope.{Scope}
 

@@ -1,21 +1,11 @@
 -- The fronts of commands' blocks: they are of bytes, and what they need stays as they grow.
-use Rattle.std.proofs.Common.{arith, refl, Bool, true, false, if◌then◌else◌, sym, subst, ◌∙◌, ◌≡◌, ◌≢◌, ◌%◌, ◌<◌, ◌≤◌, ℕ, List, [], ◌∷◌, ◌++◌, ◌⊎◌, inl, inr, Option, Some, None, All, length, sum}
-use Rattle.std.specs.List.{AllByRecursion}
+use Rattle.std.proofs.Common.{arith, refl, Bool, true, false, if◌then◌else◌, sym, ◌∙◌, ◌≡◌, ◌≢◌, ◌%◌, ◌<◌, ◌≤◌, ℕ, List, [], ◌∷◌, ◌++◌, ◌⊎◌, inl, inr, Option, Some, None, All, length}
 use Rattle.std.proofs.lemmas.Grind.{common_steps}
-use Rattle.std.proofs.lemmas.List.Elements.{recursion_from_All, All-from_recursion, All-cons, All-nil, All-push}
-use Rattle.mdb_blocks.specs.Block.{block_of}
-use Rattle.mdb_msgs.specs.declared.command.BillCommand.{BillCommand}
-use Rattle.mdb_msgs.specs.declared.command.BillCommand.TheVariants as bill
-use Rattle.mdb_msgs.specs.declared.command.ChangerCommand.{ChangerCommand}
-use Rattle.mdb_msgs.specs.declared.command.ChangerCommand.TheVariants as changer
-use Rattle.mdb_msgs.specs.declared.command.Command.{Command}
-use Rattle.mdb_msgs.specs.declared.command.Command.TheVariants.{Changer, Bill, Reader}
-use Rattle.mdb_msgs.specs.declared.command.ReaderCommand.{ReaderCommand}
-use Rattle.mdb_msgs.specs.declared.command.ReaderCommand.TheVariants as reader
-use Rattle.mdb_msgs.specs.declared.command.ReaderUnit.TheVariants.{First, Second}
+use Rattle.std.proofs.lemmas.List.Elements.{All-from_recursion, All-cons, All-nil}
 use Rattle.mdb_msgs.specs.declared.need.Need.{Need}
 use Rattle.mdb_msgs.specs.declared.need.Need.TheVariants as need
-use Rattle.mdb_msgs.specs.Commands.{HasBillFields, HasChangerFields, HasFields, HasReaderFields, IsByte, bill_bytes, changer_bytes, command_bytes, reader_bytes}
+use Rattle.mdb_msgs.specs.Commands.{IsByte}
+use Rattle.mdb_msgs.proofs.CommandBytes.{begun_low}
 use Rattle.mdb_msgs.specs.Needs.{bill_need, changer_need, is_for, need as need_of, needed, reader_need}
 use Rattle.mdb_bus.specs.ActLists.{IsAskFront}
 use Rattle.mdb_bus.proofs.Decided.{Decided, less}
@@ -98,115 +88,10 @@ need_ends scope first second more =
 pub need_high : (first : ℕ) → 256 ≤ first → need_of first None ≡ need.Foreign
 need_high first high = grind (arith, common_steps)
 
--- the bytes of a command
-
-changer_low : (command : ChangerCommand) → HasChangerFields command
-    → AllByRecursion IsByte (changer_bytes command)
-changer_low changer.Reset fields = (omega arith, tt)
-changer_low changer.Setup fields = (omega arith, tt)
-changer_low changer.TubeStatus fields = (omega arith, tt)
-changer_low changer.Poll fields = (omega arith, tt)
-changer_low (changer.CoinType enable manual) fields = (
-  omega arith,
-  (omega (arith, fields.0), (omega arith, (omega (arith, fields.1), (omega arith, tt)))),
-)
-changer_low (changer.Dispense coins) fields = (omega arith, (omega (arith, fields), tt))
-changer_low changer.Identification fields = (omega arith, (omega arith, tt))
-changer_low (changer.Features features) fields =
-    (omega arith, (omega arith, recursion_from_All IsByte features fields.1))
-
-bill_low : (command : BillCommand) → HasBillFields command
-    → AllByRecursion IsByte (bill_bytes command)
-bill_low bill.Reset fields = (omega arith, tt)
-bill_low bill.Setup fields = (omega arith, tt)
-bill_low (bill.Security levels) fields = (omega arith, recursion_from_All IsByte levels fields.1)
-bill_low bill.Poll fields = (omega arith, tt)
-bill_low (bill.BillType enable escrow) fields = (
-  omega arith,
-  (omega (arith, fields.0), (omega arith, (omega (arith, fields.1), (omega arith, tt)))),
-)
-bill_low (bill.Escrow order) fields = (omega arith, (omega (arith, fields), tt))
-bill_low bill.Stacker fields = (omega arith, tt)
-bill_low bill.Identification fields = (omega arith, (omega arith, tt))
-bill_low (bill.Features features) fields =
-    (omega arith, (omega arith, recursion_from_All IsByte features fields.1))
-bill_low bill.IdentificationWithOptions fields = (omega arith, (omega arith, tt))
-
-reader_low : (address : ℕ) (command : ReaderCommand) → address < 249 → HasReaderFields command
-    → AllByRecursion IsByte (reader_bytes address command)
-reader_low address reader.Reset low fields = (omega (arith, low), tt)
-reader_low address (reader.SetupConfig level columns rows display) low fields = (
-  omega (arith, low),
-  (
-    omega arith,
-    (
-      omega (arith, fields.0),
-      (omega (arith, fields.1), (omega (arith, fields.2), (omega (arith, fields.3), tt))),
-    ),
-  ),
-)
-reader_low address (reader.SetupPrices maximum minimum) low fields = (
-  omega (arith, low),
-  (
-    omega arith,
-    (omega (arith, fields.0), (omega arith, (omega (arith, fields.1), (omega arith, tt)))),
-  ),
-)
-reader_low address reader.Poll low fields = (omega (arith, low), tt)
-reader_low address (reader.VendRequest price item) low fields = (
-  omega (arith, low),
-  (
-    omega arith,
-    (omega (arith, fields.0), (omega arith, (omega (arith, fields.1), (omega arith, tt)))),
-  ),
-)
-reader_low address reader.VendCancel low fields = (omega (arith, low), (omega arith, tt))
-reader_low address (reader.VendSuccess item) low fields =
-    (omega (arith, low), (omega arith, (omega (arith, fields), (omega arith, tt))))
-reader_low address reader.VendFailure low fields = (omega (arith, low), (omega arith, tt))
-reader_low address reader.SessionComplete low fields = (omega (arith, low), (omega arith, tt))
-reader_low address (reader.CashSale price item) low fields = (
-  omega (arith, low),
-  (
-    omega arith,
-    (omega (arith, fields.0), (omega arith, (omega (arith, fields.1), (omega arith, tt)))),
-  ),
-)
-reader_low address reader.Disable low fields = (omega (arith, low), (omega arith, tt))
-reader_low address reader.Enable low fields = (omega (arith, low), (omega arith, tt))
-reader_low address reader.Cancel low fields = (omega (arith, low), (omega arith, tt))
-reader_low address (reader.RequestId identity) low fields =
-    (omega (arith, low), (omega arith, recursion_from_All IsByte identity fields.1))
-
-command_low : (command : Command) → HasFields command
-    → AllByRecursion IsByte (command_bytes command)
-command_low (Changer command) fields = changer_low command fields
-command_low (Bill command) fields = bill_low command fields
-command_low (Reader First command) fields = reader_low 0x10 command (omega arith) fields
-command_low (Reader Second command) fields = reader_low 0x60 command (omega arith) fields
-
--- the sum of a block is a byte
-sum_low : (bytes : List ℕ) → sum bytes % 256 < 256
-sum_low bytes = omega arith
-
--- a front of a list of bytes is of bytes
-low_front : (bytes rest : List ℕ) → AllByRecursion IsByte (bytes ++ rest)
-    → AllByRecursion IsByte bytes
-low_front [] rest low = tt
-low_front (byte ∷ bytes) rest low = (low.0, low_front bytes rest low.1)
-
 -- the front of a command's block is of bytes
 pub front_bytes : (scope : Scope) (bytes : List ℕ) → IsAskFront scope bytes → All IsByte bytes
-front_bytes scope bytes front =
-    let content = command_bytes front.command in
-    let low : All IsByte content = All-from_recursion IsByte content
-    (command_low front.command front.spelled.spells.fields) in
-    let block : All IsByte (block_of content) = All-push IsByte content (sum content % 256) low
-    (sum_low content) in
-    let P : List ℕ → Type 0 = λ bs. All IsByte bs in
-    let whole : All IsByte (bytes ++ front.rest) = subst P (sym front.spelled.spells.bytes) block in
-    All-from_recursion IsByte bytes
-    (low_front bytes front.rest (recursion_from_All IsByte (bytes ++ front.rest) whole))
+front_bytes scope bytes front = All-from_recursion IsByte bytes
+    (begun_low front.command bytes front.rest front.spelled.spells)
 
 -- what two bytes need stays as more come, and what one byte does unless it is left to the second
 plain_stays : (bytes : List ℕ) (byte n : ℕ) → bytes ≢ [] → needed bytes ≡ need.Exactly n

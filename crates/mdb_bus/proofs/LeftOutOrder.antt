@@ -28,14 +28,14 @@ use Rattle.mdb_bus.specs.Acts.{IsForeign, Say, reply_words}
 use Rattle.mdb_bus.specs.ActLists.{Piece, Whole, AskTail, ReplyTail, RepeatTail, Position, Quiet, InAsk, Asked, InReply, Replied, Returned, InRepeat, InForeign, ArePieces, AreSpaced, BlockMayCome, ForeignMayCome, IsLow, IsPiece, IsSaid, MayCome, MayStand, NotBefore, PieceFitsLevels, events_of, first_position, last_of, left_by, level_for, levels_after, levels_of, piece_events, position_of}
 use Rattle.mdb_bus.specs.LeavingOut.{LeavesOutMore, begin_left_out, is_left_out, is_one_left_out, leave_out, position_without, with_foreign}
 use Rattle.mdb_bus.specs.Scopes.{IsFollowed, IsLeftOut}
-use Rattle.mdb_bus.proofs.Commands.{spelled_low}
+use Rattle.mdb_msgs.proofs.CommandBytes.{spelled_low}
 use Rattle.mdb_bus.proofs.Followed.{FirstTells, front_followed, plain_front}
 use Rattle.mdb_bus.proofs.LeftOutWords.{AreForeignWords, Becomes, answer_foreign, as_block, as_foreign, as_words, foreign_stays, peripheral_foreign}
 use Rattle.mdb_bus.proofs.Lists.{all_front, last_push}
 use Rattle.mdb_bus.proofs.Named.{device_at}
 
 -- the rows of pieces with foreign acts after them
-foreign_rows : (events : List Event) (pieces : List Piece)
+pub foreign_rows : (events : List Event) (pieces : List Piece)
     → events_of (with_foreign events pieces) ≡ events_of pieces ++ events
 foreign_rows [] pieces = sym (append-nil (events_of pieces))
 foreign_rows (event ∷ events) pieces =
@@ -80,7 +80,7 @@ where_without less more (piece ∷ pieces) order =
     (leave_out more pieces) stands.begins
 
 -- a block that may come waits for a word's length at least
-block_waits : (position : Position) (from : Option Event) (to : Event)
+pub block_waits : (position : Position) (from : Option Event) (to : Event)
     → BlockMayCome position from to → NotBefore WORD_GAP_MIN from to
 block_waits Quiet None to comes = tt
 block_waits Quiet (Some (Word at line word)) to comes = comes
@@ -390,7 +390,7 @@ same_after (commands.Reader Second command) (commands.Reader First asked) one ot
 same_after (commands.Reader unit command) asked one other same = same
 
 -- foreign acts tell no level
-foreign_levels : (told : Levels) (events : List Event) (pieces : List Piece)
+pub foreign_levels : (told : Levels) (events : List Event) (pieces : List Piece)
     → levels_of told (with_foreign events pieces) ≡ levels_of told pieces
 foreign_levels told [] pieces = refl
 foreign_levels told (event ∷ events) pieces =

@@ -93,7 +93,7 @@ AreForeignWords [] = Unit {0}
 AreForeignWords (event ∷ events) = IsForeignWord event × AreForeignWords events
 
 -- a word's number, by what its event says
-low_word : (event : Event) (byte : ℕ) → said_by event ≡ Some (Controller, byte) → byte < 256
+pub low_word : (event : Event) (byte : ℕ) → said_by event ≡ Some (Controller, byte) → byte < 256
     → IsForeignWord event
 low_word (Word at Controller word) byte says low =
     let one : Line × ℕ = (Controller, word) in
@@ -105,7 +105,7 @@ low_word (Word at Peripheral word) byte says low = tt
 low_word (Break at length) byte says low = cc
 
 -- the controller's words after the first of a block are foreign words
-low_words : (bytes : List ℕ) (events : List Event) → AllByRecursion IsByte bytes
+pub low_words : (bytes : List ℕ) (events : List Event) → AllByRecursion IsByte bytes
     → Say Controller bytes events → AreForeignWords events
 low_words bytes [] low says = tt
 low_words [] (event ∷ events) low says = cc
@@ -115,7 +115,7 @@ low_words (byte ∷ bytes) (event ∷ events) low says =
     (low_word event byte one low.0, low_words bytes events low.1 rest)
 
 -- and so are all words of a peripheral
-a_peripheral_word : (event : Event) (word : ℕ) → said_by event ≡ Some (Peripheral, word)
+pub a_peripheral_word : (event : Event) (word : ℕ) → said_by event ≡ Some (Peripheral, word)
     → IsForeignWord event
 a_peripheral_word (Word at Controller said) word says =
     let one : Line × ℕ = (Controller, said) in

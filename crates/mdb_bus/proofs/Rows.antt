@@ -10,6 +10,7 @@ use Rattle.mdb_words.specs.Event.{AtLeast, AtMost}
 use Rattle.mdb_blocks.specs.Block.{block_of, controller_words, peripheral_words}
 use Rattle.mdb_bus.specs.Acts.{IsBlockWord, Say, said_by}
 use Rattle.mdb_bus.specs.ActLists.{AreSpaced, Within, last_of}
+use Rattle.mdb_bus.proofs.Lists.{last_push, peripheral_push}
 
 -- a list that begins with an element has a last one
 front_and_last : {X : Type 0} (x : X) (xs : List X) → (front : List X) × (last : X)
@@ -18,12 +19,6 @@ front_and_last x [] = ([], x, refl)
 front_and_last x (y ∷ ys) =
     let rest = front_and_last y ys in
     (x ∷ rest.0, rest.1, ap (λ zs. x ∷ zs) rest.2)
-
--- the last row is the one at the end
-pub last_push : (events : List Event) (event : Event) → last_of (events ++ event ∷ []) ≡ Some event
-last_push [] event = refl
-last_push (x ∷ []) event = refl
-last_push (x ∷ y ∷ ys) event = last_push (y ∷ ys) event
 
 -- words with one more are said by events with one more
 say_push : (line : Line) (words : List ℕ) (events : List Event) (word : ℕ) (event : Event)
@@ -53,13 +48,6 @@ pub say_byte : (bytes : List ℕ) (events : List Event) (at word : ℕ) → byte
 say_byte [] events at word some says = absurd (some refl)
 say_byte (byte ∷ bytes) events at word some says = say_word Controller ((256 + byte) ∷ bytes) events
     at word says
-
--- the words of a peripheral's block with one byte more
-peripheral_push : (bytes : List ℕ) (byte : ℕ) → peripheral_words (bytes ++ byte ∷ [])
-    ≡ bytes ++ (256 + byte) ∷ []
-peripheral_push [] byte = refl
-peripheral_push (x ∷ []) byte = refl
-peripheral_push (x ∷ y ∷ ys) byte = ap (λ ws. x ∷ ws) (peripheral_push (y ∷ ys) byte)
 
 -- data bytes and the marked word of their sum are the words of their block
 pub say_sum : (bytes : List ℕ) (events : List Event) (at word : ℕ) → word ≡ 256 + sum bytes % 256

@@ -44,6 +44,7 @@ use Rattle.mdb_bus.specs.declared.scope.Scope.{Scope}
 use Rattle.mdb_bus.specs.ActLists.{IsAskFront}
 use Rattle.mdb_bus.specs.Scopes.{needed_in}
 use Rattle.mdb_bus.proofs.Followed.{AreFollowed, FirstTells, ask_front_followed, asks_followed, expansion_opens, front_followed, needed_followed, plain_front, still_followed, within}
+use Rattle.mdb_bus.proofs.Lists.{peripheral_push}
 
 -- a row isn't both too early and in time
 pub not_early : (least : ℕ) (from : Option Event) (to : Event) → NotBefore least from to
@@ -334,13 +335,6 @@ going_on scope bytes from at word levels (Err rule.Profile) order early late sma
     first other b = search rules
 going_on scope bytes from at word levels (Err other) order early late small law some
     followed h = absurd h
-
--- the words of a peripheral that end in one
-pub peripheral_push : (bytes : List ℕ) (byte : ℕ) → peripheral_words (bytes ++ byte ∷ [])
-    ≡ bytes ++ (256 + byte) ∷ []
-peripheral_push [] byte = refl
-peripheral_push (x ∷ []) byte = refl
-peripheral_push (x ∷ y ∷ ys) byte = ap (λ ws. x ∷ ws) (peripheral_push (y ∷ ys) byte)
 
 -- the last word of a block of a peripheral
 pub reply_sum : (bytes : List ℕ)

@@ -1,17 +1,14 @@
 -- A piece of more rows than one without its last row: a tail of the others, which may stand where
 -- the piece stands. (Of a foreign block of two words that isn't shown here.)
-use Rattle.std.proofs.Common.{arith, refl, ap, sym, subst, ◌∙◌, ◌≡◌, ◌≢◌, ◌⊎◌, inl, inr, ◌+◌, ◌≤◌, ◌%◌}
+use Rattle.std.proofs.Common.{arith, refl, sym, subst, ◌∙◌, ◌≡◌, ◌≢◌, ◌⊎◌, inl, inr, ◌+◌, ◌≤◌, ◌%◌}
 use Rattle.std.proofs.Common.{ℕ, List, []}
-use Rattle.std.proofs.Common.{◌∷◌, ◌++◌, Option, Some, IsSome, length, sum, All, append_assoc}
+use Rattle.std.proofs.Common.{◌∷◌, ◌++◌, Option, IsSome, length, sum, append_assoc}
 use Rattle.std.proofs.Common.{length-append}
-use Rattle.std.specs.List.{AllByRecursion}
-use Rattle.std.proofs.lemmas.List.{length-map, same_from_push}
-use Rattle.std.proofs.lemmas.List.Elements.{recursion_from_All, All-from_recursion}
+use Rattle.std.proofs.lemmas.List.{same_from_push}
 use Rattle.mdb_words.specs.declared.event.Event.{Event}
 use Rattle.mdb_words.specs.declared.event.Event.TheVariants.{Break}
-use Rattle.mdb_words.specs.declared.word.Line.{Line}
 use Rattle.mdb_words.specs.declared.word.Line.TheVariants.{Controller, Peripheral}
-use Rattle.mdb_blocks.specs.Block.{block_of, controller_words, peripheral_words}
+use Rattle.mdb_blocks.specs.Block.{block_of, controller_words}
 use Rattle.mdb_msgs.specs.declared.answer.AnswerForm.{AnswerForm}
 use Rattle.mdb_msgs.specs.declared.command.Command.{Command}
 use Rattle.mdb_msgs.specs.declared.reply.Reply.{Reply}
@@ -19,101 +16,14 @@ use Rattle.mdb_msgs.specs.Commands.{IsByte, command_bytes}
 use Rattle.mdb_msgs.specs.Replies.{reply_bytes}
 use Rattle.mdb_bus.specs.declared.act.Act.TheVariants as acts
 use Rattle.mdb_bus.specs.declared.scope.Scope.{Scope}
-use Rattle.mdb_bus.specs.Acts.{Say, command_words, reply_words, said_by}
+use Rattle.mdb_bus.specs.Acts.{Say, command_words, reply_words}
 use Rattle.mdb_bus.specs.ActLists.{AreSpaced, AskTail, IsAskFront, IsPiece, IsRepeatFront}
 use Rattle.mdb_bus.specs.ActLists.{IsReplyFront, IsSaid, IsTail, MayCome, MayStand, Piece}
 use Rattle.mdb_bus.specs.ActLists.{PieceFitsLevels, RepeatTail, ReplyTail, Whole, events_of, last_of}
 use Rattle.mdb_bus.specs.ActLists.{levels_of, piece_events, position_of}
 use Rattle.mdb_bus.specs.Scopes.{Asks}
-
--- a list that isn't empty has a last element
-pub front_and_last : {X : Type 0} (xs : List X) → xs ≢ [] → (front : List X) × (last : X)
-    × (xs ≡ front ++ last ∷ [])
-front_and_last [] some = absurd (some refl)
-front_and_last (x ∷ []) some = ([], x, refl)
-front_and_last (x ∷ y ∷ ys) some =
-    let rest = front_and_last (y ∷ ys) (λ none. cc) in
-    (x ∷ rest.0, rest.1, ap (λ zs. x ∷ zs) rest.2)
-
--- a list with an element after it has elements
-pub not_empty : {X : Type 0} (xs : List X) (x : X) → xs ++ x ∷ [] ≢ []
-not_empty [] x none = cc
-not_empty (y ∷ xs) x none = cc
-
--- a list begins with what it begins with when an element stands after it
-first_stays : {X : Type 0} (xs : List X) (x to : X) (back : List X) → xs ≢ []
-    → xs ++ x ∷ [] ≡ to ∷ back → (rest : List X) × (xs ≡ to ∷ rest)
-first_stays [] x to back some is = absurd (some refl)
-first_stays (y ∷ ys) x to back some is = (ys, cc)
-
--- the length of a list that isn't empty
-some_length : {X : Type 0} (xs : List X) → xs ≢ [] → 1 ≤ length xs
-some_length [] some = absurd (some refl)
-some_length (x ∷ xs) some = omega arith
-
--- events say as many words as they are
-say_length : (line : Line) (words : List ℕ) (events : List Event) → Say line words events
-    → length words ≡ length events
-say_length line words events says =
-    sym (length-map words (λ word. Some (line, word)))
-    ∙ (sym (ap length says) ∙ length-map events said_by)
-
--- the words of events that end in one
-pub say_last : (line : Line) (words : List ℕ) (events : List Event) (event : Event)
-    → Say line words (events ++ event ∷ [])
-    → (front : List ℕ) × (word : ℕ) × (words ≡ front ++ word ∷ []) × Say line front events
-    × (said_by event ≡ Some (line, word))
-say_last line [] [] event says = cc
-say_last line [] (f ∷ events) event says = cc
-say_last line (w ∷ []) [] event says = ([], w, refl, refl, cc)
-say_last line (w ∷ v ∷ words) [] event says = cc
-say_last line (w ∷ words) (f ∷ events) event says =
-    let rest = say_last line words events event (cc) in
-    let whole : words ≡ rest.0 ++ rest.1 ∷ [] = rest.2 in
-    (w ∷ rest.0, rest.1, cc, cc, rest.4)
-
--- one word is one event
-pub one_alone : (line : Line) (word : ℕ) (front : List Event) (event : Event)
-    → Say line (word ∷ []) (front ++ event ∷ []) → front ≡ []
-one_alone line word [] event says = refl
-one_alone line word (f ∷ front) event says =
-    absurd (omega (
-      arith,
-      say_length line (word ∷ []) (f ∷ front ++ event ∷ []) says,
-      length-append front (event ∷ []),
-    ))
-
--- the controller's words that end in one, after others
-record ControllerEnd (bytes : List ℕ) (front : List Event) : Type 0 where
-  start : List ℕ
-  byte : ℕ
-  is : bytes ≡ start ++ byte ∷ []
-  some : start ≢ []
-  says : Say Controller (controller_words start) front
-
-controller_last : (bytes : List ℕ) (front : List Event) (event : Event) → front ≢ []
-    → Say Controller (controller_words bytes) (front ++ event ∷ []) → ControllerEnd bytes front
-controller_last bytes [] event some says = absurd (some refl)
-controller_last [] (f ∷ front) event some says = cc
-controller_last (b ∷ bytes) (f ∷ front) event some says =
-    let rest = say_last Controller bytes front event (cc) in
-    let first : said_by f ≡ Some (Controller, 256 + b) = cc in
-    let others : Say Controller rest.0 front = rest.3 in
-    let whole : bytes ≡ rest.0 ++ rest.1 ∷ [] = rest.2 in
-    record {
-      start = b ∷ rest.0;
-      byte = rest.1;
-      is = cc;
-      some = λ none. cc;
-      says = cc;
-    }
-
--- a peripheral marks the last of its words alone
-peripheral_push : (bytes : List ℕ) (byte : ℕ)
-    → peripheral_words (bytes ++ byte ∷ []) ≡ bytes ++ (256 + byte) ∷ []
-peripheral_push [] byte = refl
-peripheral_push (x ∷ []) byte = refl
-peripheral_push (x ∷ y ∷ ys) byte = ap (λ ws. x ∷ ws) (peripheral_push (y ∷ ys) byte)
+use Rattle.mdb_bus.proofs.Lists.{all_front, controller_last, first_stays, peripheral_push, say_last, say_length, some_length}
+use Rattle.mdb_bus.proofs.Backward.{some_words, answer_alone}
 
 -- the gaps of events without their last
 spaced_less : (events : List Event) (event : Event) → AreSpaced (events ++ event ∷ [])
@@ -121,16 +31,6 @@ spaced_less : (events : List Event) (event : Event) → AreSpaced (events ++ eve
 spaced_less [] event spaced = tt
 spaced_less (x ∷ []) event spaced = tt
 spaced_less (x ∷ y ∷ ys) event spaced = (spaced.0, spaced.1, spaced_less (y ∷ ys) event spaced.2)
-
--- what holds of each element holds of each in a front
-front_by_recursion : (P : ℕ → Type 0) (xs ys : List ℕ) → AllByRecursion P (xs ++ ys)
-    → AllByRecursion P xs
-front_by_recursion P [] ys all = tt
-front_by_recursion P (x ∷ xs) ys all = (all.0, front_by_recursion P xs ys all.1)
-
-all_front : (P : ℕ → Type 0) (xs ys : List ℕ) → All P (xs ++ ys) → All P xs
-all_front P xs ys all =
-    All-from_recursion P xs (front_by_recursion P xs ys (recursion_from_All P (xs ++ ys) all))
 
 -- a tail of some rows, which may stand after pieces
 pub record TailOf (scope : Scope) (rest : List Piece) (front : List Event) : Type 0 where
@@ -259,17 +159,6 @@ of_reply_tail scope command bytes rest events front row some long right stands =
       last.3,
     ) (λ to may. may) tt right.spaced stands
 
--- the words of a front are some
-some_words : (words : List ℕ) (front : List Event) → front ≢ [] → Say Peripheral words front
-    → words ≢ []
-some_words words front some says none =
-    absurd (omega (
-      arith,
-      some_length front some,
-      say_length Peripheral words front says,
-      ap length none,
-    ))
-
 -- a repeat
 of_repeat : (scope : Scope) (command : Command) (reply : Reply) (rest : List Piece)
     (events front : List Event) (row : Event) → front ≢ [] → events ≡ front ++ row ∷ []
@@ -308,12 +197,6 @@ of_repeat_tail scope command reply words rest events front row some long right s
       },
       last.3,
     ) (λ to may. may) tt right.spaced stands
-
--- an answer of one byte is one event
-answer_alone : (line : Line) (word : ℕ) (events front : List Event) (row : Event) → front ≢ []
-    → Say line (word ∷ []) events → events ≡ front ++ row ∷ [] → ⊥
-answer_alone line word events front row some says long =
-    some (one_alone line word front row (subst (Say line (word ∷ [])) long says))
 
 -- a piece is no foreign act
 abbrev pub NotForeign : Piece → Type 0

@@ -28,16 +28,16 @@ use Rattle.mdb_bus.specs.declared.scope.Beginning.TheVariants.{PowerOn, Joined}
 use Rattle.mdb_bus.specs.declared.scope.Scope.{Scope}
 
 -- a reply, RET for it, or its repeat
-abbrev IsOfReply : Command → Reply → Act → Type 0
+abbrev pub IsOfReply : Command → Reply → Act → Type 0
 IsOfReply command reply act = (act ≡ acts.VmcRet command reply) ⊎ (act ≡ acts.Repeat command reply)
 
 -- what is open where a reply is, or where it was asked for again
-abbrev IsOpen : Command → Reply → Position → Type 0
+abbrev pub IsOpen : Command → Reply → Position → Type 0
 IsOpen command reply position =
     (position ≡ Replied command reply) ⊎ (position ≡ Returned command reply)
 
 -- one act more
-again : (command : Command) (reply : Reply) (act : Act) (so_far : List Act)
+pub again : (command : Command) (reply : Reply) (act : Act) (so_far : List Act)
     → IsOfReply command reply act → EndsInReply command reply so_far
     → EndsInReply command reply (act ∷ so_far)
 again command reply act so_far of ends = record {
@@ -48,7 +48,7 @@ again command reply act so_far of ends = record {
 }
 
 -- a recording begins with no reply open
-first_closed : (command : Command) (reply : Reply) (begins : Beginning)
+pub first_closed : (command : Command) (reply : Reply) (begins : Beginning)
     → IsOpen command reply (first_position begins) → ⊥
 first_closed command reply PowerOn (inl e) = cc
 first_closed command reply PowerOn (inr e) = cc
@@ -56,7 +56,7 @@ first_closed command reply (Joined setups) (inl e) = cc
 first_closed command reply (Joined setups) (inr e) = cc
 
 -- pieces where a reply is open end in it
-ends_in : (scope : Scope) (command : Command) (reply : Reply) (pieces : List Piece) → ArePieces scope pieces
+pub ends_in : (scope : Scope) (command : Command) (reply : Reply) (pieces : List Piece) → ArePieces scope pieces
     → IsOpen command reply (position_of scope pieces) → EndsInReply command reply (acts_of pieces)
 ends_in scope command reply [] are here = absurd (first_closed command reply scope.begins here)
 ends_in scope command reply (Whole (acts.Reply c r) events ∷ pieces) are (inl e) = record {

@@ -1,11 +1,10 @@
 -- The words of pieces where a transcript is cut: all but the first of a piece are foreign words,
 -- and the first is one, or begins a block or a break.
-use Rattle.std.proofs.Common.{arith, ap, sym, subst, ◌∙◌, ◌≡◌, ◌<◌, ◌++◌, ◌⊎◌, inl, inr, ℕ, List, [], ◌∷◌, Option, Some, None}
+use Rattle.std.proofs.Common.{arith, sym, subst, ◌∙◌, ◌≡◌, ◌++◌, ◌⊎◌, inl, inr, ℕ, List, [], ◌∷◌, Option}
 use Rattle.std.specs.List.{AllByRecursion}
 use Rattle.mdb_words.specs.declared.limits.TheConstants.{WORD_GAP_MIN}
 use Rattle.mdb_words.specs.declared.event.Event.{Event}
-use Rattle.mdb_words.specs.declared.event.Event.TheVariants.{Word, Break}
-use Rattle.mdb_words.specs.declared.word.Line.{Line}
+use Rattle.mdb_words.specs.declared.event.Event.TheVariants.{Break}
 use Rattle.mdb_words.specs.declared.word.Line.TheVariants.{Controller, Peripheral}
 use Rattle.mdb_blocks.specs.Answer.{answer_word}
 use Rattle.mdb_blocks.specs.Block.{block_of, controller_words}
@@ -13,14 +12,11 @@ use Rattle.mdb_blocks.specs.declared.answer.Answer.TheVariants as answers
 use Rattle.mdb_msgs.specs.Commands.{IsByte, command_bytes}
 use Rattle.mdb_bus.specs.declared.act.Act.TheVariants as acts
 use Rattle.mdb_bus.specs.declared.scope.Scope.{Scope}
-use Rattle.mdb_bus.specs.Acts.{IsForeign, IsForeignWord, Say, reply_words, said_by}
-use Rattle.mdb_bus.specs.ActLists.{Piece, Whole, AskTail, ReplyTail, RepeatTail, Position, Quiet, InAsk, Asked, InReply, Replied, Returned, InRepeat, InForeign, BlockMayCome, ForeignMayCome, IsSaid, MayCome, NotBefore, piece_events}
-use Rattle.mdb_late_start.proofs.CommandBytes.{begun_low, whole_low}
-
--- events are foreign words
-abbrev pub AreForeignWords : List Event → Type 0
-AreForeignWords [] = Unit {0}
-AreForeignWords (event ∷ events) = IsForeignWord event × AreForeignWords events
+use Rattle.mdb_bus.specs.Acts.{IsForeign, IsForeignWord, Say, reply_words}
+use Rattle.mdb_bus.specs.ActLists.{Piece, Whole, AskTail, ReplyTail, RepeatTail, Position, InForeign, ForeignMayCome, IsSaid, MayCome, NotBefore, piece_events}
+use Rattle.mdb_msgs.proofs.CommandBytes.{begun_low, whole_low}
+use Rattle.mdb_bus.proofs.LeftOutWords.{AreForeignWords, low_words, peripheral_foreign, answer_foreign}
+use Rattle.mdb_bus.proofs.LeftOutOrder.{block_waits}
 
 -- so are those of two lists together
 pub foreign_both : (events others : List Event) → AreForeignWords events → AreForeignWords others
@@ -35,28 +31,6 @@ pub foreign_end : (events others : List Event) → AreForeignWords (events ++ ot
 foreign_end [] others words = words
 foreign_end (event ∷ events) others words = foreign_end events others words.1
 
--- a word's number, by what its event says
-low_word : (event : Event) (byte : ℕ) → said_by event ≡ Some (Controller, byte) → byte < 256
-    → IsForeignWord event
-low_word (Word at Controller word) byte says low =
-    let one : Line × ℕ = (Controller, word) in
-    let other : Line × ℕ = (Controller, byte) in
-    let same : one ≡ other = cc in
-    let is : word ≡ byte = ap (λ (p : Line × ℕ). p.1) same in
-    omega (arith, is, low)
-low_word (Word at Peripheral word) byte says low = tt
-low_word (Break at length) byte says low = cc
-
--- bytes that the controller says unmarked are foreign words
-low_words : (bytes : List ℕ) (events : List Event) → AllByRecursion IsByte bytes
-    → Say Controller bytes events → AreForeignWords events
-low_words bytes [] low says = tt
-low_words [] (event ∷ events) low says = cc
-low_words (byte ∷ bytes) (event ∷ events) low says =
-    let one : said_by event ≡ Some (Controller, byte) = cc in
-    let rest : Say Controller bytes events = cc in
-    (low_word event byte one low.0, low_words bytes events low.1 rest)
-
 -- so are its words after the first of a block
 block_words : (bytes : List ℕ) (first : Event) (others : List Event)
     → AllByRecursion IsByte bytes → Say Controller (controller_words bytes) (first ∷ others)
@@ -65,33 +39,6 @@ block_words [] first others low says = cc
 block_words (byte ∷ bytes) first others low says =
     let rest : Say Controller bytes others = cc in
     low_words bytes others low.1 rest
-
--- and so is a word of a peripheral
-a_peripheral_word : (event : Event) (word : ℕ) → said_by event ≡ Some (Peripheral, word)
-    → IsForeignWord event
-a_peripheral_word (Word at Controller said) word says =
-    let one : Line × ℕ = (Controller, said) in
-    let other : Line × ℕ = (Peripheral, word) in
-    let same : one ≡ other = cc in
-    let line : Controller ≡ Peripheral = ap (λ (p : Line × ℕ). p.0) same in
-    cc line
-a_peripheral_word (Word at Peripheral said) word says = tt
-a_peripheral_word (Break at length) word says = cc
-
--- and all its words
-peripheral_foreign : (words : List ℕ) (events : List Event) → Say Peripheral words events
-    → AreForeignWords events
-peripheral_foreign words [] says = tt
-peripheral_foreign [] (event ∷ events) says = cc
-peripheral_foreign (word ∷ words) (event ∷ events) says =
-    let one : said_by event ≡ Some (Peripheral, word) = cc in
-    let rest : Say Peripheral words events = cc in
-    (a_peripheral_word event word one, peripheral_foreign words events rest)
-
--- an answer of the controller is a foreign word
-answer_foreign : (word : ℕ) (events : List Event) → word < 256
-    → Say Controller (word ∷ []) events → AreForeignWords events
-answer_foreign word events low says = low_words (word ∷ []) events (low, tt) says
 
 -- all but the first event of a foreign act are foreign words
 foreign_others : (scope : Scope) (first : Event) (others : List Event)
@@ -109,23 +56,6 @@ foreign_others scope first others (inr further) =
     let is : first ∷ others ≡ further.0 ∷ [] = further.1 in
     let alone : [] ≡ others = cc in
     subst AreForeignWords alone tt
-
--- a block that may come waits for a word's length at least
-block_waits : (position : Position) (from : Option Event) (to : Event)
-    → BlockMayCome position from to → NotBefore WORD_GAP_MIN from to
-block_waits Quiet None to comes = tt
-block_waits Quiet (Some (Word at line word)) to comes = comes
-block_waits Quiet (Some (Break at length)) to comes = omega (arith, comes)
-block_waits (InAsk bytes) from to comes = absurd comes
-block_waits (Asked command) None to comes = tt
-block_waits (Asked command) (Some from) to comes = omega (arith, comes)
-block_waits (InReply command bytes) from to comes = absurd comes
-block_waits (Replied command reply) None to comes = tt
-block_waits (Replied command reply) (Some from) to comes = omega (arith, comes)
-block_waits (Returned command reply) None to comes = tt
-block_waits (Returned command reply) (Some from) to comes = omega (arith, comes)
-block_waits (InRepeat command reply words) from to comes = absurd comes
-block_waits InForeign from to comes = comes
 
 -- How a piece may go on from a cut: all its events but the first are foreign words, and the first
 -- is one, too, or the piece may come in foreign traffic.

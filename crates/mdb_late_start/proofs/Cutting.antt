@@ -25,6 +25,8 @@ use Rattle.mdb_late_start.specs.MidSession.{IsNothingOr}
 use Rattle.mdb_late_start.specs.Told.{IsLessTold}
 use Rattle.mdb_late_start.proofs.CutWords.{AreForeignWords, Kind, foreign_both, foreign_end, kind_of}
 use Rattle.mdb_late_start.proofs.Said.{said_stays}
+use Rattle.mdb_bus.proofs.Lists.{last_push}
+use Rattle.mdb_bus.proofs.LeftOutOrder.{foreign_rows, foreign_levels}
 
 -- A list of two parts is divided at another place: in the first part, or after an element of the
 -- second.
@@ -53,12 +55,6 @@ divide (x ∷ xs) ys (y ∷ front) end is =
     let first : x ≡ y = cc in
     let rest : xs ++ ys ≡ front ++ end = cc in
     divided_later x y xs ys front end first (divide xs ys front end rest)
-
--- the last row is the one after the others
-last_push : (events : List Event) (event : Event) → last_of (events ++ event ∷ []) ≡ Some event
-last_push [] event = refl
-last_push (x ∷ []) event = refl
-last_push (x ∷ y ∷ ys) event = last_push (y ∷ ys) event
 
 -- what is the same is none or the same
 none_or_same : {X : Type 0} (one other : Option X) → other ≡ one → IsNothingOr one other
@@ -169,14 +165,6 @@ words_stand scope (event ∷ events) pieces are here late words =
     words_stand scope events (Whole acts.Foreign (event ∷ []) ∷ pieces) (piece, stands, are)
     refl (subst Late (sym (last_push (events_of pieces) event)) late.1) words.1
 
--- the rows of pieces with foreign acts after them
-foreign_rows : (events : List Event) (pieces : List Piece)
-    → events_of (with_foreign events pieces) ≡ events_of pieces ++ events
-foreign_rows [] pieces = sym (append-nil (events_of pieces))
-foreign_rows (event ∷ events) pieces =
-    foreign_rows events (Whole acts.Foreign (event ∷ []) ∷ pieces)
-    ∙ append_assoc (events_of pieces) (event ∷ []) events
-
 -- foreign acts leave foreign traffic
 foreign_position : (scope : Scope) (events : List Event) (pieces : List Piece)
     → position_of scope pieces ≡ InForeign
@@ -191,13 +179,6 @@ foreign_joined : (events others : List Event) (pieces : List Piece)
 foreign_joined [] others pieces = refl
 foreign_joined (event ∷ events) others pieces =
     foreign_joined events others (Whole acts.Foreign (event ∷ []) ∷ pieces)
-
--- foreign acts tell no level
-foreign_levels : (told : Levels) (events : List Event) (pieces : List Piece)
-    → levels_of told (with_foreign events pieces) ≡ levels_of told pieces
-foreign_levels told [] pieces = refl
-foreign_levels told (event ∷ events) pieces =
-    foreign_levels told events (Whole acts.Foreign (event ∷ []) ∷ pieces)
 
 -- less told stays so with a command
 told_after : (asked : Command) (one other : Levels) → IsLessTold one other

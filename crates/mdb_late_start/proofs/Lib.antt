@@ -1,6 +1,5 @@
 pub mod Answering
 pub mod Changer
-pub mod CommandBytes
 pub mod Covering
 pub mod CutWords
 pub mod Cutting

@@ -1,13 +1,12 @@
 -- Rows that have foreign words in front of a middle, and tails after it: a run of the middle is one
 -- of the rows. Lists of acts and of pieces stand newest first, lists of events oldest first.
-use Rattle.std.proofs.Common.{ap, arith, refl, subst, sym, ◌∙◌, ◌≡◌, ◌+◌, ℕ, List, [], ◌∷◌, ◌++◌, Option, Some, None}
+use Rattle.std.proofs.Common.{ap, refl, subst, sym, ◌∙◌, ◌≡◌, ◌+◌, ℕ, List, [], ◌∷◌, ◌++◌, Option, Some, None}
 use Rattle.std.specs.List.{AllByRecursion}
 use Rattle.std.proofs.lemmas.List.{append-nil}
 use Rattle.std.proofs.lemmas.List.Elements.{recursion_from_All}
 use Rattle.mdb_words.specs.declared.event.Event.{Event}
-use Rattle.mdb_words.specs.declared.event.Event.TheVariants.{Word, Break}
-use Rattle.mdb_words.specs.declared.word.Line.{Line}
-use Rattle.mdb_words.specs.declared.word.Line.TheVariants.{Controller, Peripheral}
+use Rattle.mdb_words.specs.declared.event.Event.TheVariants.{Break}
+use Rattle.mdb_words.specs.declared.word.Line.TheVariants.{Controller}
 use Rattle.mdb_blocks.specs.Block.{block_of, controller_words}
 use Rattle.mdb_msgs.specs.Commands.{command_bytes}
 use Rattle.mdb_msgs.specs.declared.command.Device.{Device}
@@ -34,6 +33,7 @@ use Rattle.mdb_late_start.proofs.CutWords.{AreForeignWords, foreign_end}
 use Rattle.mdb_late_start.proofs.EndRuns.{front_in_order, run_by}
 use Rattle.mdb_late_start.proofs.Foreign.{after_others, is_machine_of, no_more, own_later, starts_anywhere}
 use Rattle.mdb_late_start.proofs.Onward.{acts_in_two}
+use Rattle.mdb_bus.proofs.Backward.{marked_not_foreign as marked_word}
 
 -- pieces are foreign acts, and no others
 abbrev pub AreForeign : List Piece → Type 0
@@ -52,23 +52,6 @@ foreign_front : (events others : List Event) → AreForeignWords (events ++ othe
 foreign_front [] others words = tt
 foreign_front (event ∷ events) others words =
     (words.0, foreign_front events others words.1)
-
--- the first word of a block of the controller is no foreign word
-marked_word : (event : Event) (byte : ℕ) → said_by event ≡ Some (Controller, 256 + byte)
-    → IsForeignWord event → ⊥
-marked_word (Word at Controller word) byte says low =
-    let one : Line × ℕ = (Controller, word) in
-    let other : Line × ℕ = (Controller, 256 + byte) in
-    let same : one ≡ other = cc in
-    let is : word ≡ 256 + byte = ap (λ (p : Line × ℕ). p.1) same in
-    omega (arith, is, low)
-marked_word (Word at Peripheral word) byte says low =
-    let one : Line × ℕ = (Peripheral, word) in
-    let other : Line × ℕ = (Controller, 256 + byte) in
-    let same : one ≡ other = cc in
-    let line : Peripheral ≡ Controller = ap (λ (p : Line × ℕ). p.0) same in
-    cc line
-marked_word (Break at length) byte says low = low
 
 begins_marked : (bytes : List ℕ) (first : Event) (others : List Event)
     → Say Controller (controller_words bytes) (first ∷ others) → IsForeignWord first → ⊥

@@ -1,3 +1,4 @@
+pub mod CommandBytes
 pub mod FirstBytes
 pub mod Addressed
 pub mod Addresses

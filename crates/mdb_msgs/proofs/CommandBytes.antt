@@ -1,4 +1,4 @@
--- The bytes of a command's block are bytes.
+-- That the bytes of a command's block are bytes.
 use Rattle.std.proofs.Common.{arith, sym, subst, ◌<◌, ◌≤◌, ◌%◌, ◌/◌, ℕ, List, [], ◌∷◌, ◌++◌, sum, All}
 use Rattle.std.specs.List.{AllByRecursion}
 use Rattle.std.proofs.lemmas.List.Elements.{recursion_from_All, All-from_recursion, All-append}
@@ -95,7 +95,7 @@ content_low (Reader First command) block spells = reader_low 0x10 command (omega
 content_low (Reader Second command) block spells = reader_low 0x60 command (omega arith)
     spells.fields
 
-spelled_low : (command : Command) (block : List ℕ) → Spells command block → All IsByte block
+pub spelled_low : (command : Command) (block : List ℕ) → Spells command block → All IsByte block
 spelled_low command block spells =
     let Low : List ℕ → Type 0 = λ bytes. All IsByte bytes in
     subst Low (sym spells.bytes)
