@@ -13,7 +13,7 @@ use Rattle.mdb_explained_runs.specs.declared.mark.Mark.{Mark}
 use Rattle.mdb_explain.specs.Explain.{explanation_text, mark_fields, record_line}
 use Rattle.mdb_explain.specs.Replay.{dash, mark_letter}
 use Rattle.mdb_verdict.specs.Rows.{AreRows}
-use Rattle.mdb_explain.proofs.PlainRows.{below}
+use Rattle.mdb_words.proofs.Numerals.{IsDecimal-lt}
 
 -- the line of three fields, of which the second is a letter: with it two commas and a line feed
 line_length : (number value : List ℕ) (letter : ℕ)
@@ -38,12 +38,12 @@ start_short at early = length-decimal-le 15 at (omega arith) early (omega (arith
 row_short : (fields : List (List ℕ)) (row : Event) → IsRow fields row
     → length (record_line (row_fields row)) ≤ 28
 row_short fields (Word at line word) is =
-    let start = start_short at (below 15 is.0 at is.3) in
+    let start = start_short at (IsDecimal-lt 15 is.0 at is.3) in
     let whole = line_length (decimal at) (hex_word word) (letter_of line) in
     omega (arith, start, whole)
 row_short fields (Break at span) is =
-    let start = start_short at (below 15 is.0 at is.3) in
-    let short : span < 10 ^ 9 = below 9 is.1 span is.4 in
+    let start = start_short at (IsDecimal-lt 15 is.0 at is.3) in
+    let short : span < 10 ^ 9 = IsDecimal-lt 9 is.1 span is.4 in
     let long : length (decimal span) ≤ 9 =
     length-decimal-le 9 span (omega arith) short (omega (arith, short)) in
     let whole = line_length (decimal at) (decimal span) break_letter in

@@ -13,7 +13,8 @@ use Rattle.mdb_explain.specs.Explain.{explanation_records, explanation_text, mar
 use Rattle.mdb_explain.specs.Replay.{AreMarkRows, IsMarkRow, dash, mark_letter}
 use Rattle.mdb_verdict.specs.Rows.{AreRows}
 use Rattle.mdb_explain.proofs.PlainRecords.{ArePlain, IsPlain, IsPlainByte, plain_append, read_of_lines}
-use Rattle.mdb_explain.proofs.PlainRows.{IsWritten, decimal_is, one_plain, plain_of, row_written}
+use Rattle.mdb_explain.proofs.PlainRows.{IsWritten, one_plain, plain_of, row_written}
+use Rattle.mdb_words.proofs.Numerals.{IsDecimal-decimal}
 
 -- Rows.
 
@@ -37,7 +38,7 @@ IsWithin mark = mark.0 ≤ ROWS_MAX
 
 mark_written : (mark : ℕ × Mark) → IsWithin mark → IsPlain (mark_fields mark) × IsMarkRow (mark_fields mark) mark
 mark_written mark within =
-    let number : IsDecimal 15 (decimal mark.0) mark.0 = decimal_is 15 mark.0 (omega arith) (omega (arith, within)) (omega (arith, within)) in (
+    let number : IsDecimal 15 (decimal mark.0) mark.0 = IsDecimal-decimal 15 mark.0 (omega arith) (omega (arith, within)) (omega (arith, within)) in (
       plain_of 15 mark.0 (mark_letter mark.1) dash number (letter_plain mark.1) (one_plain 45 (omega arith, omega arith)),
       record { number = decimal mark.0; are = refl; row = number },
     )

@@ -1,67 +1,23 @@
 -- The fields of rows and of marks as they are written: plain ones, which tell those rows and marks.
-use Rattle.std.proofs.Common.{arith, refl, sym, ap, ◌∙◌, ◌≡◌, ◌+◌, ◌*◌, ◌/◌, ◌%◌, ◌^◌, ◌<◌, ◌≤◌, ℕ, true, List, [], ◌∷◌, length, map, All}
-use Rattle.std.proofs.Math.Nat.{pow-zero, pow-succ', pow-le-pow_right}
-use Rattle.std.proofs.Math.ListN.{length-map}
+use Rattle.std.proofs.Common.{arith, refl, ◌/◌, ◌%◌, ◌^◌, ◌<◌, ℕ, true, List, [], ◌∷◌, All}
 use Rattle.std.proofs.lemmas.Bool.Decides.{nat_tests}
-use Rattle.std.proofs.lemmas.Fmt.{decimal_is_IsNumeral, length-decimal-le}
-use Rattle.std.proofs.lemmas.Int.Digits.{digits_value-lt}
-use Rattle.std.proofs.lemmas.List.Elements.{All-nil, All-cons, All-head, All-tail, All-weaker}
-use Rattle.std.proofs.lemmas.Str.{digit_value_digit}
-use Rattle.std.proofs.lemmas.Str.Parse.{digit_from_value}
-use Rattle.std.specs.Char.{IsAsciiDigit, IsAsciiHexdigit, digit_value}
+use Rattle.std.proofs.lemmas.List.Elements.{All-nil, All-cons, All-weaker}
+use Rattle.std.specs.Char.{IsAsciiDigit, IsAsciiHexdigit}
 use Rattle.std.specs.Fmt.{decimal, digit_glyph}
-use Rattle.std.specs.Str.Parse.{AllDigits, digits_value, digits_value_after}
 use Rattle.mdb_words.specs.declared.event.Event.{Event}
 use Rattle.mdb_words.specs.declared.event.Event.TheVariants.{Word, Break}
 use Rattle.mdb_words.specs.declared.word.Line.{Line}
 use Rattle.mdb_words.specs.declared.word.Line.TheVariants.{Controller, Peripheral}
-use Rattle.mdb_words.specs.Digits.{IsDecimal, IsHexWord, hex_word, positional}
+use Rattle.mdb_words.specs.Digits.{IsDecimal, hex_word}
 use Rattle.mdb_words.specs.Row.{IsRow, break_letter, letter_of, row_fields}
 use Rattle.mdb_explain.proofs.PlainRecords.{IsPlain, IsPlainByte}
-
--- numbers of digits in a base
-
-positional_after : (base n : ℕ) (ds : List ℕ) → n * base ^ length ds + positional base (map digit_value ds) ≡ digits_value_after base n ds
-positional_after base n [] = omega (arith, ap (λ x. n * x) (pow-zero base))
-positional_after base n (c ∷ cs) =
-    omega (arith, ap (λ k. digit_value c * base ^ k) (length-map cs digit_value), ap (λ x. n * x) (pow-succ' base (length cs)), positional_after base (n * base + digit_value c) cs)
-
-positional_is : (base : ℕ) (ds : List ℕ) → positional base (map digit_value ds) ≡ digits_value base ds
-positional_is base ds = omega (arith, positional_after base 0 ds)
-
-digits_from_values : (ds : List ℕ) → AllDigits 10 ds → All IsAsciiDigit ds
-digits_from_values [] all = All-nil IsAsciiDigit
-digits_from_values (c ∷ cs) all = All-cons IsAsciiDigit c cs (digit_from_value c all.0) (digits_from_values cs all.1)
-
-values_from_digits : (ds : List ℕ) → All IsAsciiDigit ds → AllDigits 10 ds
-values_from_digits [] all = tt
-values_from_digits (c ∷ cs) all =
-    let first = All-head IsAsciiDigit c cs all in
-    let value = digit_value_digit c first in
-    (omega (arith, first, value), values_from_digits cs (All-tail IsAsciiDigit c cs all))
-
--- the number of a field of so many digits
-pub below : (most : ℕ) (field : List ℕ) (n : ℕ) → IsDecimal most field n → n < 10 ^ most
-below most field n h =
-    let less = digits_value-lt 10 field (values_from_digits field h.digits) in
-    let right : 10 ^ length field ≤ 10 ^ most = pow-le-pow_right (omega arith) h.few in
-    omega (arith, positional_is 10 field, h.value)
-
--- a number as it is written
-pub decimal_is : (most n : ℕ) → 0 < most → n < 10 ^ most → n < 2 ^ 64 → IsDecimal most (decimal n) n
-decimal_is most n some few small =
-    let is = decimal_is_IsNumeral n small in
-    record { some = is.0.0; few = length-decimal-le most n some few small; digits = digits_from_values (decimal n) is.0.1; value = sym is.1 ∙ sym (positional_is 10 (decimal n)) }
+use Rattle.mdb_words.proofs.Numerals.{IsDecimal-decimal, IsDecimal-lt, IsHexWord-hex_word}
 
 digit_plain : (c : ℕ) → IsAsciiDigit c → IsPlainByte c
 digit_plain c digit = (omega (arith, digit), omega (arith, digit))
 
 pub decimal_plain : (most n : ℕ) → IsDecimal most (decimal n) n → All IsPlainByte (decimal n)
 decimal_plain most n is = All-weaker IsAsciiDigit IsPlainByte digit_plain (decimal n) is.digits
-
--- a word as it is written
-glyph_value : (d : ℕ) → d < 16 → digit_value (digit_glyph true d) ≡ d
-glyph_value d h = grind (arith, nat_tests)
 
 glyph_digit : (d : ℕ) → d < 16 → IsAsciiHexdigit (digit_glyph true d)
 glyph_digit d h = grind (arith, nat_tests)
@@ -71,18 +27,6 @@ glyph_plain d h = grind (arith, nat_tests)
 
 three : {A : Type 0} (P : A → Type 0) (a b c : A) → P a → P b → P c → All P (a ∷ b ∷ c ∷ [])
 three P a b c p q r = All-cons P a (b ∷ c ∷ []) p (All-cons P b (c ∷ []) q (All-cons P c [] r (All-nil P)))
-
-word_is : (word : ℕ) → word < 512 → IsHexWord (hex_word word) word
-word_is word small =
-    let a = glyph_value (word / 256) (omega arith) in
-    let b = glyph_value (word / 16 % 16) (omega arith) in
-    let c = glyph_value (word % 16) (omega arith) in
-    record {
-      three = refl;
-      digits = three IsAsciiHexdigit (digit_glyph true (word / 256)) (digit_glyph true (word / 16 % 16)) (digit_glyph true (word % 16)) (glyph_digit _ (omega arith)) (glyph_digit _ (omega arith)) (glyph_digit _ (omega arith));
-      value = omega (arith, positional_is 16 (hex_word word), a, b, c);
-      small = small;
-    }
 
 word_plain : (word : ℕ) → word < 512 → All IsPlainByte (hex_word word)
 word_plain word small =
@@ -115,19 +59,19 @@ IsWritten event = IsRow (row_fields event) event × IsPlain (row_fields event)
 
 word_written : (at : ℕ) (line : Line) (word : ℕ) → at < 10 ^ 15 → word < 512 → IsWritten (Word at line word)
 word_written at line word early small =
-    let start : IsDecimal 15 (decimal at) at = decimal_is 15 at (omega arith) early (omega arith) in (
-      (decimal at, hex_word word, refl, start, word_is word small),
+    let start : IsDecimal 15 (decimal at) at = IsDecimal-decimal 15 at (omega arith) early (omega arith) in (
+      (decimal at, hex_word word, refl, start, IsHexWord-hex_word word small),
       plain_of 15 at (letter_of line) (hex_word word) start (letter_plain line) (word_plain word small),
     )
 
 break_written : (at span : ℕ) → at < 10 ^ 15 → span < 10 ^ 9 → IsWritten (Break at span)
 break_written at span early short =
-    let start : IsDecimal 15 (decimal at) at = decimal_is 15 at (omega arith) early (omega arith) in
-    let long : IsDecimal 9 (decimal span) span = decimal_is 9 span (omega arith) short (omega arith) in (
+    let start : IsDecimal 15 (decimal at) at = IsDecimal-decimal 15 at (omega arith) early (omega arith) in
+    let long : IsDecimal 9 (decimal span) span = IsDecimal-decimal 9 span (omega arith) short (omega arith) in (
       (decimal at, decimal span, refl, start, long),
       plain_of 15 at break_letter (decimal span) start (omega arith, omega arith) (decimal_plain 9 span long),
     )
 
 pub row_written : (fields : List (List ℕ)) (event : Event) → IsRow fields event → IsWritten event
-row_written fields (Word at line word) is = word_written at line word (below 15 is.0 at is.3) is.4.small
-row_written fields (Break at span) is = break_written at span (below 15 is.0 at is.3) (below 9 is.1 span is.4)
+row_written fields (Word at line word) is = word_written at line word (IsDecimal-lt 15 is.0 at is.3) is.4.small
+row_written fields (Break at span) is = break_written at span (IsDecimal-lt 15 is.0 at is.3) (IsDecimal-lt 9 is.1 span is.4)

@@ -1,7 +1,5 @@
 -- Digits and times.
-use Rattle.std.proofs.Common.{◌≡◌, ℕ, zero, suc, ◌+◌, ◌*◌, ◌^◌, ◌<◌, ◌≤◌, List, [], ◌∷◌, ◌++◌, All, length, get_or, map, take, refl, sym, ap, subst, ◌∙◌, arith, add-one}
-use Rattle.std.proofs.Math.ListN.{length-map}
-use Rattle.std.proofs.Math.Nat.{pow-succ', pow-zero}
+use Rattle.std.proofs.Common.{◌≡◌, ℕ, zero, suc, ◌+◌, ◌*◌, ◌^◌, ◌<◌, ◌≤◌, List, [], ◌∷◌, ◌++◌, All, length, get_or, take, refl, sym, ap, subst, ◌∙◌, arith, add-one}
 use Rattle.std.proofs.lemmas.Int.Digits.{digits_value-lt, digits_value_more}
 use Rattle.std.proofs.lemmas.List.{length-append}
 use Rattle.std.proofs.lemmas.List.Elements.{All-cons, All-head, All-nil, All-tail}
@@ -10,8 +8,9 @@ use Rattle.std.proofs.lemmas.Str.Parse.{digit_from_value}
 use Rattle.std.specs.Char.{IsAsciiDigit, digit_value}
 use Rattle.std.specs.Str.Parse.{AllDigits, digits_value, digits_value_after}
 use Rattle.mdb_sigrok.specs.Text.{AreTimeDigits, IsTime, Lacks, micros_of}
-use Rattle.mdb_words.specs.Digits.{IsDecimal, positional}
+use Rattle.mdb_words.specs.Digits.{IsDecimal}
 use Rattle.mdb_sigrok.proofs.Cuts.{lacks_around}
+use Rattle.mdb_words.proofs.Numerals.{positional_is}
 
 pub digit_at : (text : List ℕ) (i : ℕ) → AllDigits 10 text → i < length text → IsAsciiDigit (get_or text i 0)
 digit_at [] i all within = absurd (omega arith)
@@ -91,14 +90,6 @@ part_small part digits six =
 
 -- a field that is a number of at most 15 digits
 
-positional_after : (n : ℕ) (ds : List ℕ) → n * 10 ^ length ds + positional 10 (map digit_value ds) ≡ digits_value_after 10 n ds
-positional_after n [] = omega (arith, ap (λ x. n * x) (pow-zero 10))
-positional_after n (c ∷ cs) =
-    omega (arith, ap (λ k. digit_value c * 10 ^ k) (length-map cs digit_value), ap (λ x. n * x) (pow-succ' 10 (length cs)), positional_after (n * 10 + digit_value c) cs)
-
-positional_is : (ds : List ℕ) → positional 10 (map digit_value ds) ≡ digits_value 10 ds
-positional_is ds = omega (arith, positional_after 0 ds)
-
 to_digits : (ds : List ℕ) → AllDigits 10 ds → All IsAsciiDigit ds
 to_digits [] all = All-nil IsAsciiDigit
 to_digits (c ∷ cs) all = All-cons IsAsciiDigit c cs (digit_from_value c all.0) (to_digits cs all.1)
@@ -115,10 +106,10 @@ pub record IsWhole (field : List ℕ) (n : ℕ) : Type 0 where
   pub value : n ≡ digits_value 10 field
 
 pub whole_from : (field : List ℕ) (n : ℕ) → IsDecimal 15 field n → IsWhole field n
-whole_from field n is = record { some = is.some; digits = digits_from field is.digits; value = is.value ∙ positional_is field }
+whole_from field n is = record { some = is.some; digits = digits_from field is.digits; value = is.value ∙ positional_is 10 field }
 
 pub decimal_from : (field : List ℕ) → 1 ≤ length field → length field ≤ 15 → AllDigits 10 field → IsDecimal 15 field (digits_value 10 field)
-decimal_from field some few all = record { some = some; few = few; digits = to_digits field all; value = sym (positional_is field) }
+decimal_from field some few all = record { some = some; few = few; digits = to_digits field all; value = sym (positional_is 10 field) }
 
 pub one_time : (field : List ℕ) (n m : ℕ) → IsTime field n → IsTime field m → n ≡ m
 one_time field n m one other =
