@@ -6,6 +6,7 @@ use Rattle.std.proofs.lemmas.List.{append-nil}
 use Rattle.std.proofs.lemmas.List.Elements.{All-contains, All-contains_itself, All-weaker}
 use Rattle.std.proofs.lemmas.List.Elements.{Contains-append_cases, Contains-append_left}
 use Rattle.std.proofs.lemmas.List.Elements.{Contains-append_right}
+use Rattle.std.proofs.lemmas.Option.{same_Some}
 use Rattle.mdb_words.specs.declared.event.Event.{Event}
 use Rattle.mdb_msgs.specs.Commands.{device_of}
 use Rattle.mdb_msgs.specs.declared.command.Device.{Device}
@@ -260,13 +261,14 @@ part_of_one : PartsAreTold → (act : Act) (choice : Choice) (row : ℕ) → Can
     → has_part one act ≡ true → has_part other act ≡ true → one ≡ other
 part_of_one told act Plain row stands mark is one other has also = absurd (omega (arith, is.1))
 part_of_one told (kinds.Ack command) Lost row stands mark is one other has also =
-    sym ((told one (kinds.Ack command)).0 has) ∙ (told other (kinds.Ack command)).0 also
+    same_Some one other
+    (sym ((told one (kinds.Ack command)).0 has) ∙ (told other (kinds.Ack command)).0 also)
 part_of_one told (kinds.VmcAck command reply) Lost row stands mark is one other has also =
-    sym ((told one (kinds.VmcAck command reply)).0 has)
-    ∙ (told other (kinds.VmcAck command reply)).0 also
+    same_Some one other (sym ((told one (kinds.VmcAck command reply)).0 has)
+    ∙ (told other (kinds.VmcAck command reply)).0 also)
 part_of_one told (kinds.Reply command reply) Restart row stands mark is one other has also =
-    sym ((told one (kinds.Reply command reply)).0 has)
-    ∙ (told other (kinds.Reply command reply)).0 also
+    same_Some one other (sym ((told one (kinds.Reply command reply)).0 has)
+    ∙ (told other (kinds.Reply command reply)).0 also)
 part_of_one told _ _ row stands mark is one other has also = absurd stands
 
 -- a mark of the last act stands at its row

@@ -1,12 +1,13 @@
 -- The machines that are followed: what joining needs of each.
-use Rattle.std.proofs.Common.{refl, sym, ap, subst, ◌∙◌, ◌≡◌, ◌⊎◌, inl, inr, ℕ, List}
-use Rattle.mdb_msgs.specs.Commands.{device_of}
+use Rattle.std.proofs.Common.{refl, sym, ap, subst, ◌∙◌, ◌≡◌, ◌⊎◌, inl, inr, ℕ, List, Option, Some, None, unwrap_or}
+use Rattle.std.proofs.lemmas.Option.{same_Some}
 use Rattle.mdb_msgs.specs.declared.command.Device.{Device}
 use Rattle.mdb_msgs.specs.declared.command.Device.TheVariants as devices
 use Rattle.mdb_msgs.specs.declared.command.ReaderUnit.TheVariants.{First, Second}
 use Rattle.mdb_bus.specs.declared.act.Act.{Act}
 use Rattle.mdb_bus.specs.declared.act.Act.TheVariants as kinds
 use Rattle.mdb_bus.specs.declared.scope.Beginning.{Beginning}
+use Rattle.mdb_bus.specs.LeavingOut.{device_in}
 use Rattle.mdb_machine.specs.declared.choice.Choice.{Choice}
 use Rattle.mdb_machine.specs.declared.choice.Choice.TheVariants.{Plain, Lost, Restart}
 use Rattle.mdb_machine.specs.declared.gains.Gains.{Gains}
@@ -47,45 +48,29 @@ with_one-same P devices.Bill one others = refl
 with_one-same P (devices.Reader First) one others = refl
 with_one-same P (devices.Reader Second) one others = refl
 
+-- a device is the one that is named, or it isn't
+named_or_not : (device : Device) (named : Option Device)
+    → (named ≡ Some device) ⊎ (named ≡ Some device → ⊥)
+named_or_not device None = inr (λ same. absurd cc)
+named_or_not device (Some one) = elim (same_or_not one device) [
+  | inl same ↦ inl (ap (λ (d : Device). Some d) same)
+  | inr apart ↦ inr (λ same. apart (same_Some one device same))
+]
+
 -- an act is a device's, or it isn't
 pub of_or_not : (device : Device) (act : Act) → IsActOf device act ⊎ (IsActOf device act → ⊥)
-of_or_not device (kinds.Ask command) = same_or_not (device_of command) device
-of_or_not device (kinds.Ack command) = same_or_not (device_of command) device
-of_or_not device (kinds.Nak command) = same_or_not (device_of command) device
-of_or_not device (kinds.Reply command reply) = same_or_not (device_of command) device
-of_or_not device (kinds.VmcAck command reply) = same_or_not (device_of command) device
-of_or_not device (kinds.VmcNak command reply) = same_or_not (device_of command) device
-of_or_not device (kinds.VmcRet command reply) = same_or_not (device_of command) device
-of_or_not device (kinds.Repeat command reply) = same_or_not (device_of command) device
-of_or_not device kinds.Foreign = inr (λ no. no)
 of_or_not device (kinds.Break length) = inl tt
+of_or_not device act = named_or_not device (device_in act)
 
 -- a device that has a part in an act; but for a break and foreign traffic, the only one
 pub whose : Act → Device
-whose (kinds.Ask command) = device_of command
-whose (kinds.Ack command) = device_of command
-whose (kinds.Nak command) = device_of command
-whose (kinds.Reply command reply) = device_of command
-whose (kinds.VmcAck command reply) = device_of command
-whose (kinds.VmcNak command reply) = device_of command
-whose (kinds.VmcRet command reply) = device_of command
-whose (kinds.Repeat command reply) = device_of command
-whose kinds.Foreign = devices.Changer
-whose (kinds.Break length) = devices.Changer
+whose act = unwrap_or (device_in act) devices.Changer
 
 pub whose_is : (device : Device) (act : Act) → IsActOf device act
     → ((length : ℕ) → act ≡ kinds.Break length → ⊥) → whose act ≡ device
 unfolding whose
-whose_is device (kinds.Ask command) own whole = own
-whose_is device (kinds.Ack command) own whole = own
-whose_is device (kinds.Nak command) own whole = own
-whose_is device (kinds.Reply command reply) own whole = own
-whose_is device (kinds.VmcAck command reply) own whole = own
-whose_is device (kinds.VmcNak command reply) own whole = own
-whose_is device (kinds.VmcRet command reply) own whole = own
-whose_is device (kinds.Repeat command reply) own whole = own
-whose_is device kinds.Foreign own whole = absurd own
 whose_is device (kinds.Break length) own whole = absurd (whole length refl)
+whose_is device act own whole = ap (λ named. unwrap_or named devices.Changer) own
 
 -- on a break the plain choice can stand alone
 plain_alone : (length : ℕ) (choice : Choice) → CanStand (kinds.Break length) choice → choice ≡ Plain
@@ -98,18 +83,11 @@ pub same_choice : (device : Device) (act : Act) (chosen : Device → Choice)
     → ((device : Device) → CanStand act (chosen device)) → IsActOf device act
     → chosen device ≡ chosen (whose act)
 unfolding whose
-same_choice device (kinds.Ask command) chosen stands own = ap chosen (sym own)
-same_choice device (kinds.Ack command) chosen stands own = ap chosen (sym own)
-same_choice device (kinds.Nak command) chosen stands own = ap chosen (sym own)
-same_choice device (kinds.Reply command reply) chosen stands own = ap chosen (sym own)
-same_choice device (kinds.VmcAck command reply) chosen stands own = ap chosen (sym own)
-same_choice device (kinds.VmcNak command reply) chosen stands own = ap chosen (sym own)
-same_choice device (kinds.VmcRet command reply) chosen stands own = ap chosen (sym own)
-same_choice device (kinds.Repeat command reply) chosen stands own = ap chosen (sym own)
-same_choice device kinds.Foreign chosen stands own = absurd own
 same_choice device (kinds.Break length) chosen stands own =
     plain_alone length (chosen device) (stands device)
     ∙ sym (plain_alone length (chosen devices.Changer) (stands devices.Changer))
+same_choice device act chosen stands own =
+    ap (λ named. chosen (unwrap_or named devices.Changer)) (sym own)
 
 -- a step by one choice is one by another that is the same where the device has a part in the act
 pub elsewhere_as : {State : Type 0} (device : Device) (machine : Machine State)

@@ -23,16 +23,8 @@ plain_or_not Restart = inr (λ same. absurd cc)
 
 -- an act of another device isn't the device's own
 pub not_its_own : (device : Device) (act : Act) → IsOfAnother device act → IsActOf device act → ⊥
-not_its_own device (acts.Ask command) other = other
-not_its_own device (acts.Ack command) other = other
-not_its_own device (acts.Nak command) other = other
-not_its_own device (acts.Reply command reply) other = other
-not_its_own device (acts.VmcAck command reply) other = other
-not_its_own device (acts.VmcNak command reply) other = other
-not_its_own device (acts.VmcRet command reply) other = other
-not_its_own device (acts.Repeat command reply) other = other
 not_its_own device acts.Foreign other = absurd other
-not_its_own device (acts.Break length) other = other
+not_its_own device act other = other
 
 -- an act in which the device has no part leaves state and sums, wherever the recording begins
 pub still_elsewhere : {State : Type 0} (device its : Device) (machine : Beginning → Machine State)

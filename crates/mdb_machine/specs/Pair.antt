@@ -1,11 +1,10 @@
 -- A device and the controller, as states with codes and as steps. This serves the trait `Pair`.
 use Rattle.std.specs.Prelude.{◌≡◌, ◌≢◌, ◌⊎◌, ◌↔◌, ℕ, List, Option, Some, None}
-use Rattle.mdb_msgs.specs.Commands.{device_of}
 use Rattle.mdb_msgs.specs.declared.command.Device.{Device}
 use Rattle.mdb_bus.specs.declared.act.Act.{Act}
 use Rattle.mdb_bus.specs.declared.act.Act.TheVariants as acts
 use Rattle.mdb_bus.specs.declared.act.Act.TheVariants.{Break}
-use Rattle.mdb_bus.specs.LeavingOut.{acts_with}
+use Rattle.mdb_bus.specs.LeavingOut.{acts_with, device_in}
 use Rattle.mdb_machine.specs.declared.choice.Choice.{Choice}
 use Rattle.mdb_machine.specs.declared.choice.Choice.TheVariants.{Plain}
 use Rattle.mdb_machine.specs.declared.gains.Gains.{Gains}
@@ -16,16 +15,8 @@ use Rattle.mdb_machine.specs.Gains.{Stays, no_gains}
 -- An act that a device has a part in: its command is to this device. Foreign traffic is of none,
 -- and a break of all.
 abbrev pub IsActOf : Device → Act → Type 0
-IsActOf device (acts.Ask command) = device_of command ≡ device
-IsActOf device (acts.Ack command) = device_of command ≡ device
-IsActOf device (acts.Nak command) = device_of command ≡ device
-IsActOf device (acts.Reply command reply) = device_of command ≡ device
-IsActOf device (acts.VmcAck command reply) = device_of command ≡ device
-IsActOf device (acts.VmcNak command reply) = device_of command ≡ device
-IsActOf device (acts.VmcRet command reply) = device_of command ≡ device
-IsActOf device (acts.Repeat command reply) = device_of command ≡ device
-IsActOf device acts.Foreign = ⊥
 IsActOf device (acts.Break length) = Unit {0}
+IsActOf device act = device_in act ≡ Some device
 
 -- an act is a break
 abbrev pub IsBreak : Act → Type 0

@@ -13,7 +13,6 @@ use Rattle.mdb_msgs.specs.declared.command.ReaderUnit.TheVariants.{First, Second
 use Rattle.mdb_msgs.specs.declared.reply.Reply.{Reply}
 use Rattle.mdb_msgs.specs.declared.reply.reader.ReaderMsg.{ReaderMsg}
 use Rattle.mdb_msgs.specs.declared.setups.ReaderConfig.{ReaderConfig}
-use Rattle.mdb_msgs.specs.Commands.{device_of}
 use Rattle.mdb_msgs.specs.Setups.{config_known}
 use Rattle.mdb_bus.specs.declared.act.Act.{Act}
 use Rattle.mdb_bus.specs.declared.act.Act.TheVariants as acts
@@ -32,6 +31,7 @@ use Rattle.mdb_machine.specs.Unvalued as amounts
 use Rattle.mdb_machine.specs.Unvalued.{one_if}
 use Rattle.mdb_machine.specs.inner.OwnWays.{IsOfOwn, part_of_none, same_known}
 use Rattle.mdb_machine.specs.inner.PastWays as past_ways
+use Rattle.mdb_machine.specs.inner.StepWays.{IsOwnOf}
 use Rattle.mdb_cashless.specs.declared.reader.state.ReaderState.{ReaderState}
 use Rattle.mdb_cashless.specs.declared.reader.transaction.Transaction.{Transaction}
 use Rattle.mdb_cashless.specs.inner.KnowingReader.{as_choice, some_facts, starts_in, stays}
@@ -43,8 +43,7 @@ use Rattle.mdb_cashless.specs.ReaderValues.{known_with}
 use Rattle.mdb_cashless.specs.Units.{own}
 
 -- a command to another device is none to this reader
-no_own : (unit : ReaderUnit) (command : Command)
-    → (device_of command ≡ devices.Reader unit → ⊥) → own unit command ≡ None
+no_own : (unit : ReaderUnit) → IsOwnOf (devices.Reader unit) (own unit)
 no_own First (commands.Changer c) other = refl
 no_own First (commands.Bill c) other = refl
 no_own First (commands.Reader First c) other = absurd (other refl)

@@ -1,17 +1,17 @@
 -- That what counts of acts for a device counts of its own acts alone, where other acts tell nothing
 -- and what counts goes on act by act. This proves laws of machines.
-use Rattle.std.specs.Prelude.{◌≡◌, ◌↔◌, ℕ, Bool, true, false, List, [], ◌∷◌, refl, if◌then◌else◌}
+use Rattle.std.specs.Prelude.{◌≡◌, ◌↔◌, ℕ, Bool, true, false, List, [], ◌∷◌, Option, Some, None, refl, if◌then◌else◌}
 use Rattle.std.specs.List.{All, AllByRecursion}
 use Rattle.std.proofs.Common.{ap, sym, ◌∙◌}
 use Rattle.std.proofs.lemmas.Bool.{cond-false, cond-true, false_from_ne_true, iff_false}
 use Rattle.std.proofs.lemmas.List.Elements.{recursion_from_All}
-use Rattle.mdb_msgs.specs.Commands.{device_of}
+use Rattle.std.proofs.lemmas.Option.{same_Some}
 use Rattle.mdb_msgs.specs.declared.command.Device.{Device}
 use Rattle.mdb_msgs.specs.declared.command.Device.TheVariants as devices
 use Rattle.mdb_msgs.specs.declared.command.ReaderUnit.TheVariants.{First, Second}
 use Rattle.mdb_bus.specs.declared.act.Act.{Act}
 use Rattle.mdb_bus.specs.declared.act.Act.TheVariants as acts
-use Rattle.mdb_bus.specs.LeavingOut.{are_one, has_part}
+use Rattle.mdb_bus.specs.LeavingOut.{are_one, device_in, has_part, is_this}
 use Rattle.mdb_machine.specs.Pair.{IsActOf, IsBreak, own_acts}
 
 -- the test of two devices says whether they are one
@@ -28,24 +28,18 @@ is_one (devices.Reader First) (devices.Reader First) same = refl
 is_one (devices.Reader Second) (devices.Reader Second) same = refl
 is_one device one same = absurd cc
 
-by_device : (one device : Device) → (are_one device one ≡ true) ↔ (one ≡ device)
-by_device one device = (
-  is_one device one,
-  λ same. ap (are_one device) same ∙ itself device,
+by_name : (device : Device) (named : Option Device)
+    → (is_this device named ≡ true) ↔ (named ≡ Some device)
+by_name device None = (λ same. absurd cc, λ same. absurd cc)
+by_name device (Some one) = (
+  λ same. ap (λ (d : Device). Some d) (is_one device one same),
+  λ same. ap (are_one device) (same_Some one device same) ∙ itself device,
 )
 
 -- the test of an act says whether the device has a part in it
 pub decides : (device : Device) (act : Act) → (has_part device act ≡ true) ↔ IsActOf device act
-decides device (acts.Ask command) = by_device (device_of command) device
-decides device (acts.Ack command) = by_device (device_of command) device
-decides device (acts.Nak command) = by_device (device_of command) device
-decides device (acts.Reply command reply) = by_device (device_of command) device
-decides device (acts.VmcAck command reply) = by_device (device_of command) device
-decides device (acts.VmcNak command reply) = by_device (device_of command) device
-decides device (acts.VmcRet command reply) = by_device (device_of command) device
-decides device (acts.Repeat command reply) = by_device (device_of command) device
-decides device acts.Foreign = (λ same. absurd cc, λ of. absurd of)
 decides device (acts.Break length) = (λ same. tt, λ of. refl)
+decides device act = by_name device (device_in act)
 
 -- an act in which the device has a part is one of its own acts, and any other leaves these
 pub with_own : (device : Device) (act : Act) (so_far : List Act) → IsActOf device act

@@ -1,6 +1,5 @@
 -- That acts of other devices change nothing. This proves a law of the trait `Pair`.
 use Rattle.std.specs.Prelude.{◌≡◌, ◌↔◌, Option, Some, None}
-use Rattle.mdb_msgs.specs.Commands.{device_of}
 use Rattle.mdb_msgs.specs.declared.command.Command.{Command}
 use Rattle.mdb_msgs.specs.declared.command.Device.{Device}
 use Rattle.mdb_bus.specs.declared.act.Act.{Act}
@@ -13,7 +12,8 @@ use Rattle.mdb_machine.specs.Steps.{ForOwn, StepBy, Steps}
 
 -- commands that aren't to a device are none of its own
 abbrev pub IsOwnOf : {Own : Type 0} → Device → (Command → Option Own) → Type 0
-IsOwnOf device own = (command : Command) → (device_of command ≡ device → ⊥) → own command ≡ None
+IsOwnOf device own = (command : Command) → (IsActOf device (acts.Ask command) → ⊥)
+    → own command ≡ None
 
 still : {Own State : Type 0} (command : Option Own) (Step : Own → State → State → Gains → Type 0)
     (before after : State) (gains : Gains) → command ≡ None
