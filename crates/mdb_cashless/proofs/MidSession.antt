@@ -1,6 +1,5 @@
 -- The ways that an act of a reader may go in a recording that begins in mid-session.
-use Rattle.std.proofs.Common.{◌≡◌, ◌≢◌, ◌↔◌, ◌⊎◌, inl, inr, ℕ, Bool, true, false, not, ◌&&◌, ◌||◌, List, [], ◌∷◌, Option, Some, None, refl, ap, sym, subst, ◌∙◌, arith, drop, take, length, option_map, if◌then◌else◌}
-use Rattle.std.proofs.Math.Path.{fun_ext}
+use Rattle.std.proofs.Common.{◌≡◌, ◌≢◌, ◌↔◌, ◌⊎◌, inl, inr, ℕ, Bool, true, false, ◌&&◌, ◌||◌, List, [], ◌∷◌, Option, Some, None, refl, ap, sym, subst, ◌∙◌, arith, drop, take, length, option_map, if◌then◌else◌}
 use Rattle.std.proofs.Math.Seq.{drop-append_seam, take-append_seam}
 use Rattle.std.proofs.lemmas.List.{length-append, length-take-le, take-append-drop}
 use Rattle.std.proofs.lemmas.List.Elements.{All-from_recursion, recursion_from_All}
@@ -33,7 +32,7 @@ use Rattle.mdb_cashless.specs.ReaderMessages.{config_in, last_said, messages_of,
 use Rattle.mdb_cashless.specs.Transactions.{is_again, is_same, transaction_of}
 use Rattle.mdb_cashless.specs.Units.{own}
 use Rattle.mdb_cashless.specs.MidSession.{AckWay, AreHeld, IsSettled, ReplyWay, SendsNone, Takes, TakesNone, TellsNone, effected, facts_recorded, sale}
-use Rattle.mdb_machine.specs.inner.ToldWays.{allows_if, allows_told, as_allowed, asked_so, empty_unless, keeps_if, kept_so, kept_told, list_told, none_told, not_not, told_by_none, types_16}
+use Rattle.mdb_machine.specs.inner.ToldWays.{allows_if, allows_told, as_allowed, asked_so, empty_unless, keeps_if, kept_so, kept_told, list_told, none_told, not_not, told_by_none}
 use Rattle.mdb_cashless.proofs.Guesses.{ask_again, ask_same, guessing, held_before}
 use Rattle.mdb_cashless.proofs.Knowing.{Same, same_facts, step_same}
 use Rattle.mdb_cashless.proofs.PowerOn.{last_taken_is}
@@ -147,14 +146,6 @@ kept_allows unit setups so_far holds last some is =
     (λ known. is (λ none. known (none_kept unit so_far none)))
 
 -- the facts that acts tell are those that are known
-same_enabled : (unit : ReaderUnit) (setups : Setups) (so_far : List Act)
-    → (known_of (Joined setups) unit so_far).past.enabled
-    ≡ (facts_recorded unit setups so_far).past.enabled
-same_enabled unit setups so_far =
-    let powered_on = list_any (powers_on (effect_of unit)) so_far in
-    fun_ext (λ kind. ap (λ b. (facts_of unit so_far).past.enabled kind || (not powered_on && b))
-    (types_16 kind))
-
 same_owed : (unit : ReaderUnit) (setups : Setups) (so_far : List Act)
     → (known_of (Joined setups) unit so_far).past.reset_owed
     ≡ (facts_recorded unit setups so_far).past.reset_owed
@@ -167,7 +158,7 @@ as_guess : (unit : ReaderUnit) (setups : Setups) (so_far : List Act) (holds : Bo
     facts.past.last_kept
 as_guess unit setups so_far holds facts is =
     same_facts is.config refl refl is.amount
-    (same_past (λ kind. ap (λ e. e kind) (is.past.enabled ∙ same_enabled unit setups so_far))
+    (same_past (λ kind. ap (λ e. e kind) is.past.enabled)
     (is.past.reset_owed ∙ same_owed unit setups so_far) refl)
 
 guess_allowed : (unit : ReaderUnit) (setups : Setups) (so_far : List Act) (holds : Bool)
@@ -183,7 +174,7 @@ guess_allowed unit setups so_far holds a t k asked taken kept = record {
   taken = taken;
   amount = refl;
   past = record {
-    enabled = sym (same_enabled unit setups so_far);
+    enabled = refl;
     reset_owed = sym (same_owed unit setups so_far);
     last_kept = kept;
   };

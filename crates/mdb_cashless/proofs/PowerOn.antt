@@ -1,12 +1,11 @@
 -- From power-on all is known of a reader.
-use Rattle.std.proofs.Common.{◌≡◌, ◌∙◌, ◌↔◌, ◌&&◌, ◌||◌, not, Bool, true, false, List, [], ◌∷◌, Option, Some, None, option_map, refl, ap, subst, sym, unwrap_or, if◌then◌else◌}
+use Rattle.std.proofs.Common.{◌≡◌, ◌∙◌, ◌↔◌, ◌&&◌, ◌||◌, not, Bool, true, false, List, [], ◌∷◌, Option, Some, None, option_map, ltb, refl, ap, subst, sym, unwrap_or, if◌then◌else◌}
 use Rattle.mdb_msgs.specs.declared.command.ReaderUnit.{ReaderUnit}
 use Rattle.std.proofs.Math.Path.{fun_ext}
 use Rattle.mdb_bus.specs.declared.act.Act.{Act}
 use Rattle.mdb_bus.specs.declared.scope.Beginning.TheVariants.{PowerOn}
 use Rattle.mdb_machine.specs.Known.{Allows, AllowsKept, known_by}
-use Rattle.mdb_machine.specs.declared.past.Effect.TheVariants as effects
-use Rattle.mdb_machine.specs.Past.{enables, last_list, last_told, or_else, past_of}
+use Rattle.mdb_machine.specs.Past.{last_list, last_told, or_else, past_of}
 use Rattle.mdb_machine.specs.inner.PastWays.{same_past}
 use Rattle.mdb_machine.specs.declared.choice.Choice.{Choice}
 use Rattle.mdb_machine.specs.declared.gains.Gains.{Gains}
@@ -66,11 +65,10 @@ power_on_known unit acts holds facts =
     let asked = asked_known (last_told (asked_by unit) acts) in
     let taken = taken_known (last_told (taken_told unit) acts) in
     let past = past_of (effect_of unit) (parts_by unit) acts in
-    let kept = kept_known (last_list (parts_by unit) acts) holds in
-    let all = effects.Enable 65535 in (
+    let kept = kept_known (last_list (parts_by unit) acts) holds in (
       λ is. same_facts (is.config ∙ config) ((asked facts.asked).0 is.asked)
           ((taken facts.taken).0 is.taken ∙ sym (last_taken_is unit acts)) is.amount
-          (same_past (λ kind. ap (λ e. e kind) is.past.enabled ∙ no_more (past.enabled kind) (enables kind all))
+          (same_past (λ kind. ap (λ e. e kind) is.past.enabled ∙ no_more (past.enabled kind) (ltb kind 16))
           (is.past.reset_owed ∙ owed_so past.reset_owed)
           ((kept facts.past.last_kept).0 is.past.last_kept)),
       λ same. record {
@@ -80,7 +78,7 @@ power_on_known unit acts holds facts =
         amount = ap (λ (f : Facts). f.amount) same;
         past = record {
           enabled = fun_ext (λ kind. ap (λ (f : Facts). f.past.enabled kind) same
-              ∙ sym (no_more (past.enabled kind) (enables kind all)));
+              ∙ sym (no_more (past.enabled kind) (ltb kind 16)));
           reset_owed = ap (λ (f : Facts). f.past.reset_owed) same ∙ sym (owed_so past.reset_owed);
           last_kept = (kept facts.past.last_kept).1 (ap (λ (f : Facts). f.past.last_kept) same);
         };

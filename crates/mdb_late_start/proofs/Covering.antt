@@ -2,11 +2,10 @@
 -- whole of it: what the end knows, the whole knows too, and a type that is enabled in the whole
 -- is enabled in the end. Lists of acts stand newest first.
 use Rattle.std.proofs.Common.{◌≡◌, ℕ, ◌<◌, Bool, true, false, not, ◌&&◌, ◌||◌, List, [], ◌∷◌, ◌++◌, Option, Some, None, refl, ap, sym, subst, ◌∙◌, option_map, if◌then◌else◌}
-use Rattle.std.specs.Int.{bit_at}
+use Rattle.std.specs.Prelude.{ltb}
 use Rattle.std.specs.List.{list_any}
-use Rattle.std.proofs.lemmas.Bool.{eq-eqb}
+use Rattle.std.proofs.lemmas.Bool.{lt-ltb}
 use Rattle.std.proofs.lemmas.List.Folds.{list_any-append}
-use Rattle.std.proofs.lemmas.Nat.Bits.{bit_at_ones}
 use Rattle.mdb_msgs.specs.declared.command.Command.{Command}
 use Rattle.mdb_msgs.specs.declared.setups.Setups.{Setups}
 use Rattle.mdb_bus.specs.declared.act.Act.{Act}
@@ -14,7 +13,6 @@ use Rattle.mdb_bus.specs.declared.scope.Beginning.{Beginning}
 use Rattle.mdb_bus.specs.declared.scope.Beginning.TheVariants.{PowerOn, Joined}
 use Rattle.mdb_machine.specs.declared.kept.Part.{Part}
 use Rattle.mdb_machine.specs.declared.past.Effect.{Effect}
-use Rattle.mdb_machine.specs.declared.past.Effect.TheVariants as effects
 use Rattle.mdb_machine.specs.Kept.{has_reset, kept_of}
 use Rattle.mdb_machine.specs.Keeper.{KnownFacts, Tables, asked_by, effect_of, known_of, parts_by, setup_by}
 use Rattle.mdb_machine.specs.Known.{Known, Unknown, Is, known_before, known_by}
@@ -90,10 +88,6 @@ or_true : (b : Bool) → (b || true) ≡ true
 or_true true = refl
 or_true false = refl
 
--- a mask of 16 ones enables each type
-all_enabled : (kind : ℕ) → kind < 16 → enables kind (effects.Enable 65535) ≡ true
-all_enabled kind few = eq-eqb (bit_at 65535 kind) 1 (bit_at_ones 16 kind few)
-
 -- whether a type is enabled in the end, from whether it is in the whole: `any` is whether there is
 -- a boundary in the end
 end_enables : (any whole end runs full : Bool) → (any ≡ true → whole ≡ end)
@@ -127,10 +121,10 @@ enabled_end begins setups effect parts later front kind few =
     end_enables (list_any powers later)
     (list_any (λ act. enables kind (effect_by effect act)) (acts_from powers (later ++ front)))
     (list_any (λ act. enables kind (effect_by effect act)) (acts_from powers later))
-    (runs_on begins effect (later ++ front)) (enables kind (effects.Enable 65535))
+    (runs_on begins effect (later ++ front)) (ltb kind 16)
     (λ some. ap (list_any (λ act. enables kind (effect_by effect act)))
     (from_end powers later front some))
-    (runs_no_more begins effect later front) (all_enabled kind few)
+    (runs_no_more begins effect later front) (lt-ltb kind 16 few)
 
 -- where a reset message is owed in the end, it is in the whole
 owed_end : {M : Type 0} (begins : Beginning) (setups : Setups) (effect : Command → Effect)

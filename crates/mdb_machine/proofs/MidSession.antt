@@ -1,7 +1,6 @@
 -- The ways that an act of a device that keeps messages may go in a recording that begins in
 -- mid-session.
-use Rattle.std.proofs.Common.{◌≡◌, ◌≢◌, ◌↔◌, inl, inr, ℕ, ◌≤◌, Bool, true, false, not, ◌&&◌, ◌||◌, List, [], ◌∷◌, ◌++◌, Option, Some, None, refl, ap, sym, subst, ◌∙◌, arith, drop, take, length, option_and_then, option_map, sum_by}
-use Rattle.std.proofs.Math.Path.{fun_ext}
+use Rattle.std.proofs.Common.{◌≡◌, ◌≢◌, ◌↔◌, inl, inr, ℕ, ◌≤◌, Bool, true, false, List, [], ◌∷◌, ◌++◌, Option, Some, None, refl, ap, sym, subst, ◌∙◌, arith, drop, take, length, option_and_then, option_map, sum_by}
 use Rattle.std.proofs.Math.Seq.{drop-append_seam}
 use Rattle.std.proofs.lemmas.List.{length-append, length-take-le, take-append-drop}
 use Rattle.std.proofs.lemmas.List.Elements.{All-from_recursion, recursion_from_All}
@@ -22,7 +21,7 @@ use Rattle.mdb_machine.specs.Kept.{IsNew, held, holds_after, holds_read, keeps_e
 use Rattle.mdb_machine.specs.Known.{Allows, AllowsKept, known_by}
 use Rattle.mdb_machine.specs.MidSession.{AsksNone, IsSettled, TellsHeldFirst, TellsNone, facts_recorded}
 use Rattle.mdb_machine.specs.Past.{last_list, last_told, powers_on, unless_empty}
-use Rattle.mdb_machine.specs.inner.ToldWays.{allows_told, asked_so, empty_unless, kept_so, kept_told, none_told, not_not, told_by_none, types_16}
+use Rattle.mdb_machine.specs.inner.ToldWays.{allows_told, asked_so, empty_unless, kept_so, kept_told, none_told, not_not, told_by_none}
 use Rattle.mdb_machine.specs.inner.Guesses.{MayGuess, Overlooks, guessing, step_guessing}
 use Rattle.mdb_machine.proofs.Knowing.{and_back, as_guessing}
 
@@ -51,15 +50,6 @@ asked_by_none tables so_far none = All-from_recursion (λ act. asked_by tables a
     (told_by_none (λ act. asked_by tables act ≡ None) (asked_by tables) (λ act none. none) so_far
     none)
 
--- the facts that acts tell are those that are known
-same_enabled : {Own Setup Asked M : Type 0} (tables : Tables Own Setup Asked M) (setups : Setups)
-    (so_far : List Act) → (known_of tables (Joined setups) so_far).past.enabled
-    ≡ (facts_recorded tables setups so_far).past.enabled
-same_enabled tables setups so_far =
-    let powered_on = list_any (powers_on (effect_of tables)) so_far in
-    fun_ext (λ kind. ap (λ b. (facts_of tables so_far).past.enabled kind || (not powered_on && b))
-    (types_16 kind))
-
 -- facts that may be are those that were told, with a guess
 as_guess : {Own Setup Asked M : Type 0} (tables : Tables Own Setup Asked M) (setups : Setups)
     (so_far : List Act) (holds : Bool) (facts : Facts Setup Asked M)
@@ -68,7 +58,7 @@ as_guess : {Own Setup Asked M : Type 0} (tables : Tables Own Setup Asked M) (set
 as_guess tables setups so_far holds facts allowed =
     let powered_on = list_any (powers_on (effect_of tables)) so_far in
     as_guessing (facts_recorded tables setups so_far) facts allowed.setup
-    (allowed.past.enabled ∙ same_enabled tables setups so_far)
+    allowed.past.enabled
     (allowed.past.reset_owed ∙ not_not (facts_of tables so_far).past.reset_owed powered_on)
 
 guess_allowed : {Own Setup Asked M : Type 0} (tables : Tables Own Setup Asked M) (setups : Setups)
@@ -83,7 +73,7 @@ guess_allowed tables setups so_far holds asked kept asks keeps =
       setup = refl;
       last_asked = asks;
       past = record {
-        enabled = sym (same_enabled tables setups so_far);
+        enabled = refl;
         reset_owed = sym (not_not (facts_of tables so_far).past.reset_owed powered_on);
         last_kept = keeps;
       };

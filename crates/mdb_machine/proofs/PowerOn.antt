@@ -1,15 +1,14 @@
 -- From power-on all is known of a device that keeps messages.
-use Rattle.std.proofs.Common.{◌≡◌, ◌∙◌, ◌↔◌, ◌&&◌, ◌||◌, not, Bool, true, false, List, [], Option, Some, None, option_map, refl, ap, sym, subst, unwrap_or}
+use Rattle.std.proofs.Common.{◌≡◌, ◌∙◌, ◌↔◌, ◌&&◌, ◌||◌, not, Bool, true, false, List, [], Option, Some, None, option_map, ltb, refl, ap, sym, subst, unwrap_or}
 use Rattle.std.proofs.Math.Path.{fun_ext}
 use Rattle.mdb_bus.specs.declared.act.Act.{Act}
 use Rattle.mdb_bus.specs.declared.scope.Beginning.TheVariants.{PowerOn}
 use Rattle.mdb_machine.specs.declared.choice.Choice.{Choice}
 use Rattle.mdb_machine.specs.declared.gains.Gains.{Gains}
-use Rattle.mdb_machine.specs.declared.past.Effect.TheVariants as effects
 use Rattle.mdb_machine.specs.Keeper.{AllowsFacts, Facts, Tables, asked_by, effect_of, facts_of, known_of, parts_by, setup_by}
 use Rattle.mdb_machine.specs.KeeperSteps.{Conduct, KeeperStep, StepKnowing}
 use Rattle.mdb_machine.specs.Known.{Allows, AllowsKept, known_by}
-use Rattle.mdb_machine.specs.Past.{enables, last_list, last_told, or_else, past_of}
+use Rattle.mdb_machine.specs.Past.{last_list, last_told, or_else, past_of}
 use Rattle.mdb_machine.specs.inner.PastWays.{same_past}
 
 -- the facts are the same where their fields are
@@ -50,11 +49,10 @@ power_on_known {Setup = Setup} {Asked = Asked} {M = M} tables so_far holds facts
     let setup = or_none (last_told (setup_by tables) so_far) in
     let asked = asked_known (last_told (asked_by tables) so_far) in
     let past = past_of (effect_of tables) (parts_by tables) so_far in
-    let kept = kept_known (last_list (parts_by tables) so_far) holds in
-    let all = effects.Enable 65535 in (
+    let kept = kept_known (last_list (parts_by tables) so_far) holds in (
       λ is. same_facts (is.setup ∙ setup) ((asked facts.last_asked).0 is.last_asked)
           (same_past
-          (λ kind. ap (λ e. e kind) is.past.enabled ∙ no_more (past.enabled kind) (enables kind all))
+          (λ kind. ap (λ e. e kind) is.past.enabled ∙ no_more (past.enabled kind) (ltb kind 16))
           (is.past.reset_owed ∙ owed_so past.reset_owed)
           ((kept facts.past.last_kept).0 is.past.last_kept)),
       λ same. record {
@@ -63,7 +61,7 @@ power_on_known {Setup = Setup} {Asked = Asked} {M = M} tables so_far holds facts
             (ap (λ (f : Facts Setup Asked M). f.last_asked) same);
         past = record {
           enabled = fun_ext (λ kind. ap (λ (f : Facts Setup Asked M). f.past.enabled kind) same
-              ∙ sym (no_more (past.enabled kind) (enables kind all)));
+              ∙ sym (no_more (past.enabled kind) (ltb kind 16)));
           reset_owed = ap (λ (f : Facts Setup Asked M). f.past.reset_owed) same
               ∙ sym (owed_so past.reset_owed);
           last_kept = (kept facts.past.last_kept).1

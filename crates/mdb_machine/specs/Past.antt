@@ -1,6 +1,6 @@
 -- What counts of the acts so far, for every device (this profile). Lists of acts are written newest
 -- first.
-use Rattle.std.specs.Prelude.{◌≡◌, ℕ, Bool, true, false, not, ◌==◌, ◌&&◌, ◌||◌, List, [], ◌∷◌, Option, Some, None, if◌then◌else◌, unwrap_or}
+use Rattle.std.specs.Prelude.{◌≡◌, ℕ, Bool, true, false, not, ◌==◌, ◌&&◌, ◌||◌, List, [], ◌∷◌, Option, Some, None, if◌then◌else◌, ltb, unwrap_or}
 use Rattle.std.specs.Int.{bit_at}
 use Rattle.std.specs.List.{list_any}
 use Rattle.mdb_msgs.specs.declared.command.Command.{Command}
@@ -130,7 +130,7 @@ abbrev pub known_past : {M : Type 0} → Beginning → (Command → Effect) → 
 known_past begins effect_of parts_by acts =
     record {
       enabled = λ kind. (past_of effect_of parts_by acts).enabled kind
-          || (runs_on begins effect_of acts && enables kind (effects.Enable 65535));
+          || (runs_on begins effect_of acts && ltb kind 16);
       reset_owed = (past_of effect_of parts_by acts).reset_owed
           && not (runs_on begins effect_of acts);
       last_kept = known_by begins [] (last_list parts_by acts);

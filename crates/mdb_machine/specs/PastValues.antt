@@ -1,7 +1,7 @@
 -- What counts of the acts so far, act by act: of no act, and after one act more; and what of it a
 -- value of `Past` stands for. The public functions of `Past` say by this what they do, and a law of
 -- `laws` says that what counts goes on so.
-use Rattle.std.specs.Prelude.{ℕ, ◌==◌, Bool, true, false, not, ◌&&◌, ◌||◌, List, [], Option, Some, None, unwrap_or, if◌then◌else◌}
+use Rattle.std.specs.Prelude.{ℕ, ◌==◌, Bool, true, false, not, ◌&&◌, ◌||◌, List, [], Option, Some, None, ltb, unwrap_or, if◌then◌else◌}
 use Rattle.std.specs.Int.{bit_at}
 use Rattle.mdb_msgs.specs.declared.command.Command.{Command}
 use Rattle.mdb_bus.specs.declared.act.Act.{Act}
@@ -21,7 +21,7 @@ no_past = record { enabled = λ kind. false; reset_owed = true; last_kept = [] }
 -- what is known of no act of a device that runs on: its last kept list isn't, and of no matter
 abbrev pub running_past : {M : Type 0} → PastFacts M
 running_past = record {
-  enabled = λ kind. bit_at 65535 kind == 1;
+  enabled = λ kind. ltb kind 16;
   reset_owed = false;
   last_kept = [];
 }

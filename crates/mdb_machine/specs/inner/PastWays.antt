@@ -2,7 +2,7 @@
 -- tells nothing and isn't put into its power-on state leaves it. This proves laws of the trait
 -- `Pair` and of machines.
 use Rattle.std.specs.Prelude.{◌≡◌, ℕ, Bool, true, false, not, ◌&&◌, ◌||◌, List, [], ◌∷◌, refl}
-use Rattle.std.specs.Prelude.{Option, None, Some, if◌then◌else◌, unwrap_or}
+use Rattle.std.specs.Prelude.{Option, None, Some, if◌then◌else◌, ltb, unwrap_or}
 use Rattle.std.proofs.Common.{ap, sym, ◌∙◌}
 use Rattle.std.proofs.Math.Path.{fun_ext}
 use Rattle.std.specs.List.{list_any}
@@ -179,9 +179,9 @@ known_past_more begins effect_of parts_by act acts =
     let less = sym (runs_less begins effect_of act acts) in
     same_known_past
     (λ kind. any_running (λ a. enables kind (effect_by effect_of a)) act rest powers runs
-    (enables kind (effects.Enable 65535))
+    (ltb kind 16)
     ∙ ap (λ r. list_any (λ a. enables kind (effect_by effect_of a))
-    (act ∷ (if powers then [] else rest)) || (r && enables kind (effects.Enable 65535))) less)
+    (act ∷ (if powers then [] else rest)) || (r && ltb kind 16)) less)
     (none_running (λ a. has_reset (parts_by a)) act rest powers runs
     ∙ ap (λ r. not (list_any (λ a. has_reset (parts_by a))
     (act ∷ (if powers then [] else rest))) && not r) less)

@@ -1,11 +1,8 @@
 -- What acts tell, and what none of them tells. This serves laws of recordings that begin in
 -- mid-session.
-use Rattle.std.specs.Prelude.{◌≡◌, ◌≢◌, ℕ, ◌==◌, Bool, true, false, not, ◌&&◌, ltb, List, [], ◌∷◌, Option, Some, None, option_map, refl, unwrap_or}
-use Rattle.std.specs.Int.{bit_at}
+use Rattle.std.specs.Prelude.{◌≡◌, ◌≢◌, Bool, true, false, not, ◌&&◌, List, [], ◌∷◌, Option, Some, None, option_map, refl, unwrap_or}
 use Rattle.std.specs.List.{AllByRecursion}
-use Rattle.std.proofs.Common.{ap, sym, ◌∙◌, inl, inr}
-use Rattle.std.proofs.lemmas.Bool.{cases_lt, le-ltb, lt-ltb}
-use Rattle.std.proofs.lemmas.Nat.Bits.{bit_at_ones, bit_at_ones_above}
+use Rattle.std.proofs.Common.{ap, ◌∙◌}
 use Rattle.mdb_msgs.specs.declared.setups.Setups.{Setups}
 use Rattle.mdb_bus.specs.declared.act.Act.{Act}
 use Rattle.mdb_bus.specs.declared.scope.Beginning.TheVariants.{Joined}
@@ -54,13 +51,6 @@ list_told {X = X} lists (act ∷ so_far) list is empty =
         → (last_told (λ a. unless_empty (lists a)) so_far ≡ Some list → ⊥) → ⊥
     either (Some other) same found rest = some_in (lists act) list (same ∙ found) empty
     either None same found rest = rest found
-
--- the types that a mask of 16 bits enables, where all are
-pub types_16 : (kind : ℕ) → (bit_at 65535 kind == 1) ≡ ltb kind 16
-types_16 kind = elim (cases_lt kind 16) [
-  | inl below ↦ ap (λ n. n == 1) (bit_at_ones 16 kind below) ∙ sym (lt-ltb kind 16 below)
-  | inr past ↦ ap (λ n. n == 1) (bit_at_ones_above 16 kind past) ∙ sym (le-ltb kind 16 past)
-]
 
 pub not_not : (a b : Bool) → (a && not (not b)) ≡ (a && b)
 not_not a true = refl
