@@ -18,7 +18,8 @@ use Rattle.mdb_machine.specs.Kept.{MayBeRead, holds_acked, is_reset, kept_of}
 use Rattle.mdb_machine.proofs.KeptLists.{free_acked}
 use Rattle.mdb_cashless.specs.declared.reader.state.ReaderState.{ReaderState}
 use Rattle.mdb_cashless.specs.declared.reader.view.View.{View}
-use Rattle.mdb_cashless.specs.Reader.{AckStep, ForOwn, ReaderStep, ReplyStep, VmcAckStep, take, taken, view_answered, view_heard, view_taken}
+use Rattle.mdb_machine.specs.Steps.{ForOwn}
+use Rattle.mdb_cashless.specs.Reader.{AckStep, ReaderStep, ReplyStep, VmcAckStep, take, taken, view_answered, view_heard, view_taken}
 use Rattle.mdb_cashless.specs.ReaderFacts.{Facts}
 use Rattle.mdb_cashless.specs.ReaderMessages.{messages_of, part_of, parts_of}
 use Rattle.mdb_cashless.specs.ReaderView.{all_heard}

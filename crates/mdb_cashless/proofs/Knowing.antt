@@ -18,7 +18,8 @@ use Rattle.mdb_cashless.specs.declared.reader.messages.ReaderActivity.{ReaderAct
 use Rattle.mdb_cashless.specs.declared.reader.messages.ReaderActivity.TheVariants.{VendDenied}
 use Rattle.mdb_cashless.specs.declared.reader.state.ReaderState.{ReaderState}
 use Rattle.mdb_cashless.specs.declared.reader.transaction.Transaction.{Transaction}
-use Rattle.mdb_cashless.specs.Reader.{AckStep, AskStep, ForOwn, ReaderStep, ReplyStep, StepKnowing, VmcAckStep, before_messages, is_poll, taken}
+use Rattle.mdb_machine.specs.Steps.{ForOwn}
+use Rattle.mdb_cashless.specs.Reader.{AckStep, AskStep, ReaderStep, ReplyStep, StepKnowing, VmcAckStep, before_messages, is_poll, taken}
 use Rattle.mdb_cashless.specs.ReaderFacts.{AllowsFacts, Facts, own_transaction}
 use Rattle.mdb_cashless.specs.ReaderMessages.{parts_of}
 use Rattle.mdb_cashless.specs.ReaderValues.{facts_in, known_in, settled}

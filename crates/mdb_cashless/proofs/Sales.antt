@@ -25,7 +25,8 @@ use Rattle.mdb_cashless.specs.declared.reader.transaction.Transaction.{Transacti
 use Rattle.mdb_cashless.specs.declared.reader.transaction.Transaction.TheVariants.{Request, Cancel, Success, Failure, Complete}
 use Rattle.mdb_cashless.specs.declared.reader.view.View.{View}
 use Rattle.mdb_cashless.specs.declared.reader.view.View.TheVariants.{NoSession, Idle, Asked, Waiting, Approved, SuccessOwed, FailureOwed, Ending}
-use Rattle.mdb_cashless.specs.Reader.{AckStep, AskStep, ForOwn, ReaderStep, ReplyStep, StepKnowing, VmcAckStep, asked, power_on, taken, view_answered, view_heard}
+use Rattle.mdb_machine.specs.Steps.{ForOwn}
+use Rattle.mdb_cashless.specs.Reader.{AckStep, AskStep, ReaderStep, ReplyStep, StepKnowing, VmcAckStep, asked, power_on, taken, view_answered, view_heard}
 use Rattle.mdb_cashless.specs.ReaderFacts.{Facts, asked_by, known_of, own_transaction}
 use Rattle.mdb_cashless.specs.ReaderMessages.{messages_of}
 use Rattle.mdb_cashless.specs.ReaderView as reader_view
@@ -449,21 +450,13 @@ steps_tell : SameFields → (unit : ReaderUnit) (facts : Facts) (so_far : List A
     → TellsOfSale unit after.view (act ∷ so_far)
 steps_tell law unit facts so_far (acts.Ask command) choice before after gains ends lasts tells step = asks law unit facts command so_far before after gains (own unit command) refl lasts tells step
 steps_tell law unit facts so_far (acts.Ack command) choice before after gains ends lasts tells step = acknowledged unit facts choice command so_far before after gains (own unit command) tells step
-steps_tell law unit facts so_far (acts.Nak command) choice before after gains ends lasts tells step =
-    stays_view unit (acts.Nak command) so_far before after (λ May. tt) refl tells (view_of after before step.0)
 steps_tell law unit facts so_far (acts.Reply command reply) choice before after gains ends lasts tells step = replied unit facts choice command reply so_far before after gains (own unit command) tells step
 steps_tell law unit facts so_far (acts.VmcAck command reply) choice before after gains ends lasts tells step =
     acked unit facts choice command reply so_far before after gains (own unit command) refl ends tells step
-steps_tell law unit facts so_far (acts.VmcNak command reply) choice before after gains ends lasts tells step =
-    stays_view unit (acts.VmcNak command reply) so_far before after (λ May. tt) refl tells (view_of after before step.0)
-steps_tell law unit facts so_far (acts.VmcRet command reply) choice before after gains ends lasts tells step =
-    stays_view unit (acts.VmcRet command reply) so_far before after (λ May. tt) refl tells (view_of after before step.0)
-steps_tell law unit facts so_far (acts.Repeat command reply) choice before after gains ends lasts tells step =
-    stays_view unit (acts.Repeat command reply) so_far before after (λ May. tt) refl tells (view_of after before step.0)
-steps_tell law unit facts so_far acts.Foreign choice before after gains ends lasts tells step =
-    stays_view unit acts.Foreign so_far before after (λ May. tt) refl tells (view_of after before step.0)
 steps_tell law unit facts so_far (acts.Break length) choice before after gains ends lasts tells step =
     subst (λ (v : View). TellsOfSale unit v (acts.Break length ∷ so_far)) (sym (ap (λ (s : ReaderState). s.view) step.0)) tt
+steps_tell law unit facts so_far act choice before after gains ends lasts tells step =
+    stays_view unit act so_far before after (λ May. tt) refl tells (view_of after before step.0)
 
 -- a sale is asked where it is approved
 asked_sale : SameFields → (unit : ReaderUnit) (facts : Facts) (so_far : List Act) (item : ℕ) (before after : ReaderState) (gains : Gains) (found : Option ReaderCommand) → found ≡ Some (reader.VendSuccess item)

@@ -16,7 +16,8 @@ use Rattle.mdb_machine.specs.Pair.{IsOnlyStep}
 use Rattle.mdb_cashless.specs.declared.reader.device.DeviceState.{DeviceState}
 use Rattle.mdb_cashless.specs.declared.reader.state.ReaderState.{ReaderState}
 use Rattle.mdb_cashless.specs.declared.reader.view.View.{View}
-use Rattle.mdb_cashless.specs.Reader.{AckStep, AskStep, ForOwn, ReaderStep, ReplyStep, StepKnowing, VmcAckStep, asked, sold, sold_to, take, view_heard}
+use Rattle.mdb_machine.specs.Steps.{ForOwn}
+use Rattle.mdb_cashless.specs.Reader.{AckStep, AskStep, ReaderStep, ReplyStep, StepKnowing, VmcAckStep, asked, sold, sold_to, take, view_heard}
 use Rattle.mdb_cashless.specs.ReaderFacts.{Facts, KnownFacts, known_of}
 use Rattle.mdb_cashless.specs.ReaderValues.{changes_view}
 use Rattle.mdb_cashless.specs.Units.{own}

@@ -14,10 +14,11 @@ use Rattle.mdb_bus.specs.declared.scope.Beginning.{Beginning}
 use Rattle.mdb_machine.specs.declared.choice.Choice.{Choice}
 use Rattle.mdb_machine.specs.declared.choice.Choice.TheVariants.{Lost, Restart}
 use Rattle.mdb_machine.specs.declared.gains.Gains.{Gains}
-use Rattle.mdb_machine.specs.Gains.{Stays, controller_gains, device_gains, no_gains}
+use Rattle.mdb_machine.specs.Gains.{controller_gains, device_gains}
 use Rattle.mdb_machine.specs.Kept.{HasNews, held, holds_acked, holds_after, kept_of}
 use Rattle.mdb_machine.specs.Machine.{Machine, StartsIn}
 use Rattle.mdb_machine.specs.Past.{or_else, resets, tells_out_of_sequence}
+use Rattle.mdb_machine.specs.Steps.{StepBy}
 use Rattle.mdb_machine.specs.Unvalued as amounts
 use Rattle.mdb_machine.specs.Unvalued.{one_if}
 use Rattle.mdb_cashless.specs.declared.reader.device.DeviceState.TheVariants as device
@@ -231,33 +232,18 @@ pub record VmcAckStep (facts : Facts) (command : ReaderCommand) (reply : Reply) 
       (all_approved_to facts.config (view_answered (taken command reply) before.view)
       (messages_of reply)) 0
 
--- a step by a command to this reader; a command to another device changes nothing
-abbrev pub ForOwn : Option ReaderCommand
-    → (ReaderCommand → ReaderState → ReaderState → Gains → Type 0)
-    → ReaderState → ReaderState → Gains → Type 0
-ForOwn None Step = Stays
-ForOwn (Some command) Step = Step command
-
 -- A step of a reader and the controller by an act under a choice, after acts that leave these
 -- facts.
 abbrev pub ReaderStep : ReaderUnit → Facts → Act → Choice → ReaderState → ReaderState → Gains
     → Type 0
-ReaderStep unit facts (acts.Ask command) choice =
-    ForOwn (own unit command) (AskStep facts)
-ReaderStep unit facts (acts.Ack command) choice =
-    ForOwn (own unit command) (λ c. AckStep facts c choice)
-ReaderStep unit facts (acts.Reply command reply) choice =
-    ForOwn (own unit command) (λ c. ReplyStep facts c reply choice)
-ReaderStep unit facts (acts.VmcAck command reply) choice =
-    ForOwn (own unit command) (λ c. VmcAckStep facts c reply choice)
-ReaderStep unit facts (acts.Break length) choice =
-    λ before after gains. (after ≡ power_on) × (gains ≡ no_gains)
--- NAK, RET, repeats and foreign traffic change nothing
-ReaderStep unit facts (acts.Nak command) choice = Stays
-ReaderStep unit facts (acts.VmcNak command reply) choice = Stays
-ReaderStep unit facts (acts.VmcRet command reply) choice = Stays
-ReaderStep unit facts (acts.Repeat command reply) choice = Stays
-ReaderStep unit facts acts.Foreign choice = Stays
+ReaderStep unit facts =
+    StepBy (own unit) (record {
+      power_on = power_on;
+      Asks = AskStep facts;
+      Acks = AckStep facts;
+      Replies = ReplyStep facts;
+      VmcAcks = VmcAckStep facts;
+    })
 
 -- A step where this is known of the facts: one after facts that may be. What isn't known may have
 -- been anything.

@@ -170,11 +170,7 @@ keeper_one tables conduct is facts (acts.VmcAck command reply) choice before =
     (λ c one other gains more p q. (p.to ∙ sym q.to, p.gained ∙ sym q.gained))
 keeper_one tables conduct is facts (acts.Break length) choice before =
     λ one other gains more p q. (p.0 ∙ sym q.0, p.1 ∙ sym q.1)
-keeper_one tables conduct is facts (acts.Nak command) choice before = stays_one before
-keeper_one tables conduct is facts (acts.VmcNak command reply) choice before = stays_one before
-keeper_one tables conduct is facts (acts.VmcRet command reply) choice before = stays_one before
-keeper_one tables conduct is facts (acts.Repeat command reply) choice before = stays_one before
-keeper_one tables conduct is facts acts.Foreign choice before = stays_one before
+keeper_one tables conduct is facts act choice before = stays_one before
 
 -- so is its step where all is known
 knowing_one : {Own Setup Asked M State : Type 0} (tables : Tables Own Setup Asked M)
@@ -265,13 +261,6 @@ some_one : {X : Type 0} (told : Option X) (one other : X) → told ≡ Some one 
     → one ≡ other
 some_one told one other p q = cc (p, q)
 
-reader_own : (own : Option ReaderCommand)
-    (Step : ReaderCommand → ReaderState → ReaderState → Gains → Type 0) (before : ReaderState)
-    → ((command : ReaderCommand) → IsOneStep (Step command before))
-    → IsOneStep (reader.ForOwn own Step before)
-reader_own None Step before each = stays_one before
-reader_own (Some command) Step before each = each command
-
 reader_asks : (facts : reader_facts.Facts) (command : ReaderCommand) (before : ReaderState)
     → IsOneStep (reader.AskStep facts command before)
 reader_asks facts command before one other gains more p q = (
@@ -312,22 +301,18 @@ reader_replies facts command reply choice before one other gains more p q =
 reader_one : (unit : ReaderUnit) (facts : reader_facts.Facts) (act : Act) (choice : Choice)
     (before : ReaderState) → IsOneStep (reader.ReaderStep unit facts act choice before)
 reader_one unit facts (acts.Ask command) choice before =
-    reader_own (own unit command) _ before (λ c. reader_asks facts c before)
+    own_one (own unit command) _ before (λ c. reader_asks facts c before)
 reader_one unit facts (acts.Ack command) choice before =
-    reader_own (own unit command) _ before
+    own_one (own unit command) _ before
     (λ c one other gains more p q. (p.to ∙ sym q.to, p.gained ∙ sym q.gained))
 reader_one unit facts (acts.Reply command reply) choice before =
-    reader_own (own unit command) _ before (λ c. reader_replies facts c reply choice before)
+    own_one (own unit command) _ before (λ c. reader_replies facts c reply choice before)
 reader_one unit facts (acts.VmcAck command reply) choice before =
-    reader_own (own unit command) _ before
+    own_one (own unit command) _ before
     (λ c one other gains more p q. (p.to ∙ sym q.to, p.gained ∙ sym q.gained))
 reader_one unit facts (acts.Break length) choice before =
     λ one other gains more p q. (p.0 ∙ sym q.0, p.1 ∙ sym q.1)
-reader_one unit facts (acts.Nak command) choice before = stays_one before
-reader_one unit facts (acts.VmcNak command reply) choice before = stays_one before
-reader_one unit facts (acts.VmcRet command reply) choice before = stays_one before
-reader_one unit facts (acts.Repeat command reply) choice before = stays_one before
-reader_one unit facts acts.Foreign choice before = stays_one before
+reader_one unit facts act choice before = stays_one before
 
 reader_facts_one : (unit : ReaderUnit) (so_far : List Act) (holds : Bool)
     (one other : reader_facts.Facts)

@@ -18,7 +18,8 @@ use Rattle.mdb_machine.specs.Past.{unless_empty}
 use Rattle.mdb_machine.specs.PastValues.{known_more}
 use Rattle.mdb_cashless.specs.declared.reader.messages.ReaderActivity.{ReaderActivity}
 use Rattle.mdb_cashless.specs.declared.reader.state.ReaderState.{ReaderState}
-use Rattle.mdb_cashless.specs.Reader.{AckStep, AskStep, ForOwn, ReaderStep, ReplyStep, VmcAckStep, before_messages, drops, is_repeated, power_on, read, take, take_any, taken}
+use Rattle.mdb_machine.specs.Steps.{ForOwn}
+use Rattle.mdb_cashless.specs.Reader.{AckStep, AskStep, ReaderStep, ReplyStep, VmcAckStep, before_messages, drops, is_repeated, power_on, read, take, take_any, taken}
 use Rattle.mdb_cashless.specs.ReaderFacts.{Facts, KnownFacts, known_of, parts_by}
 use Rattle.mdb_cashless.specs.ReaderMessages.{messages_of, part_of, parts_of}
 use Rattle.mdb_cashless.specs.Units.{own}

@@ -12,7 +12,8 @@ use Rattle.mdb_machine.specs.Choices.{CanStand}
 use Rattle.mdb_machine.specs.Kept.{kept_of}
 use Rattle.mdb_machine.specs.inner.PlainKept.{acked_plain}
 use Rattle.mdb_cashless.specs.declared.reader.state.ReaderState.{ReaderState}
-use Rattle.mdb_cashless.specs.Reader.{AckStep, ForOwn, ReaderStep, ReplyStep, VmcAckStep, taken, view_answered}
+use Rattle.mdb_machine.specs.Steps.{ForOwn}
+use Rattle.mdb_cashless.specs.Reader.{AckStep, ReaderStep, ReplyStep, VmcAckStep, taken, view_answered}
 use Rattle.mdb_cashless.specs.ReaderFacts.{Facts}
 use Rattle.mdb_cashless.specs.ReaderMessages.{messages_of, parts_of}
 use Rattle.mdb_cashless.specs.ReaderView.{all_heard}
@@ -71,9 +72,4 @@ as_plain unit facts (acts.VmcAck c r) Restart before after gains barred step =
       gained = own_step.gained;
     })
     step
-as_plain unit facts (acts.Nak c) choice before after gains barred step = step
-as_plain unit facts (acts.VmcNak c r) choice before after gains barred step = step
-as_plain unit facts (acts.VmcRet c r) choice before after gains barred step = step
-as_plain unit facts (acts.Repeat c r) choice before after gains barred step = step
-as_plain unit facts acts.Foreign choice before after gains barred step = step
-as_plain unit facts (acts.Break n) choice before after gains barred step = step
+as_plain unit facts act choice before after gains barred step = step

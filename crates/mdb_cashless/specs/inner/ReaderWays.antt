@@ -31,12 +31,13 @@ use Rattle.mdb_machine.specs.Unvalued as amounts
 use Rattle.mdb_machine.specs.Unvalued.{one_if}
 use Rattle.mdb_machine.specs.inner.OwnWays.{IsOfOwn, part_of_none, same_known}
 use Rattle.mdb_machine.specs.inner.PastWays as past_ways
-use Rattle.mdb_machine.specs.inner.StepWays.{IsOwnOf}
 use Rattle.mdb_cashless.specs.declared.reader.state.ReaderState.{ReaderState}
 use Rattle.mdb_cashless.specs.declared.reader.transaction.Transaction.{Transaction}
 use Rattle.mdb_cashless.specs.inner.KnowingReader.{as_choice, some_facts, starts_in, stays}
 use Rattle.mdb_cashless.specs.inner.PlainReader.{as_plain}
-use Rattle.mdb_cashless.specs.Reader.{ForOwn, ReaderStep, StepKnowing, asks_sale, is_approval, is_unpriced, machine, power_on, unvalued, unvalued_by}
+use Rattle.mdb_machine.specs.inner.StepWays as step_ways
+use Rattle.mdb_machine.specs.inner.StepWays.{IsOwnOf}
+use Rattle.mdb_cashless.specs.Reader.{ReaderStep, StepKnowing, asks_sale, is_approval, is_unpriced, machine, power_on, unvalued, unvalued_by}
 use Rattle.mdb_cashless.specs.ReaderFacts.{Facts, KnownFacts, asked_by, config_by, effect_of, effect_of_own, known_of, messages_by, own_of, own_transaction, parts_by, taken_told, transaction_taken_by}
 use Rattle.mdb_cashless.specs.ReaderMessages.{amount_in, begin_session, config_in, last_said, messages_of, part_of}
 use Rattle.mdb_cashless.specs.ReaderValues.{known_with}
@@ -54,37 +55,12 @@ no_own Second (commands.Reader First c) other = refl
 no_own Second (commands.Reader Second c) other = absurd (other refl)
 
 -- and changes nothing
-still : (own_command : Option ReaderCommand)
-    (Step : ReaderCommand → ReaderState → ReaderState → Gains → Type 0)
-    (before after : ReaderState) (gains : Gains) → own_command ≡ None
-    → ForOwn own_command Step before after gains ↔ (after ≡ before) × (gains ≡ no_gains)
-still None Step before after gains none = (λ step. step, λ step. step)
-still (Some c) Step before after gains none = absurd cc
-
 pub elsewhere : (unit : ReaderUnit) (facts : Facts) (act : Act) (choice : Choice)
     (before after : ReaderState) (gains : Gains)
     → (IsActOf (devices.Reader unit) act → ⊥)
     → ReaderStep unit facts act choice before after gains
     ↔ (after ≡ before) × (gains ≡ no_gains)
-elsewhere unit facts (acts.Ask c) choice before after gains other =
-    still (own unit c) _ before after gains (no_own unit c other)
-elsewhere unit facts (acts.Ack c) choice before after gains other =
-    still (own unit c) _ before after gains (no_own unit c other)
-elsewhere unit facts (acts.Reply c r) choice before after gains other =
-    still (own unit c) _ before after gains (no_own unit c other)
-elsewhere unit facts (acts.VmcAck c r) choice before after gains other =
-    still (own unit c) _ before after gains (no_own unit c other)
-elsewhere unit facts (acts.Nak c) choice before after gains other =
-    (λ step. step, λ step. step)
-elsewhere unit facts (acts.VmcNak c r) choice before after gains other =
-    (λ step. step, λ step. step)
-elsewhere unit facts (acts.VmcRet c r) choice before after gains other =
-    (λ step. step, λ step. step)
-elsewhere unit facts (acts.Repeat c r) choice before after gains other =
-    (λ step. step, λ step. step)
-elsewhere unit facts acts.Foreign choice before after gains other =
-    (λ step. step, λ step. step)
-elsewhere unit facts (acts.Break n) choice before after gains other = absurd (other tt)
+elsewhere unit facts = step_ways.elsewhere (own unit) _ (no_own unit)
 
 -- what is known after one act more, by what that act is to the reader
 abbrev more : KnownFacts → List ReaderMsg → Option Transaction → Option Transaction → Effect → Bool
@@ -140,19 +116,8 @@ known_still unit known (acts.Reply c r) other =
     still_known unit (acts.Reply c r) known
     (ap (λ found. elim found [ Some c ↦ messages_of r | None ↦ [] ]) none) refl
     (answered_none unit c r none) effect (ap resets effect)
-known_still unit known (acts.Nak c) other =
-    still_known unit (acts.Nak c) known refl refl refl refl refl
-known_still unit known (acts.VmcAck c r) other =
-    still_known unit (acts.VmcAck c r) known refl refl refl refl refl
-known_still unit known (acts.VmcNak c r) other =
-    still_known unit (acts.VmcNak c r) known refl refl refl refl refl
-known_still unit known (acts.VmcRet c r) other =
-    still_known unit (acts.VmcRet c r) known refl refl refl refl refl
-known_still unit known (acts.Repeat c r) other =
-    still_known unit (acts.Repeat c r) known refl refl refl refl refl
-known_still unit known acts.Foreign other =
-    still_known unit acts.Foreign known refl refl refl refl refl
 known_still unit known (acts.Break n) other = absurd (other tt)
+known_still unit known act other = still_known unit act known refl refl refl refl refl
 
 -- what is known is the same where its fields are
 pub same_fields : {one other : KnownFacts} → one.config ≡ other.config → one.asked ≡ other.asked

@@ -96,9 +96,4 @@ as_plain tables conduct looks facts (acts.VmcAck c r) Restart before after gains
     as_for_own (tables.own c) _ _ before after gains
     (λ own. as_vmc_ack conduct facts (tables.is_poll own) (tables.parts_of r) before after gains)
     step
-as_plain tables conduct looks facts (acts.Nak c) choice before after gains barred step = step
-as_plain tables conduct looks facts (acts.VmcNak c r) choice before after gains barred step = step
-as_plain tables conduct looks facts (acts.VmcRet c r) choice before after gains barred step = step
-as_plain tables conduct looks facts (acts.Repeat c r) choice before after gains barred step = step
-as_plain tables conduct looks facts acts.Foreign choice before after gains barred step = step
-as_plain tables conduct looks facts (acts.Break n) choice before after gains barred step = step
+as_plain tables conduct looks facts act choice before after gains barred step = step
