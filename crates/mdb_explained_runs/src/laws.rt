@@ -30,8 +30,6 @@ ghost use Rattle.mdb_follow.specs.AccountNames.{account_of};
 ghost use Rattle.mdb_follow.specs.Runs.{AllSums};
 
 use mdb_bus::laws;
-use mdb_cash::laws as cash_laws;
-use mdb_cashless::laws as cashless_laws;
 use mdb_follow::laws as follow_laws;
 use mdb_machine::laws as machine_laws;
 
@@ -161,9 +159,7 @@ pub fn replay_reports_have_nothing_of_devices_left_out()
 {
     laws::acts_name_devices_that_are_followed();
     laws::devices_left_out_have_a_part_in_breaks_alone();
-    cash_laws::breaks_tell_nothing_of_the_changer();
-    cash_laws::breaks_tell_nothing_of_the_validator();
-    cashless_laws::breaks_tell_nothing_of_a_reader();
+    follow_laws::breaks_tell_nothing_of_a_device();
     follow_laws::runs_add_nothing_of_devices_left_out();
 }
 

@@ -1,7 +1,6 @@
 -- How the lists of asks go on with the pieces, and silences with them.
 use Rattle.std.proofs.Common.{refl, ap, sym, ◌∙◌, ◌≡◌, inl, inr, ℕ, List, [], ◌∷◌, ◌++◌}
 use Rattle.std.proofs.Common.{Option, Some, None}
-use Rattle.std.specs.Prelude.{option_map}
 use Rattle.mdb_words.specs.declared.event.Event.{Event}
 use Rattle.mdb_words.specs.Event.{start_of}
 use Rattle.mdb_msgs.specs.declared.command.Device.{Device}
@@ -14,8 +13,9 @@ use Rattle.mdb_bus.specs.ActLists.{AskTail, IsTail, Piece, RepeatTail, ReplyTail
 use Rattle.mdb_bus.specs.ActLists.{acts_of, last_of, piece_events}
 use Rattle.mdb_bus.specs.declared.scope.Beginning.{Beginning}
 use Rattle.mdb_bus.specs.Bus.{Grown}
+use Rattle.mdb_follow.specs.Devices.{spec_of}
 use Rattle.mdb_follow.specs.Sides.{stands_for}
-use Rattle.mdb_follow.specs.Silences.{TimedAsk, asks_of, last_start, limit_of, reader_limit}
+use Rattle.mdb_follow.specs.Silences.{TimedAsk, asks_of, last_start, limit_of}
 use Rattle.mdb_follow.specs.SilenceSteps.{asks_after, limit_in}
 
 -- tails ask nothing
@@ -125,9 +125,9 @@ limit-is : (begins : Beginning) (device : Device) (first second : ReaderKnown) (
 limit-is begins devices.Changer first second acts one other = refl
 limit-is begins devices.Bill first second acts one other = refl
 limit-is begins (devices.Reader First) first second acts one other =
-    ap (λ facts. reader_limit (option_map (λ config. config.response) facts.config)) (sym one)
+    ap (spec_of (devices.Reader First)).limit (sym one)
 limit-is begins (devices.Reader Second) first second acts one other =
-    ap (λ facts. reader_limit (option_map (λ config. config.response) facts.config)) (sym other)
+    ap (spec_of (devices.Reader Second)).limit (sym other)
 
 -- an act, and the lists go on by it
 pub asks-go-on : (begins : Beginning) (device : Device) (pieces : List Piece) (row : Event)

@@ -13,6 +13,7 @@ pub mod Limits
 pub mod Listed
 pub mod Machines
 pub mod OneAnswer
+pub mod OwnKnown
 pub mod OwnWays
 pub mod Places
 pub mod Reaching

@@ -2,7 +2,7 @@
 use Rattle.std.proofs.Common.{ap, refl, subst, sym, ◌∙◌, ◌≡◌, inl, inr, ℤ, ◌≤ℤ◌, pos}
 use Rattle.std.specs.Prelude.{◌-ℤ◌}
 use Rattle.std.proofs.Common.{Bool, true, false, arith, length}
-use Rattle.std.proofs.Common.{List, [], ◌∷◌, ◌++◌, Option, Some, None, All, option_map}
+use Rattle.std.proofs.Common.{List, [], ◌∷◌, ◌++◌, Option, Some, None, All}
 use Rattle.std.proofs.lemmas.Int.{ints}
 use Rattle.std.proofs.lemmas.List.Elements.{All-from_recursion}
 use Rattle.mdb_words.specs.declared.event.Event.{Event}
@@ -10,7 +10,6 @@ use Rattle.mdb_msgs.specs.Commands.{device_of}
 use Rattle.mdb_msgs.specs.DeviceSets.{has}
 use Rattle.mdb_msgs.specs.declared.command.Device.{Device}
 use Rattle.mdb_msgs.specs.declared.command.Device.TheVariants as devices
-use Rattle.mdb_msgs.specs.declared.command.ReaderUnit.{ReaderUnit}
 use Rattle.mdb_msgs.specs.declared.command.ReaderUnit.TheVariants.{First, Second}
 use Rattle.mdb_bus.specs.declared.act.Act.{Act}
 use Rattle.mdb_bus.specs.declared.act.Act.TheVariants as acts
@@ -18,16 +17,12 @@ use Rattle.mdb_bus.specs.declared.fault.Blame.{Blame}
 use Rattle.mdb_bus.specs.declared.fault.Blame.TheVariants as blame
 use Rattle.mdb_bus.specs.declared.fault.Rule.{Rule}
 use Rattle.mdb_bus.specs.declared.scope.Beginning.{Beginning}
-use Rattle.mdb_bus.specs.declared.scope.Beginning.TheVariants.{PowerOn, Joined}
 use Rattle.mdb_bus.specs.declared.scope.Scope.{Scope}
 use Rattle.mdb_bus.specs.ActLists.{ArePieces, IsActList, Piece, acts_of}
 use Rattle.mdb_bus.specs.LeavingOut.{LeavesOutMore, acts_with, breaks_among, device_in, leave_out}
 use Rattle.mdb_bus.specs.LinkFaults.{IsLinkFault, blame_on}
 use Rattle.mdb_bus.specs.Scopes.{IsFollowed, IsLeftOut}
-use Rattle.mdb_cash.specs.BillFacts as bill_facts
-use Rattle.mdb_cash.specs.ChangerFacts as changer_facts
 use Rattle.mdb_machine.specs.Pair.{IsBreak, own_acts}
-use Rattle.mdb_cashless.specs.ReaderFacts as reader_facts
 use Rattle.mdb_follow.specs.declared.account.Account.{Account}
 use Rattle.mdb_follow.specs.declared.account_name.AccountName.{AccountName}
 use Rattle.mdb_follow.specs.declared.account_name.AccountName.TheVariants.{CoinsIn, BillsIn}
@@ -36,6 +31,7 @@ use Rattle.mdb_follow.specs.declared.offence.Offence.{Offence}
 use Rattle.mdb_follow.specs.declared.range.Range.{Range}
 use Rattle.mdb_follow.specs.declared.report.Report.{Report}
 use Rattle.mdb_follow.specs.AccountNames.{account_device, account_of, no_account, sums_of}
+use Rattle.mdb_follow.specs.Devices.{spec_of}
 use Rattle.mdb_follow.specs.LeavingOut.{AreSumsWithout, HasNothingLeftOut, HaveSameFollowed}
 use Rattle.mdb_follow.specs.LeavingOut.{IsNotKnown}
 use Rattle.mdb_follow.specs.Offences.{IsOffence}
@@ -44,7 +40,7 @@ use Rattle.mdb_follow.specs.Report.{IsReport, decimals_of}
 use Rattle.mdb_follow.specs.Report.{report_of, unvalued_of}
 use Rattle.mdb_follow.specs.Runs.{AllSums, IsReached, Run}
 use Rattle.mdb_follow.specs.Senders.{sender_of}
-use Rattle.mdb_follow.specs.Silences.{limit_of, reader_limit, silences}
+use Rattle.mdb_follow.specs.Silences.{limit_of, silences}
 use Rattle.mdb_follow.specs.Sums.{AccountSums, no_sums}
 use Rattle.mdb_follow.proofs.Following.{OneActList}
 use Rattle.mdb_follow.proofs.OneAnswer.{named-account, one-account}
@@ -54,104 +50,33 @@ use Rattle.mdb_follow.proofs.Told.{decimals-told, silences-told, unvalued-told}
 
 -- what is known of devices, and the amounts without a value, are of their own acts
 pub record FactsAlike : Type 0 where
-  pub changer : (begins : Beginning) (one other : List Act)
-      → own_acts devices.Changer one ≡ own_acts devices.Changer other
-      → changer_facts.known_of begins one ≡ changer_facts.known_of begins other
-  pub bill : (begins : Beginning) (one other : List Act)
-      → own_acts devices.Bill one ≡ own_acts devices.Bill other
-      → bill_facts.known_of begins one ≡ bill_facts.known_of begins other
-  pub reader : (begins : Beginning) (unit : ReaderUnit) (one other : List Act)
-      → own_acts (devices.Reader unit) one ≡ own_acts (devices.Reader unit) other
-      → reader_facts.known_of begins unit one ≡ reader_facts.known_of begins unit other
+  pub known : (begins : Beginning) (device : Device) (one other : List Act)
+      → own_acts device one ≡ own_acts device other
+      → (spec_of device).known begins one ≡ (spec_of device).known begins other
   pub unvalued : (begins : Beginning) (device : Device) (one other : List Act)
       → own_acts device one ≡ own_acts device other
       → unvalued_of begins device one ≡ unvalued_of begins device other
 
 -- and breaks tell nothing of them
 pub record BreaksTellNothing : Type 0 where
-  pub changer : (begins : Beginning) (so_far : List Act)
-      → All IsBreak (own_acts devices.Changer so_far)
-      → (changer_facts.known_of begins so_far).setup ≡ (changer_facts.known_of begins []).setup
-  pub bill : (begins : Beginning) (so_far : List Act) → All IsBreak (own_acts devices.Bill so_far)
-      → (bill_facts.known_of begins so_far).setup ≡ (bill_facts.known_of begins []).setup
-  pub reader : (begins : Beginning) (unit : ReaderUnit) (so_far : List Act)
-      → All IsBreak (own_acts (devices.Reader unit) so_far)
-      → (reader_facts.known_of begins unit so_far).config
-      ≡ (reader_facts.known_of begins unit []).config
+  pub decimals : (begins : Beginning) (device : Device) (so_far : List Act)
+      → All IsBreak (own_acts device so_far) → IsNotKnown begins device
+      → decimals_of begins device so_far ≡ None
   pub unvalued : (begins : Beginning) (device : Device) (so_far : List Act)
       → All IsBreak (own_acts device so_far) → unvalued_of begins device so_far ≡ 0
-
--- the amounts without a value of each device: they are of its own acts, and breaks tell none
-abbrev pub IsOfOwnActs : Beginning → Device → Type 0
-IsOfOwnActs begins device = (one other : List Act) → own_acts device one ≡ own_acts device other
-    → unvalued_of begins device one ≡ unvalued_of begins device other
-
-abbrev pub IsNoneOfBreaks : Beginning → Device → Type 0
-IsNoneOfBreaks begins device = (so_far : List Act) → All IsBreak (own_acts device so_far)
-    → unvalued_of begins device so_far ≡ 0
-
-pub unvalued_alike : (begins : Beginning) → IsOfOwnActs begins devices.Changer
-    → IsOfOwnActs begins devices.Bill
-    → ((unit : ReaderUnit) → IsOfOwnActs begins (devices.Reader unit)) → (device : Device)
-    → IsOfOwnActs begins device
-unvalued_alike begins changer bill reader devices.Changer = changer
-unvalued_alike begins changer bill reader devices.Bill = bill
-unvalued_alike begins changer bill reader (devices.Reader unit) = reader unit
-
-pub nothing_unvalued : (begins : Beginning) → IsNoneOfBreaks begins devices.Changer
-    → IsNoneOfBreaks begins devices.Bill
-    → ((unit : ReaderUnit) → IsNoneOfBreaks begins (devices.Reader unit)) → (device : Device)
-    → IsNoneOfBreaks begins device
-nothing_unvalued begins changer bill reader devices.Changer = changer
-nothing_unvalued begins changer bill reader devices.Bill = bill
-nothing_unvalued begins changer bill reader (devices.Reader unit) = reader unit
 
 -- a device's limit and decimals are those of its own acts
 limits_alike : FactsAlike → (begins : Beginning) (device : Device) (one other : List Act)
     → own_acts device one ≡ own_acts device other
     → limit_of begins device one ≡ limit_of begins device other
-limits_alike laws begins devices.Changer one other same = refl
-limits_alike laws begins devices.Bill one other same = refl
-limits_alike laws begins (devices.Reader unit) one other same =
-    ap (λ facts. reader_limit (option_map (λ config. config.response) facts.config))
-    (laws.reader begins unit one other same)
+limits_alike laws begins device one other same =
+    ap (spec_of device).limit (laws.known begins device one other same)
 
 decimals_alike : FactsAlike → (begins : Beginning) (device : Device) (one other : List Act)
     → own_acts device one ≡ own_acts device other
     → decimals_of begins device one ≡ decimals_of begins device other
-decimals_alike laws begins devices.Changer one other same =
-    ap (λ facts. option_map (λ setup. setup.decimals) facts.setup)
-    (laws.changer begins one other same)
-decimals_alike laws begins devices.Bill one other same =
-    ap (λ facts. option_map (λ setup. setup.decimals) facts.setup)
-    (laws.bill begins one other same)
-decimals_alike laws begins (devices.Reader unit) one other same =
-    ap (λ facts. option_map (λ config. config.decimals) facts.config)
-    (laws.reader begins unit one other same)
-
--- breaks alone tell no decimals
-same_decimals : BreaksTellNothing → (begins : Beginning) (device : Device) (so_far : List Act)
-    → All IsBreak (own_acts device so_far)
-    → decimals_of begins device so_far ≡ decimals_of begins device []
-same_decimals laws begins devices.Changer so_far alone =
-    ap (option_map (λ setup. setup.decimals)) (laws.changer begins so_far alone)
-same_decimals laws begins devices.Bill so_far alone =
-    ap (option_map (λ setup. setup.decimals)) (laws.bill begins so_far alone)
-same_decimals laws begins (devices.Reader unit) so_far alone =
-    ap (option_map (λ config. config.decimals)) (laws.reader begins unit so_far alone)
-
--- and where nothing is known from elsewhere there are none after no act
-none_before : (begins : Beginning) (device : Device) → IsNotKnown begins device
-    → decimals_of begins device [] ≡ None
-none_before PowerOn devices.Changer none = refl
-none_before PowerOn devices.Bill none = refl
-none_before PowerOn (devices.Reader unit) none = refl
-none_before (Joined setups) devices.Changer none =
-    ap (option_map (λ setup. setup.decimals)) none
-none_before (Joined setups) devices.Bill none =
-    ap (option_map (λ setup. setup.decimals)) none
-none_before (Joined setups) (devices.Reader unit) none =
-    ap (option_map (λ config. config.decimals)) none
+decimals_alike laws begins device one other same =
+    ap (spec_of device).decimals (laws.known begins device one other same)
 
 -- what an account has come to in a run is of its device's sums there
 of_device : (account : AccountName) (one other : AllSums)
@@ -434,8 +359,7 @@ nothing_left laws scope rows report is =
           (named-account scope rows report is account);
       decimals = λ device left none.
           decimals-told scope (laws.one scope) rows report is.pieces is is.act_list device
-          ∙ same_decimals laws.facts scope.begins device (acts_of is.pieces) (alone device left)
-          ∙ none_before scope.begins device none;
+          ∙ laws.facts.decimals scope.begins device (acts_of is.pieces) (alone device left) none;
       silences = λ device left.
           silences-told scope (laws.one scope) rows report is.pieces is is.act_list device
           ∙ no_silences scope.begins scope (laws.names scope) device left is.pieces
@@ -467,7 +391,7 @@ nobody device is =
     let clash : None ≡ Some device = ap blamed_device is ∙ blame_is_on device in cc clash
 
 -- a device that is blamed for an act is the one that the act names
-blamed_in : (act : Act) (device : Device) → sender_of act ≡ blame_on (Some device)
+pub blamed_in : (act : Act) (device : Device) → sender_of act ≡ blame_on (Some device)
     → device_in act ≡ Some device
 unfolding blamed_device
 blamed_in (acts.Ack command) device is =

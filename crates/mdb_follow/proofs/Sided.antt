@@ -2,7 +2,7 @@
 use Rattle.std.proofs.Common.{◌≡◌, inl, inr, ◌+◌, ◌^◌, ◌<◌, ◌∙◌, ℕ, List, Option, ap, arith}
 use Rattle.std.proofs.Common.{get_or, refl, subst, sym, Ok, Err, Result, ◌∷◌}
 use Rattle.std.proofs.Math.Logic.{∥∥₁_elim}
-use Rattle.std.specs.Prelude.{IfErr, IfOk, OnErr, option_map}
+use Rattle.std.specs.Prelude.{IfErr, IfOk, OnErr}
 use Rattle.mdb_msgs.specs.declared.command.Device.{Device}
 use Rattle.mdb_msgs.specs.declared.command.Device.TheVariants as devices
 use Rattle.mdb_msgs.specs.declared.command.ReaderUnit.TheVariants.{First, Second}
@@ -23,12 +23,13 @@ use Rattle.mdb_follow.specs.declared.report.TheConstants.Report.{DEVICES}
 use Rattle.mdb_follow.specs.declared.sides.Sides.{Sides}
 use Rattle.mdb_follow.specs.Arrivals.{Arrives}
 use Rattle.mdb_follow.specs.Limits.{IsCellWithin}
+use Rattle.mdb_follow.specs.Devices.{spec_of}
 use Rattle.mdb_follow.specs.Machines.{machine_of}
 use Rattle.mdb_follow.specs.Offences.{HasNoStep, rule_of}
 use Rattle.mdb_follow.specs.Ranges.{IsCell}
 use Rattle.mdb_follow.specs.Report.{decimals_of, unvalued_of}
-use Rattle.mdb_follow.specs.Sides.{AreSides, FactsOf, IsSideOf, SideOf, code_of, side_in}
-use Rattle.mdb_follow.specs.Sides.{stands_for}
+use Rattle.mdb_follow.specs.Sides.{AreSides, FactsOf, IsSideOf, SideOf, code_of, kept_of}
+use Rattle.mdb_follow.specs.Sides.{side_in, stands_for}
 use Rattle.mdb_follow.specs.Tables.{ArrivesAnywhere}
 use Rattle.mdb_follow.specs.inner.SideSteps.{AreStanding, AreWithin, FollowsOf, IsSideWithin}
 use Rattle.mdb_follow.specs.inner.SideSteps.{IsWithin, OneFollows, SidesFollow, SidesStay}
@@ -213,22 +214,12 @@ front-fits count old act mid d limit within front on =
 
 -- the decimal places that the facts of a device have
 abbrev pub decimals_in : (device : Device) → FactsOf device → Option ℕ
-decimals_in devices.Changer facts =
-    option_map (λ setup. setup.decimals) (changer_values.known_in facts).setup
-decimals_in devices.Bill facts =
-    option_map (λ setup. setup.decimals) (bill_values.known_in facts).setup
-decimals_in (devices.Reader unit) facts =
-    option_map (λ config. config.decimals) (reader_values.known_in facts).config
+decimals_in device facts = (spec_of device).decimals ((kept_of device).known_in facts)
 
 pub decimals-are : (begins : Beginning) (device : Device) (facts : FactsOf device) (acts : List Act)
     → stands_for begins device facts acts
     → decimals_in device facts ≡ decimals_of begins device acts
-decimals-are begins devices.Changer facts acts =
-    ap (λ known. option_map (λ setup. setup.decimals) known.setup)
-decimals-are begins devices.Bill facts acts =
-    ap (λ known. option_map (λ setup. setup.decimals) known.setup)
-decimals-are begins (devices.Reader unit) facts acts =
-    ap (λ known. option_map (λ config. config.decimals) known.config)
+decimals-are begins device facts acts on = ap (spec_of device).decimals on
 
 -- what is told of the device that an arm is of: its decimal places, the amounts without a value,
 -- and the ranges of its sums

@@ -2,11 +2,9 @@
 use Rattle.std.specs.Prelude.{◌≡◌, ◌⊎◌, ◌+◌, ◌++◌, List, [], ◌∷◌, length}
 use Rattle.mdb_words.specs.declared.event.Event.{Event}
 use Rattle.mdb_msgs.specs.declared.command.Device.{Device}
-use Rattle.mdb_msgs.specs.declared.command.Device.TheVariants as devices
 use Rattle.mdb_bus.specs.declared.act.Act.{Act}
 use Rattle.mdb_bus.specs.declared.fault.Blame.{Blame}
 use Rattle.mdb_bus.specs.declared.fault.Rule.{Rule}
-use Rattle.mdb_bus.specs.declared.fault.Rule.TheVariants as rules
 use Rattle.mdb_bus.specs.ActLists.{Piece, Whole, IsActList, acts_of}
 use Rattle.mdb_bus.specs.LinkFaults.{IsLinkFault}
 use Rattle.mdb_bus.specs.declared.scope.Beginning.{Beginning}
@@ -15,6 +13,7 @@ use Rattle.mdb_machine.specs.declared.gains.Gains.{Gains}
 use Rattle.mdb_machine.specs.Choices.{CanStand}
 use Rattle.mdb_machine.specs.Machine.{Machine}
 use Rattle.mdb_follow.specs.Arrivals.{Arrives}
+use Rattle.mdb_follow.specs.Devices.{spec_of}
 use Rattle.mdb_follow.specs.Machines.{machine_of}
 use Rattle.mdb_follow.specs.Sums.{Sums}
 use Rattle.mdb_follow.specs.declared.offence.Offence.{Offence}
@@ -37,11 +36,9 @@ HasNoStep {State} machine act before =
     → CanStand act choice → (after : State) (gains : Gains)
     → machine.Step before act choice state after gains → ⊥
 
--- the rule that is broken where a device's machine has no step; both readers have one
+-- the rule that is broken where a device's machine has no step
 abbrev pub rule_of : Device → Rule
-rule_of devices.Changer = rules.Changer
-rule_of devices.Bill = rules.Bill
-rule_of (devices.Reader unit) = rules.Cashless
+rule_of device = (spec_of device).rule
 
 -- The machine of a device that a rule is of has no step by an act.
 pub record NoStep (begins : Beginning) (broken : Rule) (act : Act) (before : List Act)

@@ -1,24 +1,17 @@
 -- What is reported of rows that can have been.
-use Rattle.std.specs.Prelude.{◌≡◌, ℕ, List, length, map, Option, None, get_or, option_map}
+use Rattle.std.specs.Prelude.{◌≡◌, ℕ, List, length, map, Option, None, get_or}
 use Rattle.mdb_words.specs.declared.event.Event.{Event}
 use Rattle.mdb_msgs.specs.declared.command.Device.{Device}
-use Rattle.mdb_msgs.specs.declared.command.Device.TheVariants as devices
 use Rattle.mdb_bus.specs.declared.act.Act.{Act}
 use Rattle.mdb_bus.specs.ActLists.{IsActList, Piece, acts_of}
 use Rattle.mdb_bus.specs.declared.scope.Beginning.{Beginning}
-use Rattle.mdb_cash.specs.Bill as bill
-use Rattle.mdb_cash.specs.BillFacts as bill_facts
-use Rattle.mdb_cash.specs.Changer as changer
-use Rattle.mdb_cash.specs.ChangerFacts as changer_facts
-use Rattle.mdb_cashless.specs.Reader as reader
-use Rattle.mdb_cashless.specs.ReaderFacts as reader_facts
 use Rattle.mdb_follow.specs.declared.account_name.AccountName.{AccountName}
 use Rattle.mdb_follow.specs.declared.account_name.TheConstants.AccountName.{ALL}
 use Rattle.mdb_follow.specs.declared.account.Account.{Account}
 use Rattle.mdb_follow.specs.declared.report.Report.{Report}
 use Rattle.mdb_follow.specs.declared.report.TheConstants.Report.{DEVICES}
 use Rattle.mdb_follow.specs.AccountNames.{sums_of}
-use Rattle.mdb_follow.specs.Devices.{device_place}
+use Rattle.mdb_follow.specs.Devices.{device_place, spec_of}
 use Rattle.mdb_follow.specs.Ranges.{IsAccount}
 use Rattle.mdb_follow.specs.Runs.{AllSums, IsReached, Run}
 use Rattle.mdb_follow.specs.Silences.{silences}
@@ -29,23 +22,14 @@ abbrev pub AreAccounts : (AllSums → Type 0) → (AccountName → Account) → 
 AreAccounts Kind accounts =
     (account : AccountName) → IsAccount Kind (sums_of account) (accounts account)
 
--- the decimal places of a device after these acts, in a recording that begins so: those that it
--- has told in its last setup table, a reader in its last config message, heard or not; where it has
--- told none, those that are known from elsewhere
+-- the decimal places of a device after these acts, in a recording that begins so
 abbrev pub decimals_of : Beginning → Device → List Act → Option ℕ
-decimals_of begins devices.Changer acts =
-    option_map (λ setup. setup.decimals) (changer_facts.known_of begins acts).setup
-decimals_of begins devices.Bill acts =
-    option_map (λ setup. setup.decimals) (bill_facts.known_of begins acts).setup
-decimals_of begins (devices.Reader unit) acts =
-    option_map (λ config. config.decimals) (reader_facts.known_of begins unit acts).config
+decimals_of begins device acts = (spec_of device).decimals ((spec_of device).known begins acts)
 
 -- how many amounts these acts tell of a device that have no value, since nothing tells how it is
 -- set up
 abbrev pub unvalued_of : Beginning → Device → List Act → ℕ
-unvalued_of begins devices.Changer = changer.unvalued begins
-unvalued_of begins devices.Bill = bill.unvalued begins
-unvalued_of begins (devices.Reader unit) = reader.unvalued unit begins
+unvalued_of begins device = (spec_of device).unvalued begins
 
 -- the decimal places that a report has of a device
 abbrev pub device_decimals : Device → Report → Option ℕ

@@ -5,19 +5,17 @@ use Rattle.mdb_msgs.specs.declared.command.Device.TheVariants as devices
 use Rattle.mdb_msgs.specs.declared.command.ReaderUnit.TheVariants.{First, Second}
 use Rattle.mdb_bus.specs.declared.act.Act.{Act}
 use Rattle.mdb_bus.specs.declared.scope.Beginning.{Beginning}
-use Rattle.mdb_cash.specs.BillFacts as bill_facts
 use Rattle.mdb_cash.specs.BillValues as bill_values
-use Rattle.mdb_cash.specs.ChangerFacts as changer_facts
 use Rattle.mdb_cash.specs.ChangerValues as changer_values
 use Rattle.mdb_machine.specs.Machine.{Machine}
 use Rattle.mdb_cash.specs.inner.BillCodes as bill_codes
 use Rattle.mdb_cash.specs.inner.ChangerCodes as changer_codes
 use Rattle.mdb_cashless.specs.declared.reader.known.ReaderKnown.{ReaderKnown}
-use Rattle.mdb_cashless.specs.ReaderFacts as reader_facts
 use Rattle.mdb_cashless.specs.ReaderValues as reader_values
 use Rattle.mdb_cashless.specs.inner.ReaderCodes as reader_codes
 use Rattle.mdb_follow.specs.declared.side.Side.{Side}
 use Rattle.mdb_follow.specs.declared.sides.Sides.{Sides}
+use Rattle.mdb_follow.specs.Devices.{spec_of}
 use Rattle.mdb_follow.specs.Machines.{StateOf, machine_of}
 use Rattle.mdb_follow.specs.Report.{unvalued_of}
 use Rattle.mdb_follow.specs.Tables.{IsTable}
@@ -32,31 +30,52 @@ pub record IsSide {Facts State : Type 0} {N : ℕ} (stands_for : Facts → List 
   pub table : IsTable code_of machine acts side.table
   pub counted : side.unvalued ≡ unvalued acts
 
--- what is kept of the facts of a device, and that this is what is known after acts of a recording
--- that begins so
+-- How a device is kept.
+pub record DeviceKept (device : Device) : Type 1 where
+  -- what is kept of the facts, and what is known of the device by it
+  pub Facts : Type 0
+  pub known_in : Facts → (spec_of device).Known
+  -- how many states its machine has, and their codes
+  pub codes : ℕ
+  pub code_of : StateOf device → ℕ
+
+-- of each device: beside `spec_of` the one list of the devices that sides are kept by
+abbrev pub kept_of : (device : Device) → DeviceKept device
+kept_of devices.Changer =
+    record {
+      Facts = changer_values.Value;
+      known_in = changer_values.known_in;
+      codes = 4;
+      code_of = changer_codes.code_of;
+    }
+kept_of devices.Bill =
+    record {
+      Facts = bill_values.Value;
+      known_in = bill_values.known_in;
+      codes = 66;
+      code_of = bill_codes.code_of;
+    }
+kept_of (devices.Reader unit) =
+    record {
+      Facts = ReaderKnown;
+      known_in = reader_values.known_in;
+      codes = 176;
+      code_of = reader_codes.code_of;
+    }
+
 abbrev pub FactsOf : Device → Type 0
-FactsOf devices.Changer = changer_values.Value
-FactsOf devices.Bill = bill_values.Value
-FactsOf (devices.Reader unit) = ReaderKnown
+FactsOf device = (kept_of device).Facts
 
+-- What is kept of the facts is what is known after acts of a recording that begins so.
 abbrev pub stands_for : Beginning → (device : Device) → FactsOf device → List Act → Type 0
-stands_for begins devices.Changer facts acts =
-    changer_values.known_in facts ≡ changer_facts.known_of begins acts
-stands_for begins devices.Bill facts acts =
-    bill_values.known_in facts ≡ bill_facts.known_of begins acts
-stands_for begins (devices.Reader unit) facts acts =
-    reader_values.known_in facts ≡ reader_facts.known_of begins unit acts
+stands_for begins device facts acts =
+    (kept_of device).known_in facts ≡ (spec_of device).known begins acts
 
--- how many states its machine has, and their codes
 abbrev pub codes_of : Device → ℕ
-codes_of devices.Changer = 4
-codes_of devices.Bill = 66
-codes_of (devices.Reader unit) = 176
+codes_of device = (kept_of device).codes
 
 abbrev pub code_of : (device : Device) → StateOf device → ℕ
-code_of devices.Changer = changer_codes.code_of
-code_of devices.Bill = bill_codes.code_of
-code_of (devices.Reader unit) = reader_codes.code_of
+code_of device = (kept_of device).code_of
 
 -- what a follower keeps of a device, and that it stands for acts of a recording that begins so
 abbrev pub SideOf : Device → Type 0

@@ -9,7 +9,8 @@ use Rattle.mdb_cashless.specs.ReaderValues as reader_values
 use Rattle.mdb_follow.specs.declared.silence.Silence.{Silence}
 use Rattle.mdb_follow.specs.declared.silence.Silences.{Silences}
 use Rattle.mdb_follow.specs.declared.silence.TheConstants.{CHANGER_SILENCE_MAX, BILL_SILENCE_MAX}
-use Rattle.mdb_follow.specs.Silences.{TimedAsk, asks, ends_asking, reader_limit, with_ask}
+use Rattle.mdb_follow.specs.Devices.{reader_limit}
+use Rattle.mdb_follow.specs.Silences.{TimedAsk, asks, ends_asking, with_ask}
 use Rattle.mdb_follow.specs.SilencesKept.{StandsForAsks, silence_in}
 use Rattle.mdb_follow.specs.ByDevice.{OneGoes}
 

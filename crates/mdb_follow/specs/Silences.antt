@@ -2,40 +2,23 @@
 -- a later ask shows it: a device that is asked once and never again isn't counted (limits, MDB/ICP
 -- 4.3; what counts, this profile). Pieces stand newest first, and so do lists of asks and the asks
 -- in a list.
-use Rattle.std.specs.Prelude.{ℕ, ◌+◌, ◌*◌, max, nat_lt, count_by, option_map, Bool, true, false}
+use Rattle.std.specs.Prelude.{ℕ, ◌+◌, nat_lt, count_by, Bool, true, false}
 use Rattle.std.specs.Prelude.{List, [], ◌∷◌, Option, Some, None, if◌then◌else◌}
 use Rattle.std.specs.List.{list_any}
 use Rattle.mdb_words.specs.declared.event.Event.{Event}
 use Rattle.mdb_words.specs.Event.{start_of}
 use Rattle.mdb_msgs.specs.declared.command.Device.{Device}
-use Rattle.mdb_msgs.specs.declared.command.Device.TheVariants as devices
-use Rattle.mdb_msgs.specs.declared.command.ReaderUnit.{ReaderUnit}
 use Rattle.mdb_msgs.specs.Commands.{device_of}
 use Rattle.mdb_bus.specs.declared.act.Act.{Act}
 use Rattle.mdb_bus.specs.declared.act.Act.TheVariants as acts
 use Rattle.mdb_bus.specs.ActLists.{Piece, Whole, acts_of, last_of}
 use Rattle.mdb_bus.specs.declared.scope.Beginning.{Beginning}
-use Rattle.mdb_cashless.specs.ReaderFacts as reader_facts
-use Rattle.mdb_follow.specs.Devices.{same_device}
-use Rattle.mdb_follow.specs.declared.silence.TheConstants.{CHANGER_SILENCE_MAX, BILL_SILENCE_MAX}
-use Rattle.mdb_follow.specs.declared.silence.TheConstants.{READER_SILENCE_MAX, MICROS_PER_SECOND}
-
--- how long a reader may be silent, by the response time (Z7, in seconds) that it has told
-abbrev pub reader_limit : Option ℕ → ℕ
-reader_limit None = READER_SILENCE_MAX
-reader_limit (Some seconds) = max READER_SILENCE_MAX (MICROS_PER_SECOND * seconds)
-
--- the response time that a reader has told last in these acts, or that is known from elsewhere
-abbrev pub response_time_of : Beginning → ReaderUnit → List Act → Option ℕ
-response_time_of begins unit acts =
-    option_map (λ config. config.response) (reader_facts.known_of begins unit acts).config
+use Rattle.mdb_follow.specs.Devices.{same_device, spec_of}
 
 -- how long a device may be silent after these acts, in a recording that begins so, by what it has
 -- told
 abbrev pub limit_of : Beginning → Device → List Act → ℕ
-limit_of begins devices.Changer acts = CHANGER_SILENCE_MAX
-limit_of begins devices.Bill acts = BILL_SILENCE_MAX
-limit_of begins (devices.Reader unit) acts = reader_limit (response_time_of begins unit acts)
+limit_of begins device acts = (spec_of device).limit ((spec_of device).known begins acts)
 
 -- whether an act asks a device
 abbrev pub asks : Device → Act → Bool

@@ -1,6 +1,7 @@
 //! Laws of runs. They follow from the definitions alone.
 
-ghost use Rattle.std.specs.Prelude.{◌≡◌, ◌↔◌, ◌+◌, List, [], ◌∷◌, ◌++◌, Option, Result, Some};
+ghost use Rattle.std.specs.List.{All};
+ghost use Rattle.std.specs.Prelude.{◌≡◌, ◌↔◌, ◌+◌, List, [], ◌∷◌, ◌++◌, None, Option, Result, Some};
 ghost use Rattle.mdb_words.specs.declared.event.Event.{Event};
 ghost use Rattle.mdb_msgs.specs.declared.command.Device.{Device};
 ghost use Rattle.mdb_msgs.specs.declared.command.Device.TheVariants as devices;
@@ -12,9 +13,11 @@ ghost use Rattle.mdb_bus.specs.LeavingOut.{LeavesOutMore};
 ghost use Rattle.mdb_bus.specs.LinkFaults.{blame_on};
 ghost use Rattle.mdb_bus.specs.Scopes.{IsFollowed, IsLeftOut};
 ghost use Rattle.mdb_bus.specs.Loss.{Loss, LossFits};
+ghost use Rattle.mdb_machine.specs.Pair.{IsBreak, own_acts};
 ghost use Rattle.mdb_follow.specs.AccountNames.{account_of, sums_of};
 ghost use Rattle.mdb_follow.specs.Arrivals.{EachArrives};
 ghost use Rattle.mdb_follow.specs.Choosing.{AllFollow, Choices, choices_of};
+ghost use Rattle.mdb_follow.specs.Devices.{spec_of};
 ghost use Rattle.mdb_follow.specs.EndedActs.{IsEndedAct};
 ghost use Rattle.mdb_follow.specs.Follower.{HasAccepted, StandsFor, scope_of};
 ghost use Rattle.mdb_follow.specs.declared.account_name.AccountName.{AccountName};
@@ -26,7 +29,7 @@ ghost use Rattle.mdb_follow.specs.declared.silence.TheConstants.{CHANGER_SILENCE
 ghost use Rattle.mdb_follow.specs.declared.silence.TheConstants.{MICROS_PER_SECOND};
 ghost use Rattle.mdb_follow.specs.declared.silence.TheConstants.{READER_SILENCE_MAX};
 ghost use Rattle.mdb_follow.specs.LeavingOut.{AreSumsWithout, HasNothingLeftOut};
-ghost use Rattle.mdb_follow.specs.LeavingOut.{HaveSameFollowed};
+ghost use Rattle.mdb_follow.specs.LeavingOut.{HaveSameFollowed, IsNotKnown};
 ghost use Rattle.mdb_follow.specs.Offences.{HasOffence, IsOffence};
 ghost use Rattle.mdb_follow.specs.Ranges.{IsAccount};
 ghost use Rattle.mdb_follow.specs.Report.{IsReport, decimals_of};
@@ -218,6 +221,35 @@ pub fn limits_of_silences_are_those_of_the_standard()
     ensures second { MICROS_PER_SECOND ≡ 1000000 }
 {}
 
+/// What is known of a device, and how many amounts of it have no value, depend on its own acts
+/// alone.
+pub fn what_is_known_of_a_device_is_of_its_own_acts()
+    ensures known { (begins : Beginning) (device : Device) (acts other : List Act)
+        → own_acts device acts ≡ own_acts device other
+        → (spec_of device).known begins acts ≡ (spec_of device).known begins other }
+    ensures unvalued { (begins : Beginning) (device : Device) (acts other : List Act)
+        → own_acts device acts ≡ own_acts device other
+        → unvalued_of begins device acts ≡ unvalued_of begins device other }
+{
+    cash_laws::the_changers_facts_are_of_its_own_acts();
+    cash_laws::the_validators_facts_are_of_its_own_acts();
+    cashless_laws::a_readers_facts_are_of_its_own_acts();
+}
+
+/// Breaks tell nothing of a device. Where its own acts are breaks alone, it has no decimal places
+/// but those that are known from elsewhere, and no amount of it lacks a value.
+pub fn breaks_tell_nothing_of_a_device()
+    ensures decimals { (begins : Beginning) (device : Device) (acts : List Act)
+        → All IsBreak (own_acts device acts) → IsNotKnown begins device
+        → decimals_of begins device acts ≡ None }
+    ensures unvalued { (begins : Beginning) (device : Device) (acts : List Act)
+        → All IsBreak (own_acts device acts) → unvalued_of begins device acts ≡ 0 }
+{
+    cash_laws::breaks_tell_nothing_of_the_changer();
+    cash_laws::breaks_tell_nothing_of_the_validator();
+    cashless_laws::breaks_tell_nothing_of_a_reader();
+}
+
 /// Each run gives a run without further devices. The sums of the other devices are the same, and
 /// those of the devices left out are 0.
 pub fn runs_go_on_without_further_devices()
@@ -272,9 +304,7 @@ pub fn reports_stay_without_further_devices()
     laws::act_lists_stay_without_further_devices();
     laws::acts_of_followed_devices_stay();
     laws::transcripts_have_one_act_list();
-    cash_laws::the_changers_facts_are_of_its_own_acts();
-    cash_laws::the_validators_facts_are_of_its_own_acts();
-    cashless_laws::a_readers_facts_are_of_its_own_acts();
+    what_is_known_of_a_device_is_of_its_own_acts();
     runs_go_on_without_further_devices();
     runs_without_further_devices_come_from_runs();
 }
@@ -289,9 +319,7 @@ pub fn reports_go_on_without_further_devices()
     laws::act_lists_stay_without_further_devices();
     laws::acts_of_followed_devices_stay();
     laws::transcripts_have_one_act_list();
-    cash_laws::the_changers_facts_are_of_its_own_acts();
-    cash_laws::the_validators_facts_are_of_its_own_acts();
-    cashless_laws::a_readers_facts_are_of_its_own_acts();
+    what_is_known_of_a_device_is_of_its_own_acts();
     runs_go_on_without_further_devices();
     runs_without_further_devices_come_from_runs();
     runs_add_nothing_of_devices_left_out();
@@ -306,9 +334,7 @@ pub fn reports_have_nothing_of_devices_left_out()
     laws::acts_name_devices_that_are_followed();
     laws::devices_left_out_have_a_part_in_breaks_alone();
     laws::transcripts_have_one_act_list();
-    cash_laws::breaks_tell_nothing_of_the_changer();
-    cash_laws::breaks_tell_nothing_of_the_validator();
-    cashless_laws::breaks_tell_nothing_of_a_reader();
+    breaks_tell_nothing_of_a_device();
     runs_add_nothing_of_devices_left_out();
 }
 

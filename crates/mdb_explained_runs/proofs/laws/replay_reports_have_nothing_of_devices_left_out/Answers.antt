@@ -1,4 +1,3 @@
-use Rattle.mdb_follow.proofs.ReportsWithout.{nothing_unvalued}
 use Rattle.mdb_explained_runs.proofs.NothingLeftOut.{nothing_in_replay}
 use Rattle.mdb_explained_runs.proofs.laws.replay_reports_have_nothing_of_devices_left_out.Goals as goal
 
@@ -8,12 +7,7 @@ returns c = nothing_in_replay (record {
   alone = c.devices_left_out_have_a_part_in_breaks_alone.ensures;
   adds = c.runs_add_nothing_of_devices_left_out.ensures;
   facts = record {
-    changer = c.breaks_tell_nothing_of_the_changer.ensures.setup;
-    bill = c.breaks_tell_nothing_of_the_validator.ensures.setup;
-    reader = c.breaks_tell_nothing_of_a_reader.ensures.config;
-    unvalued = λ begins. nothing_unvalued begins
-        (c.breaks_tell_nothing_of_the_changer.ensures.unvalued begins)
-        (c.breaks_tell_nothing_of_the_validator.ensures.unvalued begins)
-        (c.breaks_tell_nothing_of_a_reader.ensures.unvalued begins);
+    decimals = c.breaks_tell_nothing_of_a_device.ensures.decimals;
+    unvalued = c.breaks_tell_nothing_of_a_device.ensures.unvalued;
   };
 })

@@ -1,4 +1,4 @@
-use Rattle.mdb_follow.proofs.ReportsWithout.{report_without, unvalued_alike}
+use Rattle.mdb_follow.proofs.ReportsWithout.{report_without}
 use Rattle.mdb_follow.proofs.laws.reports_go_on_without_further_devices.Goals as goal
 
 pub returns : goal.returns
@@ -11,12 +11,7 @@ returns c = report_without (record {
   stays = c.act_lists_stay_without_further_devices.ensures;
   followed = c.acts_of_followed_devices_stay.ensures.followed;
   facts = record {
-    changer = c.the_changers_facts_are_of_its_own_acts.ensures.known;
-    bill = c.the_validators_facts_are_of_its_own_acts.ensures.known;
-    reader = c.a_readers_facts_are_of_its_own_acts.ensures.known;
-    unvalued = λ begins. unvalued_alike begins
-        (c.the_changers_facts_are_of_its_own_acts.ensures.unvalued begins)
-        (c.the_validators_facts_are_of_its_own_acts.ensures.unvalued begins)
-        (c.a_readers_facts_are_of_its_own_acts.ensures.unvalued begins);
+    known = c.what_is_known_of_a_device_is_of_its_own_acts.ensures.known;
+    unvalued = c.what_is_known_of_a_device_is_of_its_own_acts.ensures.unvalued;
   };
 }) c.runs_add_nothing_of_devices_left_out.ensures

@@ -1,0 +1,56 @@
+-- What is known of any device, and the amounts of it without a value, by what is known of each.
+use Rattle.std.proofs.Common.{ap, refl, ◌∙◌, ◌≡◌, List, [], None, All, option_map}
+use Rattle.mdb_msgs.specs.declared.command.Device.{Device}
+use Rattle.mdb_msgs.specs.declared.command.Device.TheVariants as devices
+use Rattle.mdb_msgs.specs.declared.command.ReaderUnit.{ReaderUnit}
+use Rattle.mdb_bus.specs.declared.act.Act.{Act}
+use Rattle.mdb_bus.specs.declared.scope.Beginning.{Beginning}
+use Rattle.mdb_bus.specs.declared.scope.Beginning.TheVariants.{PowerOn, Joined}
+use Rattle.mdb_cash.specs.BillFacts as bill_facts
+use Rattle.mdb_cash.specs.ChangerFacts as changer_facts
+use Rattle.mdb_machine.specs.Pair.{IsBreak, own_acts}
+use Rattle.mdb_cashless.specs.ReaderFacts as reader_facts
+use Rattle.mdb_follow.specs.LeavingOut.{IsNotKnown}
+use Rattle.mdb_follow.specs.Report.{decimals_of}
+
+-- what holds of each device, the readers together, holds of any
+pub any_device : (P : Device → Type 0) → P devices.Changer → P devices.Bill
+    → ((unit : ReaderUnit) → P (devices.Reader unit)) → (device : Device) → P device
+any_device P changer bill reader devices.Changer = changer
+any_device P changer bill reader devices.Bill = bill
+any_device P changer bill reader (devices.Reader unit) = reader unit
+
+-- where nothing is known of a device from elsewhere it has no decimal places after no act
+none_before : (begins : Beginning) (device : Device) → IsNotKnown begins device
+    → decimals_of begins device [] ≡ None
+none_before PowerOn devices.Changer none = refl
+none_before PowerOn devices.Bill none = refl
+none_before PowerOn (devices.Reader unit) none = refl
+none_before (Joined setups) devices.Changer none =
+    ap (option_map (λ setup. setup.decimals)) none
+none_before (Joined setups) devices.Bill none =
+    ap (option_map (λ setup. setup.decimals)) none
+none_before (Joined setups) (devices.Reader unit) none =
+    ap (option_map (λ config. config.decimals)) none
+
+-- So it has none where breaks leave its setup.
+pub no_decimals : ((begins : Beginning) (so_far : List Act)
+    → All IsBreak (own_acts devices.Changer so_far)
+    → (changer_facts.known_of begins so_far).setup ≡ (changer_facts.known_of begins []).setup)
+    → ((begins : Beginning) (so_far : List Act) → All IsBreak (own_acts devices.Bill so_far)
+    → (bill_facts.known_of begins so_far).setup ≡ (bill_facts.known_of begins []).setup)
+    → ((begins : Beginning) (unit : ReaderUnit) (so_far : List Act)
+    → All IsBreak (own_acts (devices.Reader unit) so_far)
+    → (reader_facts.known_of begins unit so_far).config
+    ≡ (reader_facts.known_of begins unit []).config) → (begins : Beginning) (device : Device)
+    (so_far : List Act) → All IsBreak (own_acts device so_far) → IsNotKnown begins device
+    → decimals_of begins device so_far ≡ None
+no_decimals changer bill reader begins devices.Changer so_far alone none =
+    ap (option_map (λ setup. setup.decimals)) (changer begins so_far alone)
+    ∙ none_before begins devices.Changer none
+no_decimals changer bill reader begins devices.Bill so_far alone none =
+    ap (option_map (λ setup. setup.decimals)) (bill begins so_far alone)
+    ∙ none_before begins devices.Bill none
+no_decimals changer bill reader begins (devices.Reader unit) so_far alone none =
+    ap (option_map (λ config. config.decimals)) (reader begins unit so_far alone)
+    ∙ none_before begins (devices.Reader unit) none

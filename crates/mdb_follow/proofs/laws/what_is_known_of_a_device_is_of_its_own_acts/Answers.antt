@@ -1,0 +1,23 @@
+use Rattle.std.proofs.Common.{◌≡◌, List}
+use Rattle.mdb_bus.specs.declared.act.Act.{Act}
+use Rattle.mdb_machine.specs.Pair.{own_acts}
+use Rattle.mdb_follow.specs.Devices.{spec_of}
+use Rattle.mdb_follow.specs.Report.{unvalued_of}
+use Rattle.mdb_follow.proofs.OwnKnown.{any_device}
+use Rattle.mdb_follow.proofs.laws.what_is_known_of_a_device_is_of_its_own_acts.Goals as goal
+
+pub returns-clause-known : goal.returns-clause-known
+returns-clause-known c begins =
+    any_device (λ device. (acts other : List Act) → own_acts device acts ≡ own_acts device other
+    → (spec_of device).known begins acts ≡ (spec_of device).known begins other)
+    (c.the_changers_facts_are_of_its_own_acts.ensures.known begins)
+    (c.the_validators_facts_are_of_its_own_acts.ensures.known begins)
+    (c.a_readers_facts_are_of_its_own_acts.ensures.known begins)
+
+pub returns-clause-unvalued : goal.returns-clause-unvalued
+returns-clause-unvalued c begins =
+    any_device (λ device. (acts other : List Act) → own_acts device acts ≡ own_acts device other
+    → unvalued_of begins device acts ≡ unvalued_of begins device other)
+    (c.the_changers_facts_are_of_its_own_acts.ensures.unvalued begins)
+    (c.the_validators_facts_are_of_its_own_acts.ensures.unvalued begins)
+    (c.a_readers_facts_are_of_its_own_acts.ensures.unvalued begins)
