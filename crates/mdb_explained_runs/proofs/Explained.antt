@@ -1,10 +1,8 @@
 -- The best marks of each device towards a goal, as one list: they explain it.
-use Rattle.std.proofs.Common.{arith, refl, sym, ap, subst, ◌∙◌, ◌≡◌, ℕ, ◌+◌, ◌≤◌}
+use Rattle.std.proofs.Common.{arith, refl, sym, ap, subst, ◌∙◌, ◌≡◌, ℕ, ◌+◌, ◌≤◌, inl, inr, []}
 use Rattle.std.proofs.Common.{List, length, Contains}
 use Rattle.mdb_words.specs.declared.event.Event.{Event}
 use Rattle.mdb_msgs.specs.declared.command.Device.{Device}
-use Rattle.mdb_msgs.specs.declared.command.Device.TheVariants as devices
-use Rattle.mdb_msgs.specs.declared.command.ReaderUnit.TheVariants.{First, Second}
 use Rattle.mdb_msgs.specs.declared.device_set.DeviceSet.{DeviceSet}
 use Rattle.mdb_bus.specs.ActLists.{ArePieces, IsActList, Piece, acts_of}
 use Rattle.mdb_bus.specs.Bus as link
@@ -18,22 +16,26 @@ use Rattle.mdb_follow.specs.declared.goal.Goal.{Goal}
 use Rattle.mdb_explained_runs.specs.declared.mark.Mark.{Mark}
 use Rattle.mdb_follow.specs.AccountNames.{account_device}
 use Rattle.mdb_follow.specs.Choosing.{AllFollow, Choices, choices_of}
+use Rattle.mdb_follow.specs.Devices.{device_place}
 use Rattle.mdb_explained_runs.specs.Goals.{Explains}
 use Rattle.mdb_follow.specs.Machines.{machine_of}
 use Rattle.mdb_explained_runs.specs.Marks.{MarkedRun, Rise, marks_of, own_marks}
 use Rattle.mdb_follow.specs.Runs.{AllSums, IsReached, IsWay, States}
-use Rattle.mdb_explained_runs.specs.inner.AllPaths.{AreBestMarks, HasWay}
+use Rattle.mdb_explained_runs.specs.inner.AllPaths.{AreBestBelow, AreBestMarks, HasWay}
 use Rattle.mdb_explained_runs.specs.inner.Merges.{IsMergeOf, IsOfBoth}
 use Rattle.mdb_explained_runs.specs.inner.Seekers.{IsSeeker}
 use Rattle.mdb_explained_runs.proofs.BestMarks.{farthest-of, fewest-of}
+use Rattle.mdb_follow.proofs.ByDevice.{below, earlier, same_or_not}
 use Rattle.mdb_follow.proofs.Choosing.{follows_as, merged, merged_agrees}
 use Rattle.mdb_follow.proofs.Following.{OneActList}
 use Rattle.mdb_follow.proofs.Joining.{split_with_choices}
 use Rattle.mdb_follow.proofs.Machines.{is_machine_of}
 use Rattle.mdb_explained_runs.proofs.MarkedRuns.{marks_rise, rising_one}
-use Rattle.mdb_explained_runs.proofs.Merging.{all_merged}
+use Rattle.mdb_explained_runs.proofs.Merging.{all_merged, anothers, its_own, merged_more}
+use Rattle.mdb_explained_runs.proofs.Merging.{merged_enough, merged_none, with_own}
 use Rattle.mdb_explained_runs.proofs.OwnMarks.{PartsAreTold, all_together, in_own, own_apart, own_in}
-use Rattle.mdb_explained_runs.proofs.OwnMarks.{own_of_merged, own_rise}
+use Rattle.mdb_explained_runs.proofs.OwnMarks.{own_of_merged, own_rise, together}
+use Rattle.mdb_explained_runs.proofs.OwnMarks.{together_most, together_same}
 
 -- what the laws say: ways with the same choices join, rows have one act list, and it is told
 -- whether a device has a part in an act
@@ -92,22 +94,13 @@ merge_is told scope pieces are own marks same merge is =
 merge_count : PartsAreTold → (scope : Scope) (pieces : List Piece) → ArePieces scope pieces
     → (own : Device → Choices (acts_of pieces)) (marks : Device → List (ℕ × Mark))
     → ((device : Device) → own_marks device pieces (own device) ≡ marks device)
-    → (merge : List (ℕ × Mark)) → IsMergeOf marks merge
-    → length merge ≡ length (marks devices.Changer) + length (marks devices.Bill)
-    + length (marks (devices.Reader First)) + length (marks (devices.Reader Second))
+    → (merge : List (ℕ × Mark)) → IsMergeOf marks merge → length merge ≡ together marks
 merge_count told scope pieces are own marks same merge is =
     let chosen : Choices (acts_of pieces) = merged (acts_of pieces) own in
-    let each : (device : Device) → length (own_marks device pieces chosen) ≡ length (marks device) =
-    λ device. ap length (own_of_merged told device pieces own ∙ same device) in
-    omega (
-      arith,
-      ap length (merge_is told scope pieces are own marks same merge is),
-      all_together pieces chosen,
-      each devices.Changer,
-      each devices.Bill,
-      each (devices.Reader First),
-      each (devices.Reader Second),
-    )
+    sym (ap length (merge_is told scope pieces are own marks same merge is))
+    ∙ all_together pieces chosen
+    ∙ together_same (λ device. own_marks device pieces chosen) marks
+    (λ device. ap length (own_of_merged told device pieces own ∙ same device))
 
 -- the marks of a best way of each device, as one list, explain the goal
 pub explained : ExplainLaws → (without : DeviceSet) (events : List Event) (pieces : List Piece)
@@ -151,68 +144,74 @@ explained laws without events pieces list goal marks best merge is =
           (ways.states device) ways.chosen (ways.ways device);
       fewest = λ others other marked as_good.
           let ways = ways_with laws scope events pieces list others other marked in
-          let no_more : (device : Device)
-          → length (marks device) ≤ length (own_marks device pieces ways.chosen) =
-          λ device. fewest-of goal pieces device (marks device) (best device) sums other refl
-          as_good (ways.states device) ways.chosen (ways.ways device) in
+          let no_more : together marks ≤ together (λ device. own_marks device pieces ways.chosen) =
+          together_most marks (λ device. own_marks device pieces ways.chosen)
+          (λ device. fewest-of goal pieces device (marks device) (best device) sums other refl
+          as_good (ways.states device) ways.chosen (ways.ways device)) in
           omega (
             arith,
             merge_count laws.told scope pieces list.in_order own marks same merge is,
             ap length ways.are,
             all_together pieces ways.chosen,
-            no_more devices.Changer,
-            no_more devices.Bill,
-            no_more (devices.Reader First),
-            no_more (devices.Reader Second),
+            no_more,
           );
     }
 
--- a list of marks for each device
-abbrev of_each : (changer bill first second : List (ℕ × Mark)) → Device → List (ℕ × Mark)
-of_each changer bill first second devices.Changer = changer
-of_each changer bill first second devices.Bill = bill
-of_each changer bill first second (devices.Reader First) = first
-of_each changer bill first second (devices.Reader Second) = second
+-- of no device there are no marks
+pub best_none : (goal : Goal) (pieces : List Piece) → AreBestBelow goal pieces 0 []
+best_none goal pieces = record {
+  of = λ device. [];
+  best = λ device less. absurd (omega (arith, less));
+  merge = merged_none (λ device. []);
+}
 
-each_best : (goal : Goal) (pieces : List Piece) (changer bill first second : List (ℕ × Mark))
-    → AreBestMarks goal pieces devices.Changer changer
-    → AreBestMarks goal pieces devices.Bill bill
-    → AreBestMarks goal pieces (devices.Reader First) first
-    → AreBestMarks goal pieces (devices.Reader Second) second
-    → (device : Device) → AreBestMarks goal pieces device (of_each changer bill first second device)
-each_best goal pieces changer bill first second a b c d devices.Changer = a
-each_best goal pieces changer bill first second a b c d devices.Bill = b
-each_best goal pieces changer bill first second a b c d (devices.Reader First) = c
-each_best goal pieces changer bill first second a b c d (devices.Reader Second) = d
+-- with those of a best way of the next device they are those of one device more
+pub best_more : (goal : Goal) (pieces : List Piece) (count : ℕ) (next : Device)
+    (own marks both : List (ℕ × Mark)) → device_place next ≡ count
+    → AreBestBelow goal pieces count marks → AreBestMarks goal pieces next own
+    → IsOfBoth marks own both → AreBestBelow goal pieces (count + 1) both
+best_more goal pieces count next own marks both at is best whole = record {
+  of = with_own next own is.of;
+  best = λ device less. elim (same_or_not device next) [
+    | inl same ↦
+        subst (AreBestMarks goal pieces device) (sym (its_own next device own is.of same))
+        (subst (λ d. AreBestMarks goal pieces d own) (sym same) best)
+    | inr apart ↦
+        subst (AreBestMarks goal pieces device) (sym (anothers next device own is.of apart))
+        (is.best device (earlier count next device at less apart))
+  ];
+  merge = merged_more count is.of next own marks both at is.merge whole;
+}
 
--- the lists of the devices become one by three steps, and it explains the goal
-pub explained_by : ExplainLaws → (without : DeviceSet) (events : List Event) (pieces : List Piece)
-    → IsActList (leaving_out without) pieces events → (goal : Goal)
-    (changer bill first second cash cashless all : List (ℕ × Mark))
-    → AreBestMarks goal pieces devices.Changer changer
-    → AreBestMarks goal pieces devices.Bill bill
-    → AreBestMarks goal pieces (devices.Reader First) first
-    → AreBestMarks goal pieces (devices.Reader Second) second
-    → IsOfBoth changer bill cash → IsOfBoth first second cashless → IsOfBoth cash cashless all
-    → Explains (leaving_out without) events goal all
-explained_by laws without events pieces list goal changer bill first second cash cashless all
-    a b c d one two both =
+pub best_enough : (goal : Goal) (pieces : List Piece) (count : ℕ) (marks : List (ℕ × Mark))
+    → 4 ≤ count → AreBestBelow goal pieces count marks → AreBestBelow goal pieces 4 marks
+best_enough goal pieces count marks enough is = record {
+  of = is.of;
+  best = λ device less. is.best device (omega (arith, less, enough));
+  merge = merged_enough count is.of marks enough is.merge;
+}
+
+-- so all of them explain the goal
+pub explained_all : ExplainLaws → (without : DeviceSet) (events : List Event) (pieces : List Piece)
+    → IsActList (leaving_out without) pieces events → (goal : Goal) (all : List (ℕ × Mark))
+    → AreBestBelow goal pieces 4 all → Explains (leaving_out without) events goal all
+explained_all laws without events pieces list goal all is =
     let scope : Scope = leaving_out without in
-    let marks : Device → List (ℕ × Mark) = of_each changer bill first second in
+    let marks : Device → List (ℕ × Mark) = is.of in
     let best : (device : Device) → AreBestMarks goal pieces device (marks device) =
-    each_best goal pieces changer bill first second a b c d in
+    λ device. is.best device (below device) in
     let own : Device → Choices (acts_of pieces) = λ device. (best device).choices in
     let chosen : Choices (acts_of pieces) = merged (acts_of pieces) own in
     let each : (device : Device) → own_marks device pieces chosen ≡ marks device =
     λ device. own_of_merged laws.told device pieces own ∙ sym (best device).are in
     explained laws without events pieces list goal marks best all
-    (all_merged marks cash cashless all
+    (all_merged marks all
     (λ device. subst Rise (each device) (own_rise scope device pieces chosen list.in_order))
     (λ x y differ mark next has its same. differ
     (own_apart laws.told scope pieces chosen list.in_order x y mark next
     (subst (λ ms. Contains ms mark) (sym (each x)) has)
     (subst (λ ms. Contains ms next) (sym (each y)) its) same))
-    one two both)
+    is.merge)
 
 -- the pieces of a seeker are the act list of its rows
 pub list-of-seeker : (goal : Goal) (events : List Event) (seeker : Seeker) (scope : Scope)

@@ -1,14 +1,17 @@
 -- Lists of marks as one: it has their elements, and it rises where they do.
-use Rattle.std.proofs.Common.{arith, refl, subst, sym, ◌≡◌, ◌⊎◌, inl, inr, ℕ, ◌<◌, ◌≤◌}
+use Rattle.std.proofs.Common.{ap, arith, refl, subst, sym, ◌≡◌, ◌⊎◌, inl, inr, ℕ, ◌+◌, ◌<◌, ◌≤◌}
 use Rattle.std.proofs.Common.{List, [], ◌∷◌, length, All, Contains}
+use Rattle.std.specs.Prelude.{if◌then◌else◌}
+use Rattle.std.proofs.lemmas.Bool.{eq-eqb, ne_eqb}
 use Rattle.std.proofs.lemmas.List.Elements.{All-contains_itself, All-weaker}
 use Rattle.std.proofs.lemmas.List.Elements.{Contains-append_right}
 use Rattle.mdb_msgs.specs.declared.command.Device.{Device}
-use Rattle.mdb_msgs.specs.declared.command.Device.TheVariants as devices
-use Rattle.mdb_msgs.specs.declared.command.ReaderUnit.TheVariants.{First, Second}
+use Rattle.mdb_follow.specs.Devices.{device_place, same_device}
+use Rattle.mdb_follow.proofs.ByDevice.{below, earlier, one_place, same_or_not}
 use Rattle.mdb_explained_runs.specs.declared.mark.Mark.{Mark}
 use Rattle.mdb_explained_runs.specs.Marks.{Rise}
-use Rattle.mdb_explained_runs.specs.inner.Merges.{AreApart, IsFront, IsMergeOf, IsOfBoth, Merges}
+use Rattle.mdb_explained_runs.specs.inner.Merges.{AreApart, IsFront, IsMergeBelow, IsMergeOf}
+use Rattle.mdb_explained_runs.specs.inner.Merges.{IsOfBoth, Merges}
 use Rattle.mdb_explained_runs.specs.inner.Merges.{nothing, of_one, of_other}
 use Rattle.mdb_explained_runs.proofs.MarkedRuns.{in_cons, later_in}
 
@@ -163,66 +166,104 @@ of_both one other both is = record {
   rise = rises one other both is;
 }
 
--- lists of two are apart where each of these are
-pairs_apart : (a b c d one other : List (ℕ × Mark)) → IsOfBoth a b one → IsOfBoth c d other
-    → AreApart a c → AreApart a d → AreApart b c → AreApart b d → AreApart one other
-pairs_apart a b c d one other first second ac ad bc bd mark next has its same =
-    elim (first.some mark has) [
-      | inl in_a ↦ elim (second.some next its) [
-        | inl in_c ↦ ac mark next in_a in_c same
-        | inr in_d ↦ ad mark next in_a in_d same
-      ]
-      | inr in_b ↦ elim (second.some next its) [
-        | inl in_c ↦ bc mark next in_b in_c same
-        | inr in_d ↦ bd mark next in_b in_d same
-      ]
-    ]
+-- the marks of a device in place of those that it has
+abbrev pub with_own : Device → List (ℕ × Mark) → (Device → List (ℕ × Mark)) → Device
+    → List (ℕ × Mark)
+with_own next own all device = if same_device device next then own else all device
 
--- what is in the list of some device is in the list of all
-in_all : (marks : Device → List (ℕ × Mark)) (cash cashless all : List (ℕ × Mark))
-    → IsOfBoth (marks devices.Changer) (marks devices.Bill) cash
-    → IsOfBoth (marks (devices.Reader First)) (marks (devices.Reader Second)) cashless
-    → IsOfBoth cash cashless all → (device : Device) (mark : ℕ × Mark)
-    → Contains (marks device) mark → Contains all mark
-in_all marks cash cashless all both readers whole devices.Changer mark has =
-    whole.ones mark (both.ones mark has)
-in_all marks cash cashless all both readers whole devices.Bill mark has =
-    whole.ones mark (both.others mark has)
-in_all marks cash cashless all both readers whole (devices.Reader First) mark has =
-    whole.others mark (readers.ones mark has)
-in_all marks cash cashless all both readers whole (devices.Reader Second) mark has =
-    whole.others mark (readers.others mark has)
+pub its_own : (next device : Device) (own : List (ℕ × Mark)) (all : Device → List (ℕ × Mark))
+    → device ≡ next → with_own next own all device ≡ own
+its_own next device own all same =
+    ap (λ is. if is then own else all device)
+    (eq-eqb (device_place device) (device_place next) (ap device_place same))
 
--- the marks of all devices become one list by three steps
-pub all_merged : (marks : Device → List (ℕ × Mark)) (cash cashless all : List (ℕ × Mark))
-    → ((device : Device) → Rise (marks device))
-    → ((one other : Device) → (one ≡ other → ⊥) → AreApart (marks one) (marks other))
-    → IsOfBoth (marks devices.Changer) (marks devices.Bill) cash
-    → IsOfBoth (marks (devices.Reader First)) (marks (devices.Reader Second)) cashless
-    → IsOfBoth cash cashless all → IsMergeOf marks all
-all_merged marks cash cashless all rise apart both readers whole =
-    let first = marks (devices.Reader First) in
-    let second = marks (devices.Reader Second) in record {
-      rise = whole.rise
-          (both.rise (rise devices.Changer) (rise devices.Bill)
-          (apart devices.Changer devices.Bill (λ same. cc)))
-          (readers.rise (rise (devices.Reader First)) (rise (devices.Reader Second))
-          (apart (devices.Reader First) (devices.Reader Second) (λ same. cc)))
-          (pairs_apart (marks devices.Changer) (marks devices.Bill) first second cash cashless
-          both readers
-          (apart devices.Changer (devices.Reader First) (λ same. cc))
-          (apart devices.Changer (devices.Reader Second) (λ same. cc))
-          (apart devices.Bill (devices.Reader First) (λ same. cc))
-          (apart devices.Bill (devices.Reader Second) (λ same. cc)));
-      own = in_all marks cash cashless all both readers whole;
-      some = λ mark has. elim (whole.some mark has) [
-        | inl in_cash ↦ elim (both.some mark in_cash) [
-          | inl its ↦ (devices.Changer, its)
-          | inr its ↦ (devices.Bill, its)
-        ]
-        | inr in_cashless ↦ elim (readers.some mark in_cashless) [
-          | inl its ↦ (devices.Reader First, its)
-          | inr its ↦ (devices.Reader Second, its)
-        ]
-      ];
-    }
+pub anothers : (next device : Device) (own : List (ℕ × Mark)) (all : Device → List (ℕ × Mark))
+    → (device ≡ next → ⊥) → with_own next own all device ≡ all device
+anothers next device own all apart =
+    ap (λ is. if is then own else all device)
+    (ne_eqb (device_place device) (device_place next) (λ same. apart (one_place device next same)))
+
+-- a device whose place is below that of another isn't that one
+not_next : (count : ℕ) (next device : Device) → device_place next ≡ count
+    → device_place device < count → device ≡ next → ⊥
+not_next count next device at less same =
+    let place : device_place device ≡ device_place next = ap device_place same in
+    omega (arith, at, less, place)
+
+-- no device has a place below 0
+pub merged_none : (all : Device → List (ℕ × Mark)) → IsMergeBelow 0 all []
+merged_none all = record {
+  own = λ device less mark has. absurd (omega (arith, less));
+  some = λ mark has. absurd (omega (arith, has.1));
+  rise = λ rise apart. tt;
+}
+
+-- with the marks of the next device, all are those of one device more
+pub merged_more : (count : ℕ) (all : Device → List (ℕ × Mark)) (next : Device)
+    (own marks both : List (ℕ × Mark)) → device_place next ≡ count → IsMergeBelow count all marks
+    → IsOfBoth marks own both → IsMergeBelow (count + 1) (with_own next own all) both
+merged_more count all next own marks both at merge is = record {
+  own = λ device less mark has. elim (same_or_not device next) [
+    | inl same ↦ is.others mark
+        (subst (λ ms. Contains ms mark) (its_own next device own all same) has)
+    | inr apart ↦ is.ones mark (merge.own device (earlier count next device at less apart) mark
+        (subst (λ ms. Contains ms mark) (anothers next device own all apart) has))
+  ];
+  some = λ mark has. elim (is.some mark has) [
+    | inl before ↦
+        let found = merge.some mark before in
+        let less = found.1 in (
+          found.0,
+          omega (arith, less),
+          subst (λ ms. Contains ms mark)
+              (sym (anothers next found.0 own all (not_next count next found.0 at less))) found.2,
+        )
+    | inr its ↦ (
+      next,
+      omega (arith, at),
+      subst (λ ms. Contains ms mark) (sym (its_own next next own all refl)) its,
+    )
+  ];
+  rise = λ rise apart.
+      let last : device_place next < count + 1 = omega (arith, at) in
+      is.rise
+      (merge.rise
+      (λ device less. subst Rise (anothers next device own all (not_next count next device at less))
+      (rise device (omega (arith, less))))
+      (λ one other less also differ mark following has its.
+      apart one other (omega (arith, less)) (omega (arith, also)) differ mark following
+      (subst (λ ms. Contains ms mark)
+      (sym (anothers next one own all (not_next count next one at less))) has)
+      (subst (λ ms. Contains ms following)
+      (sym (anothers next other own all (not_next count next other at also))) its)))
+      (subst Rise (its_own next next own all refl) (rise next last))
+      (λ mark following has its.
+      let found = merge.some mark has in
+      let less = found.1 in
+      let not : found.0 ≡ next → ⊥ = not_next count next found.0 at less in
+      apart found.0 next (omega (arith, less)) last not mark following
+      (subst (λ ms. Contains ms mark) (sym (anothers next found.0 own all not)) found.2)
+      (subst (λ ms. Contains ms following) (sym (its_own next next own all refl)) its));
+}
+
+-- no device has a place above the last
+pub merged_enough : (count : ℕ) (all : Device → List (ℕ × Mark)) (marks : List (ℕ × Mark))
+    → 4 ≤ count → IsMergeBelow count all marks → IsMergeBelow 4 all marks
+merged_enough count all marks enough is = record {
+  own = λ device less. is.own device (omega (arith, less, enough));
+  some = λ mark has. let found = is.some mark has in (found.0, below found.0, found.2);
+  rise = λ rise apart.
+      is.rise (λ device less. rise device (below device))
+      (λ one other less also. apart one other (below one) (below other));
+}
+
+-- the marks of all devices are one list
+pub all_merged : (all : Device → List (ℕ × Mark)) (marks : List (ℕ × Mark))
+    → ((device : Device) → Rise (all device))
+    → ((one other : Device) → (one ≡ other → ⊥) → AreApart (all one) (all other))
+    → IsMergeBelow 4 all marks → IsMergeOf all marks
+all_merged all marks rise apart is = record {
+  rise = is.rise (λ device less. rise device) (λ one other less also. apart one other);
+  own = λ device. is.own device (below device);
+  some = λ mark has. let found = is.some mark has in (found.0, found.2);
+}

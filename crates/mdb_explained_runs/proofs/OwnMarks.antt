@@ -1,6 +1,6 @@
 -- The marks of a run by devices: each is of one device.
 use Rattle.std.proofs.Common.{arith, refl, sym, ap, subst, ◌∙◌, ◌≡◌, ◌↔◌, inl, inr}
-use Rattle.std.proofs.Common.{ℕ, ◌+◌, ◌<◌, Bool, true, false, if◌then◌else◌}
+use Rattle.std.proofs.Common.{ℕ, ◌+◌, ◌<◌, ◌≤◌, Bool, true, false, if◌then◌else◌}
 use Rattle.std.proofs.Common.{List, [], ◌∷◌, ◌++◌, length, length-append, All, Contains}
 use Rattle.std.proofs.lemmas.List.{append-nil}
 use Rattle.std.proofs.lemmas.List.Elements.{All-contains, All-contains_itself, All-weaker}
@@ -69,10 +69,33 @@ own_of_merged told device pieces all =
     (merged_agrees (acts_of pieces) all device))
 
 -- how many marks the devices have together of these, each where it has them
-abbrev together : (Device → List (ℕ × Mark)) → ℕ
+abbrev pub together : (Device → List (ℕ × Mark)) → ℕ
 together own =
     length (own devices.Changer) + length (own devices.Bill) + length (own (devices.Reader First))
     + length (own (devices.Reader Second))
+
+-- as many, where each device has as many, and no more, where none has more
+pub together_same : (one other : Device → List (ℕ × Mark))
+    → ((device : Device) → length (one device) ≡ length (other device))
+    → together one ≡ together other
+together_same one other same = omega (
+  arith,
+  same devices.Changer,
+  same devices.Bill,
+  same (devices.Reader First),
+  same (devices.Reader Second),
+)
+
+pub together_most : (one other : Device → List (ℕ × Mark))
+    → ((device : Device) → length (one device) ≤ length (other device))
+    → together one ≤ together other
+together_most one other most = omega (
+  arith,
+  most devices.Changer,
+  most devices.Bill,
+  most (devices.Reader First),
+  most (devices.Reader Second),
+)
 
 -- what is of one device is counted once
 of_one : (device : Device) (here : List (ℕ × Mark))

@@ -3,13 +3,14 @@
 ghost use Rattle.std.specs.Prelude.{◌≡◌, ◌<◌, ◌≤◌, ◌+◌, [], ◌∷◌, ℕ, List, length};
 ghost use Rattle.std.specs.Prelude.{IfErr, IfOk, IfSome};
 ghost use Rattle.std.specs.Option.{IfNone};
+ghost use Rattle.mdb_msgs.specs.declared.command.Device.{Device};
 ghost use Rattle.mdb_bus.specs.Scopes.{leaving_out};
 ghost use Rattle.mdb_explained_runs.specs.declared.mark.Mark.{Mark};
 ghost use Rattle.mdb_explained_runs.specs.Goals.{Explains, IsExplainFault};
 ghost use Rattle.mdb_bus.specs.ActLists.{Piece};
 ghost use Rattle.mdb_follow.specs.Runs.{IsReached};
 ghost use Rattle.mdb_follow.specs.declared.goal.Goal.{Goal};
-ghost use Rattle.mdb_explained_runs.specs.inner.AllPaths.{AreAllPaths, AreBestMarks, HasWay};
+ghost use Rattle.mdb_explained_runs.specs.inner.AllPaths.{AreAllPaths, AreBestBelow, HasWay};
 ghost use Rattle.mdb_explained_runs.specs.inner.Merges.{IsOfBoth, Merges};
 
 mod all_paths;
@@ -21,9 +22,9 @@ mod seeker;
 use self::all_paths::AllPaths;
 use crate::Mark;
 use mdb_bus::{Scope, laws as bus_laws};
-use mdb_follow::{Follower, Goal, Offence, ROWS_MAX, laws};
+use mdb_follow::{Follower, Goal, Offence, ROWS_MAX, Report, laws};
 use mdb_machine::laws as machine_laws;
-use mdb_msgs::{Device, DeviceSet, ReaderUnit};
+use mdb_msgs::DeviceSet;
 use mdb_words::Event;
 use std::alloc::{AllocError, Global};
 
@@ -84,34 +85,27 @@ pub fn explain_reached(
     bus_laws::transcripts_have_one_act_list();
     machine_laws::own_acts_are_those_that_a_device_has_a_part_in();
     let seeker = seeker::seek(alloc, &Scope::leaving_out(without), events, goal)?;
-    let all = &seeker.all;
-    let cash = marks_of_two(alloc, all, Device::Changer, Device::Bill)?;
-    let first = Device::Reader(ReaderUnit::First);
-    let cashless = marks_of_two(alloc, all, first, Device::Reader(ReaderUnit::Second))?;
-    merge(alloc, &cash, &cashless)
+    marks_of_all(alloc, &seeker.all)
 }
 
-/// The marks of best ways of two devices that have some, as one list.
+/// The marks of a best way of each device, as one list, where each device has a way.
 ///
 /// # Errors
 ///
 /// Memory was refused.
-fn marks_of_two(
-    alloc: Global,
-    all: &AllPaths,
-    one: Device,
-    other: Device,
-) -> Result<Vec<(u64, Mark)>, AllocError>
+fn marks_of_all(alloc: Global, all: &AllPaths) -> Result<Vec<(u64, Mark)>, AllocError>
     requires { (goal : Goal) × (pieces : List Piece) × AreAllPaths goal pieces all.now
-        × HasWay pieces one × HasWay pieces other }
-    ensures { IfOk result (λ both. (goal : Goal) (pieces : List Piece)
-        → AreAllPaths goal pieces all.now → HasWay pieces one → HasWay pieces other
-        → (ones others : List (ℕ × Mark)) × AreBestMarks goal pieces one ones
-        × AreBestMarks goal pieces other others × IsOfBoth ones others both.items) }
+        × ((device : Device) → HasWay pieces device) }
+    ensures { IfOk result (λ marks. (goal : Goal) (pieces : List Piece)
+        → AreAllPaths goal pieces all.now → ((device : Device) → HasWay pieces device)
+        → AreBestBelow goal pieces 4 marks.items) }
 {
-    let ones = all.marks(alloc, one)?;
-    let others = all.marks(alloc, other)?;
-    merge(alloc, &ones, &others)
+    let mut marks = Vec::new(alloc);
+    for device in &Report::DEVICES {
+        let own = all.marks(alloc, *device)?;
+        marks = merge(alloc, &marks, &own)?;
+    }
+    Ok(marks)
 }
 
 /// Two lists of marks as one: where the rows of both rise, and no row is in both, its rows rise.

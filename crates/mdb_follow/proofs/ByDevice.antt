@@ -55,12 +55,21 @@ pub record Front (Of : Device → Type 0)
   pub kept : (device : Device) → count ≤ device_place device → new device ≡ old device
 
 -- the place of the device that stands at a place
-placed : (place : ℕ) (d : Device) → place < 4 → device_place (get_or DEVICES place d) ≡ place
+pub placed : (place : ℕ) (d : Device) → place < 4 → device_place (get_or DEVICES place d) ≡ place
 placed zero d less = refl
 placed (suc zero) d less = refl
 placed (suc (suc zero)) d less = refl
 placed (suc (suc (suc zero))) d less = refl
 placed (suc (suc (suc (suc place)))) d less = absurd (omega (arith, less))
+
+-- a device that stands before the one after a place, and isn't that of the place, stands before it
+pub earlier : (count : ℕ) (next device : Device) → device_place next ≡ count
+    → device_place device < count + 1 → (device ≡ next → ⊥) → device_place device < count
+earlier count next device at less apart =
+    elim (cases_eq (device_place device) (device_place next)) [
+      | inl same ↦ absurd (apart (one_place device next same))
+      | inr other ↦ omega (arith, less, at, other)
+    ]
 
 -- what is kept of the next device is what it was
 pub front-next : (Of : Device → Type 0) (Goes : (device : Device) → Of device → Of device → Type 0)
@@ -83,7 +92,7 @@ front-more Of Goes count old mid new d within front one =
             (subst (λ before. Goes next before (new next))
             (front-next Of Goes count old mid d within front) one.own)
         | inr apart ↦ subst (Goes device (old device)) (sym (one.others device apart))
-            (front.gone device (before device less apart at))
+            (front.gone device (earlier count next device at less apart))
       ];
       kept = λ device above.
           one.others device (λ same.
@@ -91,14 +100,6 @@ front-more Of Goes count old mid new d within front one =
           omega (arith, above, at, is))
           ∙ front.kept device (omega (arith, above));
     }
-  where
-    before : {next : Device} (device : Device) → device_place device < count + 1
-        → (device ≡ next → ⊥) → device_place next ≡ count → device_place device < count
-    before {next} device less apart at =
-        elim (cases_eq (device_place device) (device_place next)) [
-          | inl same ↦ absurd (apart (one_place device next same))
-          | inr other ↦ omega (arith, less, at, other)
-        ]
 
 pub front-all : (Of : Device → Type 0) (Goes : (device : Device) → Of device → Of device → Type 0)
     (count : ℕ) (old new : (device : Device) → Of device) → 4 ≤ count

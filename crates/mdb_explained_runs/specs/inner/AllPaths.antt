@@ -1,5 +1,5 @@
 -- The best ways of each device, for a goal. This serves private functions.
-use Rattle.std.specs.Prelude.{◌≡◌, ℕ, List, ◌∷◌, length}
+use Rattle.std.specs.Prelude.{◌≡◌, ◌<◌, ℕ, List, ◌∷◌, length}
 use Rattle.mdb_msgs.specs.declared.command.Device.{Device}
 use Rattle.mdb_msgs.specs.declared.command.Device.TheVariants as devices
 use Rattle.mdb_msgs.specs.declared.command.ReaderUnit.TheVariants as units
@@ -18,9 +18,11 @@ use Rattle.mdb_follow.specs.declared.goal.Goal.{Goal}
 use Rattle.mdb_follow.specs.Choosing.{Choices, Follows}
 use Rattle.mdb_explained_runs.specs.declared.mark.Mark.{Mark}
 use Rattle.mdb_explained_runs.specs.Marks.{own_marks}
+use Rattle.mdb_follow.specs.Devices.{device_place}
 use Rattle.mdb_follow.specs.Machines.{StateOf, machine_of}
 use Rattle.mdb_follow.specs.Sides.{FactsOf, code_of, codes_of, stands_for}
 use Rattle.mdb_follow.specs.Sums.{Sums}
+use Rattle.mdb_explained_runs.specs.inner.Merges.{IsMergeBelow}
 use Rattle.mdb_explained_runs.specs.inner.Paths.{AreEntriesWithin, ArePaths, IsAsGood}
 use Rattle.mdb_explained_runs.specs.inner.Weights.{weigh}
 
@@ -102,3 +104,11 @@ pub record AreBestMarks (goal : Goal) (pieces : List Piece) (device : Device)
       → Follows (machine_of PowerOn device) (acts_of pieces) other other_state other_sums
       → IsAsGood (weigh (weight_for goal device) sums) (length marks)
       (weigh (weight_for goal device) other_sums) (length (own_marks device pieces other))
+
+-- Marks are those of a best way of each device whose place is below a number, as one list.
+pub record AreBestBelow (goal : Goal) (pieces : List Piece) (count : ℕ) (marks : List (ℕ × Mark))
+    : Type 0 where
+  pub of : Device → List (ℕ × Mark)
+  pub best : (device : Device) → device_place device < count
+      → AreBestMarks goal pieces device (of device)
+  pub merge : IsMergeBelow count of marks

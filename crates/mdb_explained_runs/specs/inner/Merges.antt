@@ -1,6 +1,7 @@
 -- How lists of marks become one list whose rows rise. This serves private functions.
-use Rattle.std.specs.Prelude.{◌≡◌, ◌⊎◌, ℕ, ◌≤◌, List, [], ◌∷◌, Contains}
+use Rattle.std.specs.Prelude.{◌≡◌, ◌⊎◌, ℕ, ◌≤◌, ◌<◌, List, [], ◌∷◌, Contains}
 use Rattle.mdb_msgs.specs.declared.command.Device.{Device}
+use Rattle.mdb_follow.specs.Devices.{device_place}
 use Rattle.mdb_explained_runs.specs.declared.mark.Mark.{Mark}
 use Rattle.mdb_explained_runs.specs.Marks.{Rise}
 
@@ -37,3 +38,15 @@ pub record IsMergeOf (all : Device → List (ℕ × Mark)) (marks : List (ℕ ×
       → Contains marks mark
   pub some : (mark : ℕ × Mark) → Contains marks mark
       → (device : Device) × Contains (all device) mark
+
+-- A list has the marks of the devices whose places are below a number and no others, and its rows
+-- rise where those of each do and no row is in two of them.
+pub record IsMergeBelow (count : ℕ) (all : Device → List (ℕ × Mark)) (marks : List (ℕ × Mark))
+    : Type 0 where
+  pub own : (device : Device) → device_place device < count → (mark : ℕ × Mark)
+      → Contains (all device) mark → Contains marks mark
+  pub some : (mark : ℕ × Mark) → Contains marks mark
+      → (device : Device) × (device_place device < count) × Contains (all device) mark
+  pub rise : ((device : Device) → device_place device < count → Rise (all device))
+      → ((one other : Device) → device_place one < count → device_place other < count
+      → (one ≡ other → ⊥) → AreApart (all one) (all other)) → Rise marks
