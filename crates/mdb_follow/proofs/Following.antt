@@ -35,7 +35,9 @@ use Rattle.mdb_follow.specs.declared.sides.Sides.{Sides}
 use Rattle.mdb_follow.specs.declared.silence.Silence.{Silence}
 use Rattle.mdb_follow.specs.AccountNames.{account_place, no_account}
 use Rattle.mdb_follow.specs.EndedActs.{IsEndedAct}
-use Rattle.mdb_follow.specs.Follower.{HasAccepted, StandsFor, scope_of}
+use Rattle.mdb_follow.specs.Feeding.{HasTaken}
+use Rattle.mdb_follow.specs.Follower.{HasAccepted, StandsFor, rows_of, scope_of}
+use Rattle.mdb_follow.specs.Sales.{SalesFollowApprovals}
 use Rattle.mdb_follow.specs.inner.FollowerSteps.{HasFollowed, HasStopped}
 use Rattle.mdb_follow.specs.Limits.{IsAccountWithin, IsCellWithin}
 use Rattle.mdb_follow.specs.Ranges.{IsAccount, IsCell, IsRange}
@@ -553,6 +555,33 @@ reported one joins follower events report cells has are telling =
       telling = telling
           ∙ ap (λ rows. report_of scope.begins rows has.pieces (accounts_in cells)) has.rows;
     }
+
+-- a follower that stands for rows after others has taken them
+pub taken-by : ((scope : Scope) → Joins scope)
+    → ((scope : Scope) (rows : List Event) → SalesFollowApprovals scope rows)
+    → (old new : Follower) (rows : List Event) → scope_of new ≡ scope_of old
+    → rows_of new ≡ rows_of old + length rows
+    → ((events : List Event) → StandsFor old events → StandsFor new (events ++ rows))
+    → HasTaken old new rows
+taken-by joins sales old new rows same counted stands = record {
+  stands = stands;
+  reached = λ events on. subst (λ s. IsReached s (events ++ rows)) same
+      (reached-by joins new (events ++ rows) (stands events on));
+  sales = λ events on. sales (scope_of old) (events ++ rows);
+  counted = counted;
+}
+
+-- so has one that differs in the room for an act alone
+pub taken-beside : (old mid new : Follower) (rows : List Event) → new.bus ≡ mid.bus
+    → new.sides ≡ mid.sides → new.silences ≡ mid.silences → new.rows ≡ mid.rows
+    → new.offence ≡ mid.offence → HasTaken old mid rows → HasTaken old new rows
+taken-beside old mid new rows same_bus same_sides same_silences same_rows same has = record {
+  stands = λ events on. stands-beside mid new (events ++ rows) same_bus same_sides same_silences
+      same_rows same (has.stands events on);
+  reached = has.reached;
+  sales = has.sales;
+  counted = same_rows ∙ has.counted;
+}
 
 -- a follower has taken so many events, and met no offence
 pub record HasFed (old : Follower) (events : List Event) (count : ℕ) (new : Follower) : Type 0 where

@@ -6,6 +6,7 @@ pub mod Choosing
 pub mod Devices
 pub mod EndedActs
 pub mod Ends
+pub mod Feeding
 pub mod Follower
 pub mod LeavingOut
 pub mod Limits

@@ -4,7 +4,7 @@ ghost use Rattle.std.specs.Prelude.{◌≡◌, ◌<◌, ◌≤◌, ◌+◌, ◌*
 ghost use Rattle.std.specs.Prelude.{Some, None, Err, IfSome, IfOk, IfErr, IsOk, IsSome, IsSomeAnd};
 ghost use Rattle.std.specs.Prelude.{OnErr, OnSome, take};
 ghost use Rattle.std.specs.Bool.{OnFalse, OnTrue};
-ghost use Rattle.std.specs.Option.{ForNone, ForSome, IfNone};
+ghost use Rattle.std.specs.Option.{ForSome, IfNone};
 ghost use Rattle.mdb_words.specs.declared.event.Event.{Event};
 ghost use Rattle.mdb_bus.specs.declared.act.Act.{Act};
 ghost use Rattle.mdb_follow.specs.Senders as spec;
@@ -44,18 +44,16 @@ pub struct Follower {
 }
 
 impl Follower {
-    ghost use Rattle.mdb_bus.specs.Bus.{GoesOn, ended_act};
-    ghost use Rattle.mdb_bus.specs.ActLists.{Piece};
+    ghost use Rattle.mdb_bus.specs.Bus.{ended_act};
     ghost use Rattle.mdb_follow.specs.EndedActs.{IsEndedAct};
-    ghost use Rattle.mdb_follow.specs.Runs.{IsReached};
     ghost use Rattle.mdb_bus.specs.Scopes.{all_joined, power_on};
+    ghost use Rattle.mdb_follow.specs.Feeding.{HasRefused, HasTaken};
     ghost use Rattle.mdb_follow.specs.Follower.{HasAccepted, StandsFor};
     ghost use Rattle.mdb_follow.specs.Follower.{act_of, offence_of, rows_of, scope_of};
     ghost use Rattle.mdb_follow.specs.inner.FollowerSteps.{HasFollowed, HasStopped};
-    ghost use Rattle.mdb_follow.specs.Offences.{HasOffence, IsOffence};
+    ghost use Rattle.mdb_follow.specs.Offences.{HasOffence};
     ghost use Rattle.mdb_follow.specs.Report.{IsReport};
     ghost use Rattle.mdb_follow.specs.ReportLimits.{IsReportWithin};
-    ghost use Rattle.mdb_follow.specs.Sales.{SalesFollowApprovals};
 
     /// The follower before the first row of a recording that begins at power-on or at a break. All
     /// devices are followed.
@@ -110,26 +108,12 @@ impl Follower {
     #[inline(always)]
     pub fn feed(&mut self, event: Event) -> Result<(), Offence>
         requires { rows_of self.old < ROWS_MAX }
-        ensures reached { (events : List Event) → StandsFor self.old events
-            → IfOk result (λ _. StandsFor self.new (events ++ event ∷ [])) }
-        ensures is_reached { (events : List Event) → StandsFor self.old events
-            → IfOk result (λ _. IsReached (scope_of self.old) (events ++ event ∷ [])) }
-        ensures sales { (events : List Event) → StandsFor self.old events
-            → IfOk result (λ _. SalesFollowApprovals (scope_of self.old) (events ++ event ∷ [])) }
-        ensures offence { (events : List Event) → StandsFor self.old events
-            → IfErr result (IsOffence (scope_of self.old) events event) }
-        ensures accepted { (events : List Event) → StandsFor self.old events
-            → OnErr result (HasAccepted self.new events) }
-        ensures noted { IfErr result (λ offence. offence_of self.new ≡ Some offence) }
-        ensures numbered { IfErr result (λ offence. offence.row ≡ rows_of self.new + 1) }
-        ensures counted { IfOk result (λ _. rows_of self.new ≡ rows_of self.old + 1) }
-        ensures uncounted { OnErr result (rows_of self.new ≡ rows_of self.old) }
+        ensures taken { IfOk result (λ _. HasTaken self.old self.new (event ∷ [])) }
+        ensures refused { IfErr result (HasRefused self.old self.new event) }
         ensures repeats { IfSome (offence_of self.old) (λ offence.
             (result ≡ Err offence) × (self.new ≡ self.old)) }
         ensures scope { scope_of self.new ≡ scope_of self.old }
     {
-        laws::ways_join();
-        laws::sales_follow_their_approvals();
         if let Some(offence) = self.offence {
             return Err(offence);
         }
@@ -147,28 +131,15 @@ impl Follower {
     #[inline(always)]
     pub fn feed_ending(&mut self, event: Event) -> Option<bool>
         requires { rows_of self.old < ROWS_MAX }
-        ensures reached { OnSome result ((events : List Event) → StandsFor self.old events
-            → StandsFor self.new (events ++ event ∷ [])) }
-        ensures is_reached { OnSome result ((events : List Event) → StandsFor self.old events
-            → IsReached (scope_of self.old) (events ++ event ∷ [])) }
-        ensures sales { OnSome result ((events : List Event) → StandsFor self.old events
-            → SalesFollowApprovals (scope_of self.old) (events ++ event ∷ [])) }
-        ensures offence { IfNone result (IsSomeAnd (offence_of self.new) (λ offence.
-            (events : List Event) → StandsFor self.old events
-            → IsOffence (scope_of self.old) events event offence)) }
+        ensures taken { OnSome result (HasTaken self.old self.new (event ∷ [])) }
         ensures act { IfSome result (λ ended. (events : List Event) → StandsFor self.old events
             → IsEndedAct (scope_of self.old) events event (ended_act ended (act_of self.new))) }
-        ensures accepted { IfNone result ((events : List Event) → StandsFor self.old events
-            → HasAccepted self.new events) }
-        ensures noted { IfNone result (IsSome (offence_of self.new)) }
-        ensures counted { OnSome result (rows_of self.new ≡ rows_of self.old + 1) }
-        ensures uncounted { IfNone result (rows_of self.new ≡ rows_of self.old) }
+        ensures refused { IfNone result
+            (IsSomeAnd (offence_of self.new) (HasRefused self.old self.new event)) }
         ensures repeats { IsSome (offence_of self.old)
             → (result ≡ None) × (self.new ≡ self.old) }
         ensures scope { scope_of self.new ≡ scope_of self.old }
     {
-        laws::ways_join();
-        laws::sales_follow_their_approvals();
         if self.offence.is_some() {
             return None;
         }
@@ -204,28 +175,14 @@ impl Follower {
     /// Those of `feed`.
     pub fn feed_act(&mut self, event: Event) -> Result<Option<Act>, Offence>
         requires { rows_of self.old < ROWS_MAX }
-        ensures reached { (events : List Event) → StandsFor self.old events
-            → IfOk result (λ _. StandsFor self.new (events ++ event ∷ [])) }
-        ensures is_reached { (events : List Event) → StandsFor self.old events
-            → IfOk result (λ _. IsReached (scope_of self.old) (events ++ event ∷ [])) }
-        ensures sales { (events : List Event) → StandsFor self.old events
-            → IfOk result (λ _. SalesFollowApprovals (scope_of self.old) (events ++ event ∷ [])) }
-        ensures offence { (events : List Event) → StandsFor self.old events
-            → IfErr result (IsOffence (scope_of self.old) events event) }
+        ensures taken { IfOk result (λ _. HasTaken self.old self.new (event ∷ [])) }
         ensures act { (events : List Event) → StandsFor self.old events
             → IfOk result (IsEndedAct (scope_of self.old) events event) }
-        ensures accepted { (events : List Event) → StandsFor self.old events
-            → OnErr result (HasAccepted self.new events) }
-        ensures noted { IfErr result (λ offence. offence_of self.new ≡ Some offence) }
-        ensures numbered { IfErr result (λ offence. offence.row ≡ rows_of self.new + 1) }
-        ensures counted { IfOk result (λ _. rows_of self.new ≡ rows_of self.old + 1) }
-        ensures uncounted { OnErr result (rows_of self.new ≡ rows_of self.old) }
+        ensures refused { IfErr result (HasRefused self.old self.new event) }
         ensures repeats { IfSome (offence_of self.old) (λ offence.
             (result ≡ Err offence) × (self.new ≡ self.old)) }
         ensures scope { scope_of self.new ≡ scope_of self.old }
     {
-        laws::ways_join();
-        laws::sales_follow_their_approvals();
         if let Some(offence) = self.offence {
             return Err(offence);
         }
@@ -244,20 +201,13 @@ impl Follower {
     /// before.
     pub fn feed_all(&mut self, events: &[Event]) -> Result<(), Offence>
         requires { rows_of self.old + length events.now ≤ ROWS_MAX }
-        ensures reached { (before : List Event) → StandsFor self.old before
-            → IfOk result (λ _. StandsFor self.new (before ++ events.now)) }
-        ensures is_reached { (before : List Event) → StandsFor self.old before
-            → IfOk result (λ _. IsReached (scope_of self.old) (before ++ events.now)) }
-        ensures sales { (before : List Event) → StandsFor self.old before
-            → IfOk result (λ _. SalesFollowApprovals (scope_of self.old) (before ++ events.now)) }
+        ensures taken { IfOk result (λ _. HasTaken self.old self.new events.now) }
         ensures offence { (before : List Event) → StandsFor self.old before
             → IfErr result (HasOffence (scope_of self.old) before events.now) }
         ensures accepted { (before : List Event) → StandsFor self.old before
             → OnErr result (HasAccepted self.new (take (rows_of self.new) (before ++ events.now))) }
         ensures noted { IfErr result (λ offence. offence_of self.new ≡ Some offence) }
         ensures numbered { IfErr result (λ offence. offence.row ≡ rows_of self.new + 1) }
-        ensures counted { IfOk result
-            (λ _. rows_of self.new ≡ rows_of self.old + length events.now) }
         ensures fewer { OnErr result (rows_of self.new ≤ rows_of self.old + length events.now) }
         ensures repeats { IfSome (offence_of self.old) (λ offence.
             (result ≡ Err offence) × (self.new ≡ self.old)) }
@@ -285,21 +235,16 @@ impl Follower {
     fn take(&mut self, event: Event) -> Option<bool>
         requires room { rows_of self.old < ROWS_MAX }
         requires going { offence_of self.old ≡ None }
-        ensures reached { OnSome result ((events : List Event) → StandsFor self.old events
-            → StandsFor self.new (events ++ event ∷ [])) }
+        ensures taken { OnSome result (HasTaken self.old self.new (event ∷ [])) }
         ensures act { IfSome result (λ ended. (events : List Event) → StandsFor self.old events
             → IsEndedAct (scope_of self.old) events event (ended_act ended self.new.act)) }
         ensures going { OnSome result (offence_of self.new ≡ None) }
-        ensures counted { OnSome result (rows_of self.new ≡ rows_of self.old + 1) }
-        ensures offence { IfNone result (IsSomeAnd (offence_of self.new) (λ offence.
-            (events : List Event) → StandsFor self.old events
-            → IsOffence (scope_of self.old) events event offence)) }
-        ensures accepted { IfNone result ((events : List Event) → StandsFor self.old events
-            → HasAccepted self.new events) }
+        ensures refused { IfNone result
+            (IsSomeAnd (offence_of self.new) (HasRefused self.old self.new event)) }
         ensures scope { scope_of self.new ≡ scope_of self.old }
-        ensures uncounted { IfNone result (rows_of self.new ≡ rows_of self.old) }
     {
         laws::ways_join();
+        laws::sales_follow_their_approvals();
         bus_laws::transcripts_have_one_act_list();
         match self.bus.feed_into(event, &mut self.act) {
             Err(fault) => {

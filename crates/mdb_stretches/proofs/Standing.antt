@@ -10,6 +10,7 @@ use Rattle.mdb_bus.specs.ActLists.{IsActList, Piece, acts_of, with_act}
 use Rattle.mdb_follow.specs.declared.offence.Offence.{Offence}
 use Rattle.mdb_follow.specs.declared.report.Report.{Report}
 use Rattle.mdb_follow.specs.EndedActs.{IsEndedAct}
+use Rattle.mdb_follow.specs.Feeding.{HasRefused}
 use Rattle.mdb_follow.specs.Follower as follow
 use Rattle.mdb_follow.specs.Offences.{IsOffence}
 use Rattle.mdb_follow.specs.Report.{IsReport}
@@ -91,26 +92,22 @@ the_offence (Some offence) P met = (offence, refl, met)
 -- a row is met that can't be
 pub halted_by : (old now : Surveyor) (scope : Scope) (rows : List Event) (row : Event)
     (ended : List Ended) → StandsFor old scope rows ended
-    → ((events : List Event) → follow.StandsFor old.follower events
-    → follow.HasAccepted now.follower events)
-    → IsSomeAnd (follow.offence_of now.follower) (λ offence. (events : List Event)
-    → follow.StandsFor old.follower events
-    → IsOffence (follow.scope_of old.follower) events row offence)
+    → IsSomeAnd (follow.offence_of now.follower) (HasRefused old.follower now.follower row)
     → follow.scope_of now.follower ≡ follow.scope_of old.follower
     → now.told ≡ old.told → now.scope ≡ old.scope → now.before ≡ old.before
     → now.faults ≡ old.faults → now.totals ≡ old.totals
     → HasHalted now scope rows row ended
-halted_by old now scope rows row ended on accepted met same_scope told so before faults totals =
+halted_by old now scope rows row ended on met same_scope told so before faults totals =
     let it = the_offence (follow.offence_of now.follower) _ met in record {
       offence = it.0;
       noted = it.1;
       running = on.running;
       place = on.place;
       lead = on.lead;
-      accepted = accepted on.running on.follows;
+      accepted = it.2.accepted on.running on.follows;
       followed_so = same_scope ∙ on.followed_so;
       taken_so = so ∙ on.taken_so;
-      is = subst (λ s. IsOffence s on.running row it.0) on.followed_so (it.2 on.running on.follows);
+      is = subst (λ s. IsOffence s on.running row it.0) on.followed_so (it.2.offence on.running on.follows);
       told = λ pieces list. told ∙ on.told pieces list;
       before = before ∙ on.before;
       faults = faults ∙ on.faults;

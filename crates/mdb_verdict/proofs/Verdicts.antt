@@ -7,7 +7,8 @@ use Rattle.mdb_words.specs.declared.event.Event.{Event}
 use Rattle.mdb_words.specs.Row.{IsRefusal, IsRow}
 use Rattle.mdb_follow.specs.declared.follower.Follower.{Follower}
 use Rattle.mdb_follow.specs.declared.offence.Offence.{Offence}
-use Rattle.mdb_follow.specs.Follower.{StandsFor, rows_of, scope_of}
+use Rattle.mdb_follow.specs.Feeding.{HasTaken}
+use Rattle.mdb_follow.specs.Follower.{StandsFor, scope_of}
 use Rattle.mdb_follow.specs.Offences.{HasOffence}
 use Rattle.mdb_follow.specs.Runs.{IsReached}
 use Rattle.mdb_follow.specs.Sales.{SalesFollowApprovals}
@@ -26,14 +27,23 @@ abbrev pub Reaches : Type 0
 Reaches = (follower : Follower) (rows : List Event) → StandsFor follower rows → IsReached (scope_of follower) rows
 
 -- The follower has taken rows, or stops at one of them.
-pub followed : (scope : Scope) (old new : Follower) (rows : List Event) (answer : Result Unit Offence) (stop : Option Offence) → stop ≡ result_err answer
-    → ((before : List Event) → StandsFor old before → IfOk answer (λ _. StandsFor new (before ++ rows))) → IfOk answer (λ _. rows_of new ≡ rows_of old + length rows)
-    → ((before : List Event) → StandsFor old before → IfErr answer (HasOffence scope before rows)) → scope_of new ≡ scope_of old → (earlier : List Event) → HasFollowed scope old earlier → HasTakenOrStopped (HasFollowed scope new) (HasOffence scope) earlier rows stop
-followed scope old new rows (Ok done) stop is reached counted offends kept earlier has =
-    let P : Option Offence → Type 0 = λ s. HasTakenOrStopped (HasFollowed scope new) (HasOffence scope) earlier rows s in
-    subst P (sym is) (record { in_scope = kept ∙ has.in_scope; stands = reached earlier has.stands; counted = omega (arith, counted, has.counted, length-append earlier rows) })
-followed scope old new rows (Err offence) stop is reached counted offends kept earlier has =
-    let P : Option Offence → Type 0 = λ s. HasTakenOrStopped (HasFollowed scope new) (HasOffence scope) earlier rows s in
+pub followed : (scope : Scope) (old new : Follower) (rows : List Event)
+    (answer : Result Unit Offence) (stop : Option Offence) → stop ≡ result_err answer
+    → IfOk answer (λ _. HasTaken old new rows)
+    → ((before : List Event) → StandsFor old before → IfErr answer (HasOffence scope before rows))
+    → scope_of new ≡ scope_of old → (earlier : List Event) → HasFollowed scope old earlier
+    → HasTakenOrStopped (HasFollowed scope new) (HasOffence scope) earlier rows stop
+followed scope old new rows (Ok done) stop is taken offends kept earlier has =
+    let P : Option Offence → Type 0 =
+    λ s. HasTakenOrStopped (HasFollowed scope new) (HasOffence scope) earlier rows s in
+    subst P (sym is) (record {
+      in_scope = kept ∙ has.in_scope;
+      stands = taken.stands earlier has.stands;
+      counted = omega (arith, taken.counted, has.counted, length-append earlier rows);
+    })
+followed scope old new rows (Err offence) stop is taken offends kept earlier has =
+    let P : Option Offence → Type 0 =
+    λ s. HasTakenOrStopped (HasFollowed scope new) (HasOffence scope) earlier rows s in
     subst P (sym is) (offends earlier has.stands)
 
 -- the text ends

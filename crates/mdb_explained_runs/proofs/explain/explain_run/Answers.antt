@@ -6,4 +6,4 @@ pub explain_reached-requires-clause-reached : goal.explain_reached-requires-clau
 explain_reached-requires-clause-reached c =
     subst (λ s. IsReached s c.args.events.now)
     (c.scoped-follower.ensures.scope ∙ c.leaving_out.ensures)
-    (c.in_default.ensures.is_reached [] c.scoped-follower.ensures.stands)
+    (c.in_default.ensures.taken.reached [] c.scoped-follower.ensures.stands)

@@ -44,7 +44,7 @@ returns-in-Err-feed-clause-offence c = λ offence same.
       c.first_line.result.1.now,
       row event before.read.1 (record { line = c.first_line.result.0.now; first = c.first_line.ensures.line; is = c.without_return-line.ensures }) c.in-Ok.ensures.row,
       subst (λ (told : Offence). IsOffence (scope_of c.args.follower.now) rows event told) (ap (λ end. offence_of end c.in-Err-feed.offence) same)
-          (subst (λ (scope : Scope). IsOffence scope rows event c.in-Err-feed.offence) before.scope (c.in-Err-feed.ensures.offence rows before.read.2)),
+          (subst (λ (scope : Scope). IsOffence scope rows event c.in-Err-feed.offence) before.scope (c.in-Err-feed.ensures.refused.offence rows before.read.2)),
     )
 
 pub returns-in-Err-clause-line : goal.returns-in-Err-clause-line
@@ -76,7 +76,7 @@ loop-line-preserved-in_default c =
       read = (
         rows ++ event ∷ [],
         row event before.read.1 (record { line = c.first_line.result.0.now; first = c.first_line.ensures.line; is = c.without_return-line.ensures }) c.in-Ok.ensures.row,
-        c.in_default.ensures.reached rows before.read.2,
+        c.in_default.ensures.taken.stands rows before.read.2,
       );
     }
 

@@ -1,13 +1,12 @@
-use Rattle.std.proofs.Common.{List, ◌+◌, ◌*◌, ◌^◌, None, Some, arith, inl, refl, subst, sym, ◌∙◌}
-use Rattle.mdb_words.specs.declared.event.Event.{Event}
+use Rattle.std.proofs.Common.{◌∷◌, [], ◌+◌, ◌*◌, ◌^◌, None, Some, arith, inl, refl, subst, sym, ◌∙◌}
 use Rattle.mdb_bus.specs.Bus.{GoesOn, ended_act}
 use Rattle.mdb_follow.specs.EndedActs.{IsEndedAct}
-use Rattle.mdb_follow.specs.Follower.{HasAccepted, StandsFor, scope_of}
-use Rattle.mdb_follow.specs.Offences.{IsOffence}
+use Rattle.mdb_follow.specs.Feeding.{HasRefused}
+use Rattle.mdb_follow.specs.Follower.{scope_of}
 use Rattle.mdb_follow.proofs.Within.{sides-within-weaker}
-use Rattle.mdb_follow.proofs.Following.{accepted-still, by-some, ended-by, is-some-weaker}
+use Rattle.mdb_follow.proofs.Following.{accepted-still, ended-by, is-some-weaker}
 use Rattle.mdb_follow.proofs.Following.{link-offence, machine-offence, some-at, stands-on}
-use Rattle.mdb_follow.proofs.Following.{stands-still}
+use Rattle.mdb_follow.proofs.Following.{stands-still, taken-by}
 use Rattle.mdb_follow.proofs.follower.Follower.take.Goals as goal
 
 pub invariant_of-self-in-Ok-false-clause-within : goal.invariant_of-self-in-Ok-false-clause-within
@@ -15,14 +14,17 @@ invariant_of-self-in-Ok-false-clause-within c =
     sides-within-weaker (c.args.self.now.rows * 2 ^ 32) ((c.args.self.now.rows + 1) * 2 ^ 32)
     c.args.self.now.sides (omega arith) c.args.self.now.within
 
-pub returns-then-follow-clause-reached : goal.returns-then-follow-clause-reached
-returns-then-follow-clause-reached c events on =
+pub returns-then-follow-clause-taken : goal.returns-then-follow-clause-taken
+returns-then-follow-clause-taken c =
+    taken-by c.ways_join.ensures c.sales_follow_their_approvals.ensures c.args.self.now
+    c.follow.new.self (c.args.event ∷ []) (c.follow.ensures.scope ∙ c.feed_into.ensures.scope)
+    (omega (arith, c.if-follow.ensures.followed.rows)) (λ events on.
     let goes : GoesOn c.feed_into.new.self on.pieces c.args.event (Some c.feed_into.new.act) =
     subst (λ b. GoesOn c.feed_into.new.self on.pieces c.args.event (ended_act b c.feed_into.new.act))
     c.in-Ok-true.field-0-test (c.in-Ok-true.ensures.goes_on on.pieces on.on_bus) in
     stands-on c.args.self.now _ c.follow.new.self events c.args.event c.feed_into.new.act on
     goes c.feed_into.ensures.scope refl refl refl refl c.start.result c.start.ensures
-    c.if-follow.ensures.followed
+    c.if-follow.ensures.followed)
 
 pub returns-then-follow-clause-act : goal.returns-then-follow-clause-act
 returns-then-follow-clause-act c events on =
@@ -34,34 +36,36 @@ returns-then-follow-clause-act c events on =
     (ended-by c.feed_into.new.self (scope_of c.args.self.now) events c.args.event on.pieces
     (Some c.feed_into.new.act) on.on_bus.in_order on.whole goes c.feed_into.ensures.scope)
 
-pub returns-else-follow-clause-offence : goal.returns-else-follow-clause-offence
-returns-else-follow-clause-offence c =
+pub returns-else-follow-clause-refused : goal.returns-else-follow-clause-refused
+returns-else-follow-clause-refused c =
     is-some-weaker c.follow.new.self.offence _
-    (λ offence. (events : List Event) → StandsFor c.args.self.now events
-    → IsOffence (scope_of c.args.self.now) events c.args.event offence)
-    (λ offence has events on.
-    let goes : GoesOn c.feed_into.new.self on.pieces c.args.event (Some c.feed_into.new.act) =
-    subst (λ b. GoesOn c.feed_into.new.self on.pieces c.args.event (ended_act b c.feed_into.new.act))
-    c.in-Ok-true.field-0-test (c.in-Ok-true.ensures.goes_on on.pieces on.on_bus) in
-    machine-offence c.transcripts_have_one_act_list.ensures c.ways_join.ensures
-    c.args.self.now _ c.follow.new.self events c.args.event c.feed_into.new.act offence on goes
-    c.feed_into.ensures.scope refl refl has)
+    (HasRefused c.args.self.now c.follow.new.self c.args.event)
+    (λ offence has. record {
+      offence = λ events on.
+          let goes : GoesOn c.feed_into.new.self on.pieces c.args.event (Some c.feed_into.new.act) =
+          subst (λ b. GoesOn c.feed_into.new.self on.pieces c.args.event
+          (ended_act b c.feed_into.new.act)) c.in-Ok-true.field-0-test
+          (c.in-Ok-true.ensures.goes_on on.pieces on.on_bus) in
+          machine-offence c.transcripts_have_one_act_list.ensures c.ways_join.ensures
+          c.args.self.now _ c.follow.new.self events c.args.event c.feed_into.new.act offence on
+          goes c.feed_into.ensures.scope refl refl has;
+      accepted = λ events on. accepted-still c.args.self.now c.follow.new.self events on
+          (c.follow.ensures.scope ∙ c.feed_into.ensures.scope) has.uncounted has.stay has.silences;
+      noted = has.noted;
+      numbered = omega (arith, has.number, has.uncounted);
+      uncounted = has.uncounted;
+    })
     c.if-follow.ensures.stopped
 
-pub returns-else-follow-clause-accepted : goal.returns-else-follow-clause-accepted
-returns-else-follow-clause-accepted c events on =
-    by-some c.follow.new.self.offence _ (HasAccepted c.follow.new.self events)
-    (λ offence has. accepted-still c.args.self.now c.follow.new.self events on
-    (c.follow.ensures.scope ∙ c.feed_into.ensures.scope) has.uncounted has.stay has.silences)
-    c.if-follow.ensures.stopped
-
-pub returns-in-Ok-false-clause-reached : goal.returns-in-Ok-false-clause-reached
-returns-in-Ok-false-clause-reached c events on =
+pub returns-in-Ok-false-clause-taken : goal.returns-in-Ok-false-clause-taken
+returns-in-Ok-false-clause-taken c =
+    taken-by c.ways_join.ensures c.sales_follow_their_approvals.ensures c.args.self.now
+    _ (c.args.event ∷ []) c.feed_into.ensures.scope (omega arith) (λ events on.
     let goes : GoesOn c.feed_into.new.self on.pieces c.args.event None =
     subst (λ b. GoesOn c.feed_into.new.self on.pieces c.args.event (ended_act b c.feed_into.new.act))
     c.in-Ok-false.field-0-test (c.in-Ok-false.ensures.goes_on on.pieces on.on_bus) in
     stands-still c.args.self.now _ c.feed_into.new.self events c.args.event on goes refl
-    c.feed_into.ensures.scope refl refl refl refl
+    c.feed_into.ensures.scope refl refl refl refl)
 
 pub returns-in-Ok-false-clause-act : goal.returns-in-Ok-false-clause-act
 returns-in-Ok-false-clause-act c events on =
@@ -71,14 +75,16 @@ returns-in-Ok-false-clause-act c events on =
     ended-by c.feed_into.new.self (scope_of c.args.self.now) events c.args.event on.pieces None
     on.on_bus.in_order on.whole goes c.feed_into.ensures.scope
 
-pub returns-in-Err-clause-offence : goal.returns-in-Err-clause-offence
-returns-in-Err-clause-offence c =
-    some-at c.stop.new.noted _ _ c.stop.ensures
-    (λ events on. link-offence c.ways_join.ensures c.args.self.now events c.args.event on
-    c.in-Err.fault _ (c.in-Err.ensures.faults on.pieces on.on_bus)
-    (c.in-Err.ensures.impossible on.pieces on.on_bus) refl refl refl)
-
-pub returns-in-Err-clause-accepted : goal.returns-in-Err-clause-accepted
-returns-in-Err-clause-accepted c events on =
-    accepted-still c.args.self.now _ events on c.feed_into.ensures.scope refl
-    (inl refl) refl
+pub returns-in-Err-clause-refused : goal.returns-in-Err-clause-refused
+returns-in-Err-clause-refused c =
+    some-at c.stop.new.noted _ (HasRefused c.args.self.now _ c.args.event) c.stop.ensures
+    (record {
+      offence = λ events on. link-offence c.ways_join.ensures c.args.self.now events c.args.event on
+          c.in-Err.fault _ (c.in-Err.ensures.faults on.pieces on.on_bus)
+          (c.in-Err.ensures.impossible on.pieces on.on_bus) refl refl refl;
+      accepted = λ events on. accepted-still c.args.self.now _ events on c.feed_into.ensures.scope
+          refl (inl refl) refl;
+      noted = c.stop.ensures;
+      numbered = refl;
+      uncounted = refl;
+    })

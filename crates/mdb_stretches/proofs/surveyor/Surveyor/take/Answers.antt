@@ -1,6 +1,8 @@
-use Rattle.std.proofs.Common.{arith, refl, ap, sym, subst, ◌∙◌, ◌≡◌, ◌+◌, ◌*◌, ◌^◌, ◌≤◌, ℕ, List, [], ◌∷◌, ◌++◌, Some, None}
+use Rattle.std.proofs.Common.{◌≡◌, arith, refl, ap, ◌∙◌}
 use Rattle.mdb_bus.specs.Bus.{ended_act}
+use Rattle.mdb_follow.specs.Feeding.{HasRefused}
 use Rattle.mdb_follow.specs.Follower as follow
+use Rattle.mdb_follow.proofs.Following.{by-some}
 use Rattle.mdb_stretches.specs.Told.{learnt_if}
 use Rattle.mdb_stretches.proofs.Standing.{halted_by, taken_more}
 use Rattle.mdb_stretches.proofs.surveyor.Surveyor.take.Goals as goal
@@ -8,7 +10,7 @@ use Rattle.mdb_stretches.proofs.surveyor.Surveyor.take.Goals as goal
 pub returns-in-Some-clause-taken : goal.returns-in-Some-clause-taken
 returns-in-Some-clause-taken c scope rows ended on =
     taken_more c.transcripts_have_one_act_list.ensures c.args.self.now _ scope rows ended c.args.event
-    (ended_act c.in-Some.ended (follow.act_of c.feed_ending.new.self)) on c.in-Some.ensures.reached
+    (ended_act c.in-Some.ended (follow.act_of c.feed_ending.new.self)) on c.in-Some.ensures.taken.stands
     c.feed_ending.ensures.scope c.in-Some.ensures.act
     (c.learn_if.ensures
     ∙ ap (λ act. learnt_if (ended_act c.in-Some.ended act) c.args.self.now.told) c.act.ensures)
@@ -16,5 +18,17 @@ returns-in-Some-clause-taken c scope rows ended on =
 
 pub returns-in-None-clause-halted : goal.returns-in-None-clause-halted
 returns-in-None-clause-halted c scope rows ended on =
-    halted_by c.args.self.now _ scope rows c.args.event ended on c.in-None.ensures.accepted
-    c.in-None.ensures.offence c.feed_ending.ensures.scope refl refl refl refl refl
+    halted_by c.args.self.now _ scope rows c.args.event ended on c.in-None.ensures.refused
+    c.feed_ending.ensures.scope refl refl refl refl refl
+
+pub invariant_of-self-in-None : goal.invariant_of-self-in-None
+invariant_of-self-in-None c =
+    let same : follow.rows_of c.feed_ending.new.self ≡ follow.rows_of c.args.self.now.follower =
+    by-some (follow.offence_of c.feed_ending.new.self)
+    (HasRefused c.args.self.now.follower c.feed_ending.new.self c.args.event) _
+    (λ offence has. has.uncounted) c.in-None.ensures.refused in
+    record {
+      few = omega (arith, same, c.args.self.now.few);
+      few_faults = c.args.self.now.few_faults;
+      within = c.args.self.now.within;
+    }
