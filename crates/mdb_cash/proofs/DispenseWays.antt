@@ -1,5 +1,5 @@
 -- The ways that a DISPENSE may go in a recording that begins in mid-session.
-use Rattle.std.proofs.Common.{◌≡◌, ◌↔◌, ◌⊎◌, ◌&&◌, inl, inr, ℕ, Bool, true, false, List, Option, Some, None, refl, ap, sym, ◌∙◌, if◌then◌else◌}
+use Rattle.std.proofs.Common.{◌≡◌, ◌↔◌, ◌⊎◌, ◌&&◌, inl, inr, ℕ, Bool, true, false, List, [], ◌∷◌, Option, Some, None, refl, ap, sym, ◌∙◌, if◌then◌else◌}
 use Rattle.std.proofs.lemmas.Bool.{eq-eqb}
 use Rattle.mdb_msgs.specs.declared.command.Command.TheVariants.{Changer}
 use Rattle.mdb_msgs.specs.declared.command.ChangerCommand.TheVariants as changer
@@ -13,16 +13,16 @@ use Rattle.mdb_machine.specs.declared.choice.Choice.{Choice}
 use Rattle.mdb_machine.specs.declared.gains.Gains.{Gains}
 use Rattle.mdb_cash.specs.Changer.{dispensed_value, is_last, machine}
 use Rattle.mdb_cash.specs.ChangerFacts.{tables}
-use Rattle.mdb_machine.specs.Gains.{controller_gains, no_gains}
+use Rattle.mdb_machine.specs.Gains.{controller_gains, in_slots, no_gains}
 use Rattle.mdb_machine.specs.MidSession.{AsksNone, facts_recorded}
 use Rattle.mdb_machine.proofs.MidSession.{any_asked, some_told}
 
 -- what a DISPENSE adds, by whether it is owed and the last one again
 abbrev adds : Bool → Bool → ℕ → Gains
-adds owed again value = if owed && again then no_gains else controller_gains 0 value
+adds owed again value = if owed && again then no_gains else controller_gains (in_slots (0 ∷ value ∷ []))
 
 one_of_two : (owed again : Bool) (value : ℕ) (gains : Gains) → owed ≡ true
-    → gains ≡ adds owed again value → (gains ≡ no_gains) ⊎ (gains ≡ controller_gains 0 value)
+    → gains ≡ adds owed again value → (gains ≡ no_gains) ⊎ (gains ≡ controller_gains (in_slots (0 ∷ value ∷ [])))
 one_of_two true true value gains is gained = inl gained
 one_of_two true false value gains is gained = inr gained
 one_of_two false again value gains is gained = absurd cc
@@ -38,8 +38,8 @@ pub owed_ways : (setups : Setups) (so_far : List Act) (coins : ℕ) (choice : Ch
     → (machine (Joined setups)).Step so_far (acts.Ask (Changer (changer.Dispense coins))) choice
     before after gains
     ↔ (after ≡ before) × ((gains ≡ no_gains)
-    ⊎ (gains ≡ controller_gains 0
-    (dispensed_value (facts_recorded tables setups so_far).setup coins)))
+    ⊎ (gains ≡ controller_gains (in_slots
+    (0 ∷ dispensed_value (facts_recorded tables setups so_far).setup coins ∷ []))))
 owed_ways setups so_far coins choice before after gains none owed = (forth, back)
   where
     value : ℕ
@@ -47,7 +47,7 @@ owed_ways setups so_far coins choice before after gains none owed = (forth, back
 
     forth : (machine (Joined setups)).Step so_far (acts.Ask (Changer (changer.Dispense coins)))
         choice before after gains
-        → (after ≡ before) × ((gains ≡ no_gains) ⊎ (gains ≡ controller_gains 0 value))
+        → (after ≡ before) × ((gains ≡ no_gains) ⊎ (gains ≡ controller_gains (in_slots (0 ∷ value ∷ []))))
     forth step = (
       step.step.0 ∙ still_owed before owed,
       one_of_two before.dispense_owed (is_last step.facts.last_asked coins) value gains owed
@@ -74,7 +74,7 @@ owed_ways setups so_far coins choice before after gains none owed = (forth, back
           );
         }
 
-    back : (after ≡ before) × ((gains ≡ no_gains) ⊎ (gains ≡ controller_gains 0 value))
+    back : (after ≡ before) × ((gains ≡ no_gains) ⊎ (gains ≡ controller_gains (in_slots (0 ∷ value ∷ []))))
         → (machine (Joined setups)).Step so_far (acts.Ask (Changer (changer.Dispense coins)))
         choice before after gains
     back (same, inl gained) = by (Some coins) same
@@ -83,7 +83,7 @@ owed_ways setups so_far coins choice before after gains none owed = (forth, back
 
 -- one that isn't owed is new
 none_again : (owed again : Bool) (value : ℕ) → owed ≡ false
-    → adds owed again value ≡ controller_gains 0 value
+    → adds owed again value ≡ controller_gains (in_slots (0 ∷ value ∷ []))
 none_again true again value is = absurd cc
 none_again false again value is = refl
 
@@ -92,7 +92,8 @@ pub free_way : (setups : Setups) (so_far : List Act) (coins : ℕ) (choice : Cho
     → (machine (Joined setups)).Step so_far (acts.Ask (Changer (changer.Dispense coins))) choice
     before after gains
     ↔ (after ≡ record before { dispense_owed = true })
-    × (gains ≡ controller_gains 0 (dispensed_value (facts_recorded tables setups so_far).setup coins))
+    × (gains ≡ controller_gains (in_slots
+    (0 ∷ dispensed_value (facts_recorded tables setups so_far).setup coins ∷ [])))
 free_way setups so_far coins choice before after gains free =
     let value = dispensed_value (facts_recorded tables setups so_far).setup coins in (
       λ step. (

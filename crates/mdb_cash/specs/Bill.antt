@@ -1,5 +1,5 @@
 -- The validator and the controller's dealings with it (MDB/ICP 4.3, bill validator; states and
--- sums, this profile). The first account is bills-in; nothing is added to the second.
+-- sums, this profile). The account is bills-in.
 use Rattle.std.specs.Prelude.{◌≡◌, refl, ◌⊎◌, ℕ, ◌*◌, ◌%◌, Bool, true, false, List, [], ◌∷◌, Option, Some, None, ◌==◌, if◌then◌else◌}
 use Rattle.std.specs.declared.convert.Infallible.{Infallible}
 use Rattle.mdb_msgs.specs.declared.command.BillCommand.{BillCommand}
@@ -19,7 +19,7 @@ use Rattle.mdb_machine.specs.declared.choice.Choice.TheVariants.{Restart}
 use Rattle.mdb_machine.specs.declared.gains.Gains.{Gains}
 use Rattle.mdb_cash.specs.BillFacts.{Facts, known_of, tables}
 use Rattle.mdb_cash.specs.Credits.{counted}
-use Rattle.mdb_machine.specs.Gains.{Stays, no_gains}
+use Rattle.mdb_machine.specs.Gains.{Stays, in_slots, no_gains}
 use Rattle.mdb_machine.specs.KeeperSteps.{Conduct, KeeperStep, StepKnowing}
 use Rattle.mdb_machine.specs.Machine.{Machine, StartsIn}
 use Rattle.mdb_machine.specs.Unvalued as amounts
@@ -106,8 +106,7 @@ conduct =
       TellsNews = λ facts choice news before after.
           MovesBills facts news (escrow_read choice before.escrow) after.escrow
           × (after.holds ≡ before.holds);
-      first_gain = λ facts. stacked facts.setup;
-      second_gain = λ facts message. 0;
+      gain = λ facts slot message. in_slots (stacked facts.setup message ∷ []) slot;
       asks_amount = λ command. false;
       tells_amount = is_stacked;
       heard_reset = λ state. state;

@@ -1,6 +1,6 @@
 -- The changer and the controller's dealings with it (MDB/ICP 4.3, coin changer; states and sums,
--- this profile). The accounts are coins-in and paid-out.
-use Rattle.std.specs.Prelude.{◌≡◌, refl, ℕ, ◌*◌, ◌/◌, ◌%◌, Bool, true, false, ◌&&◌, List, Option, Some, None, ◌==◌, if◌then◌else◌}
+-- this profile). The accounts are coins-in and paid-out, by slot.
+use Rattle.std.specs.Prelude.{◌≡◌, refl, ℕ, ◌*◌, ◌/◌, ◌%◌, Bool, true, false, ◌&&◌, List, [], ◌∷◌, Option, Some, None, ◌==◌, if◌then◌else◌}
 use Rattle.std.specs.List.{AllByRecursion}
 use Rattle.mdb_msgs.specs.declared.command.ChangerCommand.{ChangerCommand}
 use Rattle.mdb_msgs.specs.declared.command.ChangerCommand.TheVariants as changer
@@ -15,7 +15,7 @@ use Rattle.mdb_machine.specs.declared.choice.Choice.{Choice}
 use Rattle.mdb_machine.specs.declared.choice.Choice.TheVariants.{Lost}
 use Rattle.mdb_machine.specs.declared.gains.Gains.{Gains}
 use Rattle.mdb_cash.specs.ChangerFacts.{Facts, known_of, tables}
-use Rattle.mdb_machine.specs.Gains.{Stays, controller_gains, device_gains, no_gains}
+use Rattle.mdb_machine.specs.Gains.{Stays, controller_gains, device_gains, in_slots, no_gains}
 use Rattle.mdb_cash.specs.Credits.{counted}
 use Rattle.mdb_machine.specs.KeeperSteps.{Conduct, KeeperStep, StepKnowing}
 use Rattle.mdb_machine.specs.Machine.{Machine, StartsIn}
@@ -64,7 +64,7 @@ DispenseStep facts coins before after gains =
     (after ≡ record before { dispense_owed = true })
     × (gains ≡ (if before.dispense_owed && is_last facts.last_asked coins
     then no_gains
-    else controller_gains 0 (dispensed_value facts.setup coins)))
+    else controller_gains (in_slots (0 ∷ dispensed_value facts.setup coins ∷ []))))
 
 -- The controller asks: after RESET nothing is owed.
 abbrev pub AskStep : Facts → ChangerCommand → ChangerState → ChangerState → Gains → Type 0
@@ -87,7 +87,7 @@ TakeStep facts changer.Reset choice before after gains =
     (after ≡ record before { holds = false }) × (gains ≡ no_gains)
 TakeStep facts (changer.Dispense coins) choice before after gains =
     (after ≡ record before { dispense_owed = owed_acked choice before.dispense_owed })
-    × (gains ≡ device_gains 0 (dispensed_value facts.setup coins))
+    × (gains ≡ device_gains (in_slots (0 ∷ dispensed_value facts.setup coins ∷ [])))
 TakeStep facts _ choice before after gains = Stays before after gains
 
 -- whether the controller asks for coins by a command
@@ -111,8 +111,8 @@ conduct =
       Acks = TakeStep;
       TellsNews = λ facts choice news before after.
           AllByRecursion (MayBeNew facts) news × (after ≡ before);
-      first_gain = λ facts. deposited facts.setup;
-      second_gain = λ facts. paid_by_hand facts.setup;
+      gain = λ facts slot message. in_slots
+          (deposited facts.setup message ∷ paid_by_hand facts.setup message ∷ []) slot;
       asks_amount = asks_coins;
       tells_amount = λ message. true;
       heard_reset = λ state. record state { dispense_owed = false };

@@ -27,7 +27,7 @@ pub use state::{BillState, BillType, Escrow};
 pub use tables::BillKnown;
 
 /// The bill validator and the controller's dealings with it (MDB/ICP 4.3, bill validator). Its
-/// first account is bills-in. The second stays 0.
+/// account is bills-in.
 pub struct Bill;
 
 impl HasCode for BillState {

@@ -1,6 +1,6 @@
 //! Laws of the changer and the validator. Each function's contract is the law.
 
-ghost use Rattle.std.specs.Prelude.{◌≡◌, ◌≢◌, ◌⊎◌, ◌↔◌, ℕ, Bool, true, false, List, [], All};
+ghost use Rattle.std.specs.Prelude.{◌≡◌, ◌≢◌, ◌⊎◌, ◌↔◌, ℕ, Bool, true, false, List, [], ◌∷◌, All};
 ghost use Rattle.mdb_msgs.specs.declared.command.BillCommand.{BillCommand};
 ghost use Rattle.mdb_msgs.specs.declared.command.BillCommand.TheVariants as bill_commands;
 ghost use Rattle.mdb_msgs.specs.declared.command.ChangerCommand.{ChangerCommand};
@@ -30,7 +30,7 @@ ghost use Rattle.mdb_cash.specs.Changer.{dispensed_value};
 ghost use Rattle.mdb_cash.specs.ChangerFacts as changer;
 ghost use Rattle.mdb_cash.specs.ChangerMessages as changer_messages;
 ghost use Rattle.mdb_cash.specs.ChangerMessages.{first_byte, part_of};
-ghost use Rattle.mdb_machine.specs.Gains.{Stays, controller_gains, no_gains};
+ghost use Rattle.mdb_machine.specs.Gains.{Stays, controller_gains, in_slots, no_gains};
 ghost use Rattle.mdb_machine.specs.Keeper.{AllowsFacts};
 ghost use Rattle.mdb_machine.specs.Kept.{kept_of};
 ghost use Rattle.mdb_machine.specs.MidSession.{AsksNone, IsSettled, TellsHeldFirst, TellsNone};
@@ -142,15 +142,17 @@ pub fn in_mid_session_the_changer_has_these_ways_alone()
         → AsksNone changer.tables so_far → before.dispense_owed ≡ true
         → (changer_machine.machine (Joined setups)).Step so_far
         (acts.Ask (commands.Changer (changer_commands.Dispense coins))) choice before after gains
-        ↔ (after ≡ before) × ((gains ≡ no_gains) ⊎ (gains ≡ controller_gains 0
-        (dispensed_value (facts_recorded changer.tables setups so_far).setup coins))) }
+        ↔ (after ≡ before) × ((gains ≡ no_gains) ⊎ (gains ≡ controller_gains (in_slots
+        (0 ∷ dispensed_value (facts_recorded changer.tables setups so_far).setup coins
+        ∷ [])))) }
     ensures free { (setups : Setups) (so_far : List Act) (coins : ℕ) (choice : Choice)
         (before after : ChangerState) (gains : Gains)
         → before.dispense_owed ≡ false
         → (changer_machine.machine (Joined setups)).Step so_far
         (acts.Ask (commands.Changer (changer_commands.Dispense coins))) choice before after gains
-        ↔ (after ≡ record before { dispense_owed = true }) × (gains ≡ controller_gains 0
-        (dispensed_value (facts_recorded changer.tables setups so_far).setup coins)) }
+        ↔ (after ≡ record before { dispense_owed = true }) × (gains ≡ controller_gains (in_slots
+        (0 ∷ dispensed_value (facts_recorded changer.tables setups so_far).setup coins
+        ∷ []))) }
     ensures settled { (setups : Setups) (so_far : List Act) (act : Act) (choice : Choice)
         (before after : ChangerState) (gains : Gains)
         → IsSettled changer.tables changer_machine.conduct so_far act choice before

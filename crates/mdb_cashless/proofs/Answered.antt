@@ -1,10 +1,10 @@
-use Rattle.std.proofs.Common.{◌≡◌, ◌∙◌, ℕ, Bool, List, Option, Some, refl, ap, sym}
+use Rattle.std.proofs.Common.{◌≡◌, ◌∙◌, ℕ, Bool, List, [], ◌∷◌, Option, Some, refl, ap, sym}
 use Rattle.mdb_msgs.specs.declared.command.ReaderCommand.{ReaderCommand}
 use Rattle.mdb_msgs.specs.declared.reply.Reply.{Reply}
 use Rattle.mdb_machine.specs.declared.choice.Choice.{Choice}
 use Rattle.mdb_machine.specs.declared.gains.Gains.{Gains}
 use Rattle.mdb_machine.specs.declared.kept.Part.{Part}
-use Rattle.mdb_machine.specs.Gains.{device_gains}
+use Rattle.mdb_machine.specs.Gains.{device_gains, in_slots}
 use Rattle.mdb_machine.specs.Kept.{IsSummary, HasNews, held, holds_after, kept_of}
 use Rattle.mdb_machine.specs.Pair.{IsOnlyStep}
 use Rattle.mdb_machine.specs.Past.{or_else}
@@ -58,7 +58,7 @@ pub told : {facts : Facts} {command : ReaderCommand} {reply : Reply} {choice : C
     → all_told last news middle.device ≡ Some device
     → after_holds ≡ holds_after kept middle.holds
     → config ≡ or_else (last_said config_in (messages_of reply)) facts.config
-    → approved ≡ all_approved config news → sold ≡ sold_any facts (taken command reply) (read choice before) → gains ≡ device_gains approved sold
+    → approved ≡ all_approved config news → sold ≡ sold_any facts (taken command reply) (read choice before) → gains ≡ device_gains (in_slots (approved ∷ sold ∷ []))
     → IsOnlyStep (ReplyStep facts command reply choice before) (Some (record { device = device; view = before.view; holds = after_holds }, gains))
 told {facts} {command} {reply} {choice} {before} {poll} {owed} {reset} {early} {middle} {holding} {kept} {news} {last} {device} {after_holds} {config} {approved} {sold} {gains} looked found only last_is told_is after_holds_is config_is approved_is sold_is gains_are =
     let ready = before_messages facts command reply choice before in
@@ -69,8 +69,8 @@ told {facts} {command} {reply} {choice} {before} {poll} {owed} {reset} {early} {
     ap (λ l. all_told l news ready.device) (sym last_is) ∙ (ap (all_told last news) (sym devices) ∙ told_is) in
     let holds : after_holds ≡ holds_after (kept_of (parts_of reply)) ready.holds =
     after_holds_is ∙ (ap (λ ks. holds_after ks middle.holds) looked.summary.kept_is ∙ ap (holds_after (kept_of (parts_of reply))) holding_on) in
-    let gained : gains ≡ device_gains (all_approved own_config news) (sold_any facts (taken command reply) (read choice before)) =
-    gains_are ∙ (ap (λ a. device_gains a sold) (approved_is ∙ ap (λ c. all_approved c news) config_is) ∙ ap (device_gains (all_approved own_config news)) sold_is) in (
+    let gained : gains ≡ device_gains (in_slots (all_approved own_config news ∷ sold_any facts (taken command reply) (read choice before) ∷ [])) =
+    gains_are ∙ (ap (λ a. device_gains (in_slots (a ∷ sold ∷ []))) (approved_is ∙ ap (λ c. all_approved c news) config_is) ∙ ap (λ s. device_gains (in_slots (all_approved own_config news ∷ s ∷ []))) sold_is) in (
       record {
         news = news;
         has_news = told_back looked (found (parts_of reply) looked.summary);
@@ -85,6 +85,6 @@ told {facts} {command} {reply} {choice} {before} {poll} {owed} {reset} {early} {
           sym step.told ∙ (ap (λ ns. all_told (last_transaction facts (taken command reply)) ns ready.device) same ∙ tells) in
           let devices_same : other.device ≡ device = cc in (
             same_state devices_same step.view (step.holds ∙ sym holds),
-            step.gained ∙ (ap (λ ns. device_gains (all_approved own_config ns) (sold_any facts (taken command reply) (read choice before))) same ∙ sym gained),
+            step.gained ∙ (ap (λ ns. device_gains (in_slots (all_approved own_config ns ∷ sold_any facts (taken command reply) (read choice before) ∷ []))) same ∙ sym gained),
           ),
     )

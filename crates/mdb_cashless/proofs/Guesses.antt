@@ -10,7 +10,7 @@ use Rattle.mdb_msgs.specs.declared.reply.Reply.{Reply}
 use Rattle.mdb_machine.specs.declared.choice.Choice.{Choice}
 use Rattle.mdb_machine.specs.declared.choice.Choice.TheVariants.{Plain, Lost, Restart}
 use Rattle.mdb_machine.specs.declared.gains.Gains.{Gains}
-use Rattle.mdb_machine.specs.Gains.{device_gains}
+use Rattle.mdb_machine.specs.Gains.{device_gains, in_slots}
 use Rattle.mdb_machine.specs.Kept.{IsNew, held, holds_after, kept_of}
 use Rattle.mdb_machine.specs.Past.{or_else}
 use Rattle.mdb_cashless.specs.declared.reader.device.DeviceState.{DeviceState}
@@ -224,9 +224,9 @@ ack_with facts a b t u k l command choice before after gains same step =
         view = before.view;
         holds = if drops command then false else before.holds;
       }) { view = view_heard choice command before.view }) is;
-      gained = step.gained ∙ ap (λ (r : Bool). device_gains 0 (if r then 0
+      gained = step.gained ∙ ap (λ (r : Bool). device_gains (in_slots (0 ∷ (if r then 0
           else if is_sale command before.device then value facts.config facts.amount
-          else 0)) is;
+          else 0) ∷ []))) is;
     }
 
 pub ack_same : (facts : Facts) (a b t u : Option Transaction) (k l : List ReaderActivity)
@@ -298,7 +298,7 @@ reply_with facts a b t u k l command reply choice before after gains meets step 
       view = step.view;
       holds = step.holds ∙ ap (λ (s : ReaderState).
           holds_after (kept_of (parts_of reply)) s.holds) (sym middle);
-      gained = step.gained ∙ ap (λ n. device_gains approved n) (sym sold);
+      gained = step.gained ∙ ap (λ n. device_gains (in_slots (approved ∷ n ∷ []))) (sym sold);
     }
 
 -- A reader holds on once it has taken a command only where it held before.

@@ -16,7 +16,7 @@ use Rattle.mdb_bus.specs.declared.act.Act.TheVariants as acts
 use Rattle.mdb_bus.specs.declared.scope.Beginning.TheVariants.{Joined}
 use Rattle.mdb_machine.specs.declared.choice.Choice.{Choice}
 use Rattle.mdb_machine.specs.declared.gains.Gains.{Gains}
-use Rattle.mdb_machine.specs.Gains.{device_gains}
+use Rattle.mdb_machine.specs.Gains.{device_gains, in_slots}
 use Rattle.mdb_machine.specs.Kept.{IsNew, MayBeKept, held, holds_after, kept_of}
 use Rattle.mdb_machine.specs.Known.{Allows, AllowsKept, known_by}
 use Rattle.mdb_machine.specs.Past.{last_list, last_told, or_else, powers_on, resets, unless_empty}
@@ -474,7 +474,7 @@ ack_ways fields unit setups so_far command choice before after gains = (
           to = way.to ∙ ap (λ (m : ReaderState). record m {
             view = view_heard choice command before.view;
           }) (sym to.0);
-          gained = way.gained ∙ ap (device_gains 0) (sym to.1);
+          gained = way.gained ∙ ap (λ n. device_gains (in_slots (0 ∷ n ∷ []))) (sym to.1);
         },
       ),
 )
@@ -582,8 +582,10 @@ reply_ways fields unit setups so_far command reply choice before after gains = (
           view = step.view;
           holds = step.holds;
           gained = step.gained
-              ∙ ap (λ n. device_gains (all_approved (config facts.config) n) sold) is.1.1
-              ∙ ap (λ c. device_gains (all_approved (config c) (drop is.0 kept)) sold) allowed.config;
+              ∙ ap (λ n. device_gains (in_slots (all_approved (config facts.config) n ∷ sold ∷ [])))
+              is.1.1
+              ∙ ap (λ c. device_gains (in_slots
+              (all_approved (config c) (drop is.0 kept) ∷ sold ∷ []))) allowed.config;
         }
 
     back : ReplyWay unit so_far base command reply choice before after gains
@@ -614,8 +616,8 @@ reply_ways fields unit setups so_far command reply choice before after gains = (
                 (drop way.count kept) m.device) to.0 ∙ way.told;
             view = way.view;
             holds = way.holds ∙ ap (λ (m : ReaderState). holds_after kept m.holds) (sym to.0);
-            gained = way.gained ∙ ap (λ n. device_gains (all_approved (config base.config)
-                (drop way.count kept)) n) (sym to.1);
+            gained = way.gained ∙ ap (λ n. device_gains (in_slots
+                (all_approved (config base.config) (drop way.count kept) ∷ n ∷ []))) (sym to.1);
           },
         )
 

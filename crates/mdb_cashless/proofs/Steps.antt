@@ -1,4 +1,4 @@
-use Rattle.std.proofs.Common.{◌≡◌, ◌∙◌, ◌↔◌, Bool, true, false, not, List, Option, Some, None, refl, ap, sym, subst}
+use Rattle.std.proofs.Common.{◌≡◌, ◌∙◌, ◌↔◌, Bool, true, false, not, List, [], ◌∷◌, Option, Some, None, refl, ap, sym, subst}
 use Rattle.std.specs.Bool.{OnFalse, OnTrue}
 use Rattle.mdb_msgs.specs.declared.command.Command.{Command}
 use Rattle.mdb_msgs.specs.declared.command.ReaderCommand.{ReaderCommand}
@@ -11,7 +11,7 @@ use Rattle.mdb_bus.specs.declared.scope.Beginning.{Beginning}
 use Rattle.mdb_machine.specs.declared.choice.Choice.{Choice}
 use Rattle.mdb_machine.specs.declared.choice.Choice.TheVariants.{Plain, Lost, Restart}
 use Rattle.mdb_machine.specs.declared.gains.Gains.{Gains}
-use Rattle.mdb_machine.specs.Gains.{Stays, controller_gains, device_gains, no_gains}
+use Rattle.mdb_machine.specs.Gains.{Stays, controller_gains, device_gains, in_slots, no_gains}
 use Rattle.mdb_machine.specs.Pair.{IsOnlyStep}
 use Rattle.mdb_cashless.specs.declared.reader.device.DeviceState.{DeviceState}
 use Rattle.mdb_cashless.specs.declared.reader.state.ReaderState.{ReaderState}
@@ -80,14 +80,14 @@ ask_stays facts command before after gains still =
           let view : Some before.view ≡ Some after.view = sym left.0 ∙ step.view in
           let views : after.view ≡ before.view = cc in (
             same_state step.device views step.holds,
-            step.gained ∙ ap (controller_gains 0) left.1,
+            step.gained ∙ ap (λ n. controller_gains (in_slots (0 ∷ n ∷ []))) left.1,
           ),
       λ stays.
           record {
             view = left.0 ∙ ap (λ (s : ReaderState). Some s.view) (sym stays.0);
             device = ap (λ (s : ReaderState). s.device) stays.0;
             holds = ap (λ (s : ReaderState). s.holds) stays.0;
-            gained = stays.1 ∙ ap (controller_gains 0) (sym left.1);
+            gained = stays.1 ∙ ap (λ n. controller_gains (in_slots (0 ∷ n ∷ []))) (sym left.1);
           },
     )
 
@@ -115,9 +115,10 @@ same_after facts Plain device view = refl
 same_after facts Lost device view = refl
 same_after facts Restart device view = refl
 
-none_sold : (facts : Facts) (device : DeviceState) (view : View)
-    → sold facts reader.Poll (record { device = device; view = view; holds = false }) ≡ 0
-none_sold facts device view = refl
+none_gained : (facts : Facts) (device : DeviceState) (view : View)
+    → device_gains (in_slots (0 ∷ sold facts reader.Poll
+    (record { device = device; view = view; holds = false }) ∷ [])) ≡ no_gains
+none_gained facts device view = refl
 
 rests_apart : (facts : Facts) (choice : Choice) (device : DeviceState) (view : View)
     (after : ReaderState) (gains : Gains)
@@ -126,12 +127,12 @@ rests_apart : (facts : Facts) (choice : Choice) (device : DeviceState) (view : V
 rests_apart facts choice device view after gains = (
   (λ step. (
     step.to ∙ same_after facts choice device view,
-    step.gained ∙ ap (device_gains 0) (none_sold facts device view),
+    step.gained ∙ none_gained facts device view,
   )),
   (λ both. record {
     poll = refl;
     to = both.0 ∙ sym (same_after facts choice device view);
-    gained = both.1 ∙ sym (ap (device_gains 0) (none_sold facts device view));
+    gained = both.1 ∙ sym (none_gained facts device view);
   }),
 )
 

@@ -1,7 +1,7 @@
 -- What a recording that begins in mid-session leaves open of a reader (this profile): the ways that
 -- an act may go where something isn't known, listed one by one. A law says that these ways are
 -- there, and no other. Acts so far stand newest first.
-use Rattle.std.specs.Prelude.{◌≡◌, ◌≢◌, ◌⊎◌, ℕ, ◌≤◌, Bool, true, false, ◌&&◌, List, [], Option, Some, None, drop, length, take, if◌then◌else◌}
+use Rattle.std.specs.Prelude.{◌≡◌, ◌≢◌, ◌⊎◌, ℕ, ◌≤◌, Bool, true, false, ◌&&◌, List, [], ◌∷◌, Option, Some, None, drop, length, take, if◌then◌else◌}
 use Rattle.std.specs.List.{All}
 use Rattle.mdb_msgs.specs.Setups.{config_known}
 use Rattle.mdb_msgs.specs.declared.command.ReaderCommand.{ReaderCommand}
@@ -12,7 +12,7 @@ use Rattle.mdb_bus.specs.declared.act.Act.{Act}
 use Rattle.mdb_bus.specs.declared.act.Act.TheVariants as acts
 use Rattle.mdb_machine.specs.declared.choice.Choice.{Choice}
 use Rattle.mdb_machine.specs.declared.gains.Gains.{Gains}
-use Rattle.mdb_machine.specs.Gains.{device_gains}
+use Rattle.mdb_machine.specs.Gains.{device_gains, in_slots}
 use Rattle.mdb_machine.specs.Kept.{MayBeKept, MayBeRead, holds_after, kept_of}
 use Rattle.mdb_machine.specs.MidSession.{past_recorded}
 use Rattle.mdb_machine.specs.Past.{or_else}
@@ -122,9 +122,9 @@ pub record ReplyWay (unit : ReaderUnit) (so_far : List Act) (facts : Facts)
       (drop count (kept_of (parts_of reply))) middle.device ≡ Some after.device
   pub view : after.view ≡ before.view
   pub holds : after.holds ≡ holds_after (kept_of (parts_of reply)) middle.holds
-  pub gained : gains ≡ device_gains
+  pub gained : gains ≡ device_gains (in_slots
       (all_approved (or_else (last_said config_in (messages_of reply)) facts.config)
-      (drop count (kept_of (parts_of reply)))) sold
+      (drop count (kept_of (parts_of reply))) ∷ sold ∷ []))
 
 -- a way of an ACK: it is none to POLL while the reader holds messages
 pub record AckWay (unit : ReaderUnit) (so_far : List Act) (facts : Facts)
@@ -135,7 +135,7 @@ pub record AckWay (unit : ReaderUnit) (so_far : List Act) (facts : Facts)
   pub poll : (is_poll command && before.holds) ≡ false
   pub takes : Takes unit so_far facts (Some command) before middle sold
   pub to : after ≡ record middle { view = view_heard choice command before.view }
-  pub gained : gains ≡ device_gains 0 sold
+  pub gained : gains ≡ device_gains (in_slots (0 ∷ sold ∷ []))
 
 -- What isn't known is of no matter for an act. An ask is of no transaction command, or the acts so
 -- far send one. An ACK or a reply is of another device; `AckWay` and `ReplyWay` are for those of

@@ -1,5 +1,5 @@
 -- A cashless reader and the controller's dealings with it (MDB/ICP 4.3, cashless device; states and
--- sums, this profile). The accounts are approved and sold.
+-- sums, this profile). The accounts are approved and sold, by slot.
 use Rattle.std.specs.Prelude.{◌≡◌, ℕ, ◌+◌, ◌*◌, Bool, true, false, ◌&&◌, ◌||◌, List, [], ◌∷◌, Option, Some, None, if◌then◌else◌, sum_by}
 use Rattle.std.specs.Option.{is_none}
 use Rattle.mdb_msgs.specs.declared.command.ReaderCommand.{ReaderCommand}
@@ -14,7 +14,7 @@ use Rattle.mdb_bus.specs.declared.scope.Beginning.{Beginning}
 use Rattle.mdb_machine.specs.declared.choice.Choice.{Choice}
 use Rattle.mdb_machine.specs.declared.choice.Choice.TheVariants.{Lost, Restart}
 use Rattle.mdb_machine.specs.declared.gains.Gains.{Gains}
-use Rattle.mdb_machine.specs.Gains.{controller_gains, device_gains}
+use Rattle.mdb_machine.specs.Gains.{controller_gains, device_gains, in_slots}
 use Rattle.mdb_machine.specs.Kept.{HasNews, held, holds_acked, holds_after, kept_of}
 use Rattle.mdb_machine.specs.Machine.{Machine, StartsIn}
 use Rattle.mdb_machine.specs.Past.{or_else, resets, tells_out_of_sequence}
@@ -133,7 +133,7 @@ pub record AskStep (facts : Facts) (command : ReaderCommand) (before after : Rea
   pub view : asked facts command before.view ≡ Some after.view
   pub device : after.device ≡ before.device
   pub holds : after.holds ≡ before.holds
-  pub gained : gains ≡ controller_gains 0 (sold_to facts command before.view)
+  pub gained : gains ≡ controller_gains (in_slots (0 ∷ sold_to facts command before.view ∷ []))
 
 -- the view after hearing that the reader took a command: that tells something of a transaction
 -- command
@@ -157,7 +157,7 @@ pub record AckStep (facts : Facts) (command : ReaderCommand) (choice : Choice)
   pub to : after ≡ record (take facts command before) {
     view = view_heard choice command before.view;
   }
-  pub gained : gains ≡ device_gains 0 (sold facts command before)
+  pub gained : gains ≡ device_gains (in_slots (0 ∷ sold facts command before ∷ []))
 
 -- the state of the reader once a reply is read: after a restart it is in its power-on state, and
 -- holds nothing; the controller doesn't know of that yet
@@ -210,9 +210,9 @@ pub record ReplyStep (facts : Facts) (command : ReaderCommand) (reply : Reply)
   pub view : after.view ≡ before.view
   pub holds : after.holds ≡ holds_after (kept_of (parts_of reply))
       (before_messages facts command reply choice before).holds
-  pub gained : gains ≡ device_gains
-      (all_approved (or_else (last_said config_in (messages_of reply)) facts.config) news)
-      (sold_any facts (taken command reply) (read choice before))
+  pub gained : gains ≡ device_gains (in_slots
+      (all_approved (or_else (last_said config_in (messages_of reply)) facts.config) news
+      ∷ sold_any facts (taken command reply) (read choice before) ∷ []))
 
 -- the view after hearing that the reply's command was taken, if it was
 abbrev pub view_answered : Option ReaderCommand → View → View
@@ -228,9 +228,9 @@ pub record VmcAckStep (facts : Facts) (command : ReaderCommand) (reply : Reply) 
     view = all_heard (messages_of reply) (view_answered (taken command reply) before.view);
     holds = holds_acked choice (kept_of (parts_of reply)) before.holds;
   }
-  pub gained : gains ≡ controller_gains
+  pub gained : gains ≡ controller_gains (in_slots
       (all_approved_to facts.config (view_answered (taken command reply) before.view)
-      (messages_of reply)) 0
+      (messages_of reply) ∷ []))
 
 -- A step of a reader and the controller by an act under a choice, after acts that leave these
 -- facts.

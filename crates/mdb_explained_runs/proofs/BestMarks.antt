@@ -1,15 +1,13 @@
 -- The best marks of each device, for a goal: with them no run goes further towards the end of the
 -- range, and none that comes there has fewer marks of a device.
 use Rattle.std.proofs.Common.{arith, inl, inr, refl, sym, subst, ap, ◌∙◌, ◌≡◌, ◌≤◌, ℕ, ℤ, ◌≤ℤ◌}
-use Rattle.std.proofs.Common.{List, length}
+use Rattle.std.proofs.Common.{Bool, true, false, List, length, if◌then◌else◌}
+use Rattle.std.proofs.lemmas.Bool.{eqb-true, eq-eqb}
 use Rattle.std.proofs.lemmas.Int.{ints}
 use Rattle.mdb_msgs.specs.declared.command.Device.{Device}
-use Rattle.mdb_msgs.specs.declared.command.Device.TheVariants as devices
-use Rattle.mdb_msgs.specs.declared.command.ReaderUnit.TheVariants as units
 use Rattle.mdb_bus.specs.declared.scope.Beginning.TheVariants.{PowerOn}
 use Rattle.mdb_bus.specs.ActLists.{Piece, acts_of}
 use Rattle.mdb_follow.specs.declared.account_name.AccountName.{AccountName}
-use Rattle.mdb_follow.specs.declared.account_name.AccountName.TheVariants as accounts
 use Rattle.mdb_explained_runs.specs.declared.explain.best.Weight.{Weight}
 use Rattle.mdb_explained_runs.specs.declared.explain.best.Weight.TheVariants as weights
 use Rattle.mdb_follow.specs.declared.goal.AccountSide.{AccountSide}
@@ -17,27 +15,25 @@ use Rattle.mdb_follow.specs.declared.goal.Bound.{Bound}
 use Rattle.mdb_follow.specs.declared.goal.Bound.TheVariants.{Least, Greatest}
 use Rattle.mdb_follow.specs.declared.goal.Goal.{Goal}
 use Rattle.mdb_explained_runs.specs.declared.mark.Mark.{Mark}
-use Rattle.mdb_follow.specs.AccountNames.{account_device, sums_of}
+use Rattle.mdb_follow.specs.AccountNames.{account_device, account_slot, sums_of}
 use Rattle.mdb_follow.specs.Choosing.{Choices, Follows}
+use Rattle.mdb_follow.specs.Devices.{device_place, same_device}
 use Rattle.mdb_follow.specs.Ends.{IsAsFar, goal_value, side_value}
 use Rattle.mdb_follow.specs.Machines.{StateOf, machine_of}
 use Rattle.mdb_explained_runs.specs.Marks.{own_marks}
 use Rattle.mdb_follow.specs.Runs.{AllSums}
 use Rattle.mdb_explained_runs.specs.inner.AllPaths.{AreBestMarks, weight_at, weight_for}
 use Rattle.mdb_explained_runs.specs.inner.Weights.{towards, weigh}
-use Rattle.mdb_follow.proofs.ByDevice.{same_or_not}
+use Rattle.mdb_follow.proofs.ByDevice.{one_place, same_or_not}
 
 -- what the sums of the goal's device count is the goal's value, towards its end
 account-weighed : (side : AccountSide) (bound : Bound) (account : AccountName) (sums : AllSums)
     → weigh (weight_at side bound account (account_device account)) (sums (account_device account))
     ≡ towards bound (side_value side (sums_of account sums))
-account-weighed side bound accounts.CoinsIn sums = refl
-account-weighed side bound accounts.BillsIn sums = refl
-account-weighed side bound accounts.PaidOut sums = refl
-account-weighed side bound (accounts.Approved units.First) sums = refl
-account-weighed side bound (accounts.Approved units.Second) sums = refl
-account-weighed side bound (accounts.Sold units.First) sums = refl
-account-weighed side bound (accounts.Sold units.Second) sums = refl
+account-weighed side bound account sums =
+    let place = device_place (account_device account) in
+    ap (λ same. weigh (if same then weights.Account (account_slot account) side bound
+    else weights.Nothing) (sums (account_device account))) (eq-eqb place place refl)
 
 pub goal-weighed : (goal : Goal) (sums : AllSums)
     → weigh (weight_for goal (account_device goal.account)) (sums (account_device goal.account))
@@ -47,35 +43,17 @@ goal-weighed goal sums = account-weighed goal.side goal.bound goal.account sums
 -- those of another device count nothing
 account-apart : (side : AccountSide) (bound : Bound) (account : AccountName) (device : Device)
     → (account_device account ≡ device → ⊥) → weight_at side bound account device ≡ weights.Nothing
-account-apart side bound accounts.CoinsIn devices.Changer apart = absurd (apart refl)
-account-apart side bound accounts.CoinsIn devices.Bill apart = refl
-account-apart side bound accounts.CoinsIn (devices.Reader unit) apart = refl
-account-apart side bound accounts.BillsIn devices.Changer apart = refl
-account-apart side bound accounts.BillsIn devices.Bill apart = absurd (apart refl)
-account-apart side bound accounts.BillsIn (devices.Reader unit) apart = refl
-account-apart side bound accounts.PaidOut devices.Changer apart = absurd (apart refl)
-account-apart side bound accounts.PaidOut devices.Bill apart = refl
-account-apart side bound accounts.PaidOut (devices.Reader unit) apart = refl
-account-apart side bound (accounts.Approved units.First) devices.Changer apart = refl
-account-apart side bound (accounts.Approved units.Second) devices.Changer apart = refl
-account-apart side bound (accounts.Approved units.First) devices.Bill apart = refl
-account-apart side bound (accounts.Approved units.Second) devices.Bill apart = refl
-account-apart side bound (accounts.Approved units.First) (devices.Reader units.First) apart =
-    absurd (apart refl)
-account-apart side bound (accounts.Approved units.First) (devices.Reader units.Second) apart = refl
-account-apart side bound (accounts.Approved units.Second) (devices.Reader units.First) apart = refl
-account-apart side bound (accounts.Approved units.Second) (devices.Reader units.Second) apart =
-    absurd (apart refl)
-account-apart side bound (accounts.Sold units.First) devices.Changer apart = refl
-account-apart side bound (accounts.Sold units.Second) devices.Changer apart = refl
-account-apart side bound (accounts.Sold units.First) devices.Bill apart = refl
-account-apart side bound (accounts.Sold units.Second) devices.Bill apart = refl
-account-apart side bound (accounts.Sold units.First) (devices.Reader units.First) apart =
-    absurd (apart refl)
-account-apart side bound (accounts.Sold units.First) (devices.Reader units.Second) apart = refl
-account-apart side bound (accounts.Sold units.Second) (devices.Reader units.First) apart = refl
-account-apart side bound (accounts.Sold units.Second) (devices.Reader units.Second) apart =
-    absurd (apart refl)
+account-apart side bound account device apart =
+    by (same_device (account_device account) device) refl
+  where
+    by : (same : Bool) → same_device (account_device account) device ≡ same
+        → weight_at side bound account device ≡ weights.Nothing
+    by true is =
+        absurd (apart (one_place (account_device account) device
+        (eqb-true (device_place (account_device account)) (device_place device) is)))
+    by false is =
+        ap (λ same. if same then weights.Account (account_slot account) side bound
+        else weights.Nothing) is
 
 -- where two runs come to the same value of the goal, the sums of each device count the same in both
 pub same-weighed : (goal : Goal) (device : Device) (one other : AllSums)

@@ -15,14 +15,12 @@ use Rattle.mdb_bus.specs.Scopes.{IsFollowed, IsLeftOut}
 use Rattle.mdb_machine.specs.Pair.{IsBreak, own_acts}
 use Rattle.mdb_follow.specs.declared.account.Account.{Account}
 use Rattle.mdb_follow.specs.declared.account_name.AccountName.{AccountName}
-use Rattle.mdb_follow.specs.declared.account_name.AccountName.TheVariants.{CoinsIn, BillsIn}
-use Rattle.mdb_follow.specs.declared.account_name.AccountName.TheVariants.{PaidOut, Approved, Sold}
 use Rattle.mdb_follow.specs.declared.offence.Offence.{Offence}
 use Rattle.mdb_follow.specs.declared.range.Range.{Range}
 use Rattle.mdb_follow.specs.declared.report.Report.{Report}
-use Rattle.mdb_follow.specs.AccountNames.{account_device, account_of, no_account, no_range, sums_of}
+use Rattle.mdb_follow.specs.AccountNames.{account_device, account_of, account_slot, sums_of}
 use Rattle.mdb_follow.specs.LeavingOut.{HasNothingLeftOut}
-use Rattle.mdb_follow.specs.Ranges.{IsAccount, IsRange}
+use Rattle.mdb_follow.specs.Ranges.{IsAccount, IsRange, no_account, no_range}
 use Rattle.mdb_follow.specs.Report.{decimals_of, device_decimals, device_silences}
 use Rattle.mdb_follow.specs.Report.{device_unvalued, unvalued_of}
 use Rattle.mdb_follow.specs.Runs.{AllSums, Run}
@@ -62,11 +60,7 @@ offends_followed names faults scope rows marks row mark offence device is blamed
 -- what an account has come to where the sums of its device are nothing
 nothing_of : (account : AccountName) (sums : AllSums) → sums (account_device account) ≡ no_sums
     → sums_of account sums ≡ record { device = 0; controller = 0 }
-nothing_of CoinsIn sums nothing = ap (λ s. s.first) nothing
-nothing_of BillsIn sums nothing = ap (λ s. s.first) nothing
-nothing_of PaidOut sums nothing = ap (λ s. s.second) nothing
-nothing_of (Approved unit) sums nothing = ap (λ s. s.first) nothing
-nothing_of (Sold unit) sums nothing = ap (λ s. s.second) nothing
+nothing_of account sums nothing = ap (λ s. s (account_slot account)) nothing
 
 -- a range of values that are all nothing
 range_of_none : (Kind : AllSums → Type 0) (value : AllSums → ℤ) (range : Range)

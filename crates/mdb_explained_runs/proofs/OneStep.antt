@@ -3,7 +3,6 @@
 use Rattle.std.proofs.Common.{sym, ap, subst, ◌∙◌, ◌≡◌, inl, inr, Bool, true, false}
 use Rattle.std.proofs.Common.{List, [], ◌∷◌, ◌++◌, Option, Some, None}
 use Rattle.std.proofs.lemmas.List.{append_cancel_left}
-use Rattle.std.specs.Prelude.{sum_by}
 use Rattle.mdb_msgs.specs.declared.command.ChangerCommand.{ChangerCommand}
 use Rattle.mdb_msgs.specs.declared.command.ChangerCommand.TheVariants as changer_commands
 use Rattle.mdb_msgs.specs.declared.command.BillCommand.{BillCommand}
@@ -29,9 +28,9 @@ use Rattle.mdb_cash.specs.Bill as bill
 use Rattle.mdb_cash.specs.BillFacts as bill_facts
 use Rattle.mdb_cash.specs.Changer as changer
 use Rattle.mdb_cash.specs.ChangerFacts as changer_facts
-use Rattle.mdb_machine.specs.Gains.{Stays, device_gains}
+use Rattle.mdb_machine.specs.Gains.{Stays, device_gains, in_slots}
 use Rattle.mdb_machine.specs.Keeper.{AllowsFacts, Facts, Tables, known_of}
-use Rattle.mdb_machine.specs.KeeperSteps.{AckStep, Conduct, KeeperStep, ReplyStep, StepKnowing}
+use Rattle.mdb_machine.specs.KeeperSteps.{AckStep, Conduct, KeeperStep, ReplyStep, StepKnowing, worth}
 use Rattle.mdb_machine.specs.Kept.{IsNew}
 use Rattle.mdb_machine.specs.Known.{Allows, AllowsKept, known_by}
 use Rattle.mdb_machine.specs.Machine.{Machine}
@@ -149,8 +148,7 @@ replies_one conduct is facts poll parts choice before one other gains more p q =
     one_new poll _ _ p.news q.news p.has_news.new q.has_news.new in (
       is.tells facts choice q.news _ one other
           (subst (λ ms. conduct.TellsNews facts choice ms _ one) news p.tells_news) q.tells_news,
-      p.gained ∙ (ap (λ ms. device_gains (sum_by (conduct.first_gain facts) ms)
-          (sum_by (conduct.second_gain facts) ms)) news ∙ sym q.gained),
+      p.gained ∙ (ap (λ ms. device_gains (worth conduct facts ms)) news ∙ sym q.gained),
     )
 
 keeper_one : {Own Setup Asked M State : Type 0} (tables : Tables Own Setup Asked M)
@@ -280,9 +278,9 @@ reader_told facts command reply choice before news =
 abbrev reader_gains : reader_facts.Facts → ReaderCommand → Reply → Choice → ReaderState
     → List ReaderActivity → Gains
 reader_gains facts command reply choice before news =
-    device_gains
-    (reader.all_approved (or_else (last_said config_in (messages_of reply)) facts.config) news)
-    (reader.sold_any facts (reader.taken command reply) (reader.read choice before))
+    device_gains (in_slots
+    (reader.all_approved (or_else (last_said config_in (messages_of reply)) facts.config) news
+    ∷ reader.sold_any facts (reader.taken command reply) (reader.read choice before) ∷ []))
 
 reader_replies : (facts : reader_facts.Facts) (command : ReaderCommand) (reply : Reply)
     (choice : Choice) (before : ReaderState)

@@ -3,14 +3,11 @@ use Rattle.std.proofs.Common.{arith, refl, sym, ap, subst, ◌∙◌, ◌≡◌,
 use Rattle.std.proofs.lemmas.Int.{ints}
 use Rattle.mdb_words.specs.declared.event.Event.{Event}
 use Rattle.mdb_msgs.specs.declared.command.Device.{Device}
-use Rattle.mdb_msgs.specs.declared.command.Device.TheVariants as devices
 use Rattle.mdb_bus.specs.declared.scope.Beginning.TheVariants.{PowerOn}
 use Rattle.mdb_bus.specs.declared.scope.Scope.{Scope}
 use Rattle.mdb_bus.specs.ActLists.{acts_of}
 use Rattle.mdb_follow.specs.declared.account.Account.{Account}
 use Rattle.mdb_follow.specs.declared.account_name.AccountName.{AccountName}
-use Rattle.mdb_follow.specs.declared.account_name.AccountName.TheVariants.{CoinsIn, BillsIn}
-use Rattle.mdb_follow.specs.declared.account_name.AccountName.TheVariants.{PaidOut, Approved, Sold}
 use Rattle.mdb_follow.specs.declared.goal.AccountSide.{AccountSide}
 use Rattle.mdb_follow.specs.declared.goal.AccountSide.TheVariants as sides
 use Rattle.mdb_follow.specs.declared.goal.Bound.{Bound}
@@ -19,7 +16,7 @@ use Rattle.mdb_follow.specs.declared.goal.Goal.{Goal}
 use Rattle.mdb_explained_runs.specs.declared.mark.Mark.{Mark}
 use Rattle.mdb_follow.specs.declared.range.Range.{Range}
 use Rattle.mdb_follow.specs.declared.report.Report.{Report}
-use Rattle.mdb_follow.specs.AccountNames.{account_of, sums_of}
+use Rattle.mdb_follow.specs.AccountNames.{account_device, account_of, account_slot, sums_of}
 use Rattle.mdb_follow.specs.Choosing.{AllFollow, Choices, choices_of}
 use Rattle.mdb_follow.specs.Ends.{IsAsFar, end_of, goal_value, side_range, side_value}
 use Rattle.mdb_explained_runs.specs.Goals.{Explains}
@@ -68,11 +65,8 @@ named_in_replay scope rows marks report is account =
 -- what an account has come to is one where the sums of the devices are
 same_sums : (account : AccountName) (one other : AllSums)
     → ((device : Device) → one device ≡ other device) → sums_of account one ≡ sums_of account other
-same_sums CoinsIn one other same = ap (λ sums. sums.first) (same devices.Changer)
-same_sums BillsIn one other same = ap (λ sums. sums.first) (same devices.Bill)
-same_sums PaidOut one other same = ap (λ sums. sums.second) (same devices.Changer)
-same_sums (Approved unit) one other same = ap (λ sums. sums.first) (same (devices.Reader unit))
-same_sums (Sold unit) one other same = ap (λ sums. sums.second) (same (devices.Reader unit))
+same_sums account one other same =
+    ap (λ sums. sums (account_slot account)) (same (account_device account))
 
 -- so each run with the marks has the value of a goal that one of them has
 one_value : (scope : Scope) (rows : List Event) (marks : List (ℕ × Mark)) (report : Report)

@@ -31,6 +31,7 @@ use Rattle.mdb_explained_runs.specs.declared.replay.Replay.{Replay}
 use Rattle.mdb_explained_runs.specs.declared.replay.ReplayFault.{ReplayFault}
 use Rattle.mdb_follow.specs.declared.report.Report.{Report}
 use Rattle.mdb_explained_runs.specs.declared.tracks.Tracks.{Tracks}
+use Rattle.mdb_follow.specs.Cells.{account_by}
 use Rattle.mdb_follow.specs.Choosing.{AllFollow, Choices, choices_of}
 use Rattle.mdb_explained_runs.specs.Marks.{MarkedRun, choice_by, marks_at, marks_of, with_mark}
 use Rattle.mdb_follow.specs.Machines.{machine_of}
@@ -48,7 +49,7 @@ use Rattle.mdb_follow.specs.SilenceSteps.{SilencesFollow}
 use Rattle.mdb_explained_runs.specs.inner.TrackSteps.{TrackStops, TracksLead}
 use Rattle.mdb_follow.proofs.Asks.{asks-go-on, asks-stay}
 use Rattle.mdb_explained_runs.proofs.LastMark.{last-stands}
-use Rattle.mdb_follow.proofs.Following.{OneActList, accounts-of-cells, accounts_in, cell-of-runs}
+use Rattle.mdb_follow.proofs.Following.{OneActList, accounts-of-cells, cell-of-runs}
 use Rattle.mdb_follow.proofs.Following.{list-on, whole-piece}
 
 -- what is needed of the laws of runs and marks
@@ -505,7 +506,7 @@ pub reported : JoinWithChoices → SplitWithChoices → MarksTell
     → ((scope : Scope) → OneActList scope) → (replay : Replay) (events : List Event)
     (marks : List (ℕ × Mark)) (report : Report) (on : StandsFor replay events marks)
     → report ≡ report_of PowerOn replay.rows on.pieces
-    (accounts_in (λ device. (track_in replay.tracks device).cell))
+    (account_by (λ device. (track_in replay.tracks device).cell))
     → IsReplayReport (scope_of replay) events marks report
 reported joins splits tell one replay events marks report on telling =
     let scope : Scope = scope_of replay in
@@ -519,7 +520,7 @@ reported joins splits tell one replay events marks report on telling =
           (only-run splits tell one replay events marks on other marked device).1;
       pieces = on.pieces;
       act_list = list-of replay events marks on;
-      accounts = accounts_in cells;
+      accounts = account_by cells;
       of_run = accounts-of-cells (MarkedRun scope events marks) cells (λ device.
           cell-of-runs (MarkedRun scope events marks) (λ other. other ≡ sums device)
           (λ all. all device) (record {
@@ -528,8 +529,8 @@ reported joins splits tell one replay events marks report on telling =
                 (only-run splits tell one replay events marks on other marked device).1;
           }) (cells device) (on.tracks device).cell);
       telling = telling
-          ∙ ap (λ rows. report_of PowerOn rows on.pieces (accounts_in cells)) on.rows
-          ∙ ap (λ begins. report_of begins (length events) on.pieces (accounts_in cells))
+          ∙ ap (λ rows. report_of PowerOn rows on.pieces (account_by cells)) on.rows
+          ∙ ap (λ begins. report_of begins (length events) on.pieces (account_by cells))
           (sym on.begins);
     }
 

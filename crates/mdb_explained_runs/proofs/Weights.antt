@@ -1,9 +1,10 @@
 -- What sums and gains count for a goal.
-use Rattle.std.proofs.Common.{arith, refl, ◌≡◌, ◌+◌, ◌<◌, ◌^◌, ℤ, pos, negsuc, neg_ℤ, ◌+ℤ◌, ◌≤ℤ◌}
+use Rattle.std.proofs.Common.{ap, arith, refl, ◌∙◌, ◌≡◌, ◌+◌, ◌<◌, ◌^◌, ℤ, pos, negsuc, neg_ℤ, ◌+ℤ◌, ◌≤ℤ◌}
 use Rattle.std.proofs.Common.{SFits, of_z, to_z, w64}
 use Rattle.std.proofs.lemmas.Int.{ints, to_z-of_z}
 use Rattle.mdb_machine.specs.declared.gains.Gains.{Gains}
 use Rattle.mdb_machine.specs.Gains.{IsSmall, no_gains}
+use Rattle.mdb_machine.proofs.Slots.{none_at, small_at}
 use Rattle.mdb_explained_runs.specs.declared.explain.best.Weight.{Weight}
 use Rattle.mdb_explained_runs.specs.declared.explain.best.Weight.TheVariants as weights
 use Rattle.mdb_follow.specs.declared.goal.AccountSide.{AccountSide}
@@ -53,42 +54,25 @@ pub weigh-adds : (weight : Weight) (sums : Sums) (gains : Gains)
     → weigh weight (added sums gains) ≡ weigh weight sums +ℤ weight_of weight gains
 unfolding account_sum
 weigh-adds weights.Nothing sums gains = refl
-weigh-adds (weights.First side bound) sums gains =
-    account-adds side bound sums.first (gained 0 gains)
-weigh-adds (weights.Second side bound) sums gains =
-    account-adds side bound sums.second (gained 1 gains)
+weigh-adds (weights.Account slot side bound) sums gains =
+    account-adds side bound (sums slot) (gained slot gains)
 
 -- no sums count nothing
 pub weigh-none : (weight : Weight) → weigh weight no_sums ≡ pos 0
 weigh-none weights.Nothing = refl
-weigh-none (weights.First sides.Device Least) = refl
-weigh-none (weights.First sides.Device Greatest) = refl
-weigh-none (weights.First sides.Controller Least) = refl
-weigh-none (weights.First sides.Controller Greatest) = refl
-weigh-none (weights.First sides.Difference Least) = refl
-weigh-none (weights.First sides.Difference Greatest) = refl
-weigh-none (weights.Second sides.Device Least) = refl
-weigh-none (weights.Second sides.Device Greatest) = refl
-weigh-none (weights.Second sides.Controller Least) = refl
-weigh-none (weights.Second sides.Controller Greatest) = refl
-weigh-none (weights.Second sides.Difference Least) = refl
-weigh-none (weights.Second sides.Difference Greatest) = refl
+weigh-none (weights.Account slot sides.Device Least) = refl
+weigh-none (weights.Account slot sides.Device Greatest) = refl
+weigh-none (weights.Account slot sides.Controller Least) = refl
+weigh-none (weights.Account slot sides.Controller Greatest) = refl
+weigh-none (weights.Account slot sides.Difference Least) = refl
+weigh-none (weights.Account slot sides.Difference Greatest) = refl
 
 -- and no gains count nothing
 pub weight-none : (weight : Weight) → weight_of weight no_gains ≡ pos 0
 weight-none weights.Nothing = refl
-weight-none (weights.First sides.Device Least) = refl
-weight-none (weights.First sides.Device Greatest) = refl
-weight-none (weights.First sides.Controller Least) = refl
-weight-none (weights.First sides.Controller Greatest) = refl
-weight-none (weights.First sides.Difference Least) = refl
-weight-none (weights.First sides.Difference Greatest) = refl
-weight-none (weights.Second sides.Device Least) = refl
-weight-none (weights.Second sides.Device Greatest) = refl
-weight-none (weights.Second sides.Controller Least) = refl
-weight-none (weights.Second sides.Controller Greatest) = refl
-weight-none (weights.Second sides.Difference Least) = refl
-weight-none (weights.Second sides.Difference Greatest) = refl
+weight-none (weights.Account slot side bound) =
+    ap (λ n. towards bound (side_value side (record { device = n; controller = n }))) (none_at slot)
+    ∙ weigh-none (weights.Account slot side bound)
 
 -- what small gains count is near to 0
 
@@ -107,10 +91,9 @@ weight-near : (weight : Weight) (gains : Gains) → IsSmall gains
     → (neg_ℤ (pos (2 ^ 32)) ≤ℤ weight_of weight gains)
     × (weight_of weight gains ≤ℤ pos (2 ^ 32))
 weight-near weights.Nothing gains small = (omega (arith, ints), omega (arith, ints))
-weight-near (weights.First side bound) gains small =
-    account-near side bound (gained 0 gains) small.device_first small.controller_first
-weight-near (weights.Second side bound) gains small =
-    account-near side bound (gained 1 gains) small.device_second small.controller_second
+weight-near (weights.Account slot side bound) gains small =
+    account-near side bound (gained slot gains) (small_at gains.device slot small.device)
+    (small_at gains.controller slot small.controller)
 
 pub weight-low : (weight : Weight) (gains : Gains) → IsSmall gains
     → neg_ℤ (pos (2 ^ 32)) ≤ℤ weight_of weight gains

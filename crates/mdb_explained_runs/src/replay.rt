@@ -16,7 +16,9 @@ ghost use Rattle.mdb_explained_runs.specs.inner.TrackSteps.{AreTracksWithin};
 use crate::tracks::{Tracks, report_of};
 use crate::{Mark, laws};
 use mdb_bus::{Act, Bus, LinkFault, Scope, laws as bus_laws};
-use mdb_follow::{Offence, ROWS_MAX, Report, Silences, laws as follow_laws, sender_of};
+use mdb_follow::{
+    Offence, ROWS_MAX, Report, Silences, accounts_of, laws as follow_laws, sender_of,
+};
 use mdb_machine::Choice;
 use mdb_msgs::DeviceSet;
 use mdb_words::{Event, Time};
@@ -140,15 +142,12 @@ impl Replay {
             return Err(fault);
         }
         let tracks = &self.tracks;
-        let accounts = [
-            tracks.changer.cell.first,
-            tracks.bill.cell.first,
-            tracks.changer.cell.second,
-            tracks.first_reader.cell.first,
-            tracks.first_reader.cell.second,
-            tracks.second_reader.cell.first,
-            tracks.second_reader.cell.second,
-        ];
+        let accounts = accounts_of(&[
+            tracks.changer.cell,
+            tracks.bill.cell,
+            tracks.first_reader.cell,
+            tracks.second_reader.cell,
+        ]);
         Ok(report_of(self.rows, accounts, tracks, &self.silences))
     }
 

@@ -9,7 +9,7 @@ ghost use Rattle.mdb_explained_runs.specs.Tracks.{HasNoStepFrom, IsTrack};
 ghost use Rattle.mdb_explained_runs.specs.inner.TrackSteps.{IsTrackWithin, Leads};
 
 use mdb_bus::{Act, Beginning};
-use mdb_follow::{Account, Cell};
+use mdb_follow::Cell;
 use mdb_machine::{Choice, Pair};
 
 /// A device and the controller, as a replay follows them in a recording from power-on. It keeps
@@ -36,10 +36,7 @@ pub(crate) fn start<P: Pair>() -> Track<P::Facts, P::State>
     Track {
         facts: P::facts_start(&Beginning::PowerOn),
         state: P::state(0),
-        cell: Cell {
-            first: Account::NOTHING,
-            second: Account::NOTHING,
-        },
+        cell: Cell::NOTHING,
         unvalued: 0,
     }
 }

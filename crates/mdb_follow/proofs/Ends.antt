@@ -1,5 +1,5 @@
 -- Ranges of sums of one kind and another, and of sums that a step added to.
-use Rattle.std.proofs.Common.{◌≡◌, ◌⊎◌, inl, inr, ℕ, ◌+◌, ◌≤◌, ◌<◌, ◌^◌, refl, sym, ◌∙◌, ap, arith}
+use Rattle.std.proofs.Common.{◌≡◌, ◌⊎◌, inl, inr, ℕ, ◌+◌, ◌≤◌, ◌<◌, ◌^◌, refl, sym, ◌∙◌, ap, subst, arith}
 use Rattle.std.proofs.Common.{cond, true, false}
 use Rattle.std.specs.Prelude.{ℤ, pos, neg_ℤ, ◌+ℤ◌, ◌≤ℤ◌}
 use Rattle.std.specs.Int.{int_max, int_min}
@@ -10,10 +10,11 @@ use Rattle.mdb_machine.specs.Gains.{IsSmall}
 use Rattle.mdb_follow.specs.declared.range.Range.{Range}
 use Rattle.mdb_follow.specs.declared.account.Account.{Account}
 use Rattle.mdb_follow.specs.declared.cell.Cell.{Cell}
-use Rattle.mdb_follow.specs.Cells.{joined_account, joined_cell, joined_range, moved_account}
-use Rattle.mdb_follow.specs.Cells.{moved_cell, moved_range}
+use Rattle.mdb_machine.proofs.Slots.{at_slot, small_at}
+use Rattle.mdb_follow.specs.Cells.{joined_account, joined_cell, joined_range, joined_slot}
+use Rattle.mdb_follow.specs.Cells.{moved_account, moved_cell, moved_range, moved_slot}
 use Rattle.mdb_follow.specs.Limits.{IsAccountWithin, IsCellWithin, IsRangeWithin}
-use Rattle.mdb_follow.specs.Ranges.{IsAccount, IsCell, IsRange}
+use Rattle.mdb_follow.specs.Ranges.{IsAccount, IsCell, IsRange, no_account}
 use Rattle.mdb_follow.specs.Sums.{AccountSums, Sums, added}
 
 -- sums of a kind, with the gains of a step
@@ -45,10 +46,7 @@ account-same K L account ranges there back is = record {
 pub cell-same : (K L : Sums → Type 0) (cell : Cell)
     → ((sums : Sums) → K sums → L sums) → ((sums : Sums) → L sums → K sums)
     → IsCell K cell → IsCell L cell
-cell-same K L cell there back is = record {
-  first = account-same K L _ _ there back is.first;
-  second = account-same K L _ _ there back is.second;
-}
+cell-same K L cell there back is slot below = account-same K L _ _ there back (is slot below)
 
 min-cases : (a b : ℤ) → (int_min a b ≡ a) ⊎ (int_min a b ≡ b)
 min-cases a b =
@@ -98,10 +96,10 @@ account-joined K L account one other is so = record {
 pub cell-joined : (K L : Sums → Type 0) (one other : Cell) → IsCell K one → IsCell L other
     → IsCell (λ sums. K sums ⊎ L sums) (joined_cell one other)
 unfolding joined_cell
-cell-joined K L one other is so = record {
-  first = account-joined K L _ _ _ is.first so.first;
-  second = account-joined K L _ _ _ is.second so.second;
-}
+cell-joined K L one other is so slot below =
+    subst (IsAccount (λ sums. K sums ⊎ L sums) (λ sums. sums slot))
+    (sym (at_slot (joined_slot one other) slot no_account below))
+    (account-joined K L _ _ _ (is slot below) (so slot below))
 
 range-moved : (K : Sums → Type 0) (value : Sums → ℤ) (range : Range) (gains : Gains) (by : ℤ)
     → ((sums : Sums) → value (added sums gains) ≡ value sums +ℤ by)
@@ -140,10 +138,10 @@ account-moved K account ranges gains device controller d c is = record {
 pub cell-moved : (K : Sums → Type 0) (cell : Cell) (gains : Gains) → IsCell K cell
     → IsCell (Moved K gains) (moved_cell cell gains)
 unfolding moved_cell
-cell-moved K cell gains is = record {
-  first = account-moved K (λ sums. sums.first) _ gains _ _ (λ _. refl) (λ _. refl) is.first;
-  second = account-moved K (λ sums. sums.second) _ gains _ _ (λ _. refl) (λ _. refl) is.second;
-}
+cell-moved K cell gains is slot below =
+    subst (IsAccount (Moved K gains) (λ sums. sums slot))
+    (sym (at_slot (moved_slot cell gains) slot no_account below))
+    (account-moved K (λ sums. sums slot) _ gains _ _ (λ _. refl) (λ _. refl) (is slot below))
 
 -- limits
 
@@ -158,18 +156,13 @@ range-within-weaker limit more range le is = record {
 
 pub cell-within-weaker : (limit more : ℕ) (cell : Cell) → limit ≤ more
     → IsCellWithin limit cell → IsCellWithin more cell
-cell-within-weaker limit more cell le is = record {
-  first = record {
-    device = range-within-weaker limit more _ le is.first.device;
-    controller = range-within-weaker limit more _ le is.first.controller;
-    difference = range-within-weaker limit more _ le is.first.difference;
-  };
-  second = record {
-    device = range-within-weaker limit more _ le is.second.device;
-    controller = range-within-weaker limit more _ le is.second.controller;
-    difference = range-within-weaker limit more _ le is.second.difference;
-  };
-}
+cell-within-weaker limit more cell le is slot below =
+    let its = is slot below in
+    record {
+      device = range-within-weaker limit more _ le its.device;
+      controller = range-within-weaker limit more _ le its.controller;
+      difference = range-within-weaker limit more _ le its.difference;
+    }
 
 range-joined-within : (limit : ℕ) (one other : Range) → IsRangeWithin limit one
     → IsRangeWithin limit other → IsRangeWithin limit (joined_range one other)
@@ -191,10 +184,9 @@ account-joined-within limit one other is so = record {
 pub cell-joined-within : (limit : ℕ) (one other : Cell) → IsCellWithin limit one
     → IsCellWithin limit other → IsCellWithin limit (joined_cell one other)
 unfolding joined_cell
-cell-joined-within limit one other is so = record {
-  first = account-joined-within limit _ _ is.first so.first;
-  second = account-joined-within limit _ _ is.second so.second;
-}
+cell-joined-within limit one other is so slot below =
+    subst (IsAccountWithin limit) (sym (at_slot (joined_slot one other) slot no_account below))
+    (account-joined-within limit _ _ (is slot below) (so slot below))
 
 range-moved-within : (limit more : ℕ) (range : Range) (by : ℤ) → IsRangeWithin limit range
     → neg_ℤ (pos more) ≤ℤ by → by ≤ℤ pos more
@@ -220,9 +212,8 @@ account-moved-within limit more ranges device controller is d c = record {
 pub cell-moved-within : (limit : ℕ) (cell : Cell) (gains : Gains) → IsCellWithin limit cell
     → IsSmall gains → IsCellWithin (limit + 2 ^ 32) (moved_cell cell gains)
 unfolding moved_cell
-cell-moved-within limit cell gains is small = record {
-  first = account-moved-within limit (2 ^ 32) _ _ _ is.first small.device_first
-      small.controller_first;
-  second = account-moved-within limit (2 ^ 32) _ _ _ is.second small.device_second
-      small.controller_second;
-}
+cell-moved-within limit cell gains is small slot below =
+    subst (IsAccountWithin (limit + 2 ^ 32))
+    (sym (at_slot (moved_slot cell gains) slot no_account below))
+    (account-moved-within limit (2 ^ 32) _ _ _ (is slot below)
+    (small_at gains.device slot small.device) (small_at gains.controller slot small.controller))

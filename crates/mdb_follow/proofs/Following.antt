@@ -21,10 +21,9 @@ use Rattle.mdb_bus.specs.Bus as link
 use Rattle.mdb_bus.specs.Bus.{GoesOn}
 use Rattle.mdb_bus.specs.LinkFaults.{IsLinkFault}
 use Rattle.mdb_bus.specs.declared.scope.Beginning.{Beginning}
+use Rattle.mdb_machine.specs.declared.gains.TheConstants.{SLOTS}
 use Rattle.mdb_machine.specs.Machine.{Machine}
 use Rattle.mdb_follow.specs.declared.account_name.AccountName.{AccountName}
-use Rattle.mdb_follow.specs.declared.account_name.AccountName.TheVariants.{CoinsIn, BillsIn}
-use Rattle.mdb_follow.specs.declared.account_name.AccountName.TheVariants.{PaidOut, Approved, Sold}
 use Rattle.mdb_follow.specs.declared.account_name.TheConstants.AccountName.{ALL}
 use Rattle.mdb_follow.specs.declared.cell.Cell.{Cell}
 use Rattle.mdb_follow.specs.declared.follower.Follower.{Follower}
@@ -33,14 +32,15 @@ use Rattle.mdb_follow.specs.declared.range.Range.{Range}
 use Rattle.mdb_follow.specs.declared.report.Report.{Report}
 use Rattle.mdb_follow.specs.declared.sides.Sides.{Sides}
 use Rattle.mdb_follow.specs.declared.silence.Silence.{Silence}
-use Rattle.mdb_follow.specs.AccountNames.{account_place, no_account}
+use Rattle.mdb_follow.specs.AccountNames.{account_device, account_in, account_slot}
+use Rattle.mdb_follow.specs.Cells.{account_by}
 use Rattle.mdb_follow.specs.EndedActs.{IsEndedAct}
 use Rattle.mdb_follow.specs.Feeding.{HasTaken}
 use Rattle.mdb_follow.specs.Follower.{HasAccepted, StandsFor, rows_of, scope_of}
 use Rattle.mdb_follow.specs.Sales.{SalesFollowApprovals}
 use Rattle.mdb_follow.specs.inner.FollowerSteps.{HasFollowed, HasStopped}
 use Rattle.mdb_follow.specs.Limits.{IsAccountWithin, IsCellWithin}
-use Rattle.mdb_follow.specs.Ranges.{IsAccount, IsCell, IsRange}
+use Rattle.mdb_follow.specs.Ranges.{IsAccount, IsCell, IsRange, slot_account}
 use Rattle.mdb_follow.specs.Sums.{AccountSums, Sums}
 use Rattle.mdb_follow.specs.Tables.{ArrivesAnywhere, IsTable}
 use Rattle.mdb_follow.specs.Offences.{HasOffence, IsOffence}
@@ -55,6 +55,7 @@ use Rattle.mdb_follow.specs.Silences.{asks_of}
 use Rattle.mdb_follow.specs.inner.SideSteps.{AreStanding, SidesStay}
 use Rattle.mdb_follow.specs.SilencesKept.{StandsForAsks, silence_in}
 use Rattle.mdb_follow.specs.SilenceSteps.{SilencesFollow}
+use Rattle.mdb_follow.proofs.Accounts.{listed, slot-below}
 use Rattle.mdb_follow.proofs.Asks.{asks-go-on, asks-stay}
 use Rattle.mdb_follow.proofs.Machines.{with_one, with_one-same}
 use Rattle.mdb_follow.proofs.Reaching.{Joins, SomeArrive, SomeWay, run_of}
@@ -481,55 +482,32 @@ device-is scope one joins rows pieces list some device = record {
   };
 }
 
--- the accounts of the devices
-abbrev pub accounts_in : (Device → Cell) → AccountName → Account
-accounts_in cells CoinsIn = (cells devices.Changer).first
-accounts_in cells BillsIn = (cells devices.Bill).first
-accounts_in cells PaidOut = (cells devices.Changer).second
-accounts_in cells (Approved unit) = (cells (devices.Reader unit)).first
-accounts_in cells (Sold unit) = (cells (devices.Reader unit)).second
-
 -- a cell has the ranges of the sums that a device has in runs
 abbrev pub IsCellOf : (AllSums → Type 0) → (AllSums → Sums) → Cell → Type 0
 IsCellOf Runs of cell =
-    IsAccount Runs (λ sums. (of sums).first) cell.first
-    × IsAccount Runs (λ sums. (of sums).second) cell.second
+    (slot : ℕ) → slot < SLOTS → IsAccount Runs (λ sums. of sums slot) (slot_account cell slot)
 
 pub cell-of-runs : (Runs : AllSums → Type 0) (Kind : Sums → Type 0) (of : AllSums → Sums)
     → AreOf Runs Kind of → (cell : Cell) → IsCell Kind cell → IsCellOf Runs of cell
-cell-of-runs Runs Kind of are cell is = (
-  account-of-runs Runs Kind of are (λ sums. sums.first) cell.first is.first,
-  account-of-runs Runs Kind of are (λ sums. sums.second) cell.second is.second,
-)
+cell-of-runs Runs Kind of are cell is slot below =
+    account-of-runs Runs Kind of are (λ sums. sums slot) (slot_account cell slot) (is slot below)
 
 -- so the accounts are those of the runs
 pub accounts-of-cells : (Runs : AllSums → Type 0) (cells : Device → Cell)
     → ((device : Device) → IsCellOf Runs (λ sums. sums device) (cells device))
-    → AreAccounts Runs (accounts_in cells)
-accounts-of-cells Runs cells are CoinsIn = (are devices.Changer).0
-accounts-of-cells Runs cells are BillsIn = (are devices.Bill).0
-accounts-of-cells Runs cells are PaidOut = (are devices.Changer).1
-accounts-of-cells Runs cells are (Approved unit) = (are (devices.Reader unit)).0
-accounts-of-cells Runs cells are (Sold unit) = (are (devices.Reader unit)).1
+    → AreAccounts Runs (account_by cells)
+accounts-of-cells Runs cells are account =
+    are (account_device account) (account_slot account) (slot-below account)
 
 -- the accounts of cells are as far from 0 as the cells
 pub accounts-within : (limit : ℕ) (cells : Device → Cell) (accounts : List Account)
-    → accounts ≡ map (accounts_in cells) ALL
+    → accounts ≡ map (account_by cells) ALL
     → ((device : Device) → IsCellWithin limit (cells device)) → (account : AccountName)
-    → IsAccountWithin limit (get_or accounts (account_place account) no_account)
+    → IsAccountWithin limit (account_in account accounts)
 accounts-within limit cells accounts are fits account =
-    subst (λ list. IsAccountWithin limit (get_or list (account_place account) no_account))
-    (sym are) (each account)
-  where
-    each : (account : AccountName) → IsAccountWithin limit
-        (get_or (map (accounts_in cells) ALL) (account_place account) no_account)
-    each CoinsIn = (fits devices.Changer).first
-    each BillsIn = (fits devices.Bill).first
-    each PaidOut = (fits devices.Changer).second
-    each (Approved First) = (fits (devices.Reader First)).first
-    each (Sold First) = (fits (devices.Reader First)).second
-    each (Approved Second) = (fits (devices.Reader Second)).first
-    each (Sold Second) = (fits (devices.Reader Second)).second
+    subst (IsAccountWithin limit)
+    (sym (ap (account_in account) are ∙ listed (account_by cells) account))
+    (fits (account_device account) (account_slot account) (slot-below account))
 
 -- what a follower reports of the rows that it has accepted
 pub reported : ((scope : Scope) → OneActList scope) → ((scope : Scope) → Joins scope)
@@ -538,7 +516,7 @@ pub reported : ((scope : Scope) → OneActList scope) → ((scope : Scope) → J
     → ((device : Device)
     → IsCell (ArrivesAnywhere (Arrives (machine_of (scope_of follower).begins device)
     (acts_of has.pieces))) (cells device))
-    → report ≡ report_of (scope_of follower).begins follower.rows has.pieces (accounts_in cells)
+    → report ≡ report_of (scope_of follower).begins follower.rows has.pieces (account_by cells)
     → IsReport (scope_of follower) events report
 reported one joins follower events report cells has are telling =
     let scope : Scope = scope_of follower in
@@ -547,13 +525,13 @@ reported one joins follower events report cells has are telling =
       reached = accepted-reached joins follower events has;
       pieces = has.pieces;
       act_list = has.act_list;
-      accounts = accounts_in cells;
+      accounts = account_by cells;
       of_runs = accounts-of-cells (Run scope events) cells (λ device.
           cell-of-runs (Run scope events) _ _
           (device-is scope (one scope) (joins scope) events has.pieces has.act_list some device)
           (cells device) (are device));
       telling = telling
-          ∙ ap (λ rows. report_of scope.begins rows has.pieces (accounts_in cells)) has.rows;
+          ∙ ap (λ rows. report_of scope.begins rows has.pieces (account_by cells)) has.rows;
     }
 
 -- a follower that stands for rows after others has taken them

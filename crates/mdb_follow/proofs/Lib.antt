@@ -1,3 +1,4 @@
+pub mod Accounts
 pub mod Alone
 pub mod Asks
 pub mod ByDevice

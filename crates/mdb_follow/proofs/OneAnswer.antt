@@ -4,7 +4,6 @@ use Rattle.std.proofs.Common.{List, [], ◌∷◌, ◌++◌, append_assoc, appen
 use Rattle.std.proofs.Common.{Some, None}
 use Rattle.std.proofs.lemmas.Int.{ints}
 use Rattle.mdb_words.specs.declared.event.Event.{Event}
-use Rattle.mdb_msgs.specs.declared.command.ReaderUnit.TheVariants.{First, Second}
 use Rattle.mdb_bus.specs.declared.act.Act.{Act}
 use Rattle.mdb_bus.specs.declared.fault.Blame.{Blame}
 use Rattle.mdb_bus.specs.declared.fault.Rule.{Rule}
@@ -13,8 +12,6 @@ use Rattle.mdb_bus.specs.ActLists.{events_of, with_act}
 use Rattle.mdb_bus.specs.LinkFaults.{IsLinkFault, RowBreaks, situation_of}
 use Rattle.mdb_bus.specs.declared.scope.Beginning.{Beginning}
 use Rattle.mdb_follow.specs.declared.account_name.AccountName.{AccountName}
-use Rattle.mdb_follow.specs.declared.account_name.AccountName.TheVariants.{CoinsIn, BillsIn}
-use Rattle.mdb_follow.specs.declared.account_name.AccountName.TheVariants.{PaidOut, Approved, Sold}
 use Rattle.mdb_follow.specs.declared.account_name.TheConstants.AccountName.{ALL}
 use Rattle.mdb_follow.specs.declared.account.Account.{Account}
 use Rattle.mdb_follow.specs.declared.offence.Offence.{Offence}
@@ -29,6 +26,7 @@ use Rattle.mdb_follow.specs.Runs.{AllSums, IsReached, Run}
 use Rattle.mdb_follow.specs.Senders.{sender_of}
 use Rattle.mdb_follow.specs.Machines.{machine_of}
 use Rattle.mdb_follow.specs.Offences.{NoStep, rule_of}
+use Rattle.mdb_follow.proofs.Accounts.{listed}
 use Rattle.mdb_follow.proofs.Following.{OneActList}
 use Rattle.mdb_follow.proofs.Machines.{is_machine_of, whose, whose_none}
 use Rattle.mdb_follow.proofs.Reaching.{GoOnRowByRow, SomeArrive, before_last, some_of}
@@ -80,13 +78,7 @@ one-list Kind a b p q = map-alike a b
 pub named : (begins : Beginning) (rows : ℕ) (pieces : List Piece) (accounts : AccountName → Account)
     (account : AccountName)
     → account_of account (report_of begins rows pieces accounts) ≡ accounts account
-named begins rows pieces accounts CoinsIn = refl
-named begins rows pieces accounts BillsIn = refl
-named begins rows pieces accounts PaidOut = refl
-named begins rows pieces accounts (Approved First) = refl
-named begins rows pieces accounts (Sold First) = refl
-named begins rows pieces accounts (Approved Second) = refl
-named begins rows pieces accounts (Sold Second) = refl
+named begins rows pieces accounts account = listed accounts account
 
 pub named-account : (scope : Scope) (rows : List Event) (report : Report) → IsReport scope rows report
     → (account : AccountName) → IsAccount (Run scope rows) (sums_of account) (account_of account report)

@@ -25,17 +25,15 @@ use Rattle.mdb_bus.specs.Scopes.{IsFollowed, IsLeftOut}
 use Rattle.mdb_machine.specs.Pair.{IsBreak, own_acts}
 use Rattle.mdb_follow.specs.declared.account.Account.{Account}
 use Rattle.mdb_follow.specs.declared.account_name.AccountName.{AccountName}
-use Rattle.mdb_follow.specs.declared.account_name.AccountName.TheVariants.{CoinsIn, BillsIn}
-use Rattle.mdb_follow.specs.declared.account_name.AccountName.TheVariants.{PaidOut, Approved, Sold}
 use Rattle.mdb_follow.specs.declared.offence.Offence.{Offence}
 use Rattle.mdb_follow.specs.declared.range.Range.{Range}
 use Rattle.mdb_follow.specs.declared.report.Report.{Report}
-use Rattle.mdb_follow.specs.AccountNames.{account_device, account_of, no_account, sums_of}
+use Rattle.mdb_follow.specs.AccountNames.{account_device, account_of, account_slot, sums_of}
 use Rattle.mdb_follow.specs.Devices.{spec_of}
 use Rattle.mdb_follow.specs.LeavingOut.{AreSumsWithout, HasNothingLeftOut, HaveSameFollowed}
 use Rattle.mdb_follow.specs.LeavingOut.{IsNotKnown}
 use Rattle.mdb_follow.specs.Offences.{IsOffence}
-use Rattle.mdb_follow.specs.Ranges.{IsAccount, IsRange}
+use Rattle.mdb_follow.specs.Ranges.{IsAccount, IsRange, no_account}
 use Rattle.mdb_follow.specs.Report.{IsReport, decimals_of}
 use Rattle.mdb_follow.specs.Report.{report_of, unvalued_of}
 use Rattle.mdb_follow.specs.Runs.{AllSums, IsReached, Run}
@@ -82,11 +80,7 @@ decimals_alike laws begins device one other same =
 of_device : (account : AccountName) (one other : AllSums)
     → one (account_device account) ≡ other (account_device account)
     → sums_of account one ≡ sums_of account other
-of_device CoinsIn one other same = ap (λ sums. sums.first) same
-of_device BillsIn one other same = ap (λ sums. sums.first) same
-of_device PaidOut one other same = ap (λ sums. sums.second) same
-of_device (Approved unit) one other same = ap (λ sums. sums.first) same
-of_device (Sold unit) one other same = ap (λ sums. sums.second) same
+of_device account one other same = ap (λ sums. sums (account_slot account)) same
 
 -- Each of one kind has one of the other of which the account is the same.
 abbrev Covers : (AllSums → Type 0) → (AllSums → Type 0) → AccountName → Type 0
@@ -219,15 +213,7 @@ nothing_in : (account : AccountName) (sums : AllSums) → sums (account_device a
     → value (record { device = 0; controller = 0 }) ≡ made
     → value (sums_of account sums) ≡ made
 nothing_in account sums nothing value made is =
-    ap value (of_device account sums (λ device. no_sums) nothing ∙ of_none account) ∙ is
-  where
-    of_none : (account : AccountName)
-        → sums_of account (λ device. no_sums) ≡ record { device = 0; controller = 0 }
-    of_none CoinsIn = refl
-    of_none BillsIn = refl
-    of_none PaidOut = refl
-    of_none (Approved unit) = refl
-    of_none (Sold unit) = refl
+    ap value (of_device account sums (λ device. no_sums) nothing) ∙ is
 
 -- nothing for a device that is left out, and else what there was
 account_if : Bool → Account → Account

@@ -1,17 +1,19 @@
 -- The entries after no act: one for each state in which a machine may start.
 use Rattle.std.proofs.Common.{◌≡◌, ◌⊎◌, inl, inr, ℕ, ◌+◌, ◌<◌, ◌≤◌, ◌++◌, ◌∙◌, ap, arith, length}
-use Rattle.std.proofs.Common.{length-append, refl, sym, subst, List, [], ◌∷◌, pos}
+use Rattle.std.proofs.Common.{get_or, length-append, refl, sym, subst, List, [], ◌∷◌, pos}
 use Rattle.std.specs.Prelude.{Contains}
 use Rattle.std.proofs.lemmas.Int.{ints}
 use Rattle.std.proofs.lemmas.List.Elements.{All-push, Contains-append_left, Contains-push}
 use Rattle.std.proofs.lemmas.List.Elements.{Contains-push_cases}
+use Rattle.mdb_machine.specs.declared.gains.TheConstants.{SLOTS}
+use Rattle.mdb_machine.specs.Gains.{by_slot}
 use Rattle.mdb_machine.specs.Machine.{Machine}
+use Rattle.mdb_machine.proofs.Slots.{at_slot}
 use Rattle.mdb_follow.specs.declared.account.Account.{Account}
 use Rattle.mdb_follow.specs.declared.cell.Cell.{Cell}
 use Rattle.mdb_follow.specs.declared.range.Range.{Range}
 use Rattle.mdb_follow.specs.Arrivals.{Arrives}
-use Rattle.mdb_follow.specs.Ranges.{IsCell}
-use Rattle.mdb_follow.specs.AccountNames.{no_account}
+use Rattle.mdb_follow.specs.Ranges.{IsCell, no_account, slot_account}
 use Rattle.mdb_follow.specs.Sums.{Sums, no_sums}
 use Rattle.mdb_follow.specs.Tables.{ArrivesAt, IsTable}
 use Rattle.mdb_follow.specs.inner.Entries.{AreBelow}
@@ -21,9 +23,8 @@ use Rattle.mdb_follow.proofs.Listed.{contains-none}
 use Rattle.mdb_follow.proofs.Ways.{account-start}
 
 -- a cell is of no sums
-pub record IsNothing (cell : Cell) : Type 0 where
-  pub first : cell.first ≡ no_account
-  pub second : cell.second ≡ no_account
+abbrev pub IsNothing : Cell → Type 0
+IsNothing cell = cell.accounts ≡ by_slot (λ slot. no_account)
 
 -- an entry is of a state in which the machine may start, with this cell
 pub record IsStart {State : Type 0} (code_of : State → ℕ) (machine : Machine State)
@@ -62,11 +63,23 @@ account-within ranges is = record {
   difference = range-within ranges.difference (ap (λ r. r.difference) is);
 }
 
+-- so is each of its accounts
+no-account : (cell : Cell) → IsNothing cell → (slot : ℕ) → slot < SLOTS
+    → slot_account cell slot ≡ no_account
+no-account cell is slot below =
+    ap (λ accounts. get_or accounts slot no_account) is
+    ∙ at_slot (λ slot. no_account) slot no_account below
+
 pub nothing-within : (cell : Cell) → IsNothing cell → IsCellWithin 0 cell
-nothing-within cell is = record {
-  first = account-within cell.first is.first;
-  second = account-within cell.second is.second;
-}
+nothing-within cell is slot below =
+    account-within (slot_account cell slot) (no-account cell is slot below)
+
+-- where all sums of a kind are nothing, they are those of that cell
+pub nothing-is : (Kind : Sums → Type 0) (cell : Cell) → IsNothing cell → Kind no_sums
+    → ((sums : Sums) → Kind sums → sums ≡ no_sums) → IsCell Kind cell
+nothing-is Kind cell is none only slot below =
+    account-start Kind (λ sums. sums slot) (slot_account cell slot) none only refl
+    (no-account cell is slot below)
 
 -- no code was looked at
 pub no-starts : {State : Type 0} (number : ℕ) (code_of : State → ℕ) (machine : Machine State)
@@ -154,11 +167,7 @@ table-starts {State} number code_of machine cell entries nothing low some all = 
         let here : Comes no_sums =
         record { state = start.state; is = start.is; way = (start.starts, refl) } in
         let only : (sums : Sums) → Comes sums → sums ≡ no_sums = λ sums comes. comes.way.1 in
-        subst (IsCell Comes) (sym start.same) (record {
-          first = account-start Comes (λ sums. sums.first) cell.first here only refl nothing.first;
-          second = account-start Comes (λ sums. sums.second) cell.second here only refl
-              nothing.second;
-        });
+        subst (IsCell Comes) (sym start.same) (nothing-is Comes cell nothing here only);
     whole = λ code sums comes. (
       cell,
       subst (λ (c : ℕ). Contains entries (c, cell)) comes.is

@@ -9,13 +9,14 @@ use Rattle.mdb_machine.specs.declared.gains.Gains.{Gains}
 use Rattle.mdb_machine.specs.Gains.{no_gains}
 use Rattle.mdb_machine.specs.Pair.{IsMove}
 use Rattle.mdb_machine.specs.Machine.{Machine}
+use Rattle.mdb_machine.proofs.Slots.{none_at}
+use Rattle.std.proofs.Math.Path.{fun_ext}
 use Rattle.mdb_follow.specs.declared.account.Account.{Account}
 use Rattle.mdb_follow.specs.declared.cell.Cell.{Cell}
 use Rattle.mdb_follow.specs.declared.range.Range.{Range}
 use Rattle.mdb_follow.specs.Arrivals.{Arrives}
 use Rattle.mdb_follow.specs.Cells.{joined_cell}
-use Rattle.mdb_follow.specs.Ranges.{IsAccount, IsCell, IsRange}
-use Rattle.mdb_follow.specs.AccountNames.{no_account}
+use Rattle.mdb_follow.specs.Ranges.{IsAccount, IsCell, IsRange, no_account}
 use Rattle.mdb_follow.specs.Sums.{AccountSums, Sums, added, no_sums}
 use Rattle.mdb_follow.specs.Tables.{ArrivesAnywhere, ArrivesAt, Bounds, IsTable}
 use Rattle.std.proofs.lemmas.Int.{ints}
@@ -81,7 +82,13 @@ table-led {State} code_of machine act acts from into apart table led =
 
 -- no gains add nothing
 pub no-gains : (sums : Sums) → sums ≡ added sums no_gains
-no-gains sums = simp add-zero
+no-gains sums = fun_ext (λ slot.
+    let with : ℕ → AccountSums = λ n. record {
+      device = (sums slot).device + n;
+      controller = (sums slot).controller + n;
+    } in
+    let same : sums slot ≡ with 0 = simp add-zero in
+    same ∙ ap with (sym (none_at slot)))
 
 -- An act that changes nothing wherever a way leads leaves what arrives.
 table-still : {State : Type 0} (code_of : State → ℕ)
@@ -233,7 +240,7 @@ pub table-some : {State : Type 0} (code_of : State → ℕ)
 table-some code_of machine acts [] bounds some = absurd (some refl)
 table-some code_of machine acts (entry ∷ rest) bounds some =
     let cell = bounds.exact entry.0 entry.1 (contains-here entry rest entry refl) in
-    let least = cell.first.device.least in
+    let least = (cell 0 (omega arith)).device.least in
     record { some = (least.1.state, least.0, least.1.way); bounds = bounds }
 
 -- some entry's code comes with these sums

@@ -1,10 +1,17 @@
--- How cells are moved and joined. This serves private functions.
-use Rattle.std.specs.Prelude.{ℕ, ℤ, pos, ◌+ℤ◌, ◌-ℤ◌, slice_index}
+-- How cells are moved and joined, and which accounts they have. This serves private functions, and
+-- `accounts_of`.
+use Rattle.std.specs.Prelude.{ℕ, ℤ, pos, ◌+ℤ◌, ◌-ℤ◌, List, [], get_or, slice_index}
 use Rattle.std.specs.Int.{int_max, int_min}
+use Rattle.mdb_msgs.specs.declared.command.Device.{Device}
 use Rattle.mdb_machine.specs.declared.gains.Gains.{Gains}
+use Rattle.mdb_machine.specs.Gains.{by_slot}
 use Rattle.mdb_follow.specs.declared.range.Range.{Range}
 use Rattle.mdb_follow.specs.declared.account.Account.{Account}
+use Rattle.mdb_follow.specs.declared.account_name.AccountName.{AccountName}
 use Rattle.mdb_follow.specs.declared.cell.Cell.{Cell}
+use Rattle.mdb_follow.specs.AccountNames.{account_device, account_slot}
+use Rattle.mdb_follow.specs.Devices.{device_place}
+use Rattle.mdb_follow.specs.Ranges.{slot_account}
 
 -- ranges with so much added
 abbrev pub moved_range : Range → ℤ → Range
@@ -17,13 +24,13 @@ moved_account ranges device controller = record {
   difference = moved_range ranges.difference (pos device -ℤ pos controller);
 }
 
+abbrev pub moved_slot : Cell → Gains → ℕ → Account
+moved_slot cell gains slot =
+    moved_account (slot_account cell slot) (slice_index gains.device slot)
+    (slice_index gains.controller slot)
+
 unfoldable pub moved_cell : Cell → Gains → Cell
-moved_cell cell gains = record {
-  first =
-      moved_account cell.first (slice_index gains.device 0) (slice_index gains.controller 0);
-  second =
-      moved_account cell.second (slice_index gains.device 1) (slice_index gains.controller 1);
-}
+moved_cell cell gains = record { accounts = by_slot (moved_slot cell gains) }
 
 -- the ranges of what is in one of two
 abbrev pub joined_range : Range → Range → Range
@@ -39,8 +46,16 @@ joined_account one other = record {
   difference = joined_range one.difference other.difference;
 }
 
+abbrev pub joined_slot : Cell → Cell → ℕ → Account
+joined_slot one other slot = joined_account (slot_account one slot) (slot_account other slot)
+
 unfoldable pub joined_cell : Cell → Cell → Cell
-joined_cell one other = record {
-  first = joined_account one.first other.first;
-  second = joined_account one.second other.second;
-}
+joined_cell one other = record { accounts = by_slot (joined_slot one other) }
+
+-- the account, where the devices have these cells
+abbrev pub account_by : (Device → Cell) → AccountName → Account
+account_by cells account = slot_account (cells (account_device account)) (account_slot account)
+
+-- the cell of a device, of those of all in the order of a report
+abbrev pub cell_in : List Cell → Device → Cell
+cell_in cells device = get_or cells (device_place device) (record { accounts = [] })

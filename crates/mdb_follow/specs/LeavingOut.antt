@@ -9,7 +9,8 @@ use Rattle.mdb_bus.specs.declared.scope.Scope.{Scope}
 use Rattle.mdb_bus.specs.Scopes.{IsFollowed, IsLeftOut}
 use Rattle.mdb_follow.specs.declared.account_name.AccountName.{AccountName}
 use Rattle.mdb_follow.specs.declared.report.Report.{Report}
-use Rattle.mdb_follow.specs.AccountNames.{account_device, account_of, no_account}
+use Rattle.mdb_follow.specs.AccountNames.{account_device, account_of}
+use Rattle.mdb_follow.specs.Ranges.{no_account}
 use Rattle.mdb_follow.specs.Report.{device_decimals, device_silences, device_unvalued}
 use Rattle.mdb_follow.specs.Runs.{AllSums}
 use Rattle.mdb_follow.specs.Sums.{no_sums}

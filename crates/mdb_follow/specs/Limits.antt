@@ -1,9 +1,11 @@
 -- How far from 0 the ends of ranges are, so that they stay numbers of 64 bits. This serves `Table`,
 -- reports and private functions.
-use Rattle.std.specs.Prelude.{ℕ, List, All, pos, neg_ℤ, ◌≤ℤ◌}
+use Rattle.std.specs.Prelude.{ℕ, ◌<◌, List, All, pos, neg_ℤ, ◌≤ℤ◌}
+use Rattle.mdb_machine.specs.declared.gains.TheConstants.{SLOTS}
 use Rattle.mdb_follow.specs.declared.range.Range.{Range}
 use Rattle.mdb_follow.specs.declared.account.Account.{Account}
 use Rattle.mdb_follow.specs.declared.cell.Cell.{Cell}
+use Rattle.mdb_follow.specs.Ranges.{slot_account}
 
 -- both ends of a range are at most so far from 0
 pub record IsRangeWithin (limit : ℕ) (range : Range) : Type 0 where
@@ -18,9 +20,9 @@ pub record IsAccountWithin (limit : ℕ) (ranges : Account) : Type 0 where
   pub controller : IsRangeWithin limit ranges.controller
   pub difference : IsRangeWithin limit ranges.difference
 
-pub record IsCellWithin (limit : ℕ) (cell : Cell) : Type 0 where
-  pub first : IsAccountWithin limit cell.first
-  pub second : IsAccountWithin limit cell.second
+abbrev pub IsCellWithin : ℕ → Cell → Type 0
+IsCellWithin limit cell =
+    (slot : ℕ) → slot < SLOTS → IsAccountWithin limit (slot_account cell slot)
 
 -- all ends of a table are at most so far from 0
 abbrev pub IsTableWithin : ℕ → List (ℕ × Cell) → Type 0

@@ -1,5 +1,6 @@
 -- The least and the greatest of sums.
-use Rattle.std.specs.Prelude.{◌≡◌, ℤ, pos, ◌-ℤ◌, ◌≤ℤ◌}
+use Rattle.std.specs.Prelude.{◌≡◌, ℕ, ℤ, pos, ◌<◌, ◌-ℤ◌, ◌≤ℤ◌, get_or}
+use Rattle.mdb_machine.specs.declared.gains.TheConstants.{SLOTS}
 use Rattle.mdb_follow.specs.declared.range.Range.{Range}
 use Rattle.mdb_follow.specs.declared.account.Account.{Account}
 use Rattle.mdb_follow.specs.declared.cell.Cell.{Cell}
@@ -21,7 +22,18 @@ pub record IsAccount {S : Type 0} (Kind : S → Type 0) (account : S → Account
   pub difference : IsRange Kind
       (λ sums. pos (account sums).device -ℤ pos (account sums).controller) ranges.difference
 
--- those of both accounts
-pub record IsCell (Kind : Sums → Type 0) (cell : Cell) : Type 0 where
-  pub first : IsAccount Kind (λ sums. sums.first) cell.first
-  pub second : IsAccount Kind (λ sums. sums.second) cell.second
+-- what stands for an account that a list lacks; reports and cells lack none
+abbrev pub no_range : Range
+no_range = record { least = pos 0; greatest = pos 0 }
+
+abbrev pub no_account : Account
+no_account = record { device = no_range; controller = no_range; difference = no_range }
+
+-- the account in a slot
+abbrev pub slot_account : Cell → ℕ → Account
+slot_account cell slot = get_or cell.accounts slot no_account
+
+-- those of each account
+abbrev pub IsCell : (Sums → Type 0) → Cell → Type 0
+IsCell Kind cell = (slot : ℕ) → slot < SLOTS
+    → IsAccount Kind (λ sums. sums slot) (slot_account cell slot)

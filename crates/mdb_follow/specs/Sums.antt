@@ -7,27 +7,17 @@ pub record AccountSums : Type 0 where
   pub device : ℕ
   pub controller : ℕ
 
--- what the two accounts of a pair have come to
-pub record Sums : Type 0 where
-  pub first : AccountSums
-  pub second : AccountSums
+-- what the accounts of a pair have come to, each by its slot
+abbrev pub Sums : Type 0
+Sums = ℕ → AccountSums
 
 -- nothing yet
 abbrev pub no_sums : Sums
-no_sums = record {
-  first = record { device = 0; controller = 0 };
-  second = record { device = 0; controller = 0 };
-}
+no_sums slot = record { device = 0; controller = 0 }
 
 -- the sums with the gains of a step
 abbrev pub added : Sums → Gains → Sums
-added sums gains = record {
-  first = record {
-    device = sums.first.device + slice_index gains.device 0;
-    controller = sums.first.controller + slice_index gains.controller 0;
-  };
-  second = record {
-    device = sums.second.device + slice_index gains.device 1;
-    controller = sums.second.controller + slice_index gains.controller 1;
-  };
+added sums gains slot = record {
+  device = (sums slot).device + slice_index gains.device slot;
+  controller = (sums slot).controller + slice_index gains.controller slot;
 }

@@ -1,8 +1,15 @@
 //! The accounts of a report, by name.
 
-ghost use Rattle.std.specs.Prelude.{◌≡◌, ◌<◌, Some};
-ghost use Rattle.mdb_follow.specs.AccountNames.{account_device, account_place, account_word};
+ghost use Rattle.std.specs.Prelude.{◌≡◌, ◌<◌, Some, map};
+ghost use Rattle.mdb_machine.specs.declared.gains.TheConstants.{SLOTS};
+ghost use Rattle.mdb_follow.specs.AccountNames.{account_device, account_place, account_slot};
+ghost use Rattle.mdb_follow.specs.AccountNames.{account_word};
+ghost use Rattle.mdb_follow.specs.Cells.{account_by, cell_in};
+ghost use Rattle.mdb_follow.specs.declared.account_name.TheConstants.AccountName.{ALL};
 
+use crate::devices::device_place;
+use crate::{Account, Cell};
+use mdb_machine::SLOTS;
 use mdb_msgs::{Device, ReaderUnit};
 use std::fmt;
 
@@ -59,6 +66,17 @@ impl AccountName {
         }
     }
 
+    /// Its slot among that device's accounts.
+    pub fn slot(self) -> usize
+        ensures slot { result ≡ account_slot self }
+        ensures below { result < SLOTS }
+    {
+        match self {
+            AccountName::CoinsIn | AccountName::BillsIn | AccountName::Approved(_) => 0,
+            AccountName::PaidOut | AccountName::Sold(_) => 1,
+        }
+    }
+
     /// Its place in a report, from 0.
     pub fn place(self) -> usize
         ensures place { result ≡ account_place self }
@@ -74,6 +92,28 @@ impl AccountName {
             AccountName::Sold(ReaderUnit::Second) => 6,
         }
     }
+}
+
+/// The accounts in the order of `AccountName::ALL`, of the cells of `Report::DEVICES`.
+pub fn accounts_of(cells: &[Cell; 4]) -> [Account; 7]
+    ensures { result ≡ map (account_by (cell_in cells.now)) ALL }
+{
+    [
+        account_in(cells, AccountName::CoinsIn),
+        account_in(cells, AccountName::BillsIn),
+        account_in(cells, AccountName::PaidOut),
+        account_in(cells, AccountName::Approved(ReaderUnit::First)),
+        account_in(cells, AccountName::Sold(ReaderUnit::First)),
+        account_in(cells, AccountName::Approved(ReaderUnit::Second)),
+        account_in(cells, AccountName::Sold(ReaderUnit::Second)),
+    ]
+}
+
+/// The account of a name, of the cells of `Report::DEVICES`.
+fn account_in(cells: &[Cell; 4], name: AccountName) -> Account
+    ensures { result ≡ account_by (cell_in cells.now) name }
+{
+    cells[device_place(name.device())].accounts[name.slot()]
 }
 
 /// Its word.

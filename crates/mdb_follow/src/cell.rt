@@ -1,23 +1,27 @@
 //! The bounds of all sums of a device.
 
-ghost use Rattle.std.specs.Prelude.{◌≡◌, ◌^◌};
+ghost use Rattle.std.specs.Prelude.{◌≡◌, ◌<◌, ◌^◌};
+ghost use Rattle.mdb_machine.specs.declared.gains.TheConstants.{SLOTS};
 ghost use Rattle.mdb_machine.specs.Gains.{IsSmall};
-ghost use Rattle.mdb_follow.specs.Cells.{joined_cell, moved_cell};
+ghost use Rattle.mdb_follow.specs.Cells.{joined_cell, joined_slot, moved_cell, moved_slot};
 ghost use Rattle.mdb_follow.specs.Limits.{IsCellWithin};
 
 use crate::Account;
-use mdb_machine::Gains;
+use mdb_machine::{Gains, SLOTS};
 
-/// The bounds of a pair's two accounts.
+/// The bounds of a pair's accounts.
 #[derive(Clone, Copy, PartialEq, Eq, Debug, Default)]
 pub struct Cell {
-    /// The first account.
-    pub first: Account,
-    /// The second account.
-    pub second: Account,
+    /// Those of each account, by its slot.
+    pub accounts: [Account; SLOTS],
 }
 
 impl Cell {
+    /// No money moved: all bounds are 0.
+    pub const NOTHING: Cell = Cell {
+        accounts: [Account::NOTHING; SLOTS],
+    };
+
     /// The bounds after a step, which adds these gains.
     #[tactic(auto, unfolding(crate::specs::Cells::moved_cell))]
     pub fn moved(&self, gains: &Gains) -> Cell
@@ -26,8 +30,7 @@ impl Cell {
         ensures { result ≡ moved_cell self.now gains.now }
     {
         Cell {
-            first: self.first.moved(gains.device[0], gains.controller[0]),
-            second: self.second.moved(gains.device[1], gains.controller[1]),
+            accounts: [self.moved_at(gains, 0), self.moved_at(gains, 1)],
         }
     }
 
@@ -37,8 +40,27 @@ impl Cell {
         ensures { result ≡ joined_cell self.now other.now }
     {
         Cell {
-            first: self.first.joined(&other.first),
-            second: self.second.joined(&other.second),
+            accounts: [self.joined_at(other, 0), self.joined_at(other, 1)],
         }
+    }
+
+    /// The bounds of the account in a slot after a step.
+    #[inline(always)]
+    fn moved_at(&self, gains: &Gains, slot: usize) -> Account
+        requires slot { slot < SLOTS }
+        requires within { IsCellWithin (2 ^ 62) self.now }
+        requires small { IsSmall gains.now }
+        ensures { result ≡ moved_slot self.now gains.now slot }
+    {
+        self.accounts[slot].moved(gains.device[slot], gains.controller[slot])
+    }
+
+    /// The account in a slot, of sums that are in one of two.
+    #[inline(always)]
+    fn joined_at(&self, other: &Cell, slot: usize) -> Account
+        requires { slot < SLOTS }
+        ensures { result ≡ joined_slot self.now other.now slot }
+    {
+        self.accounts[slot].joined(&other.accounts[slot])
     }
 }

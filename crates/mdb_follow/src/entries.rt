@@ -38,7 +38,7 @@ impl<const N: usize> Entries<N> {
         ensures { result ≡ [] }
     {
         Entries {
-            cells: [(0, Cell::default()); N],
+            cells: [(0, Cell::NOTHING); N],
             count: 0,
         }
     }
@@ -104,7 +104,7 @@ pub(crate) fn join_all(entries: &[(usize, Cell)]) -> Cell
     ensures within { (limit : ℕ) → IsTableWithin limit entries.now → IsCellWithin limit result }
 {
     let Some(((_, first), rest)) = entries.split_first() else {
-        return Cell::default();
+        return Cell::NOTHING;
     };
     let mut all = *first;
     for (_, cell) in rest {

@@ -13,7 +13,7 @@ ghost use Rattle.mdb_follow.specs.SilenceSteps.{AreFew};
 
 use crate::sides::Sides;
 use crate::silence::Silences;
-use crate::{Offence, Report, laws};
+use crate::{Offence, Report, accounts_of, laws};
 use mdb_bus::{Act, Blame, Bus, LinkFault, Scope, laws as bus_laws};
 use mdb_msgs::{Device, DeviceSet, ReaderUnit, Setups};
 use mdb_words::{Event, Time};
@@ -345,15 +345,7 @@ impl Follower {
         let bill = self.sides.ranges(Device::Bill);
         let first_reader = self.sides.ranges(Device::Reader(ReaderUnit::First));
         let second_reader = self.sides.ranges(Device::Reader(ReaderUnit::Second));
-        let accounts = [
-            changer.first,
-            bill.first,
-            changer.second,
-            first_reader.first,
-            first_reader.second,
-            second_reader.first,
-            second_reader.second,
-        ];
+        let accounts = accounts_of(&[changer, bill, first_reader, second_reader]);
         Report::of(self.rows, accounts, &self.sides, &self.silences)
     }
 }

@@ -369,7 +369,7 @@ fn add_starts<P: Pair, const N: usize>(begins: &Beginning, entries: &mut Entries
     ensures below { AreBelow N entries.new }
     ensures within { IsTableWithin 0 entries.new }
 {
-    let nothing = Cell::default();
+    let nothing = Cell::NOTHING;
     for code in 0..N {
         if P::may_start(begins, P::state(code)) {
             entries.push(code, nothing);

@@ -24,7 +24,7 @@ use Rattle.mdb_cash.specs.declared.changer.state.ChangerState.{ChangerState}
 use Rattle.mdb_cash.specs.Changer.{AskStep, MayBeNew, TakeStep, asks_coins, conduct, deposited, dispensed_value, is_last, paid_by_hand}
 use Rattle.mdb_cash.specs.ChangerFacts.{Facts, KnownFacts, tables}
 use Rattle.mdb_cash.specs.ChangerMessages.{part_of}
-use Rattle.mdb_machine.specs.Gains.{controller_gains, device_gains, no_gains}
+use Rattle.mdb_machine.specs.Gains.{controller_gains, device_gains, in_slots, no_gains}
 
 -- a deposit is of a type below 16
 abbrev Fits : ChangerActivity → Type 0
@@ -49,10 +49,10 @@ asks known facts (changer.Dispense coins) before after gains step =
     let again = before.dispense_owed && is_last facts.last_asked coins in
     record {
       other = if again then no_gains
-          else controller_gains 0 (dispensed_value known.setup coins);
+          else controller_gains (in_slots (0 ∷ dispensed_value known.setup coins ∷ []));
       step = (step.0, refl);
       same = λ is. same_asked known facts coins
-          (λ value. if again then no_gains else controller_gains 0 value) is
+          (λ value. if again then no_gains else controller_gains (in_slots (0 ∷ value ∷ []))) is
           ∙ sym step.1;
     }
 asks known facts changer.Reset before after gains step =
@@ -67,9 +67,10 @@ acks : (known : KnownFacts) (facts : Facts) (command : ChangerCommand) (choice :
     → AlsoSteps (TakeStep (in_end known facts) command choice before after)
     ((known.setup ≡ facts.setup) ⊎ (asks_coins command ≡ false)) gains
 acks known facts (changer.Dispense coins) choice before after gains step = record {
-  other = device_gains 0 (dispensed_value known.setup coins);
+  other = device_gains (in_slots (0 ∷ dispensed_value known.setup coins ∷ []));
   step = (step.0, refl);
-  same = λ is. same_asked known facts coins (device_gains 0) is ∙ sym step.1;
+  same = λ is. same_asked known facts coins (λ value. device_gains (in_slots (0 ∷ value ∷ []))) is
+      ∙ sym step.1;
 }
 acks known facts changer.Reset choice before after gains step =
     record { other = gains; step = step; same = λ is. refl }
@@ -140,10 +141,9 @@ steady = record {
   fits = fits;
   tells_news = λ known facts choice news before after enabled fit step.
       (may_be_new known facts news enabled fit step.0, step.1);
-  first_gain = λ one other same. ap deposited same;
-  second_gain = λ one other same. ap paid_by_hand same;
-  no_first = λ facts message none. absurd cc;
-  no_second = λ facts message none. absurd cc;
+  gain = λ one other same. ap (λ setup slot message. in_slots
+      (deposited setup message ∷ paid_by_hand setup message ∷ []) slot) same;
+  no_gain = λ facts slot message none. absurd cc;
   power_on_free = refl;
   heard = λ state. refl;
   ask_holds = ask_holds;

@@ -19,8 +19,8 @@ use Rattle.mdb_machine.specs.Pair.{IsMachineOf, own_acts}
 use Rattle.mdb_cashless.specs.inner.ReaderWays as reader_ways
 use Rattle.mdb_follow.specs.Arrivals.{Arrives}
 use Rattle.mdb_follow.specs.Machines.{StateOf, machine_of}
-use Rattle.mdb_follow.specs.Sums.{Sums, added, no_sums}
-use Rattle.std.proofs.Math.Nat.{add-zero}
+use Rattle.mdb_follow.specs.Sums.{Sums, no_sums}
+use Rattle.mdb_follow.proofs.Ways.{no-gains}
 
 -- each device has a machine of its own
 pub is_machine_of : (begins : Beginning) (device : Device)
@@ -35,10 +35,6 @@ pub starts_anywhere : (setups : Setups) (device : Device) (state : StateOf devic
 starts_anywhere setups devices.Changer state = tt
 starts_anywhere setups devices.Bill state = tt
 starts_anywhere setups (devices.Reader unit) state = tt
-
--- no gains leave sums as they are
-pub no_more : (sums : Sums) → sums ≡ added sums no_gains
-no_more sums = simp add-zero
 
 -- foreign words are acts of no device
 pub none_own : (device : Device) (words : List Event) (pieces : List Piece)
@@ -65,7 +61,7 @@ through_foreign begins device (word ∷ words) pieces state sums way =
       way = way;
       step = (is.elsewhere (acts_of pieces) acts.Foreign Plain state state no_gains
           (λ part. part)).1 (refl, refl);
-      adds = no_more sums;
+      adds = no-gains sums;
     })
 
 -- a device's own acts don't change where others stand in front

@@ -15,11 +15,12 @@ use Rattle.mdb_bus.specs.declared.scope.Beginning.{Beginning}
 use Rattle.mdb_bus.specs.declared.scope.Beginning.TheVariants.{PowerOn, Joined}
 use Rattle.mdb_machine.specs.declared.choice.Choice.{Choice}
 use Rattle.mdb_machine.specs.declared.choice.Choice.TheVariants.{Lost, Plain, Restart}
+use Rattle.std.proofs.Math.Path.{fun_ext}
 use Rattle.mdb_machine.specs.declared.gains.Gains.{Gains}
 use Rattle.mdb_machine.specs.declared.kept.Part.{Part}
 use Rattle.mdb_machine.specs.Gains.{controller_gains, device_gains}
 use Rattle.mdb_machine.specs.Keeper.{Facts, KnownFacts, Tables, known_of, parts_by, setup_by}
-use Rattle.mdb_machine.specs.KeeperSteps.{AckStep, Conduct, KeeperStep, ReplyStep, StepKnowing, VmcAckStep}
+use Rattle.mdb_machine.specs.KeeperSteps.{AckStep, Conduct, KeeperStep, ReplyStep, StepKnowing, VmcAckStep, worth}
 use Rattle.mdb_machine.specs.Kept.{IsNew, has_reset, held, holds_acked, holds_after, holds_read, kept_of}
 use Rattle.mdb_machine.specs.Known.{Allows, AllowsKept, Known, Unknown, Is, known_before, known_by}
 use Rattle.mdb_machine.specs.Machine.{StartsIn}
@@ -75,14 +76,10 @@ pub record IsSteady {Own Setup Asked M State : Type 0} (tables : Tables Own Setu
       (choice : Choice) (news : List M) (before after : State) → IsEnabledIn known facts
       → AllByRecursion Fits news → conduct.TellsNews facts choice news before after
       → conduct.TellsNews (in_end known facts) choice news before after
-  pub first_gain : (one other : Facts Setup Asked M) → one.setup ≡ other.setup
-      → conduct.first_gain one ≡ conduct.first_gain other
-  pub second_gain : (one other : Facts Setup Asked M) → one.setup ≡ other.setup
-      → conduct.second_gain one ≡ conduct.second_gain other
-  pub no_first : (facts : Facts Setup Asked M) (message : M)
-      → conduct.tells_amount message ≡ false → conduct.first_gain facts message ≡ 0
-  pub no_second : (facts : Facts Setup Asked M) (message : M)
-      → conduct.tells_amount message ≡ false → conduct.second_gain facts message ≡ 0
+  pub gain : (one other : Facts Setup Asked M) → one.setup ≡ other.setup
+      → conduct.gain one ≡ conduct.gain other
+  pub no_gain : (facts : Facts Setup Asked M) (slot : ℕ) (message : M)
+      → conduct.tells_amount message ≡ false → conduct.gain facts slot message ≡ 0
   pub power_on_free : conduct.holds conduct.power_on ≡ false
   pub heard : (state : State) → conduct.holds (conduct.heard_reset state) ≡ conduct.holds state
   pub ask_holds : (facts : Facts Setup Asked M) (command : Own) (before after : State)
@@ -195,30 +192,22 @@ tells_none tables conduct known facts command reply own is (inr none) =
 -- so the sums over messages are the same
 same_sums : {Own Setup Asked M State : Type 0} (tables : Tables Own Setup Asked M)
     (conduct : Conduct Own Setup Asked M State) (Fits : M → Type 0)
-    (steady : IsSteady tables conduct Fits) (gains_of : ℕ → ℕ → Gains)
+    (steady : IsSteady tables conduct Fits) (gains_of : (ℕ → ℕ) → Gains)
     (known : KnownFacts Setup Asked M) (facts : Facts Setup Asked M)
     (messages : List M)
     → (known.setup ≡ facts.setup)
     ⊎ AllByRecursion (λ m. conduct.tells_amount m ≡ false) messages
-    → gains_of (sum_by (conduct.first_gain (in_end known facts)) messages)
-    (sum_by (conduct.second_gain (in_end known facts)) messages)
-    ≡ gains_of (sum_by (conduct.first_gain facts) messages)
-    (sum_by (conduct.second_gain facts) messages)
+    → gains_of (worth conduct (in_end known facts) messages)
+    ≡ gains_of (worth conduct facts messages)
 same_sums tables conduct Fits steady gains_of known facts messages (inl same) =
-    ap (λ f. gains_of (sum_by f messages)
-    (sum_by (conduct.second_gain (in_end known facts)) messages))
-    (steady.first_gain (in_end known facts) facts same)
-    ∙ ap (λ f. gains_of (sum_by (conduct.first_gain facts) messages) (sum_by f messages))
-    (steady.second_gain (in_end known facts) facts same)
+    ap (λ gain. gains_of (λ slot. sum_by (gain slot) messages))
+    (steady.gain (in_end known facts) facts same)
 same_sums tables conduct Fits steady gains_of known facts messages (inr none) =
     let tells = conduct.tells_amount in
     let ended = in_end known facts in
-    let first = sum_none tells (conduct.first_gain ended) messages (steady.no_first ended) none
-    ∙ sym (sum_none tells (conduct.first_gain facts) messages (steady.no_first facts) none) in
-    let second = sum_none tells (conduct.second_gain ended) messages (steady.no_second ended) none
-    ∙ sym (sum_none tells (conduct.second_gain facts) messages (steady.no_second facts) none) in
-    ap (λ n. gains_of n (sum_by (conduct.second_gain ended) messages)) first
-    ∙ ap (gains_of (sum_by (conduct.first_gain facts) messages)) second
+    ap gains_of (fun_ext (λ slot.
+    sum_none tells (conduct.gain ended slot) messages (steady.no_gain ended slot) none
+    ∙ sym (sum_none tells (conduct.gain facts slot) messages (steady.no_gain facts slot) none)))
 
 -- an ACK, of POLL or of another command, in the end
 ack_in_end : {Own Setup Asked M State : Type 0} (tables : Tables Own Setup Asked M)
@@ -252,8 +241,7 @@ reply_in_end {M = M} tables conduct Fits steady known facts poll parts choice be
     let among : (P : M → Type 0) → AllByRecursion P (kept_of parts) → AllByRecursion P step.news =
     λ P. all_new P poll holding (kept_of parts) step.news step.has_news.new in
     record {
-      other = device_gains (sum_by (conduct.first_gain (in_end known facts)) step.news)
-          (sum_by (conduct.second_gain (in_end known facts)) step.news);
+      other = device_gains (worth conduct (in_end known facts) step.news);
       step = record {
         news = step.news;
         has_news = record {
@@ -290,8 +278,7 @@ vmc_ack_in_end : {Own Setup Asked M State : Type 0} (tables : Tables Own Setup A
     ⊎ AllByRecursion (λ m. conduct.tells_amount m ≡ false) (kept_of parts)) gains
 vmc_ack_in_end tables conduct Fits steady known facts true parts choice before after gains step =
     record {
-      other = controller_gains (sum_by (conduct.first_gain (in_end known facts)) (kept_of parts))
-          (sum_by (conduct.second_gain (in_end known facts)) (kept_of parts));
+      other = controller_gains (worth conduct (in_end known facts) (kept_of parts));
       step = record { to = step.to; gained = refl };
       same = λ is. same_sums tables conduct Fits steady controller_gains known facts
           (kept_of parts) is

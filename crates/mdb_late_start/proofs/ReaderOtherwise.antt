@@ -13,7 +13,7 @@ use Rattle.mdb_bus.specs.declared.act.Act.{Act}
 use Rattle.mdb_bus.specs.declared.act.Act.TheVariants as acts
 use Rattle.mdb_machine.specs.declared.choice.Choice.{Choice}
 use Rattle.mdb_machine.specs.declared.gains.Gains.{Gains}
-use Rattle.mdb_machine.specs.Gains.{controller_gains, device_gains}
+use Rattle.mdb_machine.specs.Gains.{controller_gains, device_gains, in_slots}
 use Rattle.mdb_machine.specs.Kept.{IsNew, kept_of}
 use Rattle.mdb_machine.specs.Past.{or_else, resets, tells_out_of_sequence}
 use Rattle.mdb_machine.specs.Unvalued.{one_if}
@@ -244,14 +244,14 @@ ask_otherwise : (facts : Facts) (known : KnownFacts) (its : ReaderCommand)
     (IsSalePriced (otherwise facts known) facts its) gains
 ask_otherwise facts known its before after gains step =
     let others = otherwise facts known in (
-      controller_gains 0 (sold_to others its before.view),
+      controller_gains (in_slots (0 ∷ sold_to others its before.view ∷ [])),
       record {
         view = same_asked facts known its before.view ∙ step.view;
         device = step.device;
         holds = step.holds;
         gained = refl;
       },
-      λ priced. ap (λ n. controller_gains 0 n)
+      λ priced. ap (λ n. controller_gains (in_slots (0 ∷ n ∷ [])))
           (same_sold_to others facts its before.view priced) ∙ sym step.gained,
     )
 
@@ -262,9 +262,10 @@ ack_otherwise : (facts : Facts) (known : KnownFacts) (its : ReaderCommand) (choi
     (IsSalePriced (otherwise facts known) facts its) gains
 ack_otherwise facts known its choice before after gains step =
     let others = otherwise facts known in (
-      device_gains 0 (sold others its before),
+      device_gains (in_slots (0 ∷ sold others its before ∷ [])),
       record { poll = step.poll; to = step.to; gained = refl },
-      λ priced. ap (λ n. device_gains 0 n) (same_sold facts known its before priced)
+      λ priced. ap (λ n. device_gains (in_slots (0 ∷ n ∷ [])))
+          (same_sold facts known its before priced)
           ∙ sym step.gained,
     )
 
@@ -285,8 +286,8 @@ reply_otherwise : (facts : Facts) (known : KnownFacts) (its : ReaderCommand) (re
     ⊎ (config_after reply known.config ≡ config_after reply facts.config))) gains
 reply_otherwise facts known its reply choice before after gains owed step =
     let others = otherwise facts known in (
-      device_gains (all_approved (config_after reply known.config) step.news)
-          (sold_any others (taken its reply) (read choice before)),
+      device_gains (in_slots (all_approved (config_after reply known.config) step.news
+          ∷ sold_any others (taken its reply) (read choice before) ∷ [])),
       record {
         news = step.news;
         has_news = record {
@@ -301,10 +302,12 @@ reply_otherwise facts known its reply choice before after gains owed step =
         holds = step.holds;
         gained = refl;
       },
-      λ priced. ap (λ n. device_gains n (sold_any others (taken its reply) (read choice before)))
+      λ priced. ap (λ n. device_gains (in_slots
+          (n ∷ sold_any others (taken its reply) (read choice before) ∷ [])))
           (same_approved (config_after reply known.config) (config_after reply facts.config) _ _
           reply step.news step.has_news.new priced.1)
-          ∙ ap (λ n. device_gains (all_approved (config_after reply facts.config) step.news) n)
+          ∙ ap (λ n. device_gains (in_slots
+          (all_approved (config_after reply facts.config) step.news ∷ n ∷ [])))
           (same_sold_any facts known its reply (read choice before) priced.0)
           ∙ sym step.gained,
     )
@@ -317,9 +320,9 @@ vmc_ack_otherwise : (facts : Facts) (known : KnownFacts) (its : ReaderCommand) (
     ((approvals (messages_of reply) ≡ 0) ⊎ (known.config ≡ facts.config)) gains
 vmc_ack_otherwise facts known its reply choice before after gains step =
     let view = view_answered (taken its reply) before.view in (
-      controller_gains (all_approved_to known.config view (messages_of reply)) 0,
+      controller_gains (in_slots (all_approved_to known.config view (messages_of reply) ∷ [])),
       record { to = step.to; gained = refl },
-      λ priced. ap (λ n. controller_gains n 0)
+      λ priced. ap (λ n. controller_gains (in_slots (n ∷ [])))
           (same_approved_to known.config facts.config view (messages_of reply) priced)
           ∙ sym step.gained,
     )

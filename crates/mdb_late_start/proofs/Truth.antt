@@ -16,11 +16,9 @@ use Rattle.mdb_bus.specs.declared.scope.Scope.{Scope}
 use Rattle.mdb_machine.specs.Pair.{own_acts}
 use Rattle.mdb_follow.specs.declared.account.Account.{Account}
 use Rattle.mdb_follow.specs.declared.account_name.AccountName.{AccountName}
-use Rattle.mdb_follow.specs.declared.account_name.AccountName.TheVariants.{CoinsIn, BillsIn}
-use Rattle.mdb_follow.specs.declared.account_name.AccountName.TheVariants.{PaidOut, Approved, Sold}
 use Rattle.mdb_follow.specs.declared.range.Range.{Range}
 use Rattle.mdb_follow.specs.declared.report.Report.{Report}
-use Rattle.mdb_follow.specs.AccountNames.{account_device, account_of, sums_of}
+use Rattle.mdb_follow.specs.AccountNames.{account_device, account_of, account_slot, sums_of}
 use Rattle.mdb_follow.specs.LeavingOut.{AreSumsWithout}
 use Rattle.mdb_follow.specs.Ranges.{IsAccount, IsRange}
 use Rattle.mdb_follow.specs.Report.{IsReport, device_unvalued, unvalued_of}
@@ -48,11 +46,7 @@ of_both : (account : AccountName) (whole before gained : AllSums)
     → whole (account_device account)
     ≡ both_sums (before (account_device account)) (gained (account_device account))
     → sums_of account whole ≡ both_accounts (sums_of account before) (sums_of account gained)
-of_both CoinsIn whole before gained both = ap (λ s. s.first) both
-of_both BillsIn whole before gained both = ap (λ s. s.first) both
-of_both PaidOut whole before gained both = ap (λ s. s.second) both
-of_both (Approved unit) whole before gained both = ap (λ s. s.first) both
-of_both (Sold unit) whole before gained both = ap (λ s. s.second) both
+of_both account whole before gained both = ap (λ s. s (account_slot account)) both
 
 -- the value of some run lies within a range
 inside : {S : Type 0} (Kind : S → Type 0) (value : S → ℤ) (range : Range) (sums : S)

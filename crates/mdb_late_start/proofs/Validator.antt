@@ -1,11 +1,12 @@
 -- What the validator does, it may do in mid-session: what is so of its conduct.
-use Rattle.std.proofs.Common.{◌≡◌, ℕ, ◌<◌, true, false, List, [], ◌∷◌, refl, ap, sym, subst, ◌∙◌}
+use Rattle.std.proofs.Common.{◌≡◌, ℕ, zero, suc, ◌<◌, true, false, List, [], ◌∷◌, refl, ap, sym, subst, ◌∙◌}
 use Rattle.std.specs.List.{AllByRecursion}
 use Rattle.mdb_msgs.specs.declared.command.Device.TheVariants as devices
 use Rattle.mdb_msgs.specs.declared.setups.Setups.{Setups}
 use Rattle.mdb_bus.specs.declared.scope.Beginning.{Beginning}
 use Rattle.mdb_machine.specs.declared.choice.Choice.{Choice}
 use Rattle.mdb_machine.specs.declared.gains.Gains.{Gains}
+use Rattle.mdb_machine.specs.Gains.{in_slots}
 use Rattle.mdb_machine.specs.Kept.{kept_of}
 use Rattle.mdb_late_start.specs.MidSession.{StaysInMidSession}
 use Rattle.mdb_late_start.proofs.Keepers.{IsEnabledIn, IsSteady, in_end, step_in_end, told_first, told_on}
@@ -67,11 +68,12 @@ all_move known facts (message ∷ news) before after enabled move = (
 )
 
 -- what tells of no bill that was stacked adds nothing
-no_bill : (facts : Facts) (message : BillActivity) → is_stacked message ≡ false
-    → stacked facts.setup message ≡ 0
-no_bill facts (activity.Stacked number) none = absurd cc
-no_bill facts (activity.Escrow number) none = refl
-no_bill facts (activity.Returned number) none = refl
+no_bill : (facts : Facts) (slot : ℕ) (message : BillActivity) → is_stacked message ≡ false
+    → in_slots (stacked facts.setup message ∷ []) slot ≡ 0
+no_bill facts slot (activity.Stacked number) none = absurd cc
+no_bill facts zero (activity.Escrow number) none = refl
+no_bill facts zero (activity.Returned number) none = refl
+no_bill facts (suc slot) message none = refl
 
 -- whether it holds messages ends by RESET, and is left as it is by other commands that it takes
 ack_holds : (facts : Facts) (command : BillCommand) (choice : Choice)
@@ -97,10 +99,9 @@ steady = record {
   fits = λ command reply is. all_fit (kept_of (tables.parts_of reply));
   tells_news = λ known facts choice news before after enabled fit step.
       (all_move known facts news _ after.escrow enabled step.0, step.1);
-  first_gain = λ one other same. ap stacked same;
-  second_gain = λ one other same. refl;
-  no_first = no_bill;
-  no_second = λ facts message none. refl;
+  gain = λ one other same.
+      ap (λ setup slot message. in_slots (stacked setup message ∷ []) slot) same;
+  no_gain = no_bill;
   power_on_free = refl;
   heard = λ state. refl;
   ask_holds = λ facts command before after gains step is.

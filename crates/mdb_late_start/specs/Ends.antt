@@ -20,10 +20,7 @@ both_accounts one other = record {
 }
 
 abbrev pub both_sums : Sums → Sums → Sums
-both_sums one other = record {
-  first = both_accounts one.first other.first;
-  second = both_accounts one.second other.second;
-}
+both_sums one other slot = both_accounts (one slot) (other slot)
 
 -- A way goes on through pieces (`later`), from these states and sums after the pieces before.
 abbrev pub GoesOnThrough : Beginning → Loss → List Piece → List Piece → States → AllSums → States

@@ -1,4 +1,4 @@
-use Rattle.std.proofs.Common.{◌≡◌, ◌∙◌, ◌↔◌, ◌&&◌, ◌==◌, not, ℕ, Bool, true, false, List, [], ◌∷◌, Option, None, Some, refl, ap, sym, subst, length, map, arith, if◌then◌else◌, sum_by}
+use Rattle.std.proofs.Common.{◌≡◌, ◌∙◌, ◌↔◌, ◌&&◌, ◌==◌, not, ℕ, Bool, true, false, List, [], ◌∷◌, Option, None, Some, refl, ap, sym, subst, length, map, arith, if◌then◌else◌}
 use Rattle.std.specs.Bool.{OnFalse}
 use Rattle.std.proofs.lemmas.Bool.{eqb-true}
 use Rattle.mdb_msgs.specs.declared.command.Command.{Command}
@@ -12,7 +12,7 @@ use Rattle.mdb_machine.specs.declared.kept.Part.{Part}
 use Rattle.mdb_machine.specs.Choices.{CanStand}
 use Rattle.mdb_machine.specs.Gains.{Stays, controller_gains, device_gains, no_gains}
 use Rattle.mdb_machine.specs.Keeper.{Facts, Tables}
-use Rattle.mdb_machine.specs.KeeperSteps.{Conduct, KeeperStep, ReplyStep, VmcAckStep}
+use Rattle.mdb_machine.specs.KeeperSteps.{Conduct, KeeperStep, ReplyStep, VmcAckStep, worth}
 use Rattle.mdb_machine.specs.Kept.{IsSummary, MayBeRead, HasNews, has_reset, held, holds_acked, holds_after, holds_read, kept_of}
 use Rattle.mdb_machine.specs.Pair.{IsOnly, IsOnlyStep}
 use Rattle.mdb_machine.specs.Steps.{ForOwn}
@@ -48,14 +48,14 @@ untold {Own} {Setup} {Asked} {M} {State} {conduct} {facts} {poll} {polls} {was} 
 pub told : {Own Setup Asked M State : Type 0} {conduct : Conduct Own Setup Asked M State} {facts : Facts Setup Asked M} {poll : Bool} {parts : List (Part M)} {choice : Choice} {before holding after : State} {news : List M} {gains : Gains}
     → HasNewsOnly poll choice facts.past.reset_owed (held (holds_read choice (conduct.holds before)) facts.past.last_kept) parts news
     → holding ≡ holding_of conduct parts choice before → IsOnly (conduct.TellsNews facts choice news holding) (Some after)
-    → gains ≡ device_gains (sum_by (conduct.first_gain facts) news) (sum_by (conduct.second_gain facts) news)
+    → gains ≡ device_gains (worth conduct facts news)
     → IsOnlyStep (ReplyStep conduct facts poll parts choice before) (Some (after, gains))
 told {Own} {Setup} {Asked} {M} {State} {conduct} {facts} {poll} {parts} {choice} {before} {holding} {after} {news} {gains} telling holding_is tells gains_are = (
   record { news = news; has_news = telling.has_news; tells_news = subst (λ h. conduct.TellsNews facts choice news h after) holding_is tells.0; gained = gains_are },
   λ other more step.
       let same : step.news ≡ news = telling.only step.news step.has_news in (
         tells.1 other (subst (λ h. conduct.TellsNews facts choice news h other) (sym holding_is) (subst (λ ns. conduct.TellsNews facts choice ns (holding_of conduct parts choice before) other) same step.tells_news)),
-        step.gained ∙ (ap (λ ns. device_gains (sum_by (conduct.first_gain facts) ns) (sum_by (conduct.second_gain facts) ns)) same ∙ sym gains_are),
+        step.gained ∙ (ap (λ ns. device_gains (worth conduct facts ns)) same ∙ sym gains_are),
       ),
 )
 
@@ -70,7 +70,7 @@ impossible {Own} {Setup} {Asked} {M} {State} {conduct} {facts} {poll} {parts} {c
 -- the controller's ACK is one step
 pub acknowledged : {Own Setup Asked M State : Type 0} {conduct : Conduct Own Setup Asked M State} {facts : Facts Setup Asked M} {polls poll reset was acked : Bool} {parts : List (Part M)} {kept : List M} {choice : Choice} {before released after : State} {gains : Gains}
     → poll ≡ polls → reset ≡ has_reset parts → kept ≡ kept_of parts → was ≡ conduct.holds before → acked ≡ holds_acked choice kept was → released ≡ conduct.with_holds acked before
-    → after ≡ (if poll && reset then conduct.heard_reset released else released) → gains ≡ (if poll then controller_gains (sum_by (conduct.first_gain facts) kept) (sum_by (conduct.second_gain facts) kept) else no_gains)
+    → after ≡ (if poll && reset then conduct.heard_reset released else released) → gains ≡ (if poll then controller_gains (worth conduct facts kept) else no_gains)
     → IsOnlyStep (VmcAckStep conduct facts polls parts choice before) (Some (after, gains))
 acknowledged {Own} {Setup} {Asked} {M} {State} {conduct} {facts} {polls} {poll} {reset} {was} {acked} {parts} {kept} {choice} {before} {released} {after} {gains} poll_is reset_is kept_is was_is acked_is released_is after_is gains_are =
     let step : VmcAckStep conduct facts polls parts choice before after gains = record {
@@ -111,7 +111,7 @@ idle_ack {Own} {Setup} {Asked} {M} {State} conduct facts poll parts choice befor
         if p && has_reset ps then conduct.heard_reset released else released
 
     gained : Bool → List (Part M) → Gains
-    gained p ps = if p then controller_gains (sum_by (conduct.first_gain facts) (kept_of ps)) (sum_by (conduct.second_gain facts) (kept_of ps)) else no_gains
+    gained p ps = if p then controller_gains (worth conduct facts (kept_of ps)) else no_gains
 
     same : (p : Bool) → acked p [] ≡ before
     same true = conduct.same_as_set before

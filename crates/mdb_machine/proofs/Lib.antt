@@ -7,5 +7,6 @@ pub mod MidSession
 pub mod PastAfter
 pub mod PowerOn
 pub mod Sizes
+pub mod Slots
 pub mod StepCodes
 pub mod Ways

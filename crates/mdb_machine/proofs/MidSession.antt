@@ -16,7 +16,7 @@ use Rattle.mdb_machine.specs.declared.kept.Part.{Part}
 use Rattle.mdb_machine.specs.declared.kept.Part.TheVariants as part
 use Rattle.mdb_machine.specs.Gains.{Stays, device_gains}
 use Rattle.mdb_machine.specs.Keeper.{AllowsFacts, Facts, Tables, asked_by, effect_of, facts_of, known_of, parts_by}
-use Rattle.mdb_machine.specs.KeeperSteps.{Conduct, KeeperStep, ReplyStep, StepKnowing}
+use Rattle.mdb_machine.specs.KeeperSteps.{Conduct, KeeperStep, ReplyStep, StepKnowing, worth}
 use Rattle.mdb_machine.specs.Kept.{IsNew, held, holds_after, holds_read, keeps_early, kept_of}
 use Rattle.mdb_machine.specs.Known.{Allows, AllowsKept, known_by}
 use Rattle.mdb_machine.specs.MidSession.{AsksNone, IsSettled, TellsHeldFirst, TellsNone, facts_recorded}
@@ -246,12 +246,9 @@ held_ways {Setup = Setup} {Asked = Asked} {M = M} tables conduct overlooks setup
         step.has_news.new in
         let is = and_back told facts
         (as_guess tables setups so_far (conduct.holds before) facts knowing.1) in
-        let first : conduct.first_gain facts ≡ conduct.first_gain told =
-        sym (overlooks.first_gain facts told.last_asked told.past.last_kept)
-        ∙ ap conduct.first_gain (sym is) in
-        let second : conduct.second_gain facts ≡ conduct.second_gain told =
-        sym (overlooks.second_gain facts told.last_asked told.past.last_kept)
-        ∙ ap conduct.second_gain (sym is) in (
+        let same : conduct.gain facts ≡ conduct.gain told =
+        sym (overlooks.gain facts told.last_asked told.past.last_kept)
+        ∙ ap conduct.gain (sym is) in (
           new.0,
           record {
             some = new.1;
@@ -266,12 +263,8 @@ held_ways {Setup = Setup} {Asked = Asked} {M = M} tables conduct overlooks setup
                 (overlooks.tells_news facts told.last_asked told.past.last_kept Plain step.news _
                 after step.tells_news)));
             gained = step.gained
-                ∙ ap (λ f. device_gains (sum_by f step.news)
-                (sum_by (conduct.second_gain facts) step.news)) first
-                ∙ ap (λ f. device_gains (sum_by (conduct.first_gain told) step.news)
-                (sum_by f step.news)) second
-                ∙ ap (λ n. device_gains (sum_by (conduct.first_gain told) n)
-                (sum_by (conduct.second_gain told) n)) new.3;
+                ∙ ap (λ gain. device_gains (λ slot. sum_by (gain slot) step.news)) same
+                ∙ ap (λ n. device_gains (worth conduct told n)) new.3;
           },
         )
 
@@ -303,12 +296,8 @@ held_ways {Setup = Setup} {Asked = Asked} {M = M} tables conduct overlooks setup
                 (overlooks.tells_news told told.last_asked last Plain (drop count kept) before after
                 tells.news);
             gained = tells.gained
-                ∙ ap (λ f. device_gains (sum_by f (drop count kept))
-                (sum_by (conduct.second_gain told) (drop count kept)))
-                (sym (overlooks.first_gain told told.last_asked last))
-                ∙ ap (λ f. device_gains (sum_by (conduct.first_gain facts) (drop count kept))
-                (sum_by f (drop count kept)))
-                (sym (overlooks.second_gain told told.last_asked last));
+                ∙ ap (λ gain. device_gains (λ slot. sum_by (gain slot) (drop count kept)))
+                (sym (overlooks.gain told told.last_asked last));
           },
         )
 
@@ -356,8 +345,7 @@ silent_way {Setup = Setup} {Asked = Asked} {M = M} some tables conduct setups so
                 (subst (λ n. conduct.TellsNews facts Plain n (conduct.with_holds
                 (holds_after (kept_of parts) (holds_read Plain (conduct.holds before))) before) after)
                 left.1 step.tells_news)),
-            step.gained ∙ ap (λ n. device_gains (sum_by (conduct.first_gain facts) n)
-                (sum_by (conduct.second_gain facts) n)) left.1,
+            step.gained ∙ ap (λ n. device_gains (worth conduct facts n)) left.1,
           ),
       λ same.
           let told = facts_recorded tables setups so_far in

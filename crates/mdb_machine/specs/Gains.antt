@@ -1,26 +1,36 @@
 -- What a step adds to the sums of a pair, in smallest units of money: for its device and for the
--- controller, to each of its two accounts (this profile).
-use Rattle.std.specs.Prelude.{◌≡◌, ℕ, ◌<◌, ◌^◌, [], ◌∷◌, slice_index}
+-- controller, to each of its accounts (this profile). Each account has a slot, from 0.
+use Rattle.std.specs.Prelude.{◌≡◌, ℕ, ◌<◌, ◌^◌, List, [], ◌∷◌, slice_index}
+use Rattle.std.specs.List.{AllByRecursion}
 use Rattle.mdb_machine.specs.declared.gains.Gains.{Gains}
+
+-- one thing for each slot, in their order: as many as there are slots
+abbrev pub by_slot : {X : Type 0} → (ℕ → X) → List X
+by_slot of = of 0 ∷ of 1 ∷ []
+
+-- amounts by slot: those of a list, and nothing in the slots after them
+abbrev pub in_slots : List ℕ → ℕ → ℕ
+in_slots amounts slot = slice_index amounts slot
 
 -- nothing
 abbrev pub no_gains : Gains
-no_gains = record { device = 0 ∷ 0 ∷ []; controller = 0 ∷ 0 ∷ [] }
+no_gains = record { device = by_slot (λ slot. 0); controller = by_slot (λ slot. 0) }
 
--- so much to the device's two sums
-abbrev pub device_gains : ℕ → ℕ → Gains
-device_gains first second = record { device = first ∷ second ∷ []; controller = 0 ∷ 0 ∷ [] }
+-- so much to each of the device's sums
+abbrev pub device_gains : (ℕ → ℕ) → Gains
+device_gains amount = record { device = by_slot amount; controller = by_slot (λ slot. 0) }
 
--- so much to the controller's two sums
-abbrev pub controller_gains : ℕ → ℕ → Gains
-controller_gains first second = record { device = 0 ∷ 0 ∷ []; controller = first ∷ second ∷ [] }
+-- so much to each of the controller's sums
+abbrev pub controller_gains : (ℕ → ℕ) → Gains
+controller_gains amount = record { device = by_slot (λ slot. 0); controller = by_slot amount }
 
 -- few enough that the sums over the 100,000,000 rows of a recording fit in 63 bits
+abbrev pub AreSmall : List ℕ → Type 0
+AreSmall amounts = AllByRecursion (λ amount. amount < 2 ^ 32) amounts
+
 pub record IsSmall (gains : Gains) : Type 0 where
-  pub device_first : slice_index gains.device 0 < 2 ^ 32
-  pub device_second : slice_index gains.device 1 < 2 ^ 32
-  pub controller_first : slice_index gains.controller 0 < 2 ^ 32
-  pub controller_second : slice_index gains.controller 1 < 2 ^ 32
+  pub device : AreSmall gains.device
+  pub controller : AreSmall gains.controller
 
 -- a step that changes nothing
 abbrev pub Stays : {State : Type 0} → State → State → Gains → Type 0

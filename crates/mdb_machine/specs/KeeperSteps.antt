@@ -27,14 +27,18 @@ pub record Conduct (Own Setup Asked M State : Type 0) : Type 1 where
   pub Acks : Facts Setup Asked M → Own → Choice → State → State → Gains → Type 0
   -- the device tells new messages in a reply under a choice
   pub TellsNews : Facts Setup Asked M → Choice → List M → State → State → Type 0
-  -- what a kept message adds to the first account, and to the second
-  pub first_gain : Facts Setup Asked M → M → ℕ
-  pub second_gain : Facts Setup Asked M → M → ℕ
+  -- what a kept message adds to the account in a slot
+  pub gain : Facts Setup Asked M → ℕ → M → ℕ
   -- whether the controller asks for money by a command, and whether a kept message tells of some
   pub asks_amount : Own → Bool
   pub tells_amount : M → Bool
   -- the state once the controller has heard a reset message
   pub heard_reset : State → State
+
+-- what kept messages add to the account in a slot
+abbrev pub worth : {Own Setup Asked M State : Type 0} → Conduct Own Setup Asked M State
+    → Facts Setup Asked M → List M → ℕ → ℕ
+worth conduct facts messages slot = sum_by (conduct.gain facts slot) messages
 
 -- The device acknowledges a command, POLL or another. While it holds something, ACK is no answer to
 -- POLL.
@@ -55,8 +59,7 @@ pub record ReplyStep {Own Setup Asked M State : Type 0} (conduct : Conduct Own S
       (held (holds_read choice (conduct.holds before)) facts.past.last_kept) parts news
   pub tells_news : conduct.TellsNews facts choice news (conduct.with_holds
       (holds_after (kept_of parts) (holds_read choice (conduct.holds before))) before) after
-  pub gained : gains ≡ device_gains (sum_by (conduct.first_gain facts) news)
-      (sum_by (conduct.second_gain facts) news)
+  pub gained : gains ≡ device_gains (worth conduct facts news)
 
 -- The controller acknowledges a reply. To POLL, all kept messages count for it, new or not, and it
 -- hears a reset message.
@@ -69,8 +72,7 @@ pub record VmcAckStep {Own Setup Asked M State : Type 0}
       let released = conduct.with_holds holds before in
       after ≡ (if poll && has_reset parts then conduct.heard_reset released else released)
   pub gained : gains ≡ (if poll
-      then controller_gains (sum_by (conduct.first_gain facts) (kept_of parts))
-      (sum_by (conduct.second_gain facts) (kept_of parts))
+      then controller_gains (worth conduct facts (kept_of parts))
       else no_gains)
 
 -- A step of the device and the controller by an act under a choice, after acts that leave these

@@ -1,7 +1,7 @@
 -- What a recording that begins in mid-session leaves open of a device that keeps messages (this
 -- profile): the ways that an act may go where something isn't known, listed one by one. The laws of
 -- each device say that these ways are there, and no other. Acts so far stand newest first.
-use Rattle.std.specs.Prelude.{◌≡◌, ◌⊎◌, ℕ, ◌≤◌, false, not, ◌&&◌, ◌||◌, List, [], None, drop, length, ltb, sum_by}
+use Rattle.std.specs.Prelude.{◌≡◌, ◌⊎◌, ℕ, ◌≤◌, false, not, ◌&&◌, ◌||◌, List, [], None, drop, length, ltb}
 use Rattle.std.specs.List.{All, list_any}
 use Rattle.mdb_msgs.specs.declared.command.Command.{Command}
 use Rattle.mdb_msgs.specs.declared.setups.Setups.{Setups}
@@ -14,7 +14,7 @@ use Rattle.mdb_machine.specs.declared.kept.Part.{Part}
 use Rattle.mdb_machine.specs.declared.past.Effect.{Effect}
 use Rattle.mdb_machine.specs.Gains.{device_gains}
 use Rattle.mdb_machine.specs.Keeper.{Facts, Tables, asked_by, effect_of, parts_by, setup_by}
-use Rattle.mdb_machine.specs.KeeperSteps.{Conduct}
+use Rattle.mdb_machine.specs.KeeperSteps.{Conduct, worth}
 use Rattle.mdb_machine.specs.Kept.{MayBeKept, holds_read, kept_of}
 use Rattle.mdb_machine.specs.Past.{PastFacts, last_told, or_else, past_of, powers_on}
 
@@ -63,9 +63,7 @@ pub record TellsHeldFirst {Own Setup Asked M State : Type 0}
   pub told : count ≤ length (kept_of parts)
   pub reset : MayBeKept facts.past.reset_owed parts
   pub news : conduct.TellsNews facts Plain (drop count (kept_of parts)) before after
-  pub gained : gains ≡ device_gains
-      (sum_by (conduct.first_gain facts) (drop count (kept_of parts)))
-      (sum_by (conduct.second_gain facts) (drop count (kept_of parts)))
+  pub gained : gains ≡ device_gains (worth conduct facts (drop count (kept_of parts)))
 
 -- What isn't known is of no matter for an act. An ask is of what doesn't count once it is asked, or
 -- the acts so far ask such a thing. A reply is of another device, or of a device that holds nothing

@@ -1,7 +1,7 @@
 //! What a device that keeps messages does, and the controller with it.
 
 ghost use Rattle.std.specs.Prelude.{◌≡◌, ◌≤◌, ◌<◌, ◌+◌, ◌^◌, ◌↔◌, ◌⊎◌, true, false, List, ◌∷◌, Contains, IfSome, Option, Some, length, option_and_then, sum_by};
-ghost use Rattle.mdb_machine.specs.Gains.{IsSmall};
+ghost use Rattle.mdb_machine.specs.Gains.{AreSmall, IsSmall, by_slot};
 ghost use Rattle.mdb_machine.specs.KeeperSteps as spec;
 ghost use Rattle.arrayvec.specs.ArrayVec.{array_vec_len};
 ghost use Rattle.mdb_msgs.specs.declared.command.Command.{Command};
@@ -16,7 +16,7 @@ ghost use Rattle.mdb_machine.specs.KeeperValues.{facts_in, known_in, settled};
 ghost use Rattle.mdb_machine.specs.Pair.{IsOnly, IsOnlyStep};
 
 use crate::choice::Choice;
-use crate::gains::Gains;
+use crate::gains::{Gains, SLOTS};
 use crate::keeper::{Keeper, KeeperFacts, KeeperKnown};
 use crate::kept::{held, holds_acked, holds_after, holds_read, may_all_be_read};
 use arrayvec::ArrayVec;
@@ -73,14 +73,9 @@ pub trait Conduct: Keeper {
     ) -> Option<Self::State>
         ensures { IsOnly (conduct.TellsNews (facts_in facts.now) choice news.now before) result };
 
-    /// What a kept message adds to the first account.
-    fn first_gain(facts: &KeeperFacts<Self>, message: Self::Kept) -> u64
-        ensures value { result ≡ conduct.first_gain (facts_in facts.now) message }
-        ensures small { result < 2 ^ 28 };
-
-    /// What it adds to the second.
-    fn second_gain(facts: &KeeperFacts<Self>, message: Self::Kept) -> u64
-        ensures value { result ≡ conduct.second_gain (facts_in facts.now) message }
+    /// What a kept message adds to the account in a slot.
+    fn gain(facts: &KeeperFacts<Self>, slot: usize, message: Self::Kept) -> u64
+        ensures value { result ≡ conduct.gain (facts_in facts.now) slot message }
         ensures small { result < 2 ^ 28 };
 
     /// Whether the controller asks for money by a command.
@@ -354,8 +349,7 @@ fn reply_with<K: Conduct>(
     let news = summary.news(K::is_poll(command), choice, facts.past.reset_owed, held)?;
     let holding = K::with_holds(before, holds_after(summary.kept.as_slice(), holds));
     let after = K::tell_news(facts, choice, news, holding)?;
-    let (first, second) = worth(facts, news);
-    Some((after, Gains::of_device(first, second)))
+    Some((after, Gains::of_device(&worth(facts, news))))
 }
 
 /// The controller acknowledges a reply.
@@ -377,8 +371,7 @@ fn vmc_ack<K: Conduct>(
     if !K::is_poll(command) {
         return (released, Gains::none());
     }
-    let (first, second) = worth(facts, kept);
-    let gains = Gains::of_controller(first, second);
+    let gains = Gains::of_controller(&worth(facts, kept));
     if summary.reset {
         (K::heard_reset(released), gains)
     } else {
@@ -386,18 +379,26 @@ fn vmc_ack<K: Conduct>(
     }
 }
 
-/// What kept messages add to the two accounts.
-fn worth<K: Conduct>(facts: &KeeperFacts<K>, messages: &[K::Kept]) -> (u64, u64)
+/// What kept messages add to each account.
+#[inline(always)]
+fn worth<K: Conduct>(facts: &KeeperFacts<K>, messages: &[K::Kept]) -> [u64; SLOTS]
     requires { length messages.now ≤ 16 }
-    ensures first { result.0 ≡ sum_by (K.conduct.first_gain (facts_in facts.now)) messages.now }
-    ensures second { result.1 ≡ sum_by (K.conduct.second_gain (facts_in facts.now)) messages.now }
-    ensures small { (result.0 < 2 ^ 32) × (result.1 < 2 ^ 32) }
+    ensures value { result ≡ by_slot (spec.worth K.conduct (facts_in facts.now) messages.now) }
+    ensures small { AreSmall result }
 {
-    let mut first = 0;
-    let mut second = 0;
+    [worth_at(facts, 0, messages), worth_at(facts, 1, messages)]
+}
+
+/// What kept messages add to the account in a slot.
+#[inline(always)]
+fn worth_at<K: Conduct>(facts: &KeeperFacts<K>, slot: usize, messages: &[K::Kept]) -> u64
+    requires { length messages.now ≤ 16 }
+    ensures value { result ≡ spec.worth K.conduct (facts_in facts.now) messages.now slot }
+    ensures small { result < 2 ^ 32 }
+{
+    let mut worth = 0;
     for message in messages {
-        first += K::first_gain(facts, *message);
-        second += K::second_gain(facts, *message);
+        worth += K::gain(facts, slot, *message);
     }
-    (first, second)
+    worth
 }

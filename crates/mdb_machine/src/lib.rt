@@ -17,5 +17,5 @@ mod pair;
 pub mod past;
 
 pub use choice::{Choice, other_choice};
-pub use gains::Gains;
+pub use gains::{Gains, SLOTS, amount_at};
 pub use pair::{HasCode, Pair, can_stand_for, coded};

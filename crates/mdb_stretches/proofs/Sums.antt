@@ -6,13 +6,13 @@ use Rattle.mdb_msgs.specs.declared.command.Device.TheVariants.{Changer, Bill, Re
 use Rattle.mdb_msgs.specs.declared.command.ReaderUnit.TheVariants.{First, Second}
 use Rattle.mdb_follow.specs.declared.account.Account.{Account}
 use Rattle.mdb_follow.specs.declared.account_name.AccountName.{AccountName}
-use Rattle.mdb_follow.specs.declared.account_name.AccountName.TheVariants.{CoinsIn, BillsIn, PaidOut, Approved, Sold}
 use Rattle.mdb_follow.specs.declared.range.Range.{Range}
 use Rattle.mdb_follow.specs.declared.report.Report.{Report}
 use Rattle.mdb_follow.specs.Limits.{IsAccountWithin, IsRangeWithin}
 use Rattle.mdb_follow.specs.ReportLimits.{IsReportWithin}
 use Rattle.mdb_follow.specs.Report.{device_silences, device_unvalued}
 use Rattle.mdb_follow.specs.AccountNames.{account_of}
+use Rattle.mdb_follow.proofs.Accounts.{listed}
 use Rattle.mdb_stretches.specs.declared.totals.Totals.{Totals}
 use Rattle.mdb_stretches.specs.Totals.{AreWithin, added_account, added_range, total_of, total_silences, total_unvalued, with_report}
 
@@ -20,13 +20,8 @@ use Rattle.mdb_stretches.specs.Totals.{AreWithin, added_account, added_range, to
 pub account_sums : (totals : Totals) (report : Report) (account : AccountName)
     → total_of account (with_report totals report)
     ≡ added_account (total_of account totals) (account_of account report)
-account_sums totals report CoinsIn = refl
-account_sums totals report BillsIn = refl
-account_sums totals report PaidOut = refl
-account_sums totals report (Approved First) = refl
-account_sums totals report (Sold First) = refl
-account_sums totals report (Approved Second) = refl
-account_sums totals report (Sold Second) = refl
+account_sums totals report =
+    listed (λ account. added_account (total_of account totals) (account_of account report))
 
 pub silence_sums : (totals : Totals) (report : Report) (device : Device)
     → total_silences device (with_report totals report)

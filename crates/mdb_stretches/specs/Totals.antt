@@ -9,9 +9,10 @@ use Rattle.mdb_follow.specs.declared.report.Report.{Report}
 use Rattle.mdb_follow.specs.declared.report.TheConstants.Report.{DEVICES}
 use Rattle.mdb_follow.specs.Devices.{device_place}
 use Rattle.mdb_follow.specs.Limits.{IsAccountWithin}
+use Rattle.mdb_follow.specs.Ranges.{no_account}
 use Rattle.mdb_follow.specs.ReportLimits.{IsReportWithin}
 use Rattle.mdb_follow.specs.Report.{device_silences, device_unvalued}
-use Rattle.mdb_follow.specs.AccountNames.{account_in, account_of, no_account}
+use Rattle.mdb_follow.specs.AccountNames.{account_in, account_of}
 use Rattle.mdb_stretches.specs.declared.stretch.Ended.{Ended}
 use Rattle.mdb_stretches.specs.declared.totals.Totals.{Totals}
 

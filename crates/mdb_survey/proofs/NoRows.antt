@@ -3,17 +3,14 @@ use Rattle.std.proofs.Common.{arith, refl, ap, subst, ◌≡◌, ◌+◌, ℤ, p
 use Rattle.std.proofs.lemmas.Int.{ints}
 use Rattle.mdb_words.specs.declared.event.Event.{Event}
 use Rattle.mdb_msgs.specs.declared.command.Device.{Device}
-use Rattle.mdb_msgs.specs.declared.command.Device.TheVariants as devices
 use Rattle.mdb_bus.specs.ActLists.{ArePieces, Piece, events_of, piece_events}
 use Rattle.mdb_bus.specs.declared.scope.Scope.{Scope}
 use Rattle.mdb_follow.specs.declared.account_name.AccountName.{AccountName}
-use Rattle.mdb_follow.specs.declared.account_name.AccountName.TheVariants.{CoinsIn, BillsIn}
-use Rattle.mdb_follow.specs.declared.account_name.AccountName.TheVariants.{PaidOut, Approved, Sold}
 use Rattle.mdb_follow.specs.declared.follower.Follower.{Follower}
 use Rattle.mdb_follow.specs.declared.report.Report.{Report}
-use Rattle.mdb_follow.specs.AccountNames.{no_account, no_range, sums_of}
+use Rattle.mdb_follow.specs.AccountNames.{account_device, account_slot, sums_of}
 use Rattle.mdb_follow.specs.Follower.{StandsFor, scope_of}
-use Rattle.mdb_follow.specs.Ranges.{IsAccount, IsRange}
+use Rattle.mdb_follow.specs.Ranges.{IsAccount, IsRange, no_account, no_range}
 use Rattle.mdb_follow.specs.Report.{IsReport, report_of}
 use Rattle.mdb_follow.specs.Runs.{AllSums, IsReached, IsWay, Run}
 use Rattle.mdb_follow.specs.Sums.{AccountSums, Sums, no_sums}
@@ -53,11 +50,9 @@ no_account_sums = record { device = 0; controller = 0 }
 
 account_still : (scope : Scope) (account : AccountName) (sums : AllSums) → Run scope [] sums
     → sums_of account sums ≡ no_account_sums
-account_still scope CoinsIn sums run = ap (λ (s : Sums). s.first) (nothing_moves scope sums run devices.Changer)
-account_still scope BillsIn sums run = ap (λ (s : Sums). s.first) (nothing_moves scope sums run devices.Bill)
-account_still scope PaidOut sums run = ap (λ (s : Sums). s.second) (nothing_moves scope sums run devices.Changer)
-account_still scope (Approved unit) sums run = ap (λ (s : Sums). s.first) (nothing_moves scope sums run (devices.Reader unit))
-account_still scope (Sold unit) sums run = ap (λ (s : Sums). s.second) (nothing_moves scope sums run (devices.Reader unit))
+account_still scope account sums run =
+    ap (λ (s : Sums). s (account_slot account))
+    (nothing_moves scope sums run (account_device account))
 
 range_still : (scope : Scope) → IsReached scope [] → (value : AllSums → ℤ)
     → ((sums : AllSums) → Run scope [] sums → value sums ≡ pos 0)

@@ -77,8 +77,7 @@ overlooks = record {
     moves_all facts asked kept news _ after.escrow step.0,
     step.1,
   );
-  first_gain = λ facts asked kept. refl;
-  second_gain = λ facts asked kept. refl;
+  gain = λ facts asked kept. refl;
 }
 
 -- the machine is one of the device

@@ -19,7 +19,7 @@ use Rattle.mdb_machine.specs.declared.choice.Choice.TheVariants.{Plain, Restart}
 use Rattle.mdb_machine.specs.declared.gains.Gains.{Gains}
 use Rattle.mdb_cash.specs.Changer.{AskStep, ChangerStep, MayBeNew, TakeStep, conduct, dispensed_value, is_last, machine, power_on, unvalued}
 use Rattle.mdb_cash.specs.ChangerFacts.{Facts, KnownFacts, asked_of, known_of, own, tables}
-use Rattle.mdb_machine.specs.Gains.{Stays, controller_gains, no_gains}
+use Rattle.mdb_machine.specs.Gains.{Stays, controller_gains, in_slots, no_gains}
 use Rattle.mdb_machine.specs.inner.KeeperPlain.{LooksAway, as_plain}
 use Rattle.mdb_machine.specs.inner.Guesses.{Overlooks, guessing}
 use Rattle.mdb_machine.specs.inner.KeeperWays as keeper_ways
@@ -83,13 +83,14 @@ again_or_not facts coins before after gains true is step = inr (
   step.0,
   step.1
       ∙ ap (λ a. if before.dispense_owed && a then no_gains
-      else controller_gains 0 (dispensed_value facts.setup coins)) (is ∙ sym (eq-eqb coins coins refl)),
+      else controller_gains (in_slots (0 ∷ dispensed_value facts.setup coins ∷ [])))
+      (is ∙ sym (eq-eqb coins coins refl)),
 )
 again_or_not facts coins before after gains false is step = inl (
   step.0,
   step.1
       ∙ ap (λ a. if before.dispense_owed && a then no_gains
-      else controller_gains 0 (dispensed_value facts.setup coins)) is,
+      else controller_gains (in_slots (0 ∷ dispensed_value facts.setup coins ∷ []))) is,
 )
 
 asks_again : (facts : Facts) (command : ChangerCommand) (before after : ChangerState) (gains : Gains)
@@ -125,8 +126,7 @@ overlooks = record {
   acks = acks_other;
   tells_news = λ facts asked kept choice news before after step.
       (may_all facts asked kept news step.0, step.1);
-  first_gain = λ facts asked kept. refl;
-  second_gain = λ facts asked kept. refl;
+  gain = λ facts asked kept. refl;
 }
 
 -- the machine is one of the device

@@ -13,7 +13,7 @@ use super::state::{BillState, BillType, Escrow};
 use super::tables::BillFacts;
 use super::values::stacked;
 use mdb_machine::conduct::Conduct;
-use mdb_machine::{Choice, Gains};
+use mdb_machine::{Choice, Gains, amount_at};
 use mdb_msgs::BillCommand;
 
 impl Conduct for Bill {
@@ -70,12 +70,9 @@ impl Conduct for Bill {
         Some(BillState { escrow, ..before })
     }
 
-    fn first_gain(facts: &BillFacts, message: BillActivity) -> u64 {
-        stacked(&facts.setup, message)
-    }
-
-    fn second_gain(_facts: &BillFacts, _message: BillActivity) -> u64 {
-        0
+    #[inline(always)]
+    fn gain(facts: &BillFacts, slot: usize, message: BillActivity) -> u64 {
+        amount_at(&[stacked(&facts.setup, message)], slot)
     }
 
     fn asks_amount(_command: BillCommand) -> bool {

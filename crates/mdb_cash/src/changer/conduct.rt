@@ -16,7 +16,7 @@ use super::state::ChangerState;
 use super::tables::ChangerFacts;
 use super::values::{deposited, dispensed_value, paid_by_hand};
 use mdb_machine::conduct::Conduct;
-use mdb_machine::{Choice, Gains};
+use mdb_machine::{Choice, Gains, amount_at};
 use mdb_msgs::ChangerCommand;
 
 impl Conduct for Changer {
@@ -80,7 +80,7 @@ impl Conduct for Changer {
                     ..before
                 };
                 let paid = dispensed_value(&facts.setup, coins);
-                (after, Gains::of_device(0, paid))
+                (after, Gains::of_device(&[0, paid]))
             }
             _ => (before, Gains::none()),
         }
@@ -99,12 +99,11 @@ impl Conduct for Changer {
         }
     }
 
-    fn first_gain(facts: &ChangerFacts, message: ChangerActivity) -> u64 {
-        deposited(&facts.setup, message)
-    }
-
-    fn second_gain(facts: &ChangerFacts, message: ChangerActivity) -> u64 {
-        paid_by_hand(&facts.setup, message)
+    #[inline(always)]
+    fn gain(facts: &ChangerFacts, slot: usize, message: ChangerActivity) -> u64 {
+        let coins_in = deposited(&facts.setup, message);
+        let paid_out = paid_by_hand(&facts.setup, message);
+        amount_at(&[coins_in, paid_out], slot)
     }
 
     fn asks_amount(command: ChangerCommand) -> bool {
@@ -137,7 +136,7 @@ fn ask_for_coins(facts: &ChangerFacts, coins: u8, before: ChangerState) -> (Chan
         (after, Gains::none())
     } else {
         let asked = dispensed_value(&facts.setup, coins);
-        (after, Gains::of_controller(0, asked))
+        (after, Gains::of_controller(&[0, asked]))
     }
 }
 

@@ -134,7 +134,7 @@ pub(crate) fn answer(
     let approved = all_approved(config, new);
     Some((
         after,
-        Gains::of_device(approved, sold_any(facts, taken, start)),
+        Gains::of_device(&[approved, sold_any(facts, taken, start)]),
     ))
 }
 
@@ -194,7 +194,7 @@ pub(crate) fn vmc_ack(
         view: hearing.view,
         holds: holds_on(choice, hearing.keeps, before.holds),
     };
-    (after, Gains::of_controller(hearing.approved, 0))
+    (after, Gains::of_controller(&[hearing.approved]))
 }
 
 /// What hearing messages makes of the controller's view and sums.

@@ -84,7 +84,7 @@ pub(crate) fn ask(
         holds: before.holds,
     };
     let sold = sold_to(facts, command, before.view);
-    Some((after, Gains::of_controller(0, sold)))
+    Some((after, Gains::of_controller(&[0, sold])))
 }
 
 /// The view after a command that the controller sends; `None` where it may not send it.
@@ -135,7 +135,7 @@ pub(crate) fn ack(
         holds: taken.holds,
     };
     let sold = sold(facts, command, before);
-    Some((after, Gains::of_device(0, sold)))
+    Some((after, Gains::of_device(&[0, sold])))
 }
 
 /// Whether an act may change a state or a sum of this reader.

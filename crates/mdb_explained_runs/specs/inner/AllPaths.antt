@@ -1,5 +1,5 @@
 -- The best ways of each device, for a goal. This serves private functions.
-use Rattle.std.specs.Prelude.{◌≡◌, ◌<◌, ℕ, List, ◌∷◌, length}
+use Rattle.std.specs.Prelude.{◌≡◌, ◌<◌, ℕ, List, ◌∷◌, length, if◌then◌else◌}
 use Rattle.mdb_msgs.specs.declared.command.Device.{Device}
 use Rattle.mdb_msgs.specs.declared.command.Device.TheVariants as devices
 use Rattle.mdb_msgs.specs.declared.command.ReaderUnit.TheVariants as units
@@ -7,7 +7,6 @@ use Rattle.mdb_bus.specs.declared.act.Act.{Act}
 use Rattle.mdb_bus.specs.declared.scope.Beginning.TheVariants.{PowerOn}
 use Rattle.mdb_bus.specs.ActLists.{Piece, acts_of}
 use Rattle.mdb_follow.specs.declared.account_name.AccountName.{AccountName}
-use Rattle.mdb_follow.specs.declared.account_name.AccountName.TheVariants as accounts
 use Rattle.mdb_explained_runs.specs.declared.explain.all_paths.AllPaths.{AllPaths}
 use Rattle.mdb_explained_runs.specs.declared.explain.best.Weight.{Weight}
 use Rattle.mdb_explained_runs.specs.declared.explain.best.Weight.TheVariants as weights
@@ -15,7 +14,9 @@ use Rattle.mdb_explained_runs.specs.declared.explain.paths.Paths.{Paths}
 use Rattle.mdb_follow.specs.declared.goal.AccountSide.{AccountSide}
 use Rattle.mdb_follow.specs.declared.goal.Bound.{Bound}
 use Rattle.mdb_follow.specs.declared.goal.Goal.{Goal}
+use Rattle.mdb_follow.specs.AccountNames.{account_device, account_slot}
 use Rattle.mdb_follow.specs.Choosing.{Choices, Follows}
+use Rattle.mdb_follow.specs.Devices.{same_device}
 use Rattle.mdb_explained_runs.specs.declared.mark.Mark.{Mark}
 use Rattle.mdb_explained_runs.specs.Marks.{own_marks}
 use Rattle.mdb_follow.specs.Devices.{device_place}
@@ -29,18 +30,10 @@ use Rattle.mdb_explained_runs.specs.inner.Weights.{weigh}
 -- what the gains of a device count for an end of a range of an account: nothing, where the account
 -- is another device's
 abbrev pub weight_at : AccountSide → Bound → AccountName → Device → Weight
-weight_at side bound accounts.CoinsIn devices.Changer = weights.First side bound
-weight_at side bound accounts.PaidOut devices.Changer = weights.Second side bound
-weight_at side bound accounts.BillsIn devices.Bill = weights.First side bound
-weight_at side bound (accounts.Approved units.First) (devices.Reader units.First) =
-    weights.First side bound
-weight_at side bound (accounts.Sold units.First) (devices.Reader units.First) =
-    weights.Second side bound
-weight_at side bound (accounts.Approved units.Second) (devices.Reader units.Second) =
-    weights.First side bound
-weight_at side bound (accounts.Sold units.Second) (devices.Reader units.Second) =
-    weights.Second side bound
-weight_at side bound account device = weights.Nothing
+weight_at side bound account device =
+    if same_device (account_device account) device
+    then weights.Account (account_slot account) side bound
+    else weights.Nothing
 
 -- and for a goal
 abbrev pub weight_for : Goal → Device → Weight

@@ -14,21 +14,20 @@ abbrev pub towards : Bound → ℤ → ℤ
 towards Least value = value
 towards Greatest value = neg_ℤ value
 
--- what gains add to the account at a place
+-- what gains add to the account in a slot
 abbrev pub gained : ℕ → Gains → AccountSums
-gained place gains = record {
-  device = slice_index gains.device place;
-  controller = slice_index gains.controller place;
+gained slot gains = record {
+  device = slice_index gains.device slot;
+  controller = slice_index gains.controller slot;
 }
 
 -- what the sums of a device count
 abbrev pub weigh : Weight → Sums → ℤ
 weigh weights.Nothing sums = pos 0
-weigh (weights.First side bound) sums = towards bound (side_value side sums.first)
-weigh (weights.Second side bound) sums = towards bound (side_value side sums.second)
+weigh (weights.Account slot side bound) sums = towards bound (side_value side (sums slot))
 
 -- and what gains add to that
 abbrev pub weight_of : Weight → Gains → ℤ
 weight_of weights.Nothing gains = pos 0
-weight_of (weights.First side bound) gains = towards bound (side_value side (gained 0 gains))
-weight_of (weights.Second side bound) gains = towards bound (side_value side (gained 1 gains))
+weight_of (weights.Account slot side bound) gains =
+    towards bound (side_value side (gained slot gains))

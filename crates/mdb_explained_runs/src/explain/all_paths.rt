@@ -21,7 +21,7 @@ use crate::Mark;
 use mdb_bus::Act;
 use mdb_cash::{Bill, BillKnown, Changer, ChangerKnown};
 use mdb_cashless::{Reader, ReaderKnown};
-use mdb_follow::{AccountName, Goal};
+use mdb_follow::{Goal, device_place};
 use mdb_msgs::{Device, ReaderUnit};
 use std::alloc::{AllocError, Global};
 
@@ -46,19 +46,10 @@ pub(crate) struct AllPaths {
 fn weight_of(goal: &Goal, device: Device) -> Weight
     ensures { result ≡ weight_for goal.now device }
 {
-    match (goal.account, device) {
-        (AccountName::CoinsIn, Device::Changer)
-        | (AccountName::BillsIn, Device::Bill)
-        | (AccountName::Approved(ReaderUnit::First), Device::Reader(ReaderUnit::First))
-        | (AccountName::Approved(ReaderUnit::Second), Device::Reader(ReaderUnit::Second)) => {
-            Weight::First(goal.side, goal.bound)
-        }
-        (AccountName::PaidOut, Device::Changer)
-        | (AccountName::Sold(ReaderUnit::First), Device::Reader(ReaderUnit::First))
-        | (AccountName::Sold(ReaderUnit::Second), Device::Reader(ReaderUnit::Second)) => {
-            Weight::Second(goal.side, goal.bound)
-        }
-        _ => Weight::Nothing,
+    if device_place(goal.account.device()) == device_place(device) {
+        Weight::Account(goal.account.slot(), goal.side, goal.bound)
+    } else {
+        Weight::Nothing
     }
 }
 

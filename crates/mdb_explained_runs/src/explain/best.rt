@@ -10,17 +10,15 @@ ghost use Rattle.mdb_explained_runs.specs.inner.Weights.{towards, weight_of};
 
 use super::chains::Chain;
 use mdb_follow::{AccountSide, Bound};
-use mdb_machine::{Choice, Gains};
+use mdb_machine::{Choice, Gains, amount_at};
 
 /// What the gains of a device count for a goal: less is always better.
 #[derive(Clone, Copy)]
 pub(crate) enum Weight {
     /// Nothing: the goal is of another device.
     Nothing,
-    /// Those of the first account.
-    First(AccountSide, Bound),
-    /// Those of the second account.
-    Second(AccountSide, Bound),
+    /// Those of the account in a slot.
+    Account(usize, AccountSide, Bound),
 }
 
 impl Weight {
@@ -33,11 +31,10 @@ impl Weight {
     {
         match self {
             Weight::Nothing => 0,
-            Weight::First(side, bound) => {
-                weighed(*side, *bound, gains.device[0], gains.controller[0])
-            }
-            Weight::Second(side, bound) => {
-                weighed(*side, *bound, gains.device[1], gains.controller[1])
+            Weight::Account(slot, side, bound) => {
+                let device = amount_at(&gains.device, *slot);
+                let controller = amount_at(&gains.controller, *slot);
+                weighed(*side, *bound, device, controller)
             }
         }
     }

@@ -44,10 +44,8 @@ pub record Overlooks {Own Setup Asked M State : Type 0} (tables : Tables Own Set
       (choice : Choice) (news : List M) (before after : State)
       → conduct.TellsNews facts choice news before after
       → conduct.TellsNews (guessing facts asked kept) choice news before after
-  pub first_gain : (facts : Facts Setup Asked M) (asked : Option Asked) (kept : List M)
-      → conduct.first_gain (guessing facts asked kept) ≡ conduct.first_gain facts
-  pub second_gain : (facts : Facts Setup Asked M) (asked : Option Asked) (kept : List M)
-      → conduct.second_gain (guessing facts asked kept) ≡ conduct.second_gain facts
+  pub gain : (facts : Facts Setup Asked M) (asked : Option Asked) (kept : List M)
+      → conduct.gain (guessing facts asked kept) ≡ conduct.gain facts
 
 -- Where a step by an act may have been with this guess too: what was asked last is the same for an
 -- ask of what counts, and so is what the device holds for a reply.
@@ -118,11 +116,8 @@ reply_guessing tables conduct overlooks facts asked kept poll parts choice befor
       };
       tells_news = overlooks.tells_news facts asked kept choice step.news _ after step.tells_news;
       gained = step.gained
-          ∙ sym (ap (λ f. device_gains (sum_by f step.news)
-          (sum_by (conduct.second_gain (guessing facts asked kept)) step.news))
-          (overlooks.first_gain facts asked kept)
-          ∙ ap (λ f. device_gains (sum_by (conduct.first_gain facts) step.news) (sum_by f step.news))
-          (overlooks.second_gain facts asked kept));
+          ∙ ap (λ gain. device_gains (λ slot. sum_by (gain slot) step.news))
+          (sym (overlooks.gain facts asked kept));
     }
 
 vmc_ack_guessing : {Own Setup Asked M State : Type 0} (tables : Tables Own Setup Asked M)
@@ -135,11 +130,8 @@ vmc_ack_guessing tables conduct overlooks facts asked kept true parts choice bef
     step = record {
       to = step.to;
       gained = step.gained
-          ∙ sym (ap (λ f. controller_gains (sum_by f (kept_of parts))
-          (sum_by (conduct.second_gain (guessing facts asked kept)) (kept_of parts)))
-          (overlooks.first_gain facts asked kept)
-          ∙ ap (λ f. controller_gains (sum_by (conduct.first_gain facts) (kept_of parts))
-          (sum_by f (kept_of parts))) (overlooks.second_gain facts asked kept));
+          ∙ ap (λ gain. controller_gains (λ slot. sum_by (gain slot) (kept_of parts)))
+          (sym (overlooks.gain facts asked kept));
     }
 vmc_ack_guessing tables conduct overlooks facts asked kept false parts choice before after gains
     step = record { to = step.to; gained = step.gained }

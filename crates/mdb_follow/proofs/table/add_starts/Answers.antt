@@ -1,5 +1,6 @@
-use Rattle.std.proofs.Common.{rules, ◌≡◌, ◌<◌, ◌+◌, ◌∙◌, arith, subst, sym}
+use Rattle.std.proofs.Common.{rules, ◌≡◌, ◌<◌, ◌+◌, ◌∙◌, arith, refl, subst, sym}
 use Rattle.std.proofs.lemmas.Bool.{false≢true}
+use Rattle.mdb_follow.specs.declared.cell.TheConstants.Cell.{NOTHING}
 use Rattle.mdb_follow.proofs.Starts.{AreStarts, more-starts, same-starts, table-starts}
 use Rattle.mdb_follow.proofs.table.add_starts.Goals as goal
 use Rattle.mdb_follow.proofs.table.add_starts.Goals.{else-may_start, then-may_start}
@@ -9,16 +10,16 @@ loop-code-preserved g c =
     let p = g.P.Pair in
     let machine = p.machine c.args.begins.now in
     elim c.if-may_start.branch [
-      | then-may_start w ↦ subst (AreStarts g.row.N p.code_of machine c.default-nothing.result
+      | then-may_start w ↦ subst (AreStarts g.row.N p.code_of machine NOTHING
           (c.loop-code.code + 1)) (sym w.entries-is)
-          (more-starts g.row.N p.code_of machine c.default-nothing.result c.loop-code.code
+          (more-starts g.row.N p.code_of machine NOTHING c.loop-code.code
           c.loop-code.entries _ c.state.result c.loop-code-test.true g.met.P.Pair.apart
           c.state.ensures (c.may_start.ensures.0 (search rules))
-          (record { first = search rules; second = search rules }) w.push.ensures
+          refl w.push.ensures
           c.loop-code.invariant)
-      | else-may_start w ↦ subst (AreStarts g.row.N p.code_of machine c.default-nothing.result
+      | else-may_start w ↦ subst (AreStarts g.row.N p.code_of machine NOTHING
           (c.loop-code.code + 1)) (sym w.entries-is)
-          (same-starts g.row.N p.code_of machine c.default-nothing.result c.loop-code.code
+          (same-starts g.row.N p.code_of machine NOTHING c.loop-code.code
           c.loop-code.entries c.state.result g.met.P.Pair.apart c.state.ensures
           (λ starts. false≢true (sym w.if-may_start.false ∙ c.may_start.ensures.1 starts))
           c.loop-code.invariant)
@@ -30,9 +31,9 @@ returns-clause-table g c =
     let machine = p.machine c.args.begins.now in
     let all : c.loop-code.code ≡ g.row.N = omega
     (arith, c.loop-code-test.false, c.loop-code.auto.code-end) in
-    table-starts g.row.N p.code_of machine c.default-nothing.result c.loop-code.entries
-    (record { first = search rules; second = search rules })
+    table-starts g.row.N p.code_of machine NOTHING c.loop-code.entries
+    refl
     (λ state. subst (λ n. p.code_of state < n) (sym c.requires.size) (g.met.P.Pair.below state))
     (g.met.P.Pair.some_start c.args.begins.now)
-    (subst (λ n. AreStarts g.row.N p.code_of machine c.default-nothing.result n
+    (subst (λ n. AreStarts g.row.N p.code_of machine NOTHING n
     c.loop-code.entries) all c.loop-code.invariant)

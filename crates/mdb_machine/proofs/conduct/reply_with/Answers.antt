@@ -1,5 +1,5 @@
-use Rattle.std.proofs.Common.{ap, ◌∙◌, sum_by}
-use Rattle.mdb_machine.specs.Gains.{device_gains}
+use Rattle.std.proofs.Common.{ap, ◌∙◌}
+use Rattle.mdb_machine.specs.Gains.{device_gains, in_slots}
 use Rattle.mdb_machine.specs.KeeperValues.{facts_in}
 use Rattle.mdb_machine.proofs.KeeperSteps.{holding, telling, told, impossible, untold}
 use Rattle.mdb_machine.proofs.Sizes.{summary_fits}
@@ -21,6 +21,5 @@ returns-in_err-after-clause-step g c =
 
 pub returns-clause-step : goal.returns-clause-step
 returns-clause-step g c =
-    let first_gain = g.K.Conduct.conduct.first_gain (facts_in c.args.facts.now) in
     told (telling g.K.Conduct.conduct (facts_in c.args.facts.now) {before = c.args.before} c.is_poll.ensures c.holds.ensures c.holds_read-holds.ensures c.as_slice.ensures.value c.held-held.ensures c.summary_of-summary.ensures c.in_ok-news.ensures.found c.in_ok-news.ensures.only) (holding g.K.Conduct.conduct (g.K.Keeper.tables.parts_of c.args.reply.now) c.args.choice {before = c.args.before} c.holds.ensures c.holds_read-holds.ensures (c.as_slice-2.ensures.value ∙ c.summary_of-summary.ensures.kept_is) c.holds_after.ensures c.with_holds-holding.ensures) c.in_ok-after.ensures
-    (c.of_device.ensures ∙ (ap (λ f. device_gains f c.worth-first.result.1) c.worth-first.ensures.first ∙ ap (device_gains (sum_by first_gain c.in_ok-news.news.now)) c.worth-first.ensures.second))
+    (c.of_device.ensures.gains ∙ ap (λ list. device_gains (in_slots list)) c.worth.ensures.value)

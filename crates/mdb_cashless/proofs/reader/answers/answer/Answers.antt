@@ -43,4 +43,4 @@ returns-clause-step c =
     ∙ ap (λ o. or_else o c.args.facts.now.config) said.config_is) in
     let sold_is = c.sold_any.ensures.value ∙ (ap (λ t. sold_any (facts_in c.args.facts.now) t c.read-start.result) (c.taken-taken.ensures c.args.reply.now said.refused_is)
     ∙ ap (sold_any (facts_in c.args.facts.now) (taken c.args.command c.args.reply.now)) c.read-start.ensures) in
-    told looked c.in_ok-new.ensures.found c.in_ok-new.ensures.only last_is told_is after_holds_is config_is c.all_approved-approved.ensures.value sold_is c.of_device.ensures
+    told looked c.in_ok-new.ensures.found c.in_ok-new.ensures.only last_is told_is after_holds_is config_is c.all_approved-approved.ensures.value sold_is c.of_device.ensures.gains

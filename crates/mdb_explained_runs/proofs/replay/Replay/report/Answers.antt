@@ -1,6 +1,5 @@
-use Rattle.std.proofs.Common.{refl}
 use Rattle.mdb_explained_runs.specs.Tracks.{track_in}
-use Rattle.mdb_follow.proofs.Following.{accounts_in}
+use Rattle.mdb_follow.specs.Cells.{account_by}
 use Rattle.mdb_explained_runs.proofs.Replaying.{reported}
 use Rattle.mdb_explained_runs.proofs.replay.Replay.report.Goals as goal
 
@@ -10,5 +9,5 @@ returns-clause-report c events marks on =
     c.marks_tell_what_is_chosen.ensures c.transcripts_have_one_act_list.ensures c.args.self.now
     events marks c.report_of.result on
     (c.report_of.ensures on.pieces on.chosen
-    (accounts_in (λ device. (track_in c.args.self.now.tracks device).cell)) on.tracks on.silences
-    refl)
+    (account_by (λ device. (track_in c.args.self.now.tracks device).cell)) on.tracks on.silences
+    c.accounts_of-accounts.ensures)

@@ -1,0 +1,24 @@
+use Rattle.std.proofs.Common.{arith, refl, sym, ◌∙◌, ◌≡◌}
+use Rattle.mdb_follow.specs.declared.cell.TheConstants.Cell.{NOTHING}
+use Rattle.mdb_follow.specs.Sums.{no_sums}
+use Rattle.mdb_follow.proofs.Starts.{nothing-is, nothing-within}
+use Rattle.mdb_explained_runs.proofs.track.start.Goals as goal
+
+pub returns-clause-stands : goal.returns-clause-stands
+returns-clause-stands g c = record {
+  facts = c.facts_start.ensures;
+  sums = no_sums;
+  way = ((c.requires.starts c.state.result).1 c.state.ensures, refl);
+  only = λ state other way. (
+    g.met.P.Pair.apart _ _ ((c.requires.starts state).0 way.0 ∙ sym c.state.ensures),
+    way.1,
+  );
+  cell = nothing-is (λ other. other ≡ no_sums) NOTHING refl refl (λ sums is. is);
+  counted = sym c.requires.none;
+}
+
+pub returns-clause-within : goal.returns-clause-within
+returns-clause-within g c = record {
+  ends = nothing-within NOTHING refl;
+  count = omega arith;
+}
