@@ -13,7 +13,7 @@ use arrayvec::ArrayVec;
 use std::io::{Error, ErrorKind, Read, Result};
 
 /// What is known of the encoding of a text.
-#[derive(Clone, Copy, PartialEq, Eq, Debug)]
+#[derive(Clone, Copy)]
 pub(crate) enum Mode {
     /// Nothing yet: its first two bytes tell it, of which one may be held.
     Start {
@@ -280,7 +280,7 @@ impl<R: Read> Read for Decoded<R> {
                 buf[0] = self.decoding.ready.remove(0);
                 return Ok(1);
             }
-            if self.decoding.mode == Mode::Plain {
+            if matches!(self.decoding.mode, Mode::Plain) {
                 return self.inner.read(buf);
             }
             match read_one(&mut self.inner)? {

@@ -8,7 +8,7 @@ use mdb_words::Event;
 use std::alloc::{AllocError, Global};
 
 /// A row, and what is left of the rows of both lines.
-#[derive(Clone, Copy, Debug)]
+#[derive(Clone, Copy)]
 struct First<'a> {
     row: Event,
     controller: &'a [Event],
