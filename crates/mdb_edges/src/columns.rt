@@ -1,7 +1,7 @@
 //! The columns of a table.
 
 /// Which columns of a table tell what. The first one tells the times.
-#[derive(Clone, Copy, PartialEq, Eq, Debug)]
+#[derive(Clone, Copy)]
 pub(crate) struct Columns {
     /// How many there are.
     pub(crate) width: usize,

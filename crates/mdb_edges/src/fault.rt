@@ -4,6 +4,7 @@ ghost use Rattle.mdb_edges.specs.inner.Stops.{IsTellOf};
 
 use super::instant::Instant;
 use mdb_words::Line;
+use std::fmt;
 use thiserror::Error;
 
 /// Why a table of edges gives no rows: the first fault in the order of its records.
@@ -63,24 +64,42 @@ pub enum Wire {
 }
 
 /// What is wrong with a record by itself.
-#[derive(Clone, Copy, PartialEq, Eq, Debug, Error)]
+#[derive(Clone, Copy, PartialEq, Eq, Debug)]
 pub enum FormFault {
     /// There is no header.
-    #[error("wanted a header that names the columns")]
     NoHeader,
     /// The header hasn't one column of each line.
-    #[error("wanted one column of each line: as --controller and --peripheral say, or M and S")]
     Columns,
     /// It hasn't as many fields as the header.
-    #[error("wanted as many fields as the header has")]
     FieldCount,
     /// Its first field is no time.
-    #[error("wanted a time: up to 15 digits, perhaps with decimals")]
     BadTime,
     /// The time has more than 15 digits of microseconds.
-    #[error("wanted a time of at most 15 digits of microseconds")]
     LongTime,
 }
+
+impl FormFault {
+    /// What is told of it.
+    fn text(self) -> &'static str {
+        match self {
+            FormFault::NoHeader => "wanted a header that names the columns",
+            FormFault::Columns => {
+                "wanted one column of each line: as --controller and --peripheral say, or M and S"
+            }
+            FormFault::FieldCount => "wanted as many fields as the header has",
+            FormFault::BadTime => "wanted a time: up to 15 digits, perhaps with decimals",
+            FormFault::LongTime => "wanted a time of at most 15 digits of microseconds",
+        }
+    }
+}
+
+impl fmt::Display for FormFault {
+    fn fmt<W: fmt::Write>(&self, f: &mut fmt::Formatter<W>) -> fmt::Result {
+        f.write_str(self.text())
+    }
+}
+
+impl std::error::Error for FormFault {}
 
 /// What is wrong with the time of a record.
 #[derive(Clone, Copy, PartialEq, Eq, Debug, Error)]
@@ -94,31 +113,55 @@ pub enum OrderFault {
 }
 
 /// What is wrong with the levels of a line.
-#[derive(Clone, Copy, PartialEq, Eq, Debug, Error)]
+#[derive(Clone, Copy, PartialEq, Eq, Debug)]
 pub enum LineFault {
     /// A field that is no level, in a record of that time.
-    #[error("wanted a level, 0 or 1")]
     BadLevel,
     /// The line falls, and is high again half a bit later: a glitch.
-    #[error("wanted a start bit that is low at its middle, and it is high there")]
     Glitch,
     /// The line is low at the middle of a stop bit, and it isn't low for 100 milliseconds from the
     /// start bit on.
-    #[error("wanted a high stop bit, or a break of 100 ms or more, and the stop bit is low")]
     Framing,
     /// A break on the line of the peripherals.
-    #[error("wanted words alone on the line of the peripherals, and it is low for a break")]
     DeviceBreak,
     /// A break of more than 999,999,999 microseconds.
-    #[error("wanted a break of at most 999999999 microseconds, and it is longer")]
     LongBreak,
     /// The line is low at the end of the table.
-    #[error("wanted a line that is high at the end of the table, and it is low")]
     Cut,
 }
 
+impl LineFault {
+    /// What is told of it.
+    fn text(self) -> &'static str {
+        match self {
+            LineFault::BadLevel => "wanted a level, 0 or 1",
+            LineFault::Glitch => {
+                "wanted a start bit that is low at its middle, and it is high there"
+            }
+            LineFault::Framing => {
+                "wanted a high stop bit, or a break of 100 ms or more, and the stop bit is low"
+            }
+            LineFault::DeviceBreak => {
+                "wanted words alone on the line of the peripherals, and it is low for a break"
+            }
+            LineFault::LongBreak => {
+                "wanted a break of at most 999999999 microseconds, and it is longer"
+            }
+            LineFault::Cut => "wanted a line that is high at the end of the table, and it is low",
+        }
+    }
+}
+
+impl fmt::Display for LineFault {
+    fn fmt<W: fmt::Write>(&self, f: &mut fmt::Formatter<W>) -> fmt::Result {
+        f.write_str(self.text())
+    }
+}
+
+impl std::error::Error for LineFault {}
+
 /// Why a line's levels are no words and breaks.
-#[derive(Clone, Copy, PartialEq, Eq, Debug)]
+#[derive(Clone, Copy)]
 pub(crate) struct Wrong {
     /// When that began.
     pub(crate) start: Instant,
@@ -127,7 +170,7 @@ pub(crate) struct Wrong {
 }
 
 /// Why the reading of a table stops.
-#[derive(Clone, Copy, PartialEq, Eq, Debug)]
+#[derive(Clone, Copy)]
 pub(crate) enum Stop {
     /// A record that isn't what should stand there.
     Form(FormFault),

@@ -6,7 +6,7 @@ ghost use Rattle.mdb_edges.specs.Levels.{middle_of};
 use super::instant::Instant;
 
 /// A frame of which the bits at first were read, each at its middle.
-#[derive(Clone, Copy, PartialEq, Eq, Debug)]
+#[derive(Clone, Copy)]
 pub(crate) struct Frame {
     /// When its start bit fell.
     pub(crate) start: Instant,

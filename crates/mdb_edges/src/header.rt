@@ -15,7 +15,7 @@ use csv::ByteRecord;
 use mdb_exports::read_number;
 
 /// What the column of a line is called.
-#[derive(Clone, Copy, Debug)]
+#[derive(Clone, Copy)]
 struct Name<'a> {
     /// The name that was told, if one was.
     told: Option<&'a [u8]>,

@@ -20,7 +20,7 @@ const END: u128 = 3_000_000_000_000_000_000_000_000_000_000_000;
 /// 10^15.
 ///
 /// A clause sees it as that number.
-#[derive(Clone, Copy, PartialEq, Eq, Debug)]
+#[derive(Clone, Copy)]
 pub struct Instant {
     parts: u128,
 }

@@ -3,7 +3,7 @@
 use super::instant::Instant;
 
 /// The levels of both lines from an instant on.
-#[derive(Clone, Copy, PartialEq, Eq, Debug)]
+#[derive(Clone, Copy)]
 pub struct Moment {
     /// The instant.
     pub at: Instant,

@@ -17,7 +17,7 @@ use mdb_words::{Event, Line};
 const BREAK_LEAST: u128 = 299_998_500_000_000_000_000_000;
 
 /// Where a line stands.
-#[derive(Clone, Copy, PartialEq, Eq, Debug)]
+#[derive(Clone, Copy)]
 pub(crate) enum State {
     /// It wasn't high yet.
     Unknown,
@@ -30,7 +30,7 @@ pub(crate) enum State {
 }
 
 /// Where a line stands, and the row that was found on the way there.
-#[derive(Clone, Copy, PartialEq, Eq, Debug)]
+#[derive(Clone, Copy)]
 pub(crate) struct Step {
     /// Where it stands.
     pub(crate) state: State,
