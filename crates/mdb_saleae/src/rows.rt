@@ -21,7 +21,7 @@ use mdb_exports::is_named;
 use mdb_words::{Event, Line, Time, Word};
 
 /// A record that is no row.
-#[derive(Clone, Copy, Debug)]
+#[derive(Clone, Copy)]
 pub(crate) struct Refusal {
     /// Its time in microseconds, where it has one.
     pub(crate) at: Option<u64>,
