@@ -12,7 +12,7 @@ use super::pair::{Pair, What};
 use mdb_words::{Event, Line, Word};
 
 /// The records of a line that no row tells yet.
-#[derive(Clone, Copy, Debug)]
+#[derive(Clone, Copy)]
 pub(crate) enum Open {
     /// There are none.
     Nothing,
@@ -25,7 +25,7 @@ pub(crate) enum Open {
 }
 
 /// Where a line stands.
-#[derive(Clone, Copy, Debug)]
+#[derive(Clone, Copy)]
 pub(crate) struct Place {
     /// The line.
     pub(crate) line: Line,
@@ -252,7 +252,7 @@ fn break_row(place: &Place, pair: &Pair) -> Result<Event, OrderFault>
     ensures err { IfErr result (λ _. IsBreak place.now.earliest place.now.line pair.now → ⊥) }
     ensures why { IfErr result (IsNoBreak place.now.earliest place.now.line pair.now) }
 {
-    if pair.what != What::BreakEnd {
+    if !matches!(pair.what, What::BreakEnd) {
         return Err(OrderFault::NoBreak);
     }
     if place.line != Line::Controller {

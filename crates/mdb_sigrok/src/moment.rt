@@ -15,7 +15,7 @@ const MICRO: u128 = 1_000_000;
 /// When something begins or ends, in millionths of a microsecond since the first sample.
 ///
 /// A clause sees it as that number.
-#[derive(Clone, Copy, PartialEq, Eq, Debug)]
+#[derive(Clone, Copy)]
 pub struct Moment {
     // The whole microseconds.
     whole: u64,

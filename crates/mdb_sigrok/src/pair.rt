@@ -14,7 +14,7 @@ use super::moment::Moment;
 use mdb_words::{Line, Word};
 
 /// What may be seen on a line.
-#[derive(Clone, Copy, PartialEq, Eq, Debug)]
+#[derive(Clone, Copy)]
 pub enum What {
     /// The start bit of a word.
     Start,
@@ -27,7 +27,7 @@ pub enum What {
 }
 
 /// Something that was seen on a line, from when to when.
-#[derive(Clone, Copy, PartialEq, Eq, Debug)]
+#[derive(Clone, Copy)]
 pub struct Pair {
     /// On which line.
     pub line: Line,

@@ -17,7 +17,7 @@ use super::record::{Record, record_behind, record_of};
 use mdb_words::Line;
 
 /// What was seen next, and what stands behind it.
-#[derive(Clone, Copy, Debug)]
+#[derive(Clone, Copy)]
 pub(crate) struct Seen<'a> {
     /// What was seen.
     pub(crate) pair: Pair,
@@ -28,7 +28,7 @@ pub(crate) struct Seen<'a> {
 }
 
 /// Why the next two records are none that may stand there.
-#[derive(Clone, Copy, Debug)]
+#[derive(Clone, Copy)]
 pub(crate) struct Refusal {
     /// What is told, if nothing on the line comes before it.
     pub(crate) fault: SigrokFault,

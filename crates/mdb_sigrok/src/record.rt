@@ -12,7 +12,7 @@ use super::moment::Moment;
 const TIME: usize = 32;
 
 /// A record: where something begins, or where it ends.
-#[derive(Clone, Copy, Debug)]
+#[derive(Clone, Copy)]
 pub(crate) struct Record<'a> {
     /// Whether it is the end.
     pub(crate) ends: bool,

@@ -13,7 +13,7 @@ use super::pair_reading::next_pair;
 use std::io::{BufRead, ErrorKind};
 
 /// What was seen next in what a reader shows, and how many bytes of that its two lines are.
-#[derive(Clone, Copy, Debug)]
+#[derive(Clone, Copy)]
 pub(crate) struct Shown {
     /// What was seen.
     pub(crate) pair: Pair,
