@@ -31,17 +31,17 @@ pub fn accounts_of(alloc: Global, all: &[Account; 7], device: Device) -> Result<
 fn of_changer(alloc: Global, all: &[Account; 7]) -> Result<Value, AllocError>
     ensures { IfOk result (λ value. view value ≡ accounts_data all.now Device.Changer) }
 {
-    let coins_in = account(alloc, all, AccountName::CoinsIn)?;
-    let paid_out = account(alloc, all, AccountName::PaidOut)?;
-    json!(in alloc; {"coins-in": coins_in, "paid-out": paid_out})
+    json!(in alloc; {
+        "coins-in": account(alloc, all, AccountName::CoinsIn)?,
+        "paid-out": account(alloc, all, AccountName::PaidOut)?
+    })
 }
 
 /// The account of the validator.
 fn of_bill(alloc: Global, all: &[Account; 7]) -> Result<Value, AllocError>
     ensures { IfOk result (λ value. view value ≡ accounts_data all.now Device.Bill) }
 {
-    let bills_in = account(alloc, all, AccountName::BillsIn)?;
-    json!(in alloc; {"bills-in": bills_in})
+    json!(in alloc; {"bills-in": account(alloc, all, AccountName::BillsIn)?})
 }
 
 /// The accounts of the first reader.
@@ -49,9 +49,10 @@ fn of_first_reader(alloc: Global, all: &[Account; 7]) -> Result<Value, AllocErro
     ensures { IfOk result (λ value. view value ≡ accounts_data all.now
         (Device.Reader ReaderUnit.First)) }
 {
-    let approved = account(alloc, all, AccountName::Approved(ReaderUnit::First))?;
-    let sold = account(alloc, all, AccountName::Sold(ReaderUnit::First))?;
-    json!(in alloc; {"approved": approved, "sold": sold})
+    json!(in alloc; {
+        "approved": account(alloc, all, AccountName::Approved(ReaderUnit::First))?,
+        "sold": account(alloc, all, AccountName::Sold(ReaderUnit::First))?
+    })
 }
 
 /// The accounts of the second reader.
@@ -59,9 +60,10 @@ fn of_second_reader(alloc: Global, all: &[Account; 7]) -> Result<Value, AllocErr
     ensures { IfOk result (λ value. view value ≡ accounts_data all.now
         (Device.Reader ReaderUnit.Second)) }
 {
-    let approved = account(alloc, all, AccountName::Approved(ReaderUnit::Second))?;
-    let sold = account(alloc, all, AccountName::Sold(ReaderUnit::Second))?;
-    json!(in alloc; {"approved-2": approved, "sold-2": sold})
+    json!(in alloc; {
+        "approved-2": account(alloc, all, AccountName::Approved(ReaderUnit::Second))?,
+        "sold-2": account(alloc, all, AccountName::Sold(ReaderUnit::Second))?
+    })
 }
 
 /// What an account comes to on each side.
@@ -69,10 +71,11 @@ fn account(alloc: Global, all: &[Account; 7], name: AccountName) -> Result<Value
     ensures { IfOk result (λ value. view value ≡ account_data (account_in name all.now)) }
 {
     let account = all[name.place()];
-    let device = range(alloc, account.device)?;
-    let controller = range(alloc, account.controller)?;
-    let difference = range(alloc, account.difference)?;
-    json!(in alloc; {"device": device, "controller": controller, "difference": difference})
+    json!(in alloc; {
+        "device": range(alloc, account.device)?,
+        "controller": range(alloc, account.controller)?,
+        "difference": range(alloc, account.difference)?
+    })
 }
 
 /// The least and the greatest of a sum.

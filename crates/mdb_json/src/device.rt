@@ -16,15 +16,11 @@ use std::alloc::{AllocError, Global};
 pub(crate) fn devices(alloc: Global, scope: &Scope, report: &Report) -> Result<Value, AllocError>
     ensures { IfOk result (λ value. view value ≡ devices_data scope.now report.now) }
 {
-    let changer = device(alloc, scope, report, Device::Changer)?;
-    let bill = device(alloc, scope, report, Device::Bill)?;
-    let first = device(alloc, scope, report, Device::Reader(ReaderUnit::First))?;
-    let second = device(alloc, scope, report, Device::Reader(ReaderUnit::Second))?;
     json!(in alloc; {
-        "changer": changer,
-        "bill": bill,
-        "cashless": first,
-        "cashless-2": second
+        "changer": device(alloc, scope, report, Device::Changer)?,
+        "bill": device(alloc, scope, report, Device::Bill)?,
+        "cashless": device(alloc, scope, report, Device::Reader(ReaderUnit::First))?,
+        "cashless-2": device(alloc, scope, report, Device::Reader(ReaderUnit::Second))?
     })
 }
 
@@ -37,17 +33,13 @@ fn device(
 ) -> Result<Value, AllocError>
     ensures { IfOk result (λ value. view value ≡ device_data scope.now report.now device) }
 {
-    let accounts = accounts_of(alloc, &report.accounts, device)?;
-    let decimals = places(report.device_decimals(device));
-    let is_known = known(&scope.begins).has(device);
-    let is_left_out = scope.without.has(device);
     json!(in alloc; {
-        "accounts": accounts,
-        "decimals": decimals,
+        "accounts": accounts_of(alloc, &report.accounts, device)?,
+        "decimals": places(report.device_decimals(device)),
         "silences": report.device_silences(device),
         "unvalued": report.device_unvalued(device),
-        "setup": is_known,
-        "without": is_left_out
+        "setup": known(&scope.begins).has(device),
+        "without": scope.without.has(device)
     })
 }
 

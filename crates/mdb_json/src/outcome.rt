@@ -51,14 +51,12 @@ fn value_of(alloc: Global, scope: &Scope, outcome: &Outcome) -> Result<Value, Al
 pub fn report_value(alloc: Global, scope: &Scope, report: &Report) -> Result<Value, AllocError>
     ensures { IfOk result (λ value. view value ≡ yes_data scope.now report.now) }
 {
-    let devices = devices(alloc, scope, report)?;
-    let is_joined = joins(&scope.begins);
     json!(in alloc; {
         "version": VERSION,
         "verdict": "yes",
         "rows": report.rows,
-        "joined": is_joined,
-        "devices": devices
+        "joined": joins(&scope.begins),
+        "devices": devices(alloc, scope, report)?
     })
 }
 
