@@ -63,12 +63,17 @@ Rise (mark ∷ marks) = All (λ later. mark.0 < later.0) marks × Rise marks
 abbrev pub StandsWithin : ℕ → ℕ × Mark → Type 0
 StandsWithin count mark = (1 ≤ mark.0) × (mark.0 ≤ count)
 
+-- what a run chooses of each act
+abbrev pub choices_in : {scope : Scope} {events : List Event} {sums : AllSums}
+    (run : Run scope events sums) → Choices (acts_of run.pieces)
+choices_in {scope = scope} {sums = sums} run =
+    choices_of scope.begins run.loss run.pieces run.states sums run.way
+
 -- A run of rows that has these marks, with what the accounts come to in it.
 pub record MarkedRun (scope : Scope) (events : List Event) (marks : List (ℕ × Mark))
     (sums : AllSums) : Type 0 where
   pub run : Run scope events sums
-  pub are : marks_of run.pieces
-      (choices_of scope.begins run.loss run.pieces run.states sums run.way) ≡ marks
+  pub are : marks_of run.pieces (choices_in run) ≡ marks
 
 -- a reply can be read as telling of a restart, by its messages alone
 abbrev pub MayTellOfRestart : Command → Reply → Type 0
