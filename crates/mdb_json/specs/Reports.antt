@@ -1,6 +1,6 @@
 -- An answer as a JSON value. The members of an object stand in the order of their names.
-use Rattle.std.specs.Prelude.{ℕ, List, Bool, true, false, Option, Some, None, codes}
-use Rattle.serde_json.specs.Data.{Data, null, boolean, number, string, object, member, no_members, unsigned}
+use Rattle.std.specs.Prelude.{ℕ, List, [], ◌∷◌, Bool, true, false, Option, Some, None, codes}
+use Rattle.serde_json.specs.Data.{Data, null, boolean, number, string, Members, object, member, no_members, unsigned}
 use Rattle.serde_json.specs.Find.{of_integer}
 use Rattle.mdb_msgs.specs.declared.command.Device.{Device}
 use Rattle.mdb_msgs.specs.declared.command.Device.TheVariants.{Changer, Bill, Reader}
@@ -27,10 +27,18 @@ use Rattle.mdb_text.specs.declared.outcome.Outcome.{Outcome}
 use Rattle.mdb_text.specs.declared.outcome.Outcome.TheVariants.{Yes, No}
 use Rattle.mdb_text.specs.Known.{known_devices}
 
+-- the members of an object, each with its name, in this order
+abbrev pub members : List (List ℕ × Data) → Members
+members [] = no_members
+members ((name, value) ∷ others) = member name value (members others)
+
 -- the least and the greatest of a sum, in the smallest unit of its device
 abbrev pub range_data : Range → Data
-range_data range = object (member (codes "greatest") (number (of_integer range.greatest))
-    (member (codes "least") (number (of_integer range.least)) no_members))
+range_data range =
+    object (members (
+    (codes "greatest", number (of_integer range.greatest))
+    ∷ (codes "least", number (of_integer range.least)) ∷ []
+    ))
 
 -- what an account comes to on a side
 abbrev pub side_data : Account → AccountSide → Data
@@ -39,9 +47,11 @@ side_data account side = range_data (side_range side account)
 -- what an account comes to on each side
 abbrev pub account_data : Account → Data
 account_data account =
-    object (member (codes "controller") (side_data account sides.Controller)
-    (member (codes "device") (side_data account sides.Device)
-    (member (codes "difference") (side_data account sides.Difference) no_members)))
+    object (members (
+    (codes "controller", side_data account sides.Controller)
+    ∷ (codes "device", side_data account sides.Device)
+    ∷ (codes "difference", side_data account sides.Difference) ∷ []
+    ))
 
 -- the accounts that a device keeps, by their words, of a list in the order of a report
 abbrev pub accounts_data : List Account → Device → Data
@@ -72,19 +82,24 @@ known_in (Joined setups) = known_devices setups
 -- whether it is left out
 abbrev pub device_data : Scope → Report → Device → Data
 device_data scope report device =
-    object (member (codes "accounts") (accounts_data report.accounts device)
-    (member (codes "decimals") (places_data (device_decimals device report))
-    (member (codes "setup") (boolean (has (known_in scope.begins) device))
-    (member (codes "silences") (number (unsigned (device_silences device report)))
-    (member (codes "unvalued") (number (unsigned (device_unvalued device report)))
-    (member (codes "without") (boolean (has scope.without device)) no_members))))))
+    object (members (
+    (codes "accounts", accounts_data report.accounts device)
+    ∷ (codes "decimals", places_data (device_decimals device report))
+    ∷ (codes "setup", boolean (has (known_in scope.begins) device))
+    ∷ (codes "silences", number (unsigned (device_silences device report)))
+    ∷ (codes "unvalued", number (unsigned (device_unvalued device report)))
+    ∷ (codes "without", boolean (has scope.without device)) ∷ []
+    ))
 
 -- each device, by its word
 abbrev pub devices_data : Scope → Report → Data
-devices_data scope report = object (member (codes "bill") (device_data scope report Bill)
-    (member (codes "cashless") (device_data scope report (Reader First))
-    (member (codes "cashless-2") (device_data scope report (Reader Second))
-    (member (codes "changer") (device_data scope report Changer) no_members))))
+devices_data scope report =
+    object (members (
+    (codes "bill", device_data scope report Bill)
+    ∷ (codes "cashless", device_data scope report (Reader First))
+    ∷ (codes "cashless-2", device_data scope report (Reader Second))
+    ∷ (codes "changer", device_data scope report Changer) ∷ []
+    ))
 
 -- whether a recording begins in mid-session
 abbrev pub is_joined : Beginning → Bool
@@ -93,19 +108,25 @@ is_joined (Joined setups) = true
 
 -- a yes
 abbrev pub yes_data : Scope → Report → Data
-yes_data scope report = object (member (codes "devices") (devices_data scope report)
-    (member (codes "joined") (boolean (is_joined scope.begins))
-    (member (codes "rows") (number (unsigned report.rows))
-    (member (codes "verdict") (string (codes "yes"))
-    (member (codes "version") (number (unsigned 1)) no_members)))))
+yes_data scope report =
+    object (members (
+    (codes "devices", devices_data scope report)
+    ∷ (codes "joined", boolean (is_joined scope.begins))
+    ∷ (codes "rows", number (unsigned report.rows))
+    ∷ (codes "verdict", string (codes "yes"))
+    ∷ (codes "version", number (unsigned 1)) ∷ []
+    ))
 
 -- a no: the row and why
 abbrev pub offence_data : Offence → Data
-offence_data offence = object (member (codes "blame") (string (blame_word offence.blame))
-    (member (codes "row") (number (unsigned offence.row))
-    (member (codes "rule") (string (rule_word offence.rule))
-    (member (codes "verdict") (string (codes "no"))
-    (member (codes "version") (number (unsigned 1)) no_members)))))
+offence_data offence =
+    object (members (
+    (codes "blame", string (blame_word offence.blame))
+    ∷ (codes "row", number (unsigned offence.row))
+    ∷ (codes "rule", string (rule_word offence.rule))
+    ∷ (codes "verdict", string (codes "no"))
+    ∷ (codes "version", number (unsigned 1)) ∷ []
+    ))
 
 -- the answer to a recording that is taken so
 abbrev pub outcome_data : Scope → Outcome → Data
