@@ -5,7 +5,7 @@ use Rattle.mdb_cash.specs.declared.bill.state.BillType.{BillType}
 use Rattle.mdb_cash.specs.declared.bill.state.Escrow.{Escrow}
 use Rattle.mdb_cash.specs.declared.bill.state.Escrow.TheVariants.{Empty, Waiting}
 use Rattle.mdb_cash.specs.Bill.{MayReturn, MayStack, MovesBills, MovesBill}
-use Rattle.mdb_cash.specs.inner.BillCodes.{same_type}
+use Rattle.mdb_cash.specs.shared.BillCodes.{same_type}
 use Rattle.mdb_cash.specs.BillFacts.{Facts}
 use Rattle.mdb_machine.specs.Pair.{IsOnly}
 

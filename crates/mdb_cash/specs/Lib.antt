@@ -7,4 +7,4 @@ pub mod ChangerFacts
 pub mod ChangerMessages
 pub mod ChangerValues
 pub mod Credits
-pub mod inner
+pub mod shared

@@ -4,10 +4,10 @@ ghost use Rattle.std.specs.Prelude.{◌≡◌, ◌<◌, List, [], ◌∷◌};
 ghost use Rattle.mdb_msgs.specs.declared.command.Device.TheVariants as devices;
 ghost use Rattle.mdb_bus.specs.declared.act.Act.{Act};
 ghost use Rattle.mdb_cash.specs.Bill as spec;
-ghost use Rattle.mdb_cash.specs.inner.BillCodes as codes;
+ghost use Rattle.mdb_cash.specs.shared.BillCodes as codes;
 ghost use Rattle.mdb_cash.specs.BillFacts.{known_of, tables};
 ghost use Rattle.mdb_machine.specs.KeeperValues as values;
-ghost use Rattle.mdb_cash.specs.inner.BillWays as ways;
+ghost use Rattle.mdb_cash.specs.shared.BillWays as ways;
 
 pub(crate) mod activity;
 mod conduct;

@@ -4,10 +4,10 @@ ghost use Rattle.std.specs.Prelude.{◌≡◌, ◌<◌, List, [], ◌∷◌};
 ghost use Rattle.mdb_msgs.specs.declared.command.Device.TheVariants as devices;
 ghost use Rattle.mdb_bus.specs.declared.act.Act.{Act};
 ghost use Rattle.mdb_cash.specs.Changer as spec;
-ghost use Rattle.mdb_cash.specs.inner.ChangerCodes as codes;
+ghost use Rattle.mdb_cash.specs.shared.ChangerCodes as codes;
 ghost use Rattle.mdb_cash.specs.ChangerFacts.{known_of, tables};
 ghost use Rattle.mdb_machine.specs.KeeperValues as values;
-ghost use Rattle.mdb_cash.specs.inner.ChangerWays as ways;
+ghost use Rattle.mdb_cash.specs.shared.ChangerWays as ways;
 
 pub(crate) mod activity;
 mod conduct;

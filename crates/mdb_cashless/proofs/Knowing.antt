@@ -12,7 +12,7 @@ use Rattle.mdb_machine.specs.Kept.{IsNew, held, kept_of}
 use Rattle.mdb_machine.specs.Known.{Allows, AllowsKept, Unknown}
 use Rattle.mdb_machine.specs.Pair.{IsOnlyStep}
 use Rattle.mdb_machine.specs.PastValues.{if_known}
-use Rattle.mdb_machine.specs.inner.PastWays.{same_past}
+use Rattle.mdb_machine.specs.shared.PastWays.{same_past}
 use Rattle.mdb_cashless.specs.declared.reader.known.ReaderKnown.{ReaderKnown}
 use Rattle.mdb_cashless.specs.declared.reader.messages.ReaderActivity.{ReaderActivity}
 use Rattle.mdb_cashless.specs.declared.reader.messages.ReaderActivity.TheVariants.{VendDenied}

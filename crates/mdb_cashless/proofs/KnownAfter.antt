@@ -19,7 +19,7 @@ use Rattle.mdb_machine.specs.Kept.{kept_of}
 use Rattle.mdb_machine.specs.Known.{known_before}
 use Rattle.mdb_machine.specs.Past.{effect_by, effect_taken, or_else, powers_on, resets, tells_out_of_sequence, unless_empty}
 use Rattle.mdb_machine.specs.PastValues.{first_past, from_power_on, if_known, known_more, known_past_after, past_after, past_in, past_known}
-use Rattle.mdb_machine.specs.inner.PastWays.{same_known_past}
+use Rattle.mdb_machine.specs.shared.PastWays.{same_known_past}
 use Rattle.mdb_cashless.specs.declared.reader.facts.ReaderFacts.{ReaderFacts}
 use Rattle.mdb_cashless.specs.declared.reader.known.ReaderKnown.{ReaderKnown}
 use Rattle.mdb_cashless.specs.declared.reader.transaction.Transaction.{Transaction}
@@ -29,7 +29,7 @@ use Rattle.mdb_cashless.specs.ReaderMessages.{begin_session, messages_of}
 use Rattle.mdb_cashless.specs.ReaderValues.{ToldFacts, known_in, known_with, tells_taken, told_in, told_with}
 use Rattle.mdb_cashless.specs.Transactions.{transaction_of}
 use Rattle.mdb_cashless.specs.Units.{own}
-use Rattle.mdb_cashless.specs.inner.ReaderWays.{same_fields}
+use Rattle.mdb_cashless.specs.shared.ReaderWays.{same_fields}
 
 -- what an act tells becomes known, and what was known stays so
 asked_after : {X : Type 0} (knows : Bool) (told old : Option X)

@@ -31,7 +31,7 @@ use Rattle.mdb_cashless.specs.ReaderFacts.{Facts, asked_by, known_of, own_transa
 use Rattle.mdb_cashless.specs.ReaderMessages.{messages_of}
 use Rattle.mdb_cashless.specs.ReaderView as reader_view
 use Rattle.mdb_cashless.specs.ReaderView.{all_heard, heard, sent}
-use Rattle.mdb_cashless.specs.inner.SaleViews.{AcksLastReply, MayTellOfSale, TellsOfSale}
+use Rattle.mdb_cashless.specs.shared.SaleViews.{AcksLastReply, MayTellOfSale, TellsOfSale}
 use Rattle.mdb_cashless.specs.Sales.{EndsInReply, IsApproved, IsRequested, IsUnrequested, LeavesSale, MayBeRequestedBefore}
 use Rattle.mdb_cashless.specs.Transactions.{is_again, is_same, transaction_of}
 use Rattle.mdb_cashless.specs.Units.{own}

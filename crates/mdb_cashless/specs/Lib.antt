@@ -9,3 +9,4 @@ pub mod Sales
 pub mod Transactions
 pub mod Units
 pub mod inner
+pub mod shared

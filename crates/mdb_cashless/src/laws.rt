@@ -26,7 +26,7 @@ ghost use Rattle.mdb_cashless.specs.ReaderFacts.{AllowsFacts, Facts, facts_of, k
 ghost use Rattle.mdb_cashless.specs.Sales.{IsApproved, MayBeRequestedBefore};
 ghost use Rattle.mdb_cashless.specs.Transactions.{is_same, transaction_of};
 ghost use Rattle.mdb_cashless.specs.Units.{own};
-ghost use Rattle.mdb_cashless.specs.inner.SaleViews.{AcksLastReply, MayTellOfSale};
+ghost use Rattle.mdb_cashless.specs.shared.SaleViews.{AcksLastReply, MayTellOfSale};
 
 /// Two transaction commands are the same where all their fields are.
 pub fn transactions_with_the_same_fields_are_the_same()

@@ -4,11 +4,11 @@ ghost use Rattle.std.specs.Prelude.{◌≡◌, ◌<◌, List, [], ◌∷◌};
 ghost use Rattle.mdb_msgs.specs.declared.command.Device.TheVariants as devices;
 ghost use Rattle.mdb_bus.specs.declared.act.Act.{Act};
 ghost use Rattle.mdb_cashless.specs.Reader as spec;
-ghost use Rattle.mdb_cashless.specs.inner.ReaderCodes as codes;
+ghost use Rattle.mdb_cashless.specs.shared.ReaderCodes as codes;
 ghost use Rattle.mdb_cashless.specs.ReaderFacts.{known_of};
 ghost use Rattle.mdb_cashless.specs.ReaderValues.{known_in, settled};
 ghost use Rattle.mdb_cashless.specs.inner.KnowingReader as knowing;
-ghost use Rattle.mdb_cashless.specs.inner.ReaderWays as ways;
+ghost use Rattle.mdb_cashless.specs.shared.ReaderWays as ways;
 ghost use Rattle.mdb_cashless.specs.Units as units;
 
 mod answers;

@@ -25,7 +25,7 @@ use Rattle.mdb_text.specs.Text.{report_text}
 use Rattle.mdb_verdict.specs.Verdict.{IsAnswer, IsImpossible, IsNoYes}
 use Rattle.mdb_verdict.specs.Rows.{AreRows}
 use Rattle.mdb_writing.specs.Written.{HasTaken}
-use Rattle.mdb_verdict.specs.Ending.{HasEnded, HasFollowed, IsTakenWhole}
+use Rattle.mdb_verdict.specs.Ending.{HasEnded, HasFollowedRows, IsTakenWhole}
 use Rattle.mdb_explain.specs.inner.Explaining.{HasKept, IsNoText, IsRowsText, IsTold, StopsKeeping, mark_line, marks_text, row_line, rows_text}
 use Rattle.mdb_writing.specs.Output.{Breaks, Output, Puts, begun, output}
 use Rattle.mdb_writing.proofs.Outputs.{break_both, put_both, taken_longer}
@@ -36,7 +36,7 @@ use Rattle.mdb_verdict.proofs.Verdicts.{Reaches}
 -- The reading of rows that are kept.
 
 -- rows that were kept were followed
-pub followed_whole : (scope : Scope) (limit : ℕ) (all : List (List (List ℕ))) (keeping : Keeping) → IsTakenWhole IsRow (HasKept scope keeping) limit all → IsTakenWhole IsRow (HasFollowed scope keeping.follower) limit all
+pub followed_whole : (scope : Scope) (limit : ℕ) (all : List (List (List ℕ))) (keeping : Keeping) → IsTakenWhole IsRow (HasKept scope keeping) limit all → IsTakenWhole IsRow (HasFollowedRows scope keeping.follower) limit all
 followed_whole scope limit all keeping ended = record { rows = ended.rows; read = ended.read; few = ended.few; has = ended.has.followed }
 
 -- the records are the rows that were kept
@@ -46,7 +46,7 @@ rows_kept scope limit all keeping ended =
     subst (AreRows all) (sym ended.has.kept) (subst Told (sym (append-nil ended.read.done) ∙ sym ended.read.split) (are_rows ended.read.done ended.rows ended.read.told))
 
 followed_to : (scope : Scope) (limit : ℕ) (all : List (List (List ℕ))) (keeping : Keeping) (fault : RunFault) → HasEnded IsRow IsRefusal (HasKept scope keeping) (StopsKeeping scope) limit all (Err fault)
-    → HasEnded IsRow IsRefusal (HasFollowed scope keeping.follower) (StopsKeeping scope) limit all (Err fault)
+    → HasEnded IsRow IsRefusal (HasFollowedRows scope keeping.follower) (StopsKeeping scope) limit all (Err fault)
 followed_to scope limit all keeping (BadRow row fault) ended =
     record { rows = ended.rows; fields = ended.fields; rest = ended.rest; read = ended.read; few = ended.few; number = ended.number; refused = ended.refused; has = ended.has.followed }
 followed_to scope limit all keeping TooLong ended = record { rows = ended.rows; fields = ended.fields; rest = ended.rest; read = ended.read; full = ended.full; has = ended.has.followed }

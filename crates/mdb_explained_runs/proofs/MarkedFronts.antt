@@ -29,8 +29,9 @@ use Rattle.mdb_follow.proofs.Joining.{split_with_choices}
 use Rattle.mdb_explained_runs.proofs.MarkedRuns.{IsAt, all_within, at_row}
 use Rattle.mdb_follow.proofs.Reaching.{GoOnRowByRow}
 use Rattle.mdb_explained_runs.proofs.Replaying.{JoinWithChoices}
-use Rattle.mdb_explained_runs.proofs.ShorterPieces.{NotForeign, foreign_or_not, front_and_last, not_empty}
-use Rattle.mdb_explained_runs.proofs.ShorterPieces.{one_alone, say_last, tail_of}
+use Rattle.mdb_explained_runs.proofs.ShorterPieces.{NotForeign, foreign_or_not}
+use Rattle.mdb_explained_runs.proofs.ShorterPieces.{tail_of}
+use Rattle.mdb_bus.proofs.Lists.{front_and_last, not_empty, one_alone, say_last}
 
 -- The act list of rows without the last of them, where the newest piece of all is this and these
 -- were before it: the same that were before it, or a tail after them. Where the newest is a foreign

@@ -36,7 +36,7 @@ use Rattle.mdb_machine.specs.Known.{Allows, AllowsKept, known_by}
 use Rattle.mdb_machine.specs.Machine.{Machine}
 use Rattle.mdb_machine.specs.Past.{PastFacts, or_else}
 use Rattle.mdb_machine.specs.Steps.{ForOwn}
-use Rattle.mdb_cash.specs.inner.BillCodes.{same_type}
+use Rattle.mdb_cash.specs.shared.BillCodes.{same_type}
 use Rattle.mdb_cashless.specs.declared.reader.device.DeviceState.{DeviceState}
 use Rattle.mdb_cashless.specs.declared.reader.messages.ReaderActivity.{ReaderActivity}
 use Rattle.mdb_cashless.specs.declared.reader.state.ReaderState.{ReaderState}

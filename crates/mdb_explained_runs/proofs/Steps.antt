@@ -13,7 +13,7 @@ use Rattle.mdb_explained_runs.specs.declared.explain.best.Weight.{Weight}
 use Rattle.mdb_explained_runs.specs.declared.explain.chains.Link.{Link}
 use Rattle.mdb_explained_runs.specs.Marks.{marks_at}
 use Rattle.mdb_explained_runs.specs.inner.Chains.{KeepChains}
-use Rattle.mdb_explained_runs.specs.inner.Paths.{AreLed, GoesOnFrom, HasAsGood, IsLed, TakesIn}
+use Rattle.mdb_explained_runs.specs.inner.Paths.{AreLed, LinksGoOnFrom, HasAsGood, IsLed, TakesIn}
 use Rattle.mdb_explained_runs.specs.inner.Paths.{TakesSteps}
 use Rattle.mdb_explained_runs.specs.inner.Weights.{weight_of}
 use Rattle.mdb_explained_runs.proofs.Bests.{takes-same}
@@ -40,7 +40,7 @@ pub takes-one : {State : Type 0} (number : ℕ) (choice : Choice) (code_of : Sta
     → IsSmall gains → next < number → IsStep code_of (Step choice) before.0 next gains
     → ((to : ℕ) (got : Gains) → IsStep code_of (Step choice) before.0 to got
     → (next ≡ to) × (gains ≡ got))
-    → TakesIn (GoesOnFrom old_links links before.1 row choice next value) old new
+    → TakesIn (LinksGoOnFrom old_links links before.1 row choice next value) old new
     → HasAsGood new next value (before.1.marks + length (marks_at row choice))
     → TakesSteps number (λ one. one ≡ choice) code_of Step weight row old_links links before old
     new
@@ -65,7 +65,7 @@ takes-one {State} number choice code_of Step weight row old_links links before o
           has))));
     }
   where
-    led : (entry : ℕ × Best) → GoesOnFrom old_links links before.1 row choice next value entry
+    led : (entry : ℕ × Best) → LinksGoOnFrom old_links links before.1 row choice next value entry
         → IsLed number (λ one. one ≡ choice) code_of Step weight row old_links links before entry
     led entry goes = record {
       choice = choice;

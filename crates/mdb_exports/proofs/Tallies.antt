@@ -7,7 +7,7 @@ use Rattle.std.proofs.lemmas.List.Folds.{list_any-append}
 use Rattle.std.proofs.lemmas.List.Sums.{sum_by-append}
 use Rattle.mdb_words.specs.declared.event.Event.{Event}
 use Rattle.mdb_exports.specs.Told.{told_count}
-use Rattle.mdb_exports.specs.inner.Told.{counted_more}
+use Rattle.mdb_exports.specs.shared.Told.{counted_more}
 
 pub any_more : (p : Event → Bool) (events : List Event) (event : Event)
     → list_any p (events ++ event ∷ []) ≡ (list_any p events || p event)

@@ -12,3 +12,4 @@ pub mod Rows
 pub mod Times
 pub mod Told
 pub mod inner
+pub mod shared

@@ -3,7 +3,7 @@
 ghost use Rattle.std.specs.Prelude.{◌≡◌, ◌-◌, ◌^◌, IfSome};
 ghost use Rattle.mdb_records.specs.ToCome.{ToCome, limit_of};
 ghost use Rattle.mdb_exports.specs.Records.{export_records};
-ghost use Rattle.mdb_exports.specs.inner.Decoded.{decoded_remaining};
+ghost use Rattle.mdb_exports.specs.shared.Decoded.{decoded_remaining};
 
 use super::decoded::Decoded;
 use mdb_records::Records;

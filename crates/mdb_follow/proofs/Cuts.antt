@@ -6,7 +6,7 @@ use Rattle.mdb_follow.specs.declared.offence.Offence.{Offence}
 use Rattle.mdb_follow.specs.declared.report.Report.{Report}
 use Rattle.mdb_follow.specs.Offences.{HasOffence, IsOffence}
 use Rattle.mdb_follow.specs.Report.{IsReport}
-use Rattle.mdb_follow.specs.Slices.{Tells, TellsInSlices, joined}
+use Rattle.mdb_follow.specs.Slices.{AnswersRows, AnswersInSlices, joined}
 use Rattle.mdb_follow.proofs.Slices.{Fronts, Longer, later}
 use Rattle.mdb_bus.specs.declared.scope.Scope.{Scope}
 
@@ -90,7 +90,7 @@ either scope earlier slice more o p =
 
 -- what is told of slices is told of the whole
 pub whole : (scope : Scope) (earlier : List Event) (slices : List (List Event)) (answer : Result Report Offence)
-    → TellsInSlices scope earlier slices answer → Tells scope earlier (joined slices) answer
+    → AnswersInSlices scope earlier slices answer → AnswersRows scope earlier (joined slices) answer
 whole scope earlier [] (Ok report) told =
     subst (λ rows. IsReport scope rows report) (sym (append-nil earlier)) told
 whole scope earlier [] (Err offence) told = absurd told
@@ -105,8 +105,8 @@ whole scope earlier (slice ∷ slices) (Err offence) (inr p) =
 
 -- and what is told of the whole is told of the slices
 pub in-slices : (scope : Scope) → Fronts scope → (earlier : List Event) (slices : List (List Event))
-    (answer : Result Report Offence) → Tells scope earlier (joined slices) answer
-    → TellsInSlices scope earlier slices answer
+    (answer : Result Report Offence) → AnswersRows scope earlier (joined slices) answer
+    → AnswersInSlices scope earlier slices answer
 in-slices scope fronts earlier [] (Ok report) told =
     subst (λ rows. IsReport scope rows report) (append-nil earlier) told
 in-slices scope fronts earlier [] (Err offence) told =
@@ -132,8 +132,8 @@ pub one-answer : (scope : Scope) → Fronts scope
     → ((rows : List Event) (a b : Report) → IsReport scope rows a → IsReport scope rows b → a ≡ b)
     → ((earlier rows : List Event) (a b : Offence) → HasOffence scope earlier rows a
     → HasOffence scope earlier rows b → a ≡ b)
-    → (earlier rows : List Event) (a b : Result Report Offence) → Tells scope earlier rows a
-    → Tells scope earlier rows b → a ≡ b
+    → (earlier rows : List Event) (a b : Result Report Offence) → AnswersRows scope earlier rows a
+    → AnswersRows scope earlier rows b → a ≡ b
 one-answer scope fronts reports offences earlier rows (Ok a) (Ok b) p q =
     ap Ok (reports (earlier ++ rows) a b p q)
 one-answer scope fronts reports offences earlier rows (Err a) (Err b) p q =

@@ -38,7 +38,7 @@ use Rattle.mdb_follow.specs.EndedActs.{IsEndedAct}
 use Rattle.mdb_follow.specs.Feeding.{HasTaken}
 use Rattle.mdb_follow.specs.Follower.{HasAccepted, StandsFor, rows_of, scope_of}
 use Rattle.mdb_follow.specs.Sales.{SalesFollowApprovals}
-use Rattle.mdb_follow.specs.inner.FollowerSteps.{HasFollowed, HasStopped}
+use Rattle.mdb_follow.specs.inner.FollowerSteps.{HasFollowedAct, HasStopped}
 use Rattle.mdb_follow.specs.Limits.{IsAccountWithin, IsCellWithin}
 use Rattle.mdb_follow.specs.Ranges.{IsAccount, IsCell, IsRange, slot_account}
 use Rattle.mdb_follow.specs.Sums.{AccountSums, Sums}
@@ -309,7 +309,7 @@ pub stands-on : (old mid new : Follower) (events : List Event) (row : Event) (ac
     (on : StandsFor old events) → GoesOn mid.bus on.pieces row (Some act)
     → scope_of mid ≡ scope_of old → mid.sides ≡ old.sides → mid.silences ≡ old.silences
     → mid.rows ≡ old.rows → mid.offence ≡ old.offence → (at : ℕ) → at ≡ start_of row
-    → HasFollowed mid act at new → StandsFor new (events ++ row ∷ [])
+    → HasFollowedAct mid act at new → StandsFor new (events ++ row ∷ [])
 stands-on old mid new events row act on goes old_scope same_sides same_silences same_rows same at
     start has =
     let begins : Beginning = (scope_of old).begins in

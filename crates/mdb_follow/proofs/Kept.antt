@@ -12,7 +12,7 @@ use Rattle.mdb_follow.specs.declared.silence.Unanswered.TheVariants.{Nothing}
 use Rattle.mdb_follow.specs.Devices.{device_place, same_device}
 use Rattle.mdb_follow.specs.Silences.{TimedAsk}
 use Rattle.mdb_follow.specs.SilencesKept.{silence_in}
-use Rattle.mdb_follow.specs.SilenceSteps.{AllGoOn, GoesOn, OneGoesOn}
+use Rattle.mdb_follow.specs.SilenceSteps.{AllGoOn, SilenceGoesOn, OneGoesOn}
 use Rattle.mdb_follow.proofs.ByDevice.{below, one_place, same_or_not}
 
 -- what stands for that of a device that a list lacks; silences lack none
@@ -22,19 +22,19 @@ no_silence = record { unanswered = Nothing; count = 0 }
 -- what is kept of one device is put in its place
 pub one-goes-on : (further : Device → List (List TimedAsk) → List (List TimedAsk))
     (device : Device) (old : Silences) (place : ℕ) (one : Silence) → place ≡ device_place device
-    → length old.of ≡ 4 → GoesOn (further device) (get_or old.of place no_silence) one
+    → length old.of ≡ 4 → SilenceGoesOn (further device) (get_or old.of place no_silence) one
     → OneGoesOn further device old (record { of = set old.of place one })
 one-goes-on further device old place one at long goes = record {
-  own = subst (GoesOn (further device) (silence_in old device))
+  own = subst (SilenceGoesOn (further device) (silence_in old device))
       (sym (get_or-set_at old.of place (device_place device) one _ (sym at)
       (let less = below device in omega (arith, at, long, less))))
-      (subst (λ p. GoesOn (further device) (get_or old.of p no_silence) one) at goes);
+      (subst (λ p. SilenceGoesOn (further device) (get_or old.of p no_silence) one) at goes);
   others = λ other apart. get_or-set_other old.of place (device_place other) one _
       (λ same. apart (one_place other device (same ∙ at)));
 }
 
 -- no list goes on
-stays : (silence : Silence) → GoesOn (λ lists. lists) silence silence
+stays : (silence : Silence) → SilenceGoesOn (λ lists. lists) silence silence
 stays silence = record { stands = λ lists on. on; few = omega arith }
 
 -- those of one device do
@@ -46,14 +46,14 @@ all-go-on further which old new one device =
     elim (same_or_not device which) [
       | inl same ↦ subst If
           (sym (eq-eqb (device_place device) (device_place which) (ap device_place same)))
-          (subst (λ d. GoesOn (further d) (silence_in old d) (silence_in new d)) (sym same) one.own)
+          (subst (λ d. SilenceGoesOn (further d) (silence_in old d) (silence_in new d)) (sym same) one.own)
       | inr apart ↦ subst If
           (sym (ne_eqb (device_place device) (device_place which)
           (λ same. apart (one_place device which same))))
-          (subst (GoesOn (λ lists. lists) (silence_in old device)) (sym (one.others device apart))
+          (subst (SilenceGoesOn (λ lists. lists) (silence_in old device)) (sym (one.others device apart))
           (stays (silence_in old device)))
     ]
   where
     If : Bool → Type 0
-    If same = GoesOn (λ lists. if same then further device lists else lists)
+    If same = SilenceGoesOn (λ lists. if same then further device lists else lists)
         (silence_in old device) (silence_in new device)

@@ -11,13 +11,13 @@ use Rattle.mdb_bus.specs.LeavingOut.{device_in}
 use Rattle.mdb_machine.specs.declared.choice.Choice.{Choice}
 use Rattle.mdb_machine.specs.declared.choice.Choice.TheVariants.{Plain, Lost, Restart}
 use Rattle.mdb_machine.specs.declared.gains.Gains.{Gains}
-use Rattle.mdb_cash.specs.inner.BillWays as bill_ways
-use Rattle.mdb_cash.specs.inner.ChangerWays as changer_ways
+use Rattle.mdb_cash.specs.shared.BillWays as bill_ways
+use Rattle.mdb_cash.specs.shared.ChangerWays as changer_ways
 use Rattle.mdb_machine.specs.Choices.{CanStand}
 use Rattle.mdb_machine.specs.Gains.{no_gains}
 use Rattle.mdb_machine.specs.Machine.{Machine}
 use Rattle.mdb_machine.specs.Pair.{IsActOf, IsMachineOf}
-use Rattle.mdb_cashless.specs.inner.ReaderWays as reader_ways
+use Rattle.mdb_cashless.specs.shared.ReaderWays as reader_ways
 use Rattle.mdb_follow.specs.Arrivals.{Arrives}
 use Rattle.mdb_follow.specs.Machines.{machine_of}
 use Rattle.mdb_follow.specs.Offences.{HasNoStep}

@@ -16,7 +16,7 @@ use Rattle.mdb_machine.specs.declared.gains.Gains.{Gains}
 use Rattle.mdb_machine.specs.declared.choice.Choice.{Choice}
 use Rattle.mdb_cashless.specs.declared.reader.state.ReaderState.{ReaderState}
 use Rattle.mdb_cashless.specs.Reader as reader
-use Rattle.mdb_cashless.specs.inner.SaleViews.{AcksLastReply, MayTellOfSale}
+use Rattle.mdb_cashless.specs.shared.SaleViews.{AcksLastReply, MayTellOfSale}
 use Rattle.mdb_cashless.specs.Sales.{EndsInReply, IsApproved, MayBeRequestedBefore}
 use Rattle.mdb_cashless.specs.Sales.{SalesAreApproved}
 use Rattle.mdb_follow.specs.Arrivals.{Arrives}

@@ -14,10 +14,10 @@ use Rattle.mdb_cash.specs.BillValues as bill_values
 use Rattle.mdb_cash.specs.ChangerValues as changer_values
 use Rattle.mdb_machine.specs.declared.choice.Choice.TheVariants.{Plain}
 use Rattle.mdb_machine.specs.Pair.{IsActOf, IsBreak}
-use Rattle.mdb_cash.specs.inner.BillWays as bill_ways
-use Rattle.mdb_cash.specs.inner.ChangerWays as changer_ways
+use Rattle.mdb_cash.specs.shared.BillWays as bill_ways
+use Rattle.mdb_cash.specs.shared.ChangerWays as changer_ways
 use Rattle.mdb_cashless.specs.ReaderValues as reader_values
-use Rattle.mdb_cashless.specs.inner.ReaderWays as reader_ways
+use Rattle.mdb_cashless.specs.shared.ReaderWays as reader_ways
 use Rattle.mdb_follow.specs.declared.cell.Cell.{Cell}
 use Rattle.mdb_follow.specs.declared.report.TheConstants.Report.{DEVICES}
 use Rattle.mdb_follow.specs.declared.sides.Sides.{Sides}

@@ -41,7 +41,7 @@ AllGo begins acts act choice before after sums_before sums =
 
 -- A way goes on by one act, under a choice that can stand on it: an ACK is one that its receiver
 -- didn't hear exactly where the loss of its rows has it so.
-pub record GoesOnBy (begins : Beginning) (loss : Loss) (pieces : List Piece) (act : Act) (count : ℕ)
+pub record RunGoesOnBy (begins : Beginning) (loss : Loss) (pieces : List Piece) (act : Act) (count : ℕ)
     (Before : States → AllSums → Type 0) (states : States) (sums : AllSums) : Type 0 where
   pub choice : Choice
   pub stands : CanStand act choice
@@ -59,7 +59,7 @@ IsWay begins loss [] states sums =
     (device : Device)
     → (machine_of begins device).Starts (states device) × (sums device ≡ no_sums)
 IsWay begins loss (Whole act events ∷ pieces) states sums =
-    GoesOnBy begins loss pieces act (length events) (IsWay begins loss pieces) states sums
+    RunGoesOnBy begins loss pieces act (length events) (IsWay begins loss pieces) states sums
 IsWay begins loss (piece ∷ pieces) states sums = IsWay begins loss pieces states sums
 
 -- Under two losses the same ACKs of the pieces, of devices and of the controller, were heard.

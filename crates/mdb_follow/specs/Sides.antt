@@ -8,11 +8,11 @@ use Rattle.mdb_bus.specs.declared.scope.Beginning.{Beginning}
 use Rattle.mdb_cash.specs.BillValues as bill_values
 use Rattle.mdb_cash.specs.ChangerValues as changer_values
 use Rattle.mdb_machine.specs.Machine.{Machine}
-use Rattle.mdb_cash.specs.inner.BillCodes as bill_codes
-use Rattle.mdb_cash.specs.inner.ChangerCodes as changer_codes
+use Rattle.mdb_cash.specs.shared.BillCodes as bill_codes
+use Rattle.mdb_cash.specs.shared.ChangerCodes as changer_codes
 use Rattle.mdb_cashless.specs.declared.reader.known.ReaderKnown.{ReaderKnown}
 use Rattle.mdb_cashless.specs.ReaderValues as reader_values
-use Rattle.mdb_cashless.specs.inner.ReaderCodes as reader_codes
+use Rattle.mdb_cashless.specs.shared.ReaderCodes as reader_codes
 use Rattle.mdb_follow.specs.declared.side.Side.{Side}
 use Rattle.mdb_follow.specs.declared.sides.Sides.{Sides}
 use Rattle.mdb_follow.specs.Devices.{spec_of}

@@ -41,7 +41,7 @@ abbrev pub ended : List (List TimedAsk) → List (List TimedAsk)
 ended lists = [] ∷ lists
 
 -- What is kept of a device has gone on as its lists did, with at most one silence more.
-pub record GoesOn (further : List (List TimedAsk) → List (List TimedAsk))
+pub record SilenceGoesOn (further : List (List TimedAsk) → List (List TimedAsk))
     (old new : Silence) : Type 0 where
   pub stands : (lists : List (List TimedAsk)) → StandsForAsks old lists
       → StandsForAsks new (further lists)
@@ -51,14 +51,14 @@ pub record GoesOn (further : List (List TimedAsk) → List (List TimedAsk))
 abbrev pub OneGoesOn : (Device → List (List TimedAsk) → List (List TimedAsk)) → Device
     → Silences → Silences → Type 0
 OneGoesOn further device old new =
-    OneGoes (λ other. Silence) (λ other. GoesOn (further other)) device (silence_in old)
+    OneGoes (λ other. Silence) (λ other. SilenceGoesOn (further other)) device (silence_in old)
     (silence_in new)
 
 -- what is kept of each device has
 abbrev pub AllGoOn : (Device → List (List TimedAsk) → List (List TimedAsk)) → Silences → Silences
     → Type 0
 AllGoOn further old new =
-    (device : Device) → GoesOn (further device) (silence_in old device) (silence_in new device)
+    (device : Device) → SilenceGoesOn (further device) (silence_in old device) (silence_in new device)
 
 -- Silences have followed an act whose last word started at a time, with what is known of the two
 -- readers after it.

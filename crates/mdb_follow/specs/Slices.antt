@@ -14,19 +14,19 @@ joined [] = []
 joined (slice ∷ slices) = slice ++ joined slices
 
 -- What is told of rows after earlier ones: the report on all, or the offence of one of these rows.
-abbrev pub Tells : Scope → List Event → List Event → Result Report Offence → Type 0
-Tells scope earlier rows (Ok report) = IsReport scope (earlier ++ rows) report
-Tells scope earlier rows (Err offence) = HasOffence scope earlier rows offence
+abbrev pub AnswersRows : Scope → List Event → List Event → Result Report Offence → Type 0
+AnswersRows scope earlier rows (Ok report) = IsReport scope (earlier ++ rows) report
+AnswersRows scope earlier rows (Err offence) = HasOffence scope earlier rows offence
 
 -- What is told of slices that are fed one by one after earlier rows, as `feed_all` and `report` say
 -- of each call: the offence of the first slice that has one, and where none has, the report after
 -- the last. Each slice comes after the earlier rows and all slices before it, which are reached.
-abbrev pub TellsInSlices : Scope → List Event → List (List Event) → Result Report Offence → Type 0
-TellsInSlices scope earlier [] (Ok report) = IsReport scope earlier report
-TellsInSlices scope earlier [] (Err offence) = ⊥
-TellsInSlices scope earlier (slice ∷ slices) (Ok report) =
-    IsReached scope (earlier ++ slice) × TellsInSlices scope (earlier ++ slice) slices (Ok report)
-TellsInSlices scope earlier (slice ∷ slices) (Err offence) =
+abbrev pub AnswersInSlices : Scope → List Event → List (List Event) → Result Report Offence → Type 0
+AnswersInSlices scope earlier [] (Ok report) = IsReport scope earlier report
+AnswersInSlices scope earlier [] (Err offence) = ⊥
+AnswersInSlices scope earlier (slice ∷ slices) (Ok report) =
+    IsReached scope (earlier ++ slice) × AnswersInSlices scope (earlier ++ slice) slices (Ok report)
+AnswersInSlices scope earlier (slice ∷ slices) (Err offence) =
     HasOffence scope earlier slice offence
     ⊎ (IsReached scope (earlier ++ slice)
-    × TellsInSlices scope (earlier ++ slice) slices (Err offence))
+    × AnswersInSlices scope (earlier ++ slice) slices (Err offence))

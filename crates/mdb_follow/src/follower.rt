@@ -50,7 +50,7 @@ impl Follower {
     ghost use Rattle.mdb_follow.specs.Feeding.{HasRefused, HasTaken};
     ghost use Rattle.mdb_follow.specs.Follower.{HasAccepted, StandsFor};
     ghost use Rattle.mdb_follow.specs.Follower.{act_of, offence_of, rows_of, scope_of};
-    ghost use Rattle.mdb_follow.specs.inner.FollowerSteps.{HasFollowed, HasStopped};
+    ghost use Rattle.mdb_follow.specs.inner.FollowerSteps.{HasFollowedAct, HasStopped};
     ghost use Rattle.mdb_follow.specs.Offences.{HasOffence};
     ghost use Rattle.mdb_follow.specs.Report.{IsReport};
     ghost use Rattle.mdb_follow.specs.ReportLimits.{IsReportWithin};
@@ -271,7 +271,7 @@ impl Follower {
     fn follow(&mut self, at: Time) -> bool
         requires room { rows_of self.old < ROWS_MAX }
         requires going { offence_of self.old ≡ None }
-        ensures followed { OnTrue result (HasFollowed self.old self.old.act at self.new) }
+        ensures followed { OnTrue result (HasFollowedAct self.old self.old.act at self.new) }
         ensures stopped { OnFalse result
             (IsSomeAnd (offence_of self.new) (HasStopped self.old self.old.act self.new)) }
         ensures scope { scope_of self.new ≡ scope_of self.old }

@@ -39,7 +39,7 @@ ghost use Rattle.mdb_follow.specs.Runs.{AllSums, HearSameAcks, IsReached, IsWay,
 ghost use Rattle.mdb_follow.specs.Sales.{SalesFollowApprovals};
 ghost use Rattle.mdb_follow.specs.Silences.{silences};
 ghost use Rattle.mdb_follow.specs.Sums.{no_sums};
-ghost use Rattle.mdb_follow.specs.Slices.{Tells, TellsInSlices, joined};
+ghost use Rattle.mdb_follow.specs.Slices.{AnswersRows, AnswersInSlices, joined};
 
 use mdb_bus::laws;
 use mdb_cash::laws as cash_laws;
@@ -170,10 +170,10 @@ pub fn lists_have_one_offence()
 pub fn cuts_change_no_answer()
     ensures whole { (scope : Scope) (earlier : List Event) (slices : List (List Event))
         (answer : Result Report Offence)
-        → TellsInSlices scope earlier slices answer ↔ Tells scope earlier (joined slices) answer }
+        → AnswersInSlices scope earlier slices answer ↔ AnswersRows scope earlier (joined slices) answer }
     ensures alike { (scope : Scope) (earlier : List Event) (one other : List (List Event))
         (a b : Result Report Offence) → joined one ≡ joined other
-        → TellsInSlices scope earlier one a → TellsInSlices scope earlier other b → a ≡ b }
+        → AnswersInSlices scope earlier one a → AnswersInSlices scope earlier other b → a ≡ b }
 {
     fronts_of_reached_rows_are_reached();
     rows_have_one_report();

@@ -11,7 +11,7 @@ use Rattle.mdb_bus.specs.declared.scope.Beginning.{Beginning}
 use Rattle.mdb_machine.specs.declared.choice.Choice.{Choice}
 use Rattle.mdb_machine.specs.declared.gains.Gains.{Gains}
 use Rattle.mdb_machine.specs.Kept.{kept_of}
-use Rattle.mdb_late_start.specs.MidSession.{StaysInMidSession}
+use Rattle.mdb_late_start.specs.MidSession.{MayJoinLate}
 use Rattle.mdb_late_start.proofs.Keepers.{AlsoSteps, IsEnabledIn, IsSteady, in_end, step_in_end, told_first, told_on}
 use Rattle.mdb_msgs.specs.Changer.{IsChangerMsg}
 use Rattle.mdb_msgs.specs.declared.command.ChangerCommand.{ChangerCommand}
@@ -153,7 +153,7 @@ steady = record {
 
 -- so it may do in mid-session what it does
 pub changer_stays : (begins : Beginning) (setups : Setups)
-    → StaysInMidSession begins setups devices.Changer
+    → MayJoinLate begins setups devices.Changer
 changer_stays begins setups = record {
   starts = told_first tables conduct Fits steady begins;
   goes_on = told_on tables conduct Fits steady begins;

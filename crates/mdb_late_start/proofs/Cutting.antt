@@ -20,13 +20,14 @@ use Rattle.mdb_bus.specs.Acts.{IsBlockWord, IsForeignWord}
 use Rattle.mdb_bus.specs.ActLists.{Piece, Whole, AskTail, ReplyTail, RepeatTail, Position, Quiet, InAsk, Asked, InReply, Replied, Returned, InRepeat, InForeign, ArePieces, AreSpaced, BlockMayCome, ForeignMayCome, IsActList, IsLow, IsPiece, MayCome, MayStand, NotBefore, PieceFitsLevels, events_of, last_of, left_by, level_for, levels_after, levels_of, piece_events, position_of}
 use Rattle.mdb_bus.specs.LeavingOut.{with_foreign}
 use Rattle.mdb_bus.specs.Scopes.{no_levels}
-use Rattle.mdb_late_start.specs.Cuts.{BeginAnew, IsBreakEvent, IsCut, from_later}
+use Rattle.mdb_late_start.specs.Cuts.{BeginAnew, IsBreakEvent, SplitsAt, joined_with}
 use Rattle.mdb_late_start.specs.MidSession.{IsNothingOr}
 use Rattle.mdb_late_start.specs.Told.{IsLessTold}
-use Rattle.mdb_late_start.proofs.CutWords.{AreForeignWords, Kind, foreign_both, foreign_end, kind_of}
+use Rattle.mdb_late_start.proofs.CutWords.{Kind, foreign_both, foreign_end, kind_of}
 use Rattle.mdb_late_start.proofs.Said.{said_stays}
 use Rattle.mdb_bus.proofs.Lists.{last_push}
 use Rattle.mdb_bus.proofs.LeftOutOrder.{foreign_rows, foreign_levels}
+use Rattle.mdb_bus.proofs.LeftOutWords.{AreForeignWords}
 
 -- A list of two parts is divided at another place: in the first part, or after an element of the
 -- second.
@@ -234,7 +235,7 @@ record Cutting (scope : Scope) (setups : Setups) (front end : List Event) (piece
   order : pieces ≡ later ++ before
   in_front : ArePieces scope before
   rows : events_of before ≡ front ++ words
-  stand : ArePieces (from_later setups scope) (later ++ with_foreign words [])
+  stand : ArePieces (joined_with setups scope) (later ++ with_foreign words [])
   whole : events_of (later ++ with_foreign words []) ≡ end
   foreign : AreForeignWords words
 
@@ -254,7 +255,7 @@ stands_on : (scope : Scope) (setups : Setups) (front middle end : List Event) (p
     (pieces : List Piece) → IsPiece scope piece → (stands : MayStand scope pieces piece)
     → end ≡ middle ++ piece_events piece → (cut : Cutting scope setups front middle pieces)
     → MayCome piece
-    (position_of (from_later setups scope) (cut.later ++ with_foreign cut.words []))
+    (position_of (joined_with setups scope) (cut.later ++ with_foreign cut.words []))
     (last_of (events_of (cut.later ++ with_foreign cut.words []))) stands.first
     → Cutting scope setups front end (piece ∷ pieces)
 stands_on scope setups front middle end piece pieces is stands ends cut comes =
@@ -300,7 +301,7 @@ stands_as_words : (scope : Scope) (setups : Setups) (front middle end : List Eve
     → Cutting scope setups front end (piece ∷ pieces)
 stands_as_words scope setups front middle end piece pieces are first others begins ends cut none
     words late =
-    let new = from_later setups scope in
+    let new = joined_with setups scope in
     let Stand : List Piece → Type 0 = λ ps. ArePieces new (ps ++ with_foreign cut.words []) in
     let Rows : List Piece → Type 0 =
     λ ps. events_of (ps ++ with_foreign cut.words []) ≡ middle in
@@ -356,7 +357,7 @@ stands_in_end : (scope : Scope) (setups : Setups) (front middle end : List Event
     → (cut : Cutting scope setups front middle pieces) (later : List Piece) → cut.later ≡ later
     → Cutting scope setups front end (piece ∷ pieces)
 stands_in_end scope setups front middle end piece pieces are rows ends cut (top ∷ later) is =
-    let new = from_later setups scope in
+    let new = joined_with setups scope in
     let stands = are.1 in
     let here : position_of scope pieces ≡ left_by top =
     ap (position_of scope) (cut.order ∙ ap (λ ps. ps ++ cut.before) is) in
@@ -371,7 +372,7 @@ stands_in_end scope setups front middle end piece pieces are rows ends cut (top 
     (last_of (events_of (cut.later ++ with_foreign cut.words []))) (last_of (events_of pieces))
     stands.first (last_before scope setups front middle pieces rows cut) stands.comes))
 stands_in_end scope setups front middle end piece pieces are rows ends cut [] none =
-    let new = from_later setups scope in
+    let new = joined_with setups scope in
     let stands = are.1 in
     let kind : Kind piece (last_of (events_of pieces)) stands.first stands.others =
     kind_of scope piece (position_of scope pieces) (last_of (events_of pieces)) stands.first
@@ -402,7 +403,7 @@ cut_inside : (scope : Scope) (setups : Setups) (front end : List Event) (piece :
     → piece_events piece ≡ event ∷ middle ++ end
     → Cutting scope setups front end (piece ∷ pieces)
 cut_inside scope setups front end piece pieces are whole event middle is =
-    let new = from_later setups scope in
+    let new = joined_with setups scope in
     let stands = are.1 in
     let both : stands.first ∷ stands.others ≡ event ∷ (middle ++ end) = sym stands.begins ∙ is in
     let rest : stands.others ≡ middle ++ end = cc in
@@ -488,7 +489,7 @@ none_anew (word ∷ words) rest foreign anew = absurd (begins_nothing word forei
 -- the end of a transcript has an act list of its own
 pub ends_have_act_lists : (scope : Scope) (setups : Setups) (front end : List Event)
     (pieces : List Piece) → IsActList scope pieces (front ++ end)
-    → IsCut scope setups front end pieces
+    → SplitsAt scope setups front end pieces
 ends_have_act_lists scope setups front end pieces list =
     let cut = cut_at scope setups pieces front end list.in_order list.whole in
     let rows : end ≡ cut.words ++ events_of cut.later =

@@ -18,7 +18,7 @@ use Rattle.mdb_follow.specs.Runs.{AllSums, IsReached, IsWay, Run, States}
 use Rattle.mdb_follow.specs.Sums.{Sums}
 use Rattle.mdb_late_start.specs.Cuts.{BeginAnew}
 use Rattle.mdb_late_start.specs.Ends.{Passes, both_sums}
-use Rattle.mdb_late_start.specs.MidSession.{AreOf}
+use Rattle.mdb_late_start.specs.MidSession.{TellsOnlyWhatIsSo}
 use Rattle.mdb_late_start.specs.Told.{AreToldBy, WereTold, told_later}
 use Rattle.mdb_late_start.proofs.Answering.{AllAnswer, all_answer}
 use Rattle.mdb_late_start.proofs.Foreign.{after_foreign}
@@ -179,7 +179,7 @@ pub gained_there : EndLaws → (scope : Scope) (setups : Setups) (levels : Level
     → BeginAnew end → (passes : Passes scope (front ++ end) sums run front)
     → AreToldBy scope passes.before levels → (gained : AllSums)
     × Run (told_later setups levels scope) end gained
-    × ((device : Device) → AreOf setups scope.begins device (acts_of passes.before)
+    × ((device : Device) → TellsOnlyWhatIsSo setups scope.begins device (acts_of passes.before)
     → unvalued_of (Joined setups) device (acts_of passes.later) ≡ 0
     → sums device ≡ both_sums (passes.sums_then device) (gained device))
 gained_there laws scope setups levels front end sums run anew passes levels_told =

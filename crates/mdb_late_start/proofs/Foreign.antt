@@ -11,12 +11,12 @@ use Rattle.mdb_bus.specs.declared.scope.Beginning.{Beginning}
 use Rattle.mdb_bus.specs.declared.scope.Beginning.TheVariants.{Joined}
 use Rattle.mdb_bus.specs.ActLists.{Piece, Whole, acts_of}
 use Rattle.mdb_bus.specs.LeavingOut.{has_part, with_foreign}
-use Rattle.mdb_cash.specs.inner.BillWays as bill_ways
-use Rattle.mdb_cash.specs.inner.ChangerWays as changer_ways
+use Rattle.mdb_cash.specs.shared.BillWays as bill_ways
+use Rattle.mdb_cash.specs.shared.ChangerWays as changer_ways
 use Rattle.mdb_machine.specs.declared.choice.Choice.TheVariants.{Plain}
 use Rattle.mdb_machine.specs.Gains.{no_gains}
 use Rattle.mdb_machine.specs.Pair.{IsMachineOf, own_acts}
-use Rattle.mdb_cashless.specs.inner.ReaderWays as reader_ways
+use Rattle.mdb_cashless.specs.shared.ReaderWays as reader_ways
 use Rattle.mdb_follow.specs.Arrivals.{Arrives}
 use Rattle.mdb_follow.specs.Machines.{StateOf, machine_of}
 use Rattle.mdb_follow.specs.Sums.{Sums, no_sums}
@@ -60,7 +60,7 @@ through_foreign begins device (word ∷ words) pieces state sums way =
       gains = no_gains;
       way = way;
       step = (is.elsewhere (acts_of pieces) acts.Foreign Plain state state no_gains
-          (λ part. part)).1 (refl, refl);
+          (λ part. absurd cc)).1 (refl, refl);
       adds = no-gains sums;
     })
 

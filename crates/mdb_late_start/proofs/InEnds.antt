@@ -14,7 +14,7 @@ use Rattle.mdb_follow.specs.Machines.{StateOf, machine_of}
 use Rattle.mdb_follow.specs.Report.{unvalued_of}
 use Rattle.mdb_follow.specs.Sums.{Sums, added, no_sums}
 use Rattle.mdb_late_start.specs.Ends.{both_sums}
-use Rattle.mdb_late_start.specs.MidSession.{AreOf, GoesOnInEnd, HasToldWhatItHolds, StaysInMidSession}
+use Rattle.mdb_late_start.specs.MidSession.{GoesOnInEnd, HasToldWhatItHolds, MayJoinLate, TellsOnlyWhatIsSo}
 use Rattle.mdb_late_start.proofs.Answering.{AllAnswer}
 use Rattle.mdb_late_start.proofs.EndSums.{and_gains, and_nothing, second_none}
 use Rattle.mdb_late_start.proofs.Foreign.{starts_anywhere}
@@ -32,7 +32,7 @@ name_later (act ∷ later) others name = (name.0, name_later later others name.1
 
 -- a device has told what it holds, wherever its way leads
 pub holds_there : (begins : Beginning) (setups : Setups) (device : Device)
-    → StaysInMidSession begins setups device → (so_far : List Act) (state : StateOf device)
+    → MayJoinLate begins setups device → (so_far : List Act) (state : StateOf device)
     (sums : Sums) → Arrives (machine_of begins device) so_far state sums
     → HasToldWhatItHolds begins device so_far state
 holds_there begins setups device law [] state sums way = law.starts state way.0
@@ -42,7 +42,7 @@ holds_there begins setups device law (act ∷ so_far) state sums way =
 
 -- so too where it goes on
 holds_on : (begins : Beginning) (setups : Setups) (device : Device)
-    → StaysInMidSession begins setups device → (front later : List Act) (from : StateOf device)
+    → MayJoinLate begins setups device → (front later : List Act) (from : StateOf device)
     (sums_from : Sums) (state : StateOf device) (sums : Sums)
     → HasToldWhatItHolds begins device front from
     → GoesOnTo (machine_of begins device) front later from sums_from state sums
@@ -68,7 +68,7 @@ pub record InEnd (begins : Beginning) (setups : Setups) (device : Device) (later
     (sums_from : Sums) (state : StateOf device) (sums : Sums) : Type 0 where
   pub gained : Sums
   pub way : Arrives (machine_of (Joined setups) device) later state gained
-  pub same : AllAnswer later → AreOf setups begins device front
+  pub same : AllAnswer later → TellsOnlyWhatIsSo setups begins device front
       → unvalued_of (Joined setups) device later ≡ 0 → sums ≡ both_sums sums_from gained
 
 -- one act more gains the same
@@ -80,7 +80,7 @@ gains_more sums sums_before sums_from gained gains other adds before same =
     ∙ ap (λ g. both_sums sums_from (added gained g)) (sym same)
 
 pub in_end : (begins : Beginning) (setups : Setups) (device : Device)
-    → StaysInMidSession begins setups device → (front later : List Act) (from : StateOf device)
+    → MayJoinLate begins setups device → (front later : List Act) (from : StateOf device)
     (sums_from : Sums) (state : StateOf device) (sums : Sums) → AllName later
     → HasToldWhatItHolds begins device front from
     → GoesOnTo (machine_of begins device) front later from sums_from state sums

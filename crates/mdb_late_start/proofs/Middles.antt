@@ -30,11 +30,12 @@ use Rattle.mdb_late_start.specs.MidSession.{IsNothingOr}
 use Rattle.mdb_late_start.specs.Told.{AreToldBy, IsLessTold, told_later}
 use Rattle.mdb_late_start.specs.inner.EndLaws.{EndLaws}
 use Rattle.mdb_follow.proofs.Ways.{no-gains}
-use Rattle.mdb_late_start.proofs.CutWords.{AreForeignWords, foreign_end}
+use Rattle.mdb_late_start.proofs.CutWords.{foreign_end}
 use Rattle.mdb_late_start.proofs.EndRuns.{front_in_order, run_by}
 use Rattle.mdb_late_start.proofs.Foreign.{after_others, is_machine_of, own_later, starts_anywhere}
 use Rattle.mdb_late_start.proofs.Onward.{acts_in_two}
 use Rattle.mdb_bus.proofs.Backward.{marked_not_foreign as marked_word}
+use Rattle.mdb_bus.proofs.LeftOutWords.{AreForeignWords}
 
 -- pieces are foreign acts, and no others
 abbrev pub AreForeign : List Piece → Type 0
@@ -156,7 +157,7 @@ stays_there setups device (Whole acts.Foreign events ∷ pieces) foreign state =
       gains = no_gains;
       way = stays_there setups device pieces foreign state;
       step = (is.elsewhere (acts_of pieces) acts.Foreign Plain state state no_gains
-          (λ part. part)).1 (refl, refl);
+          (λ part. absurd cc)).1 (refl, refl);
       adds = no-gains no_sums;
     }
 stays_there setups device (piece ∷ pieces) foreign state = absurd foreign

@@ -11,7 +11,7 @@ use Rattle.mdb_follow.specs.Arrivals.{Arrives, ArrivesBy}
 use Rattle.mdb_follow.specs.Machines.{machine_of}
 use Rattle.mdb_follow.specs.Runs.{AllSums, IsWay, States}
 use Rattle.mdb_follow.specs.Sums.{Sums}
-use Rattle.mdb_late_start.specs.Ends.{GoesOnThrough}
+use Rattle.mdb_late_start.specs.Ends.{RunGoesOnThrough}
 
 -- a device goes on through acts, from a state and sums after the acts in front
 abbrev pub GoesOnTo : {State : Type 0} → Machine State → List Act → List Act → State → Sums → State
@@ -69,7 +69,7 @@ acts_in_two (RepeatTail command reply words events ∷ later) before = acts_in_t
 -- where all go on through pieces, each goes on through their acts
 pub each_goes_on : (begins : Beginning) (loss : Loss) (before later : List Piece) (from : States)
     (sums_from : AllSums) (states : States) (sums : AllSums)
-    → GoesOnThrough begins loss before later from sums_from states sums → (device : Device)
+    → RunGoesOnThrough begins loss before later from sums_from states sums → (device : Device)
     → GoesOnTo (machine_of begins device) (acts_of before) (acts_of later) (from device)
     (sums_from device) (states device) (sums device)
 each_goes_on begins loss before [] from sums_from states sums way device = way device
@@ -100,7 +100,7 @@ pub record AllInTwo (begins : Beginning) (loss : Loss) (later before : List Piec
   pub from : States
   pub sums_from : AllSums
   pub way : IsWay begins loss before from sums_from
-  pub onward : GoesOnThrough begins loss before later from sums_from states sums
+  pub onward : RunGoesOnThrough begins loss before later from sums_from states sums
 
 pub all_in_two : (begins : Beginning) (loss : Loss) (later before : List Piece) (states : States)
     (sums : AllSums) → IsWay begins loss (later ++ before) states sums

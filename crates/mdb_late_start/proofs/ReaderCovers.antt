@@ -12,7 +12,7 @@ use Rattle.mdb_machine.specs.Past.{last_told, or_else}
 use Rattle.mdb_machine.specs.PastValues.{known_more}
 use Rattle.mdb_cashless.specs.ReaderFacts.{KnownFacts, amount_by, config_by, known_of}
 use Rattle.mdb_cashless.specs.ReaderValues.{known_with}
-use Rattle.mdb_cashless.specs.inner.ReaderWays.{goes_on}
+use Rattle.mdb_cashless.specs.shared.ReaderWays.{goes_on}
 use Rattle.mdb_late_start.specs.MidSession.{HasTold, IsNothingOr}
 
 -- what is known here is known there, too

@@ -23,7 +23,7 @@ use Rattle.mdb_cashless.specs.Reader.{AckStep, AskStep, ReaderStep, ReplyStep, V
 use Rattle.mdb_cashless.specs.ReaderFacts.{Facts, KnownFacts, known_of, parts_by}
 use Rattle.mdb_cashless.specs.ReaderMessages.{messages_of, part_of, parts_of}
 use Rattle.mdb_cashless.specs.Units.{own}
-use Rattle.mdb_cashless.specs.inner.ReaderWays.{goes_on}
+use Rattle.mdb_cashless.specs.shared.ReaderWays.{goes_on}
 use Rattle.mdb_late_start.specs.MidSession.{HasTold}
 
 -- so it starts

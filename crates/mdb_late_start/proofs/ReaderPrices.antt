@@ -18,7 +18,7 @@ use Rattle.mdb_cashless.specs.Reader.{asks_sale, is_unpriced, unvalued, unvalued
 use Rattle.mdb_cashless.specs.ReaderFacts.{Facts, KnownFacts, config_by, known_of, messages_by}
 use Rattle.mdb_cashless.specs.ReaderMessages.{config_in, last_said, messages_of}
 use Rattle.mdb_cashless.specs.Units.{own}
-use Rattle.mdb_cashless.specs.inner.ReaderWays.{goes_on}
+use Rattle.mdb_cashless.specs.shared.ReaderWays.{goes_on}
 use Rattle.mdb_late_start.specs.MidSession.{AnswersLast, IsNothingOr}
 use Rattle.mdb_late_start.proofs.ReaderOtherwise.{IsPriced, IsSalePriced, approvals, config_after, otherwise}
 

@@ -11,7 +11,7 @@ use Rattle.mdb_machine.specs.declared.gains.Gains.{Gains}
 use Rattle.mdb_cashless.specs.declared.reader.state.ReaderState.{ReaderState}
 use Rattle.mdb_cashless.specs.Reader.{StepKnowing}
 use Rattle.mdb_cashless.specs.ReaderFacts.{AllowsFacts, Facts, KnownFacts, known_of}
-use Rattle.mdb_late_start.specs.MidSession.{GoesOnInEnd, HasTold, IsNothingOr, StaysInMidSession}
+use Rattle.mdb_late_start.specs.MidSession.{GoesOnInEnd, HasTold, IsNothingOr, MayJoinLate}
 use Rattle.mdb_late_start.proofs.ReaderCovers.{Covers, allows_kept_too, allows_too, config_covers, covers, same_amount, same_config}
 use Rattle.mdb_late_start.proofs.ReaderHolds.{goes_on_told, starts_told}
 use Rattle.mdb_late_start.proofs.ReaderOtherwise.{all_priced, goes_otherwise, otherwise}
@@ -75,7 +75,7 @@ step_in_end begins setups unit later front act choice before after gains told st
 
 -- this answers the law
 pub stays : (begins : Beginning) (setups : Setups) (unit : ReaderUnit)
-    → StaysInMidSession begins setups (devices.Reader unit)
+    → MayJoinLate begins setups (devices.Reader unit)
 stays begins setups unit = record {
   starts = starts_told begins unit;
   goes_on = λ so_far act choice before after gains told step.

@@ -10,7 +10,7 @@ use Rattle.mdb_bus.specs.declared.scope.Scope.{Scope}
 use Rattle.mdb_bus.specs.ActLists.{ArePieces, HasActList, IsActList, MayCome, Piece, PieceFitsLevels, Position, Whole, events_of, last_of, levels_of, position_of}
 use Rattle.mdb_bus.specs.LeavingOut.{with_foreign}
 use Rattle.mdb_bus.specs.Scopes.{told}
-use Rattle.mdb_late_start.specs.Cuts.{BeginAnew, IsCut, from_later}
+use Rattle.mdb_late_start.specs.Cuts.{BeginAnew, SplitsAt, joined_with}
 use Rattle.mdb_late_start.specs.Told.{AreToldBy, WereTold, told_later}
 use Rattle.mdb_late_start.proofs.Cutting.{less_told, levels_fit}
 use Rattle.mdb_late_start.proofs.Said.{said_stays}
@@ -71,10 +71,10 @@ told_order levels scope (piece ∷ pieces) are fit =
 -- and the act list of an end is one where levels are told that were told in front of it
 pub told_list : (scope : Scope) (setups : Setups) (levels : Levels) (front end : List Event)
     (pieces : List Piece) → IsActList scope pieces (front ++ end)
-    → (cut : IsCut scope setups front end pieces) → AreToldBy scope cut.before levels
+    → (cut : SplitsAt scope setups front end pieces) → AreToldBy scope cut.before levels
     → IsActList (told_later setups levels scope) (cut.later ++ with_foreign cut.words []) end
 told_list scope setups levels front end pieces list cut less = record {
-  in_order = told_order levels (from_later setups scope)
+  in_order = told_order levels (joined_with setups scope)
       (cut.later ++ with_foreign cut.words []) cut.act_list.in_order
       (later_fit scope levels cut.words cut.before less cut.later
       (subst (ArePieces scope) cut.order list.in_order));
@@ -84,7 +84,7 @@ told_list scope setups levels front end pieces list cut less = record {
 -- Where an end begins anew, levels were told in front of it that the act list of the rows there
 -- tells.
 pub told_anew : ((scope : Scope) (setups : Setups) (front end : List Event) (pieces : List Piece)
-    → IsActList scope pieces (front ++ end) → IsCut scope setups front end pieces)
+    → IsActList scope pieces (front ++ end) → SplitsAt scope setups front end pieces)
     → ((scope : Scope) (rows : List Event) (one other : List Piece)
     → IsActList scope one rows → IsActList scope other rows → one ≡ other)
     → (scope : Scope) (setups : Setups) (levels : Levels) (front end : List Event)

@@ -26,7 +26,7 @@ use Rattle.mdb_follow.specs.Runs.{AllSums, Run}
 use Rattle.mdb_late_start.specs.Cuts.{BeginAnew}
 use Rattle.mdb_late_start.specs.Ends.{CameToWithin, IsInside, Passes, both_accounts, both_sums}
 use Rattle.mdb_late_start.specs.Middle.{HasMiddle}
-use Rattle.mdb_late_start.specs.MidSession.{AreOf}
+use Rattle.mdb_late_start.specs.MidSession.{TellsOnlyWhatIsSo}
 use Rattle.mdb_late_start.specs.Told.{AreToldBy, told_later}
 use Rattle.mdb_late_start.specs.inner.EndLaws.{EndLaws}
 use Rattle.mdb_late_start.proofs.EndRuns.{gained_there, later_pieces}
@@ -82,7 +82,7 @@ pub came_within : EndLaws → ReportLaws → (scope : Scope) (setups : Setups) (
     → BeginAnew end → (passes : Passes scope (front ++ end) sums run front)
     → AreToldBy scope passes.before levels
     → IsReport (told_later setups levels scope) end report → (account : AccountName)
-    → AreOf setups scope.begins (account_device account) (acts_of passes.before)
+    → TellsOnlyWhatIsSo setups scope.begins (account_device account) (acts_of passes.before)
     → device_unvalued (account_device account) report ≡ 0
     → CameToWithin (account_of account report) (sums_of account passes.sums_then)
     (sums_of account sums)
@@ -127,7 +127,7 @@ pub came_in_middle : EndLaws → ReportLaws → UnvaluedAlike → (scope : Scope
     → IsReport (told_later setups levels scope) rows report
     → (passes : Passes scope (front ++ middle) sums run front)
     → AreToldBy scope passes.before levels → (account : AccountName)
-    → AreOf setups scope.begins (account_device account) (acts_of passes.before)
+    → TellsOnlyWhatIsSo setups scope.begins (account_device account) (acts_of passes.before)
     → device_unvalued (account_device account) report ≡ 0
     → CameToWithin (account_of account report) (sums_of account passes.sums_then)
     (sums_of account sums)
@@ -190,7 +190,7 @@ came_in_fewer : EndLaws → ReportLaws → UnvaluedAlike → FewerLaws → (scop
     → (passes : Passes scope (front ++ middle) sums run front)
     → AreToldBy scope passes.before levels → (account : AccountName)
     → IsFollowed more (account_device account)
-    → AreOf setups scope.begins (account_device account) (acts_of passes.before)
+    → TellsOnlyWhatIsSo setups scope.begins (account_device account) (acts_of passes.before)
     → device_unvalued (account_device account) report ≡ 0
     → CameToWithin (account_of account report) (sums_of account passes.sums_then)
     (sums_of account sums)
@@ -232,7 +232,7 @@ pub came_in_less : EndLaws → ReportLaws → UnvaluedAlike → FewerLaws → (s
     → (passes : Passes scope (front ++ middle) sums run front)
     → AreToldBy scope passes.before levels → (account : AccountName)
     → IsFollowed more (account_device account)
-    → AreOf setups scope.begins (account_device account) (acts_of passes.before)
+    → TellsOnlyWhatIsSo setups scope.begins (account_device account) (acts_of passes.before)
     → device_unvalued (account_device account) report ≡ 0
     → CameToWithin (account_of account report) (sums_of account passes.sums_then)
     (sums_of account sums)

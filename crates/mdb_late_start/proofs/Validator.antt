@@ -8,7 +8,7 @@ use Rattle.mdb_machine.specs.declared.choice.Choice.{Choice}
 use Rattle.mdb_machine.specs.declared.gains.Gains.{Gains}
 use Rattle.mdb_machine.specs.Gains.{in_slots}
 use Rattle.mdb_machine.specs.Kept.{kept_of}
-use Rattle.mdb_late_start.specs.MidSession.{StaysInMidSession}
+use Rattle.mdb_late_start.specs.MidSession.{MayJoinLate}
 use Rattle.mdb_late_start.proofs.Keepers.{IsEnabledIn, IsSteady, in_end, step_in_end, told_first, told_on}
 use Rattle.mdb_msgs.specs.declared.command.BillCommand.{BillCommand}
 use Rattle.mdb_msgs.specs.declared.command.BillCommand.TheVariants as bill
@@ -112,7 +112,7 @@ steady = record {
 
 -- so it may do in mid-session what it does
 pub validator_stays : (begins : Beginning) (setups : Setups)
-    → StaysInMidSession begins setups devices.Bill
+    → MayJoinLate begins setups devices.Bill
 validator_stays begins setups = record {
   starts = told_first tables conduct Fits steady begins;
   goes_on = told_on tables conduct Fits steady begins;

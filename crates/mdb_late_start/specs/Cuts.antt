@@ -23,13 +23,13 @@ BeginAnew [] = ⊥
 BeginAnew (event ∷ events) = IsBlockWord event ⊎ IsBreakEvent event
 
 -- the same recording from a later row on, with these setup data known
-abbrev pub from_later : Setups → Scope → Scope
-from_later setups scope = joined setups scope.without
+abbrev pub joined_with : Setups → Scope → Scope
+joined_with setups scope = joined setups scope.without
 
 -- A transcript is cut, and its end is taken as a recording by itself. The pieces that begin in the
 -- end stand there as they stood (`later`). The rows before them (`words`) belong to pieces that
 -- began in front of the cut, and stand as foreign words; there are none where the end begins anew.
-pub record IsCut (scope : Scope) (setups : Setups) (front end : List Event) (pieces : List Piece)
+pub record SplitsAt (scope : Scope) (setups : Setups) (front end : List Event) (pieces : List Piece)
     : Type 0 where
   pub later : List Piece
   pub words : List Event
@@ -37,5 +37,5 @@ pub record IsCut (scope : Scope) (setups : Setups) (front end : List Event) (pie
   pub order : pieces ≡ later ++ before
   pub in_front : ArePieces scope before
   pub rows : events_of before ≡ front ++ words
-  pub act_list : IsActList (from_later setups scope) (later ++ with_foreign words []) end
+  pub act_list : IsActList (joined_with setups scope) (later ++ with_foreign words []) end
   pub clean : BeginAnew end → words ≡ []

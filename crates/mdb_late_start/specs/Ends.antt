@@ -9,7 +9,7 @@ use Rattle.mdb_bus.specs.declared.scope.Beginning.{Beginning}
 use Rattle.mdb_bus.specs.declared.scope.Scope.{Scope}
 use Rattle.mdb_follow.specs.declared.account.Account.{Account}
 use Rattle.mdb_follow.specs.declared.range.Range.{Range}
-use Rattle.mdb_follow.specs.Runs.{AllSums, GoesOnBy, IsWay, Run, States}
+use Rattle.mdb_follow.specs.Runs.{AllSums, RunGoesOnBy, IsWay, Run, States}
 use Rattle.mdb_follow.specs.Sums.{AccountSums, Sums}
 
 -- both sums together
@@ -23,15 +23,15 @@ abbrev pub both_sums : Sums → Sums → Sums
 both_sums one other slot = both_accounts (one slot) (other slot)
 
 -- A way goes on through pieces (`later`), from these states and sums after the pieces before.
-abbrev pub GoesOnThrough : Beginning → Loss → List Piece → List Piece → States → AllSums → States
+abbrev pub RunGoesOnThrough : Beginning → Loss → List Piece → List Piece → States → AllSums → States
     → AllSums → Type 0
-GoesOnThrough begins loss before [] from sums_from states sums =
+RunGoesOnThrough begins loss before [] from sums_from states sums =
     (device : Device) → (states device ≡ from device) × (sums device ≡ sums_from device)
-GoesOnThrough begins loss before (Whole act events ∷ later) from sums_from states sums =
-    GoesOnBy begins loss (later ++ before) act (length events)
-    (GoesOnThrough begins loss before later from sums_from) states sums
-GoesOnThrough begins loss before (piece ∷ later) from sums_from states sums =
-    GoesOnThrough begins loss before later from sums_from states sums
+RunGoesOnThrough begins loss before (Whole act events ∷ later) from sums_from states sums =
+    RunGoesOnBy begins loss (later ++ before) act (length events)
+    (RunGoesOnThrough begins loss before later from sums_from) states sums
+RunGoesOnThrough begins loss before (piece ∷ later) from sums_from states sums =
+    RunGoesOnThrough begins loss before later from sums_from states sums
 
 -- A run of rows passes the end of some rows in front, between two pieces: its way leads through the
 -- pieces of these to states and sums, and goes on from there. (Any way of the run's act list and
@@ -45,7 +45,7 @@ pub record Passes (scope : Scope) (rows : List Event) (sums : AllSums) (run : Ru
   pub states_then : States
   pub sums_then : AllSums
   pub way : IsWay scope.begins run.loss before states_then sums_then
-  pub onward : GoesOnThrough scope.begins run.loss before later states_then sums_then run.states
+  pub onward : RunGoesOnThrough scope.begins run.loss before later states_then sums_then run.states
       sums
 
 -- Two ways through pieces, under one loss, take the same choices and lead through the same states.

@@ -52,12 +52,12 @@ IsNothingOr (Some told) here = here ≡ Some told
 
 -- What setup data tell of a device is nothing, or how it is set up after these acts of a recording
 -- that begins so.
-abbrev pub AreOf : Setups → Beginning → Device → List Act → Type 0
-AreOf setups begins devices.Changer so_far =
+abbrev pub TellsOnlyWhatIsSo : Setups → Beginning → Device → List Act → Type 0
+TellsOnlyWhatIsSo setups begins devices.Changer so_far =
     IsNothingOr setups.changer (changer.known_of begins so_far).setup
-AreOf setups begins devices.Bill so_far =
+TellsOnlyWhatIsSo setups begins devices.Bill so_far =
     IsNothingOr setups.bill (bill.known_of begins so_far).setup
-AreOf setups begins (devices.Reader unit) so_far =
+TellsOnlyWhatIsSo setups begins (devices.Reader unit) so_far =
     IsNothingOr (config_known setups unit) (reader.known_of begins unit so_far).config
 
 -- A step in the end of a recording (`later`, after acts `front`) is one in that end by itself, by
@@ -69,14 +69,14 @@ pub record GoesOnInEnd (begins : Beginning) (setups : Setups) (device : Device)
     (gains : Gains) : Type 0 where
   pub other : Gains
   pub step : (machine_of (Joined setups) device).Step later act choice before after other
-  pub valued : AreOf setups begins device front → AnswersLast act later
+  pub valued : TellsOnlyWhatIsSo setups begins device front → AnswersLast act later
       → unvalued_of (Joined setups) device (act ∷ later) ≡ 0 → other ≡ gains
   pub alike : begins ≡ PowerOn → front ≡ [] → IsNotKnown (Joined setups) device → other ≡ gains
 
 -- A device may do in mid-session what it does: in the end of a recording that begins so each of its
 -- steps is one of that end by itself. For that it has to have told what it holds, and so it has as
 -- the recording begins, and after each step.
-pub record StaysInMidSession (begins : Beginning) (setups : Setups) (device : Device)
+pub record MayJoinLate (begins : Beginning) (setups : Setups) (device : Device)
     : Type 0 where
   pub starts : (state : StateOf device) → (machine_of begins device).Starts state
       → HasToldWhatItHolds begins device [] state

@@ -8,12 +8,12 @@ use Rattle.mdb_bus.specs.declared.levels.Levels.{Levels}
 use Rattle.mdb_bus.specs.declared.scope.Scope.{Scope}
 use Rattle.mdb_bus.specs.ActLists.{IsActList, Piece, levels_of}
 use Rattle.mdb_bus.specs.Scopes.{told}
-use Rattle.mdb_late_start.specs.Cuts.{IsCut, from_later}
+use Rattle.mdb_late_start.specs.Cuts.{SplitsAt, joined_with}
 use Rattle.mdb_late_start.specs.MidSession.{IsNothingOr}
 
 -- the same recording from a later row on, with these setup data known and these levels told before
 abbrev pub told_later : Setups → Levels → Scope → Scope
-told_later setups levels scope = told levels (from_later setups scope)
+told_later setups levels scope = told levels (joined_with setups scope)
 
 -- each reader was told nothing, or the same
 abbrev pub IsLessTold : Levels → Levels → Type 0
@@ -30,5 +30,5 @@ pub record WereTold (scope : Scope) (setups : Setups) (levels : Levels) (front e
     : Type 0 where
   pub pieces : List Piece
   pub act_list : IsActList scope pieces (front ++ end)
-  pub cut : IsCut scope setups front end pieces
+  pub cut : SplitsAt scope setups front end pieces
   pub in_front : AreToldBy scope cut.before levels

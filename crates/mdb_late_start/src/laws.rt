@@ -26,10 +26,10 @@ ghost use Rattle.mdb_text.specs.declared.outcome.Outcome.TheVariants.{Yes};
 ghost use Rattle.mdb_verdict.specs.declared.fault.RunFault.{RunFault};
 ghost use Rattle.mdb_verdict.specs.Verdict.{IsAnswer, IsOwnAnswer};
 ghost use Rattle.mdb_verdict.specs.Rows.{AreRows};
-ghost use Rattle.mdb_late_start.specs.Cuts.{BeginAnew, IsCut, from_later};
+ghost use Rattle.mdb_late_start.specs.Cuts.{BeginAnew, SplitsAt, joined_with};
 ghost use Rattle.mdb_late_start.specs.Ends.{AreAlike, CameToWithin, Passes, both_sums};
 ghost use Rattle.mdb_late_start.specs.Middle.{HasMiddle};
-ghost use Rattle.mdb_late_start.specs.MidSession.{AreOf, StaysInMidSession};
+ghost use Rattle.mdb_late_start.specs.MidSession.{MayJoinLate, TellsOnlyWhatIsSo};
 ghost use Rattle.mdb_late_start.specs.Told.{AreToldBy, WereTold, told_later};
 ghost use Rattle.mdb_late_start.specs.inner.EndLaws.{EndLaws};
 
@@ -44,7 +44,7 @@ use mdb_words::laws as rows;
 /// foreign words before them.
 pub fn ends_of_transcripts_have_act_lists()
     ensures { (scope : Scope) (setups : Setups) (front end : List Event) (pieces : List Piece)
-        → IsActList scope pieces (front ++ end) → IsCut scope setups front end pieces }
+        → IsActList scope pieces (front ++ end) → SplitsAt scope setups front end pieces }
 {}
 
 /// So it has where feature levels are told that the controller had told the readers in front of the
@@ -52,7 +52,7 @@ pub fn ends_of_transcripts_have_act_lists()
 pub fn ends_have_act_lists_with_the_levels_told_in_front()
     ensures { (scope : Scope) (setups : Setups) (levels : Levels) (front end : List Event)
         (pieces : List Piece) → IsActList scope pieces (front ++ end)
-        → (cut : IsCut scope setups front end pieces) → AreToldBy scope cut.before levels
+        → (cut : SplitsAt scope setups front end pieces) → AreToldBy scope cut.before levels
         → IsActList (told_later setups levels scope) (cut.later ++ with_foreign cut.words []) end }
 {}
 
@@ -80,20 +80,20 @@ pub fn act_lists_from_power_on_are_joined_ones()
 /// running.
 pub fn the_changer_stays_in_mid_session()
     ensures { (begins : Beginning) (setups : Setups)
-        → StaysInMidSession begins setups devices.Changer }
+        → MayJoinLate begins setups devices.Changer }
 {}
 
 /// Every step of the validator from power-on is allowed in a recording that begins while it was
 /// running.
 pub fn the_validator_stays_in_mid_session()
     ensures { (begins : Beginning) (setups : Setups)
-        → StaysInMidSession begins setups devices.Bill }
+        → MayJoinLate begins setups devices.Bill }
 {}
 
 /// Every step of a reader from power-on is allowed in a recording that begins while it was running.
 pub fn a_reader_stays_in_mid_session()
     ensures { (begins : Beginning) (setups : Setups) (unit : ReaderUnit)
-        → StaysInMidSession begins setups (devices.Reader unit) }
+        → MayJoinLate begins setups (devices.Reader unit) }
 {}
 
 /// What the laws of runs rest on.
@@ -131,7 +131,7 @@ pub fn runs_from_power_on_are_joined_runs()
 /// reached as a recording that begins while the machine was running, wherever it is cut.
 pub fn ends_of_reached_rows_are_reached()
     ensures { (scope : Scope) (setups : Setups) (front end : List Event)
-        → IsReached scope (front ++ end) → IsReached (from_later setups scope) end }
+        → IsReached scope (front ++ end) → IsReached (joined_with setups scope) end }
 {
     end_laws();
 }
@@ -162,8 +162,8 @@ pub fn runs_of_ends_gain_what_whole_runs_gain_there()
     ensures { (scope : Scope) (setups : Setups) (front end : List Event) (sums : AllSums)
         (run : Run scope (front ++ end) sums) → BeginAnew end
         → (passes : Passes scope (front ++ end) sums run front) → (gained : AllSums)
-        × Run (from_later setups scope) end gained
-        × ((device : Device) → AreOf setups scope.begins device (acts_of passes.before)
+        × Run (joined_with setups scope) end gained
+        × ((device : Device) → TellsOnlyWhatIsSo setups scope.begins device (acts_of passes.before)
         → unvalued_of (Joined setups) device (acts_of passes.later) ≡ 0
         → sums device ≡ both_sums (passes.sums_then device) (gained device)) }
 {
@@ -178,7 +178,7 @@ pub fn runs_of_ends_gain_it_with_the_levels_told_in_front()
         → (passes : Passes scope (front ++ end) sums run front)
         → AreToldBy scope passes.before levels → (gained : AllSums)
         × Run (told_later setups levels scope) end gained
-        × ((device : Device) → AreOf setups scope.begins device (acts_of passes.before)
+        × ((device : Device) → TellsOnlyWhatIsSo setups scope.begins device (acts_of passes.before)
         → unvalued_of (Joined setups) device (acts_of passes.later) ≡ 0
         → sums device ≡ both_sums (passes.sums_then device) (gained device)) }
 {
@@ -194,8 +194,8 @@ pub fn what_came_in_an_end_lies_within_its_bounds()
     ensures { (scope : Scope) (setups : Setups) (front end : List Event) (sums : AllSums)
         (run : Run scope (front ++ end) sums) (report : Report) → BeginAnew end
         → (passes : Passes scope (front ++ end) sums run front)
-        → IsReport (from_later setups scope) end report → (account : AccountName)
-        → AreOf setups scope.begins (account_device account) (acts_of passes.before)
+        → IsReport (joined_with setups scope) end report → (account : AccountName)
+        → TellsOnlyWhatIsSo setups scope.begins (account_device account) (acts_of passes.before)
         → device_unvalued (account_device account) report ≡ 0
         → CameToWithin (account_of account report) (sums_of account passes.sums_then)
         (sums_of account sums) }
@@ -213,7 +213,7 @@ pub fn what_came_lies_within_its_bounds_with_the_levels_told_in_front()
         → BeginAnew end → (passes : Passes scope (front ++ end) sums run front)
         → AreToldBy scope passes.before levels
         → IsReport (told_later setups levels scope) end report → (account : AccountName)
-        → AreOf setups scope.begins (account_device account) (acts_of passes.before)
+        → TellsOnlyWhatIsSo setups scope.begins (account_device account) (acts_of passes.before)
         → device_unvalued (account_device account) report ≡ 0
         → CameToWithin (account_of account report) (sums_of account passes.sums_then)
         (sums_of account sums) }
@@ -235,7 +235,7 @@ pub fn what_came_in_a_stretch_lies_within_its_bounds()
         → IsReport (told_later setups levels scope) rows report
         → (passes : Passes scope (front ++ middle) sums run front)
         → AreToldBy scope passes.before levels → (account : AccountName)
-        → AreOf setups scope.begins (account_device account) (acts_of passes.before)
+        → TellsOnlyWhatIsSo setups scope.begins (account_device account) (acts_of passes.before)
         → device_unvalued (account_device account) report ≡ 0
         → CameToWithin (account_of account report) (sums_of account passes.sums_then)
         (sums_of account sums) }
@@ -259,7 +259,7 @@ pub fn what_came_lies_within_the_bounds_of_a_stretch_without_further_devices()
         → (passes : Passes scope (front ++ middle) sums run front)
         → AreToldBy scope passes.before levels → (account : AccountName)
         → IsFollowed more (account_device account)
-        → AreOf setups scope.begins (account_device account) (acts_of passes.before)
+        → TellsOnlyWhatIsSo setups scope.begins (account_device account) (acts_of passes.before)
         → device_unvalued (account_device account) report ≡ 0
         → CameToWithin (account_of account report) (sums_of account passes.sums_then)
         (sums_of account sums) }
@@ -283,7 +283,7 @@ pub fn ends_of_yeses_are_yeses()
     ensures { (scope : Scope) (setups : Setups) (limit : ℕ) (front end : List (List (List ℕ)))
         (report : Report) (answer : Result Outcome RunFault)
         → IsAnswer scope limit (front ++ end) (Ok (Yes report))
-        → IsAnswer (from_later setups scope) limit end answer → IsOwnAnswer answer
+        → IsAnswer (joined_with setups scope) limit end answer → IsOwnAnswer answer
         → (other : Report) × (answer ≡ Ok (Yes other)) }
 {
     ends_of_reached_rows_are_reached();

@@ -23,13 +23,13 @@ use Rattle.mdb_machine.specs.Known.{Allows, AllowsKept, Is, known_before}
 use Rattle.mdb_machine.specs.Pair.{IsOnlyStep}
 use Rattle.mdb_machine.specs.PastValues.{first_past, from_power_on, if_known, known_more, past_in}
 use Rattle.mdb_machine.specs.Past.{PastFacts, or_else, unless_empty}
-use Rattle.mdb_machine.specs.inner.KeeperWays.{same_fields}
-use Rattle.mdb_machine.specs.inner.PastWays.{same_known_past}
+use Rattle.mdb_machine.specs.shared.KeeperWays.{same_fields}
+use Rattle.mdb_machine.specs.shared.PastWays.{same_known_past}
 use Rattle.mdb_bus.specs.declared.scope.Beginning.TheVariants.{PowerOn, Joined}
-use Rattle.mdb_machine.specs.inner.Guesses.{MayGuess, Overlooks, guessing, step_guessing}
+use Rattle.mdb_machine.specs.shared.Guesses.{MayGuess, Overlooks, guessing, step_guessing}
 use Rattle.mdb_machine.specs.Steps.{ForOwn}
 use Rattle.mdb_machine.specs.Unvalued.{amounts_in, unvalued, unvalued_by}
-use Rattle.mdb_machine.specs.inner.KnowingWays.{as_choice, stays}
+use Rattle.mdb_machine.specs.shared.KnowingWays.{as_choice, stays}
 use Rattle.std.proofs.lemmas.Bool.{cases_lt}
 use Rattle.std.proofs.lemmas.List.{length-append}
 use Rattle.std.proofs.Math.Seq.{take-append_seam}

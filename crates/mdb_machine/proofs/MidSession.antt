@@ -21,8 +21,8 @@ use Rattle.mdb_machine.specs.Kept.{IsNew, held, holds_after, holds_read, keeps_e
 use Rattle.mdb_machine.specs.Known.{Allows, AllowsKept, known_by}
 use Rattle.mdb_machine.specs.MidSession.{AsksNone, IsSettled, TellsHeldFirst, TellsNone, facts_recorded}
 use Rattle.mdb_machine.specs.Past.{last_list, last_told, powers_on, unless_empty}
-use Rattle.mdb_machine.specs.inner.ToldWays.{allows_told, asked_so, empty_unless, kept_so, kept_told, none_told, not_not, told_by_none}
-use Rattle.mdb_machine.specs.inner.Guesses.{MayGuess, Overlooks, guessing, step_guessing}
+use Rattle.mdb_machine.specs.shared.ToldWays.{allows_told, asked_so, empty_unless, kept_so, kept_told, none_told, not_not, told_by_none}
+use Rattle.mdb_machine.specs.shared.Guesses.{MayGuess, Overlooks, guessing, step_guessing}
 use Rattle.mdb_machine.proofs.Knowing.{and_back, as_guessing}
 
 none_kept : {Own Setup Asked M : Type 0} (tables : Tables Own Setup Asked M) (so_far : List Act)

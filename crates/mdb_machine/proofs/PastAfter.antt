@@ -4,7 +4,7 @@ use Rattle.std.specs.Int.{bit_at}
 use Rattle.mdb_machine.specs.declared.past.Effect.TheVariants as effects
 use Rattle.mdb_machine.specs.declared.past.Past.{Past}
 use Rattle.mdb_machine.specs.PastValues.{past_after, past_in}
-use Rattle.mdb_machine.specs.inner.PastWays.{same_past}
+use Rattle.mdb_machine.specs.shared.PastWays.{same_past}
 
 -- a bit of two masks put together
 either_bit : (mask more coin : ℕ) → (bit_at (bit_or mask more) coin == 1) ≡ ((bit_at more coin == 1) || (bit_at mask coin == 1))

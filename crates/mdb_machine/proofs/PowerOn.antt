@@ -9,7 +9,7 @@ use Rattle.mdb_machine.specs.Keeper.{AllowsFacts, Facts, Tables, asked_by, effec
 use Rattle.mdb_machine.specs.KeeperSteps.{Conduct, KeeperStep, StepKnowing}
 use Rattle.mdb_machine.specs.Known.{Allows, AllowsKept, known_by}
 use Rattle.mdb_machine.specs.Past.{last_list, last_told, or_else, past_of}
-use Rattle.mdb_machine.specs.inner.PastWays.{same_past}
+use Rattle.mdb_machine.specs.shared.PastWays.{same_past}
 
 -- the facts are the same where their fields are
 pub same_facts : {Setup Asked M : Type 0} {one other : Facts Setup Asked M}

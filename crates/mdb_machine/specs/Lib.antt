@@ -13,3 +13,4 @@ pub mod PastValues
 pub mod Steps
 pub mod Unvalued
 pub mod inner
+pub mod shared

@@ -10,7 +10,7 @@ ghost use Rattle.mdb_bus.specs.declared.scope.Beginning.{Beginning};
 ghost use Rattle.mdb_machine.specs.declared.gains.Gains.{Gains};
 ghost use Rattle.mdb_machine.specs.Keeper.{known_of};
 ghost use Rattle.mdb_machine.specs.Unvalued.{amounts_in, one_if, unvalued};
-ghost use Rattle.mdb_machine.specs.inner.Guesses.{Overlooks};
+ghost use Rattle.mdb_machine.specs.shared.Guesses.{Overlooks};
 ghost use Rattle.mdb_machine.specs.inner.Sizes.{TakesFewBytes};
 ghost use Rattle.mdb_machine.specs.KeeperValues.{facts_in, known_in, settled};
 ghost use Rattle.mdb_machine.specs.Pair.{IsOnly, IsOnlyStep};

@@ -103,7 +103,7 @@ impl<K: Keeper> KeeperFacts<K> {
     ghost use Rattle.mdb_machine.specs.Known.{known_before};
     ghost use Rattle.mdb_machine.specs.KeeperValues.{facts_in, facts_with, facts_told};
     ghost use Rattle.mdb_machine.specs.PastValues.{first_past, past_in};
-    ghost use Rattle.mdb_machine.specs.inner.Guesses.{guessing};
+    ghost use Rattle.mdb_machine.specs.shared.Guesses.{guessing};
     ghost use Rattle.mdb_machine.specs.Past.{or_else};
 
     /// The facts after no act, or what is known of them, where a recording begins so: what isn't

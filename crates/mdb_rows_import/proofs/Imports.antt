@@ -24,7 +24,7 @@ use Rattle.mdb_exports.specs.Order.{IsAfter}
 use Rattle.mdb_rows_import.specs.Rows.{AreEventsWith, IsHeader, IsHeaderOf, IsPassed, IsRowOf}
 use Rattle.mdb_rows_import.specs.Rows.{TellsTime, last_with}
 use Rattle.mdb_writing.specs.Output.{Breaks, Output, Puts, begun}
-use Rattle.mdb_exports.specs.inner.Told.{IsKept, counted_more}
+use Rattle.mdb_exports.specs.shared.Told.{IsKept, counted_more}
 use Rattle.mdb_rows_import.specs.inner.Steps.{HasImported, IsInside, IsNext, IsNoted, IsOutside}
 use Rattle.mdb_rows_import.specs.inner.Steps.{IsRefusalFor, PutsImport, TakesOne}
 use Rattle.mdb_rows_import.specs.inner.Steps.{TellsSame, part_line}

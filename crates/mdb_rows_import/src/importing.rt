@@ -10,7 +10,7 @@ ghost use Rattle.mdb_rows_import.specs.Imports.{AreRead, Imports, IsImported, Is
 ghost use Rattle.mdb_rows_import.specs.Fields.{line_fields};
 ghost use Rattle.mdb_writing.specs.Output.{Breaks, Puts, begun, output};
 ghost use Rattle.mdb_rows_import.specs.Rows.{last_with};
-ghost use Rattle.mdb_exports.specs.inner.Told.{IsKept, IsSaid, counted_more};
+ghost use Rattle.mdb_exports.specs.shared.Told.{IsKept, IsSaid, counted_more};
 ghost use Rattle.mdb_rows_import.specs.inner.Steps.{HasImported, IsNext, IsNoted, IsOutside};
 ghost use Rattle.mdb_rows_import.specs.inner.Steps.{IsRefusalFor, PutsImport};
 ghost use Rattle.mdb_rows_import.specs.inner.Steps.{TakesOne, TellsSame, part_line};

@@ -7,7 +7,7 @@ ghost use Rattle.mdb_records.specs.ToCome.{ToCome, fault_of};
 ghost use Rattle.mdb_words.specs.Event.{start_of};
 ghost use Rattle.mdb_exports.specs.Records.{HasFailed, export_records};
 ghost use Rattle.mdb_writing.specs.Output.{Breaks, Puts, begun, output};
-ghost use Rattle.mdb_exports.specs.inner.Told.{IsKept, IsSaid};
+ghost use Rattle.mdb_exports.specs.shared.Told.{IsKept, IsSaid};
 ghost use Rattle.mdb_saleae.specs.Imports.{Imports, IsImported, IsTold};
 ghost use Rattle.mdb_saleae.specs.inner.Steps.{Begins, HasFailedBehind, HasImported, IsNext};
 ghost use Rattle.mdb_saleae.specs.inner.Steps.{IsNoted, PutsRows};

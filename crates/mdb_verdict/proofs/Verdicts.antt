@@ -16,7 +16,7 @@ use Rattle.mdb_text.specs.declared.outcome.Outcome.{Outcome}
 use Rattle.mdb_text.specs.declared.outcome.Outcome.TheVariants.{Yes, No}
 use Rattle.mdb_verdict.specs.declared.fault.RunFault.{RunFault}
 use Rattle.mdb_verdict.specs.declared.fault.RunFault.TheVariants.{BadRow, TooLong, Read, Write, Memory}
-use Rattle.mdb_verdict.specs.Ending.{AreRead, HasEnded, HasFollowed, HasTakenOrStopped, IsStopped, IsTakenWhole}
+use Rattle.mdb_verdict.specs.Ending.{AreRead, HasEnded, HasFollowedRows, HasTakenOrStopped, IsStopped, IsTakenWhole}
 use Rattle.mdb_verdict.specs.Verdict.{IsAnswer, IsImpossible, IsYes}
 use Rattle.mdb_verdict.specs.Rows.{AreRows}
 use Rattle.mdb_verdict.proofs.Rows.{IsReadUpTo, are_rows, read_up_to}
@@ -31,11 +31,11 @@ pub followed : (scope : Scope) (old new : Follower) (rows : List Event)
     (answer : Result Unit Offence) (stop : Option Offence) → stop ≡ result_err answer
     → IfOk answer (λ _. HasTaken old new rows)
     → ((before : List Event) → StandsFor old before → IfErr answer (HasOffence scope before rows))
-    → scope_of new ≡ scope_of old → (earlier : List Event) → HasFollowed scope old earlier
-    → HasTakenOrStopped (HasFollowed scope new) (HasOffence scope) earlier rows stop
+    → scope_of new ≡ scope_of old → (earlier : List Event) → HasFollowedRows scope old earlier
+    → HasTakenOrStopped (HasFollowedRows scope new) (HasOffence scope) earlier rows stop
 followed scope old new rows (Ok done) stop is taken offends kept earlier has =
     let P : Option Offence → Type 0 =
-    λ s. HasTakenOrStopped (HasFollowed scope new) (HasOffence scope) earlier rows s in
+    λ s. HasTakenOrStopped (HasFollowedRows scope new) (HasOffence scope) earlier rows s in
     subst P (sym is) (record {
       in_scope = kept ∙ has.in_scope;
       stands = taken.stands earlier has.stands;
@@ -43,11 +43,11 @@ followed scope old new rows (Ok done) stop is taken offends kept earlier has =
     })
 followed scope old new rows (Err offence) stop is taken offends kept earlier has =
     let P : Option Offence → Type 0 =
-    λ s. HasTakenOrStopped (HasFollowed scope new) (HasOffence scope) earlier rows s in
+    λ s. HasTakenOrStopped (HasFollowedRows scope new) (HasOffence scope) earlier rows s in
     subst P (sym is) (offends earlier has.stands)
 
 -- the text ends
-pub whole : (scope : Scope) → ((rows : List Event) → SalesFollowApprovals scope rows) → (limit : ℕ) (all : List (List (List ℕ))) (follower : Follower) → IsTakenWhole IsRow (HasFollowed scope follower) limit all
+pub whole : (scope : Scope) → ((rows : List Event) → SalesFollowApprovals scope rows) → (limit : ℕ) (all : List (List (List ℕ))) (follower : Follower) → IsTakenWhole IsRow (HasFollowedRows scope follower) limit all
     → (outcome : Outcome) → ((rows : List Event) → StandsFor follower rows → IsYes scope rows outcome) → IsAnswer scope limit all (Ok outcome)
 whole scope sales limit all follower ended outcome tells_yes = told outcome (tells_yes ended.rows ended.has.stands)
   where
@@ -85,7 +85,7 @@ impossible scope limit all offence ended =
 
 -- a record isn't taken, or can't be read
 refused_by : (scope : Scope) {Stop : Type 0} → Reaches → (limit : ℕ) (all : List (List (List ℕ))) (follower : Follower) (Stops : List Event → List Event → Stop → Type 0) (fault : RunFault)
-    → HasEnded IsRow IsRefusal (HasFollowed scope follower) Stops limit all (Err fault) → IsAnswer scope limit all (Err fault)
+    → HasEnded IsRow IsRefusal (HasFollowedRows scope follower) Stops limit all (Err fault) → IsAnswer scope limit all (Err fault)
 refused_by scope reaches limit all follower Stops (BadRow row fault) ended = record {
   rows = ended.rows;
   fields = ended.fields;
@@ -105,7 +105,7 @@ refused_by scope reaches limit all follower Stops Write ended = tt
 refused_by scope reaches limit all follower Stops Memory ended = tt
 
 pub refused : (scope : Scope) {Stop : Type 0} → Reaches → (limit : ℕ) (all : List (List (List ℕ))) (follower : Follower) (Stops : List Event → List Event → Stop → Type 0) (fault : RunFault)
-    → HasEnded IsRow IsRefusal (HasFollowed scope follower) Stops limit all (Err fault) → (answer : Result Outcome RunFault) → IsErrAnd answer (λ other. other ≡ fault) → IsAnswer scope limit all answer
+    → HasEnded IsRow IsRefusal (HasFollowedRows scope follower) Stops limit all (Err fault) → (answer : Result Outcome RunFault) → IsErrAnd answer (λ other. other ≡ fault) → IsAnswer scope limit all answer
 refused scope reaches limit all follower Stops fault ended (Ok outcome) handed = absurd handed
 refused scope reaches limit all follower Stops fault ended (Err other) handed =
     let P : RunFault → Type 0 = λ f. IsAnswer scope limit all (Err f) in

@@ -40,11 +40,11 @@ pub record HasRead {R Row : Type 0} (Is : List (List ℕ) → Row → Type 0)
   pub after : ComesAfter Refuses remaining records rest next
 
 -- the text goes on past its limit, and no end was told
-abbrev pub GoesOnOver : {R : Type 0} → (R → Option (List ℕ)) → Records R → Next → Type 0
-GoesOnOver remaining records More = IsOverLimit remaining records
-GoesOnOver remaining records End = ⊥
-GoesOnOver remaining records (BadRow fault) = ⊤
-GoesOnOver remaining records (Failed fault) = ⊤
+abbrev pub BatchGoesOnOver : {R : Type 0} → (R → Option (List ℕ)) → Records R → Next → Type 0
+BatchGoesOnOver remaining records More = IsOverLimit remaining records
+BatchGoesOnOver remaining records End = ⊥
+BatchGoesOnOver remaining records (BadRow fault) = ⊤
+BatchGoesOnOver remaining records (Failed fault) = ⊤
 
 -- the fault that was met is told, and no other
 abbrev pub IsMet : Next → Option ReadFault → Type 0

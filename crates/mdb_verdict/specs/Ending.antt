@@ -28,7 +28,7 @@ abbrev pub IsStop : {Row Stop : Type 0} → (List Row → List Row → Stop → 
 IsStop {Row = Row} Stops stop = (earlier later : List Row) × Stops earlier later stop
 
 -- a follower has taken these rows
-pub record HasFollowed (scope : Scope) (follower : Follower) (rows : List Event) : Type 0 where
+pub record HasFollowedRows (scope : Scope) (follower : Follower) (rows : List Event) : Type 0 where
   pub in_scope : scope_of follower ≡ scope
   pub stands : StandsFor follower rows
   pub counted : rows_of follower ≡ length rows

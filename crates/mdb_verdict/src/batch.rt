@@ -3,7 +3,7 @@
 ghost use Rattle.std.specs.Prelude.{◌≡◌, ◌<◌, ◌≤◌, List, ℕ, None, Some, length};
 ghost use Rattle.mdb_records.specs.declared.ReadFault.{ReadFault};
 ghost use Rattle.mdb_records.specs.ToCome.{IsOverLimit, ToCome, fault_of};
-ghost use Rattle.mdb_verdict.specs.Batch.{FitsIn, GoesOnOver, HasRead, IsMet};
+ghost use Rattle.mdb_verdict.specs.Batch.{FitsIn, BatchGoesOnOver, HasRead, IsMet};
 
 use super::row::FromRecord;
 use mdb_records::{ReadFault, Records};
@@ -101,7 +101,7 @@ impl<T: FromRecord> Batch<T> {
         ensures read { (all : List (List (List ℕ))) → ToCome R.remaining records.old all
             → HasRead T.is T.refuses R.remaining all records.new self.new result }
         ensures over { IsOverLimit R.remaining records.old
-            → GoesOnOver R.remaining records.new result }
+            → BatchGoesOnOver R.remaining records.new result }
         ensures met { fault_of records.old ≡ None → IsMet result (fault_of records.new) }
         ensures fits { FitsIn rows_max self.new result }
         ensures failed { (fault : ReadFault) → result ≡ Next.Failed fault

@@ -8,7 +8,7 @@ ghost use Rattle.mdb_verdict.specs.Headline.{Headline};
 ghost use Rattle.mdb_text.specs.Text.{report_text};
 ghost use Rattle.mdb_verdict.specs.CutReport.{IsCutIn, IsCutReport};
 ghost use Rattle.mdb_verdict.specs.Verdict.{HasCause, HasNoRoom, IsAnswer, IsYes, HasMet, IsNoYes, IsToldAs};
-ghost use Rattle.mdb_verdict.specs.Ending.{HasFollowed};
+ghost use Rattle.mdb_verdict.specs.Ending.{HasFollowedRows};
 ghost use Rattle.mdb_follow.specs.Follower.{StandsFor, rows_of, scope_of};
 ghost use Rattle.mdb_follow.specs.Offences.{HasOffence};
 ghost use Rattle.mdb_bus.specs.declared.scope.Scope.{Scope};
@@ -290,7 +290,7 @@ impl TakeRows<()> for Follower {
 
     ghost scope = { scope_of };
 
-    ghost has = { λ follower before after. HasFollowed (scope_of follower) follower };
+    ghost has = { λ follower before after. HasFollowedRows (scope_of follower) follower };
 
     ghost stops = { λ follower before after. HasOffence (scope_of follower) };
 

@@ -3,7 +3,7 @@
 ghost use Rattle.std.proofs.Common.{rules};
 ghost use Rattle.mdb_cash.specs.declared.bill.activity.BillActivity.TheVariants.{Stacked};
 ghost use Rattle.mdb_cash.specs.Bill as spec;
-ghost use Rattle.mdb_cash.specs.inner.BillWays as ways;
+ghost use Rattle.mdb_cash.specs.shared.BillWays as ways;
 ghost use Rattle.mdb_machine.specs.KeeperValues.{facts_in};
 ghost use Rattle.mdb_machine.specs.Pair.{IsOnly};
 

@@ -54,7 +54,7 @@ pub enum Escrow {
 impl Escrow {
     ghost use Rattle.std.specs.Prelude.{◌≡◌, ◌↔◌, ◌<◌, IsTrue};
     ghost use Rattle.mdb_cash.specs.Bill as spec;
-    ghost use Rattle.mdb_cash.specs.inner.BillCodes.{escrow_code};
+    ghost use Rattle.mdb_cash.specs.shared.BillCodes.{escrow_code};
     ghost use Rattle.mdb_cash.specs.declared.bill.state.Escrow.TheVariants.{Empty};
 
     /// Whether there is nothing in it.
@@ -150,7 +150,7 @@ impl Default for BillState {
 
 impl BillState {
     ghost use Rattle.mdb_cash.specs.Bill as spec;
-    ghost use Rattle.mdb_cash.specs.inner.BillCodes.{code_of};
+    ghost use Rattle.mdb_cash.specs.shared.BillCodes.{code_of};
 
     /// The state at power-on.
     pub(crate) fn power_on() -> BillState

@@ -20,7 +20,7 @@ impl Default for ChangerState {
 
 impl ChangerState {
     ghost use Rattle.mdb_cash.specs.Changer as spec;
-    ghost use Rattle.mdb_cash.specs.inner.ChangerCodes.{code_of};
+    ghost use Rattle.mdb_cash.specs.shared.ChangerCodes.{code_of};
 
     /// The state at power-on.
     pub(crate) fn power_on() -> ChangerState

@@ -10,7 +10,7 @@ use Rattle.mdb_machine.specs.declared.choice.Choice.TheVariants.{Plain, Lost, Re
 use Rattle.mdb_machine.specs.declared.gains.Gains.{Gains}
 use Rattle.mdb_machine.specs.Choices.{CanStand}
 use Rattle.mdb_machine.specs.Kept.{kept_of}
-use Rattle.mdb_machine.specs.inner.PlainKept.{acked_plain}
+use Rattle.mdb_machine.specs.shared.PlainKept.{acked_plain}
 use Rattle.mdb_cashless.specs.declared.reader.state.ReaderState.{ReaderState}
 use Rattle.mdb_machine.specs.Steps.{ForOwn}
 use Rattle.mdb_cashless.specs.Reader.{AckStep, ReaderStep, ReplyStep, VmcAckStep, taken, view_answered}

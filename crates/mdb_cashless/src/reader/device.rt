@@ -2,7 +2,7 @@
 
 ghost use Rattle.std.specs.Prelude.{◌≡◌, ◌<◌, ℕ};
 ghost use Rattle.mdb_msgs.specs.declared.command.ReaderCommand.TheVariants as reader;
-ghost use Rattle.mdb_cashless.specs.inner.ReaderCodes as codes;
+ghost use Rattle.mdb_cashless.specs.shared.ReaderCodes as codes;
 ghost use Rattle.mdb_cashless.specs.ReaderDevice as spec;
 
 use super::messages::ReaderActivity;

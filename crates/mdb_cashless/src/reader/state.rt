@@ -25,7 +25,7 @@ impl Default for ReaderState {
 
 impl ReaderState {
     ghost use Rattle.mdb_cashless.specs.Reader as spec;
-    ghost use Rattle.mdb_cashless.specs.inner.ReaderCodes.{code_of};
+    ghost use Rattle.mdb_cashless.specs.shared.ReaderCodes.{code_of};
 
     /// The state at power-on.
     pub(crate) fn power_on() -> ReaderState

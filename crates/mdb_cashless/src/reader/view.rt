@@ -1,7 +1,7 @@
 //! The controller's view of a reader.
 
 ghost use Rattle.std.specs.Prelude.{◌≡◌, ◌<◌};
-ghost use Rattle.mdb_cashless.specs.inner.ReaderCodes as codes;
+ghost use Rattle.mdb_cashless.specs.shared.ReaderCodes as codes;
 ghost use Rattle.mdb_cashless.specs.ReaderView as spec;
 
 use super::transaction::{Transaction, is_again};

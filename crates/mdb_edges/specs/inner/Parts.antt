@@ -3,7 +3,7 @@
 use Rattle.std.specs.Prelude.{◌≡◌, ◌||◌}
 use Rattle.mdb_words.specs.declared.event.Event.{Event}
 use Rattle.mdb_exports.specs.Told.{is_controllers, is_marked, is_peripherals}
-use Rattle.mdb_exports.specs.inner.Told.{counted_more}
+use Rattle.mdb_exports.specs.shared.Told.{counted_more}
 use Rattle.mdb_edges.specs.Import.{is_before, is_behind, is_taken}
 use Rattle.mdb_edges.specs.declared.options.EdgesOptions.{EdgesOptions}
 use Rattle.mdb_edges.specs.declared.part.EdgesImported.{EdgesImported}

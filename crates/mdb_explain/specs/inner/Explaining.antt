@@ -20,11 +20,11 @@ use Rattle.mdb_verdict.specs.declared.fault.RunFault.TheVariants.{BadRow, TooLon
 use Rattle.mdb_explain.specs.Explain.{explanation_text, mark_fields, record_line}
 use Rattle.mdb_text.specs.Text.{report_text}
 use Rattle.mdb_writing.specs.Written.{HasTaken}
-use Rattle.mdb_verdict.specs.Ending.{HasFollowed}
+use Rattle.mdb_verdict.specs.Ending.{HasFollowedRows}
 
 -- These rows were taken, and no others, and they are kept.
 pub record HasKept (scope : Scope) (keeping : Keeping) (rows : List Event) : Type 0 where
-  pub followed : HasFollowed scope keeping.follower rows
+  pub followed : HasFollowedRows scope keeping.follower rows
   pub kept : keeping.rows.items ≡ rows
 
 -- one of the later rows was stopped at: it cannot be, or the rows can't be kept

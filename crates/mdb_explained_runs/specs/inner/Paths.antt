@@ -84,7 +84,7 @@ abbrev pub AreEntriesWithin : ℕ → ℕ → List Link → List (ℕ × Best) �
 AreEntriesWithin number limit links entries = All (IsEntryWithin number limit links) entries
 
 -- An entry is where the way of another goes on with a value and a choice at a row.
-pub record GoesOnFrom (old_links links : List Link) (before : Best) (row : ℕ) (choice : Choice)
+pub record LinksGoOnFrom (old_links links : List Link) (before : Best) (row : ℕ) (choice : Choice)
     (next : ℕ) (worth : ℤ) (entry : ℕ × Best) : Type 0 where
   pub code : entry.0 ≡ next
   pub value : entry.1.value ≡ worth
@@ -109,7 +109,7 @@ pub record IsLed {State : Type 0} (number : ℕ) (Can : Choice → Type 0) (code
   pub small : IsSmall gains
   pub below : entry.0 < number
   pub step : IsStep code_of (Step choice) before.0 entry.0 gains
-  pub goes : GoesOnFrom old_links links before.1 row choice entry.0
+  pub goes : LinksGoOnFrom old_links links before.1 row choice entry.0
       (before.1.value +ℤ weight_of weight gains) entry
 
 -- for each step from an entry, under a choice that can be, there is an entry that is as good

@@ -15,7 +15,7 @@ ghost use Rattle.mdb_explained_runs.specs.declared.explain.best.Best.{Best};
 ghost use Rattle.mdb_explained_runs.specs.declared.explain.chains.Link.{Link};
 ghost use Rattle.mdb_explained_runs.specs.inner.Chains.{IsChain, KeepChains};
 ghost use Rattle.mdb_explained_runs.specs.inner.Paths.{AreEntriesWithin, AreLed, ArePaths, AreStarts};
-ghost use Rattle.mdb_explained_runs.specs.inner.Paths.{GoesOnFrom, HasAsGood, HasCodeAt, IsBestOf};
+ghost use Rattle.mdb_explained_runs.specs.inner.Paths.{LinksGoOnFrom, HasAsGood, HasCodeAt, IsBestOf};
 ghost use Rattle.mdb_explained_runs.specs.inner.Paths.{IsEntryWithin, TakesIn, TakesSteps};
 ghost use Rattle.mdb_explained_runs.specs.declared.explain.best.Weight.{Weight};
 
@@ -274,7 +274,7 @@ fn take_in<const N: usize>(
     requires few { before.now.marks < 2 ^ 63 }
     requires chain { IsChain chains.old.links.items before.now.chain }
     ensures takes { IfOk result (λ _. TakesIn
-        (GoesOnFrom chains.old.links.items chains.new.links.items before.now row choice code value)
+        (LinksGoOnFrom chains.old.links.items chains.new.links.items before.now row choice code value)
         room.old.entries.items room.new.entries.items) }
     ensures has { IfOk result (λ _. HasAsGood room.new.entries.items code value
         (before.now.marks + length (marks_at row choice))) }

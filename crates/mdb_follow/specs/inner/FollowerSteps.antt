@@ -8,7 +8,7 @@ use Rattle.mdb_follow.specs.inner.SideSteps.{SidesFollow, SidesStay, SidesStop}
 use Rattle.mdb_follow.specs.SilenceSteps.{SilencesFollow}
 
 -- A follower has followed an act whose last word started at a time.
-pub record HasFollowed (old : Follower) (act : Act) (at : ℕ) (new : Follower) : Type 0 where
+pub record HasFollowedAct (old : Follower) (act : Act) (at : ℕ) (new : Follower) : Type 0 where
   pub on_bus : new.bus ≡ old.bus
   pub rows : new.rows ≡ old.rows + 1
   pub going : new.offence ≡ old.offence

@@ -13,17 +13,17 @@ use Rattle.mdb_bus.specs.LeavingOut.{with_foreign}
 use Rattle.mdb_bus.specs.Loss.{Loss, LossFits}
 use Rattle.mdb_follow.specs.Arrivals.{EachArrives}
 use Rattle.mdb_follow.specs.Runs.{AllSums, IsWay, States}
-use Rattle.mdb_late_start.specs.Cuts.{IsCut}
-use Rattle.mdb_late_start.specs.MidSession.{StaysInMidSession}
+use Rattle.mdb_late_start.specs.Cuts.{SplitsAt}
+use Rattle.mdb_late_start.specs.MidSession.{MayJoinLate}
 use Rattle.mdb_late_start.specs.Told.{AreToldBy, told_later}
 
 -- what the crates below say of runs, and this one of cuts and of each device
 pub record EndLaws : Type 0 where
   pub cut : (scope : Scope) (setups : Setups) (front end : List Event) (pieces : List Piece)
-      → IsActList scope pieces (front ++ end) → IsCut scope setups front end pieces
+      → IsActList scope pieces (front ++ end) → SplitsAt scope setups front end pieces
   pub told : (scope : Scope) (setups : Setups) (levels : Levels) (front end : List Event)
       (pieces : List Piece) → IsActList scope pieces (front ++ end)
-      → (cut : IsCut scope setups front end pieces) → AreToldBy scope cut.before levels
+      → (cut : SplitsAt scope setups front end pieces) → AreToldBy scope cut.before levels
       → IsActList (told_later setups levels scope) (cut.later ++ with_foreign cut.words []) end
   pub one : (scope : Scope) (rows : List Event) (one other : List Piece)
       → IsActList scope one rows → IsActList scope other rows → one ≡ other
@@ -36,4 +36,4 @@ pub record EndLaws : Type 0 where
       → ArePieces scope pieces → EachArrives scope.begins (acts_of pieces) states sums
       → (loss : Loss) × LossFits loss pieces × IsWay scope.begins loss pieces states sums
   pub stays : (begins : Beginning) (setups : Setups) (device : Device)
-      → StaysInMidSession begins setups device
+      → MayJoinLate begins setups device

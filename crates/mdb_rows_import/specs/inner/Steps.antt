@@ -13,7 +13,7 @@ use Rattle.mdb_rows_import.specs.Rows.{AreEvents, IsHeaderOf, IsRowOf, TellsTime
 use Rattle.mdb_writing.specs.Output.{Breaks, Output, Puts}
 use Rattle.mdb_rows_import.specs.declared.fault.ImportFault.{ImportFault}
 use Rattle.mdb_rows_import.specs.declared.fault.ImportFault.TheVariants.{BadRecord, Read, Write, Memory}
-use Rattle.mdb_exports.specs.inner.Told.{IsKept, IsSaid, counted_more}
+use Rattle.mdb_exports.specs.shared.Told.{IsKept, IsSaid, counted_more}
 use Rattle.mdb_exports.specs.declared.told.Imported.{Imported}
 use Rattle.mdb_exports.specs.declared.fault.RecordFault.{RecordFault}
 use Rattle.mdb_rows_import.specs.declared.importing.Importing.{Importing}

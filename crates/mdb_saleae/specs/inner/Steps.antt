@@ -9,7 +9,7 @@ use Rattle.mdb_records.specs.declared.Records.{Records}
 use Rattle.mdb_exports.specs.Rows.{row_line}
 use Rattle.mdb_exports.specs.Order.{IsAfter}
 use Rattle.mdb_writing.specs.Output.{Breaks, Output, Puts}
-use Rattle.mdb_exports.specs.inner.Told.{IsKept, IsSaid, counted_more}
+use Rattle.mdb_exports.specs.shared.Told.{IsKept, IsSaid, counted_more}
 use Rattle.mdb_exports.specs.declared.told.Imported.{Imported}
 use Rattle.mdb_saleae.specs.Columns.{IsColumns}
 use Rattle.mdb_saleae.specs.Imports.{IsHeaderAnswer, IsRefusedRow, IsRowsImport, IsTold, is_before}

@@ -5,7 +5,7 @@ use Rattle.std.specs.List.{flat_map}
 use Rattle.mdb_words.specs.declared.event.Event.{Event}
 use Rattle.mdb_exports.specs.Rows.{row_line}
 use Rattle.mdb_exports.specs.Told.{is_controllers, is_peripherals, is_marked}
-use Rattle.mdb_exports.specs.inner.Told.{counted_more}
+use Rattle.mdb_exports.specs.shared.Told.{counted_more}
 use Rattle.mdb_sigrok.specs.Part.{is_before, is_behind, is_taken}
 use Rattle.mdb_sigrok.specs.declared.options.SigrokOptions.{SigrokOptions}
 use Rattle.mdb_sigrok.specs.declared.tally.SigrokRows.{SigrokRows}

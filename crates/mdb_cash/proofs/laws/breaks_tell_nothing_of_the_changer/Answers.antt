@@ -1,4 +1,4 @@
-use Rattle.mdb_cash.specs.inner.ChangerWays.{no_setup, none_told}
+use Rattle.mdb_cash.specs.shared.ChangerWays.{no_setup, none_told}
 use Rattle.mdb_cash.proofs.laws.breaks_tell_nothing_of_the_changer.Goals as goal
 
 pub returns-clause-setup : goal.returns-clause-setup

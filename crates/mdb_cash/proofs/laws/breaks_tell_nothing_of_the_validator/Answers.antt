@@ -1,4 +1,4 @@
-use Rattle.mdb_cash.specs.inner.BillWays.{no_setup, none_told}
+use Rattle.mdb_cash.specs.shared.BillWays.{no_setup, none_told}
 use Rattle.mdb_cash.proofs.laws.breaks_tell_nothing_of_the_validator.Goals as goal
 
 pub returns-clause-setup : goal.returns-clause-setup

@@ -8,7 +8,7 @@ use Rattle.mdb_machine.specs.declared.gains.Gains.{Gains}
 use Rattle.mdb_cash.specs.Changer.{conduct}
 use Rattle.mdb_cash.specs.ChangerFacts.{is_poll, tables}
 use Rattle.mdb_cash.specs.ChangerMessages.{parts_of}
-use Rattle.mdb_cash.specs.inner.ChangerWays.{overlooks}
+use Rattle.mdb_cash.specs.shared.ChangerWays.{overlooks}
 use Rattle.mdb_cash.proofs.DispenseWays.{free_way, owed_ways}
 use Rattle.mdb_machine.proofs.MidSession.{RepliesKnowing, held_ways, no_way, settled_steps, silent_way}
 use Rattle.mdb_cash.proofs.laws.in_mid_session_the_changer_has_these_ways_alone.Goals as goal

@@ -8,7 +8,7 @@ use Rattle.mdb_machine.specs.declared.gains.Gains.{Gains}
 use Rattle.mdb_cash.specs.Bill.{conduct}
 use Rattle.mdb_cash.specs.BillFacts.{is_poll, tables}
 use Rattle.mdb_cash.specs.BillMessages.{parts_of}
-use Rattle.mdb_cash.specs.inner.BillWays.{overlooks}
+use Rattle.mdb_cash.specs.shared.BillWays.{overlooks}
 use Rattle.mdb_machine.proofs.MidSession.{RepliesKnowing, held_ways, no_way, settled_steps, silent_way}
 use Rattle.mdb_cash.proofs.laws.in_mid_session_the_validator_has_these_ways_alone.Goals as goal
 

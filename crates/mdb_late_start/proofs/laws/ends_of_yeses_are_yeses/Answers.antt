@@ -1,4 +1,4 @@
-use Rattle.mdb_late_start.specs.Cuts.{from_later}
+use Rattle.mdb_late_start.specs.Cuts.{joined_with}
 use Rattle.mdb_late_start.proofs.EndVerdicts.{end_says_yes}
 use Rattle.mdb_late_start.proofs.laws.ends_of_yeses_are_yeses.Goals as goal
 
@@ -8,6 +8,6 @@ returns c = λ scope setups limit front end.
       one_event = c.fields_are_of_one_event.ensures;
       none_refused = c.rows_are_never_refused.ensures;
       fronts = c.fronts_of_reached_rows_are_reached.ensures;
-    }) scope (from_later setups scope) limit front end
+    }) scope (joined_with setups scope) limit front end
     (λ rows ends is are reached.
     c.ends_of_reached_rows_are_reached.ensures scope setups rows ends reached)

@@ -1,4 +1,4 @@
-use Rattle.mdb_machine.specs.inner.OwnWays.{decides, with_other, with_own}
+use Rattle.mdb_machine.specs.shared.OwnWays.{decides, with_other, with_own}
 use Rattle.mdb_machine.proofs.laws.own_acts_are_those_that_a_device_has_a_part_in.Goals as goal
 
 pub returns-clause-own : goal.returns-clause-own

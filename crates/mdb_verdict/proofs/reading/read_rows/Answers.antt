@@ -1,6 +1,6 @@
 use Rattle.std.proofs.Common.{arith, refl, subst, ◌∙◌, ◌≡◌, ◌-◌, ◌++◌}
 use Rattle.mdb_verdict.specs.declared.batch.Next.TheVariants as next
-use Rattle.mdb_verdict.specs.Batch.{FitsIn, GoesOnOver, IsMet}
+use Rattle.mdb_verdict.specs.Batch.{FitsIn, BatchGoesOnOver, IsMet}
 use Rattle.mdb_verdict.specs.Ending.{HasTakenOrStopped}
 use Rattle.mdb_records.specs.ToCome.{fault_of}
 use Rattle.mdb_verdict.proofs.Batches.{fits}
@@ -58,7 +58,7 @@ loop-batch-preserved g c =
     let more : c.refill-next.result ≡ next.More = endings.is_more c.refill-next.result c.rows_taken-in-loop-batch-2.result c.goes_on.result c.in_ok-goes_on.field-0 c.goes_on.ensures c.in_ok-goes_on.was c.if-not-branch.false in
     record {
       progress = subst (λ n. Progress g.T.Row.FromRecord.is g.T.Row.FromRecord.refuses g.R.Read.remaining (g.T.TakeRows.has c.take_all.new.self c.args.out.now c.take_all.new.out) c.args.records.now c.refill-next.new.records n) more after.progress;
-      over = λ over. subst (λ n. GoesOnOver g.R.Read.remaining c.refill-next.new.records n) more (c.refill-next.ensures.over (c.loop-batch.invariant.over over));
+      over = λ over. subst (λ n. BatchGoesOnOver g.R.Read.remaining c.refill-next.new.records n) more (c.refill-next.ensures.over (c.loop-batch.invariant.over over));
       met = λ none. subst (λ n. IsMet n (fault_of c.refill-next.new.records)) more (c.refill-next.ensures.met (c.loop-batch.invariant.met none));
       few = omega (
         arith,
@@ -137,7 +137,7 @@ returns-in_err-goes_on-clause-same_scope g c = c.take_all.ensures.same_scope ∙
 
 pub returns-then-not-branch-clause-whole : goal.returns-then-not-branch-clause-whole
 returns-then-not-branch-clause-whole g c = λ over is.
-    subst (λ n. GoesOnOver g.R.Read.remaining c.refill-next.new.records n)
+    subst (λ n. BatchGoesOnOver g.R.Read.remaining c.refill-next.new.records n)
     (endings.is_end c.refill-next.result c.rows_taken-in-loop-batch-2.result c.goes_on.result c.in_ok-goes_on.field-0 c.goes_on.ensures c.in_ok-goes_on.was c.if-not-branch.true)
     (c.refill-next.ensures.over (c.loop-batch.invariant.over over))
 

@@ -1,5 +1,5 @@
 use Rattle.std.proofs.lemmas.Option.{IfSome_then}
-use Rattle.mdb_exports.specs.inner.Decoded.{decoded_remaining}
+use Rattle.mdb_exports.specs.shared.Decoded.{decoded_remaining}
 use Rattle.mdb_records.specs.ToCome.{ToCome}
 use Rattle.mdbimport_run.proofs.Status.{edges_answer}
 use Rattle.mdbimport_run.proofs.program.run_edges.Goals as goal

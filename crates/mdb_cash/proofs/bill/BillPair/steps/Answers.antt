@@ -5,7 +5,7 @@ use Rattle.mdb_machine.specs.declared.choice.Choice.{Choice}
 use Rattle.mdb_machine.specs.declared.gains.Gains.{Gains}
 use Rattle.mdb_cash.specs.Bill.{conduct, machine}
 use Rattle.mdb_cash.specs.BillFacts.{KnownFacts, tables}
-use Rattle.mdb_cash.specs.inner.BillCodes.{apart, below, code_of}
+use Rattle.mdb_cash.specs.shared.BillCodes.{apart, below, code_of}
 use Rattle.mdb_machine.specs.KeeperSteps.{StepKnowing}
 use Rattle.mdb_cash.specs.declared.bill.state.BillState.{BillState}
 use Rattle.mdb_machine.proofs.StepCodes.{AreCoded, coded_below, steps_coded}

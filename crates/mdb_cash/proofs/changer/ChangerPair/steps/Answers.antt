@@ -5,7 +5,7 @@ use Rattle.mdb_machine.specs.declared.choice.Choice.{Choice}
 use Rattle.mdb_machine.specs.declared.gains.Gains.{Gains}
 use Rattle.mdb_cash.specs.Changer.{conduct, machine}
 use Rattle.mdb_cash.specs.ChangerFacts.{KnownFacts, tables}
-use Rattle.mdb_cash.specs.inner.ChangerCodes.{apart, below, code_of}
+use Rattle.mdb_cash.specs.shared.ChangerCodes.{apart, below, code_of}
 use Rattle.mdb_machine.specs.KeeperSteps.{StepKnowing}
 use Rattle.mdb_cash.specs.declared.changer.state.ChangerState.{ChangerState}
 use Rattle.mdb_machine.proofs.StepCodes.{AreCoded, coded_below, steps_coded}

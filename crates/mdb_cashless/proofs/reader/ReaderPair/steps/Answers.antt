@@ -9,7 +9,7 @@ use Rattle.mdb_cashless.specs.declared.reader.state.ReaderState.{ReaderState}
 use Rattle.mdb_cashless.specs.Reader.{StepKnowing, machine}
 use Rattle.mdb_cashless.specs.ReaderFacts.{KnownFacts}
 use Rattle.mdb_cashless.specs.Units as units
-use Rattle.mdb_cashless.specs.inner.ReaderCodes.{apart, below, code_of}
+use Rattle.mdb_cashless.specs.shared.ReaderCodes.{apart, below, code_of}
 use Rattle.mdb_cashless.proofs.reader.ReaderPair.steps.Goals as goal
 
 -- what is known is what is known of the acts of this reader

@@ -2,7 +2,7 @@ use Rattle.std.proofs.Common.{arith, rules, ap, sym, subst, ◌∙◌, ◌≡◌
 use Rattle.mdb_bus.specs.declared.scope.Beginning.TheVariants.{PowerOn}
 use Rattle.mdb_bus.specs.ActLists.{Whole, acts_of}
 use Rattle.mdb_machine.specs.Choices.{CanStand}
-use Rattle.mdb_machine.specs.inner.OwnWays.{decides}
+use Rattle.mdb_machine.specs.shared.OwnWays.{decides}
 use Rattle.mdb_explained_runs.specs.declared.explain.best.Best.{Best}
 use Rattle.mdb_explained_runs.specs.declared.explain.chains.Link.{Link}
 use Rattle.mdb_explained_runs.specs.inner.Paths.{AreEntriesWithin, IsPaths}

@@ -3,7 +3,7 @@ use Rattle.std.proofs.Common.{to_z, of_z, w64}
 use Rattle.std.proofs.lemmas.Int.{to_z-of_z}
 use Rattle.mdb_explained_runs.specs.declared.explain.best.Best.{Best}
 use Rattle.mdb_explained_runs.specs.inner.Paths.{HasAsGood}
-use Rattle.mdb_explained_runs.specs.inner.Paths.{GoesOnFrom, TakesIn}
+use Rattle.mdb_explained_runs.specs.inner.Paths.{LinksGoOnFrom, TakesIn}
 use Rattle.mdb_explained_runs.proofs.Bests.{has-counted, has-push, has-set, has-still, takes-push}
 use Rattle.mdb_explained_runs.proofs.Bests.{takes-same, takes-set}
 use Rattle.mdb_explained_runs.proofs.Bests.{good-read, marks-few}
@@ -92,7 +92,7 @@ returns-in_ok-push-in-None-clause-takes g c =
     } in
     let same : best.value ≡ c.args.value =
     to_z-of_z w64 c.args.value c.ranges.value in
-    subst (λ es. TakesIn (GoesOnFrom c.args.chains.now.links.items
+    subst (λ es. TakesIn (LinksGoOnFrom c.args.chains.now.links.items
     c.extend-in-None.new.self.links.items c.args.before.now c.args.row c.args.choice c.args.code
     c.args.value) entries es)
     (sym c.in_ok-push-in-None.ensures.items)

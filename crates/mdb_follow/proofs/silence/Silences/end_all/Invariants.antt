@@ -1,10 +1,10 @@
 use Rattle.mdb_follow.specs.declared.silence.Silence.{Silence}
 use Rattle.mdb_follow.specs.SilencesKept.{silence_in}
-use Rattle.mdb_follow.specs.SilenceSteps.{GoesOn, ended}
+use Rattle.mdb_follow.specs.SilenceSteps.{SilenceGoesOn, ended}
 use Rattle.mdb_follow.proofs.ByDevice.{Front}
 use Rattle.mdb_follow.proofs.silence.Silences.end_all.Given as goal
 
 abbrev pub invariant-loop-device : goal.invariant-loop-device
 invariant-loop-device l =
-    Front (λ device. Silence) (λ device. GoesOn ended) l.device-index (silence_in l.fn.self)
+    Front (λ device. Silence) (λ device. SilenceGoesOn ended) l.device-index (silence_in l.fn.self)
     (silence_in l.self)

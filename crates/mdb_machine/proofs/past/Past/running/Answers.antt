@@ -1,5 +1,5 @@
 use Rattle.std.proofs.Common.{refl}
-use Rattle.mdb_machine.specs.inner.PastWays.{same_past}
+use Rattle.mdb_machine.specs.shared.PastWays.{same_past}
 use Rattle.mdb_machine.proofs.Masks.{types_16}
 use Rattle.mdb_machine.proofs.past.Past.running.Goals as goal
 

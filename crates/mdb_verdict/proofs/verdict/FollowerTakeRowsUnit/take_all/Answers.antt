@@ -1,12 +1,12 @@
 use Rattle.std.proofs.Common.{subst, sym}
 use Rattle.mdb_follow.specs.Follower.{scope_of}
 use Rattle.mdb_follow.specs.Offences.{HasOffence}
-use Rattle.mdb_verdict.specs.Ending.{HasFollowed, HasTakenOrStopped}
+use Rattle.mdb_verdict.specs.Ending.{HasFollowedRows, HasTakenOrStopped}
 use Rattle.mdb_verdict.proofs.Verdicts.{followed}
 use Rattle.mdb_verdict.proofs.verdict.FollowerTakeRowsUnit.take_all.Goals as goal
 
 pub returns-clause-taken : goal.returns-clause-taken
 returns-clause-taken c nothing earlier has =
-    subst (λ s. HasTakenOrStopped (HasFollowed s c.feed_all.new.self) (HasOffence s) earlier c.args.rows.now c.err.result) (sym c.feed_all.ensures.scope)
+    subst (λ s. HasTakenOrStopped (HasFollowedRows s c.feed_all.new.self) (HasOffence s) earlier c.args.rows.now c.err.result) (sym c.feed_all.ensures.scope)
     (followed (scope_of c.args.self.now) c.args.self.now c.feed_all.new.self c.args.rows.now c.feed_all.result c.err.result c.err.ensures.value
     c.feed_all.ensures.taken c.feed_all.ensures.offence c.feed_all.ensures.scope earlier has)

@@ -29,14 +29,14 @@ use Rattle.mdb_machine.specs.Past.{effect_by, last_told, or_else, powers_on, res
 use Rattle.mdb_machine.specs.PastValues.{known_more, known_past_after}
 use Rattle.mdb_machine.specs.Unvalued as amounts
 use Rattle.mdb_machine.specs.Unvalued.{one_if}
-use Rattle.mdb_machine.specs.inner.OwnWays.{IsOfOwn, part_of_none, same_known}
-use Rattle.mdb_machine.specs.inner.PastWays as past_ways
+use Rattle.mdb_machine.specs.shared.OwnWays.{IsOfOwn, part_of_none, same_known}
+use Rattle.mdb_machine.specs.shared.PastWays as past_ways
 use Rattle.mdb_cashless.specs.declared.reader.state.ReaderState.{ReaderState}
 use Rattle.mdb_cashless.specs.declared.reader.transaction.Transaction.{Transaction}
 use Rattle.mdb_cashless.specs.inner.KnowingReader.{as_choice, some_facts, starts_in, stays}
 use Rattle.mdb_cashless.specs.inner.PlainReader.{as_plain}
-use Rattle.mdb_machine.specs.inner.StepWays as step_ways
-use Rattle.mdb_machine.specs.inner.StepWays.{IsOwnOf}
+use Rattle.mdb_machine.specs.shared.StepWays as step_ways
+use Rattle.mdb_machine.specs.shared.StepWays.{IsOwnOf}
 use Rattle.mdb_cashless.specs.Reader.{ReaderStep, StepKnowing, asks_sale, is_approval, is_unpriced, machine, power_on, unvalued, unvalued_by}
 use Rattle.mdb_cashless.specs.ReaderFacts.{Facts, KnownFacts, asked_by, config_by, effect_of, effect_of_own, known_of, messages_by, own_of, own_transaction, parts_by, taken_told, transaction_taken_by}
 use Rattle.mdb_cashless.specs.ReaderMessages.{amount_in, begin_session, config_in, last_said, messages_of, part_of}

@@ -22,9 +22,9 @@ use Rattle.mdb_machine.specs.Pair.{IsActOf, IsBreak, own_acts}
 use Rattle.mdb_machine.specs.Past.{effect_taken, last_told, or_else, resets}
 use Rattle.mdb_machine.specs.Kept.{kept_of}
 use Rattle.mdb_machine.specs.Unvalued.{amounts_in, one_if, unvalued, unvalued_by}
-use Rattle.mdb_machine.specs.inner.OwnWays.{IsOfOwn, part_of_none, same_known}
-use Rattle.mdb_machine.specs.inner.PastWays.{answered_still, known_by_more, known_past_more}
-use Rattle.mdb_machine.specs.inner.StepWays.{IsOwnOf}
+use Rattle.mdb_machine.specs.shared.OwnWays.{IsOfOwn, part_of_none, same_known}
+use Rattle.mdb_machine.specs.shared.PastWays.{answered_still, known_by_more, known_past_more}
+use Rattle.mdb_machine.specs.shared.StepWays.{IsOwnOf}
 
 -- what is known after one act more, by what it asks, what the device takes by it, and its reply
 abbrev more : {Own Setup Asked M : Type 0} → Tables Own Setup Asked M → KnownFacts Setup Asked M

@@ -20,17 +20,17 @@ use Rattle.mdb_machine.specs.declared.gains.Gains.{Gains}
 use Rattle.mdb_cash.specs.Bill.{BillStep, MovesBill, MovesBills, conduct, machine, power_on, unvalued}
 use Rattle.mdb_cash.specs.BillFacts.{Facts, KnownFacts, known_of, own, tables}
 use Rattle.mdb_machine.specs.Gains.{Stays, no_gains}
-use Rattle.mdb_machine.specs.inner.KeeperPlain.{LooksAway, as_plain}
-use Rattle.mdb_machine.specs.inner.Guesses.{Overlooks, guessing}
-use Rattle.mdb_machine.specs.inner.KeeperWays as keeper_ways
-use Rattle.mdb_machine.specs.inner.KnowingWays.{all_known, all_settled, as_choice, knows, some_facts, starts_in, stays}
+use Rattle.mdb_machine.specs.shared.KeeperPlain.{LooksAway, as_plain}
+use Rattle.mdb_machine.specs.shared.Guesses.{Overlooks, guessing}
+use Rattle.mdb_machine.specs.shared.KeeperWays as keeper_ways
+use Rattle.mdb_machine.specs.shared.KnowingWays.{all_known, all_settled, as_choice, knows, some_facts, starts_in, stays}
 use Rattle.mdb_cash.specs.BillValues.{Value, known_in}
 use Rattle.mdb_machine.specs.Keeper.{asked_by, parts_by}
 use Rattle.mdb_machine.specs.KeeperValues.{settled}
 use Rattle.mdb_machine.specs.Past.{last_list, last_told}
 use Rattle.mdb_machine.specs.Pair.{IsActOf, IsBreak, IsMachineOf, own_acts}
-use Rattle.mdb_machine.specs.inner.StepWays as step_ways
-use Rattle.mdb_machine.specs.inner.StepWays.{IsOwnOf}
+use Rattle.mdb_machine.specs.shared.StepWays as step_ways
+use Rattle.mdb_machine.specs.shared.StepWays.{IsOwnOf}
 
 -- commands that aren't to it are none of its own
 is_own : IsOwnOf devices.Bill own

@@ -12,7 +12,7 @@ use Rattle.mdb_machine.specs.Choices.{CanStand}
 use Rattle.mdb_machine.specs.Keeper.{Facts, Tables}
 use Rattle.mdb_machine.specs.KeeperSteps.{AckStep, Conduct, KeeperStep, ReplyStep, VmcAckStep}
 use Rattle.mdb_machine.specs.Kept.{has_reset, kept_of}
-use Rattle.mdb_machine.specs.inner.PlainKept.{acked_plain}
+use Rattle.mdb_machine.specs.shared.PlainKept.{acked_plain}
 use Rattle.mdb_machine.specs.Steps.{ForOwn}
 
 -- what a device does of its own looks at no choice that can't stand there

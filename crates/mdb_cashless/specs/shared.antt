@@ -1,0 +1,3 @@
+pub mod ReaderCodes
+pub mod ReaderWays
+pub mod SaleViews

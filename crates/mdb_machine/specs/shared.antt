@@ -1,0 +1,9 @@
+pub mod Guesses
+pub mod KeeperPlain
+pub mod KeeperWays
+pub mod KnowingWays
+pub mod OwnWays
+pub mod PastWays
+pub mod PlainKept
+pub mod StepWays
+pub mod ToldWays
