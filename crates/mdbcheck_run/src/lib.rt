@@ -4,6 +4,7 @@
 //! answer.
 #![tactic(auto)]
 
+mod apart;
 mod command_line;
 mod complaint;
 mod form;

@@ -17,6 +17,7 @@ ghost use Rattle.mdb_writing.specs.Written.{HasTaken};
 ghost use Rattle.mdb_records.specs.ToCome.{IsOverLimit, ToCome, limit_of};
 ghost use Rattle.csv.specs.Reading.{default_config, records, strip_bom};
 
+use super::apart::Apart;
 use super::command_line::{PROGRAM, Task, task_of};
 use super::complaint::{Wanted, complain};
 use super::form::Form;
@@ -197,7 +198,8 @@ fn run_replay<R: Read + Drop, W: Write, E: Write>(
         → result ≢ POSSIBLE) }
     ensures silent { result < 2 → err.new ≡ err.old }
 {
-    let mut records = input_of(alloc, reader);
+    // Apart, so that reading marks leaves reading rows as fast as it is alone.
+    let mut records = input_of(alloc, Apart { inner: reader });
     let answer = replay_records(alloc, &form, without, &mut records, out);
     finish_replay(answer, &records, err)
 }
