@@ -2,8 +2,6 @@
 use Rattle.std.proofs.Common.{ap, refl, subst, sym, ◌∙◌, ◌≡◌, ℤ, pos, ◌-ℤ◌, List, ◌++◌}
 use Rattle.mdb_words.specs.declared.event.Event.{Event}
 use Rattle.mdb_msgs.specs.declared.command.Device.{Device}
-use Rattle.mdb_msgs.specs.declared.command.Device.TheVariants as devices
-use Rattle.mdb_msgs.specs.declared.command.ReaderUnit.{ReaderUnit}
 use Rattle.mdb_msgs.specs.declared.setups.Setups.{Setups}
 use Rattle.mdb_bus.specs.declared.act.Act.{Act}
 use Rattle.mdb_bus.specs.ActLists.{IsActList, Piece, acts_of}
@@ -100,24 +98,11 @@ came_within laws reports scope setups levels front end sums run report anew pass
     (reports.accounts end_scope end report is account) sums passes.sums_then there.0
     (there.2 device told valued) there.0 there.1 refl
 
--- what mdb_cash and mdb_cashless say of the amounts without a value: they are of a device's own
--- acts
+-- the amounts without a value are of a device's own acts
 abbrev pub UnvaluedAlike : Type 0
 UnvaluedAlike = (begins : Beginning) (device : Device) (one other : List Act)
     → own_acts device one ≡ own_acts device other
     → unvalued_of begins device one ≡ unvalued_of begins device other
-
--- so they are, of each device
-abbrev pub IsOfOwnActs : Device → Type 0
-IsOfOwnActs device = (begins : Beginning) (one other : List Act)
-    → own_acts device one ≡ own_acts device other
-    → unvalued_of begins device one ≡ unvalued_of begins device other
-
-pub unvalued_alike : IsOfOwnActs devices.Changer → IsOfOwnActs devices.Bill
-    → ((unit : ReaderUnit) → IsOfOwnActs (devices.Reader unit)) → UnvaluedAlike
-unvalued_alike changer bill reader begins devices.Changer = changer begins
-unvalued_alike changer bill reader begins devices.Bill = bill begins
-unvalued_alike changer bill reader begins (devices.Reader unit) = reader unit begins
 
 -- where the end is the middle of rows, what came in it lies within the bounds of the rows
 pub came_in_middle : EndLaws → ReportLaws → UnvaluedAlike → (scope : Scope) (setups : Setups)

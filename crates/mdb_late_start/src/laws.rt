@@ -34,8 +34,6 @@ ghost use Rattle.mdb_late_start.specs.Told.{AreToldBy, WereTold, told_later};
 ghost use Rattle.mdb_late_start.specs.inner.EndLaws.{EndLaws};
 
 use mdb_bus::laws as links;
-use mdb_cash::laws as cash;
-use mdb_cashless::laws as cashless;
 use mdb_follow::laws as follow;
 use mdb_words::laws as rows;
 
@@ -243,9 +241,7 @@ pub fn what_came_in_a_stretch_lies_within_its_bounds()
     end_laws();
     follow::reports_name_the_accounts_of_runs();
     follow::reports_name_the_decimals_and_silences_of_devices();
-    cash::the_changers_facts_are_of_its_own_acts();
-    cash::the_validators_facts_are_of_its_own_acts();
-    cashless::a_readers_facts_are_of_its_own_acts();
+    follow::what_is_known_of_a_device_is_of_its_own_acts();
 }
 
 /// So they lie where further devices are left out of the stretch, in the accounts of the devices
@@ -270,9 +266,7 @@ pub fn what_came_lies_within_the_bounds_of_a_stretch_without_further_devices()
     follow::runs_go_on_without_further_devices();
     links::act_lists_stay_without_further_devices();
     links::acts_of_followed_devices_stay();
-    cash::the_changers_facts_are_of_its_own_acts();
-    cash::the_validators_facts_are_of_its_own_acts();
-    cashless::a_readers_facts_are_of_its_own_acts();
+    follow::what_is_known_of_a_device_is_of_its_own_acts();
 }
 
 /// If the answer to the records of a text is yes, the answer to each end of them is yes too. The
