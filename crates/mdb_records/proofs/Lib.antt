@@ -3,4 +3,6 @@ pub mod MarkGives
 pub mod StepFacts
 pub mod MarkedRecords
 pub mod RowFacts
+pub mod PlainFacts
+pub mod LineFacts
 pub mod ReadingFacts

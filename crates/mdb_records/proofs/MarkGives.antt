@@ -7,7 +7,7 @@ use Rattle.mdb_records.specs.Mark.{mark, marked}
 use Rattle.mdb_records.specs.ToCome.{Gives, HasMark}
 
 -- one more byte before the mark
-gives-cons : (b : ℕ) (text given : List ℕ) → (given ≡ text) ⊎ HasMark text given → ((b ∷ given) ≡ (b ∷ text)) ⊎ HasMark (b ∷ text) (b ∷ given)
+pub gives-cons : (b : ℕ) (text given : List ℕ) → (given ≡ text) ⊎ HasMark text given → ((b ∷ given) ≡ (b ∷ text)) ⊎ HasMark (b ∷ text) (b ∷ given)
 gives-cons b text given (inl e) = inl (ap (λ r. b ∷ r) e)
 gives-cons b text given (inr m) = inr (b ∷ m.0, m.1, ap (λ r. b ∷ r) m.2, ap (λ r. b ∷ r) m.3)
 
@@ -20,7 +20,7 @@ marked-gives zero (b ∷ text) = inr ([], b ∷ text, refl, refl)
 marked-gives (suc left) (b ∷ text) = gives-cons b text (marked left text) (marked-gives left text)
 
 -- either way the text is given
-whole : (text given : List ℕ) → (given ≡ text) ⊎ HasMark text given → Gives text given
+pub whole : (text given : List ℕ) → (given ≡ text) ⊎ HasMark text given → Gives text given
 whole text given (inl e) = inl e
 whole text given (inr m) = inr (inl m)
 

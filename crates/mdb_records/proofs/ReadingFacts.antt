@@ -1,22 +1,28 @@
 -- One read of a reader of records, as a step along the records to come.
-use Rattle.std.proofs.Common.{◌≡◌, ◌<◌, ◌≤◌, ◌-◌, ℕ, zero, suc, Bool, List, [], ◌∷◌, ◌++◌, ap, length, take, drop, Option, Some, None, true, false, inl, inr, refl, ◌∙◌}
-use Rattle.std.specs.Prelude.{All, IfSome, is_none, option_map}
+use Rattle.std.proofs.Common.{◌≡◌, ◌<◌, ◌≤◌, ◌-◌, ℕ, zero, suc, Bool, List, [], ◌∷◌, ◌++◌, ◌⊎◌, ap, length, take, drop, Option, Some, None, true, false, inl, inr, refl, ◌∙◌}
+use Rattle.std.specs.Prelude.{All, Err, IfOk, IfSome, Ok, Result, is_none, option_map}
 use Rattle.std.proofs.lemmas.List.Elements.{All-head, All-tail}
-use Rattle.csv.specs.Machine.{next_record}
-use Rattle.csv.specs.Reading.{ReadRecord, Reached, Ready, default_config, reader_config, reader_headers, reader_state, records, source_of, strip_bom, took_first}
+use Rattle.std.specs.Io.KnownBytes.{Keeps}
+use Rattle.csv.specs.Machine.{ends_at_end, next_record}
+use Rattle.csv.specs.Reading.{AreRecords, ReadRecord, Reached, Ready, default_config, reader_headers, reader_state, records, strip_bom, took_first}
 use Rattle.csv.specs.Records.{Row, cut_from, fields_of, text_of}
 use Rattle.csv.proofs.ReadFacts.{rows-end, rows-more}
 use Rattle.csv.specs.declared.parser.State.{State}
 use Rattle.csv.specs.declared.parser.State.TheVariants as st
 use Rattle.csv.specs.declared.reader.Headers.{Headers}
 use Rattle.csv.specs.declared.reader.Reader.{Reader}
-use Rattle.mdb_records.specs.SetUp.{IsSetUp}
+use Rattle.mdb_records.specs.SetUp.{ReadsWhatStands}
 use Rattle.mdb_records.specs.Mark.{given_of, mark, marked}
-use Rattle.mdb_records.specs.ToCome.{Advances, IsOverLimit, IsUncut, ToCome, limited_remaining}
+use Rattle.mdb_records.specs.Lines.{TakesLine, Tells, lines_given, lines_remaining}
+use Rattle.mdb_records.specs.Stage.{ReadsNext, StandsAfter, StandsAt}
+use Rattle.mdb_records.specs.ToCome.{Advances, HasMark, IsOverLimit, IsUncut, ToCome}
 use Rattle.mdb_records.specs.declared.Records.{Records}
-use Rattle.mdb_records.proofs.MarkGives.{gives-stripped, marked-within, stripped-over}
+use Rattle.mdb_records.specs.declared.lines.Lines.{Lines}
+use Rattle.mdb_records.specs.declared.stage.Stage.{Stage}
+use Rattle.mdb_records.specs.declared.stage.Stage.TheVariants as stage
+use Rattle.mdb_records.proofs.MarkGives.{gives-cons, gives-stripped, marked-within, stripped-over, whole}
 use Rattle.mdb_records.proofs.MarkedRecords.{AreBytes, IsBytes, marked-none, marked-some}
-use Rattle.mdb_records.proofs.RowFacts.{are-records, between-after, gives-none, gives-some}
+use Rattle.mdb_records.proofs.RowFacts.{are-records, are-records-after_line, between-after, gives-none, gives-some}
 use Rattle.mdb_records.proofs.StepFacts.{plain-between}
 
 -- a list of bytes, part by part
@@ -51,20 +57,44 @@ pub AreBytes-fields : (row : Row) (bytes : List ℕ) → bytes ≡ text_of row �
 AreBytes-fields row bytes e h = AreBytes-cut_from 0 row.ends row.bytes (rw e at (IsBytes-from_All bytes h))
 
 -- the records of the whole text are to come from a new reader
-pub new-to-come : {R : Type 0} (remaining : R → Option (List ℕ)) (value : Records R) (limit : ℕ) (known : Option (List ℕ))
-    → value.fault ≡ None → reader_config value.reader ≡ default_config → reader_state value.reader ≡ st.StartRecord
-    → source_of (limited_remaining remaining) value.reader ≡ option_map strip_bom (given_of known limit None)
+pub new-to-come : {R : Type 0} (remaining : R → Option (List ℕ)) (value : Records R) (lines : Lines R) (limit : ℕ) (known : Option (List ℕ))
+    → value.fault ≡ None → value.stage ≡ stage.Lines lines → lines_given remaining lines ≡ option_map strip_bom (given_of known limit None)
     → IfSome known (λ text. ToCome remaining value (records default_config (strip_bom text)))
-new-to-come remaining value limit None going plain start source = tt
-new-to-come remaining value limit (Some text) going plain start source = record {
+new-to-come remaining value lines limit None going first source = tt
+new-to-come remaining value lines limit (Some text) going first source = record {
   text = strip_bom text;
   given = strip_bom (marked limit text);
+  state = st.StartRecord;
   going = going;
-  plain = plain;
-  between = rw start refl;
-  source = source;
+  between = refl;
+  stands = rw first (refl, source);
   gives = gives-stripped limit text;
-  all = rw start (are-records (strip_bom text));
+  all = are-records (strip_bom text);
+}
+
+-- a new reader of a text that is longer than the limit
+pub new-over : {R : Type 0} (remaining : R → Option (List ℕ)) (value : Records R) (lines : Lines R) (limit : ℕ) (known : Option (List ℕ))
+    → value.fault ≡ None → value.stage ≡ stage.Lines lines → lines_given remaining lines ≡ option_map strip_bom (given_of known limit None)
+    → IfSome known (λ text. limit < length text → IsOverLimit remaining value)
+new-over remaining value lines limit None going first source = tt
+new-over remaining value lines limit (Some text) going first source = λ long.
+    let m = stripped-over limit text long in record {
+      before = m.0;
+      after = m.1;
+      state = st.StartRecord;
+      going = going;
+      between = refl;
+      stands = rw first (refl, source ∙ ap Some m.2);
+    }
+
+-- a new reader of a text within the limit
+pub new-within : {R : Type 0} (remaining : R → Option (List ℕ)) (value : Records R) (lines : Lines R) (limit : ℕ) (known : Option (List ℕ))
+    → value.stage ≡ stage.Lines lines → lines_given remaining lines ≡ option_map strip_bom (given_of known limit None)
+    → IfSome known (λ text. length text ≤ limit → IsUncut remaining value (strip_bom text))
+new-within remaining value lines limit None first source = tt
+new-within remaining value lines limit (Some text) first source = λ fits. record {
+  state = st.StartRecord;
+  stands = rw first (refl, source ∙ ap (λ t. Some (strip_bom t)) (marked-within limit text fits));
 }
 
 -- one record that was reached is the next one
@@ -73,81 +103,168 @@ only-record : (s : State) (given : List ℕ) (fields : List (List ℕ)) (after :
 unfolding Reached
 only-record s given fields after left h = rw (h.2, ← h.3.0, ← h.3.1) h.1
 
+-- what csv reads of a record is the record that comes next
+pub csv-reads : {R : Type 0} (remaining : R → Option (List ℕ)) (old new : Reader (Lines R)) (before : ℕ) (found : Bool) (fields : List (List ℕ))
+    → ReadRecord (lines_remaining remaining) old new found fields → ReadsNext remaining (stage.Csv old before) (stage.Csv new before) found fields
+unfolding Reached
+csv-reads remaining old new before true fields read = λ state given stands.
+    let more = rows-more (lines_remaining remaining) old new fields default_config (reader_state old) given given []
+    stands.0 stands.2 (refl, refl) read in (
+      reader_state new,
+      more.0,
+      rw stands.1 (only-record (reader_state old) given fields (reader_state new) more.0 more.2),
+      inl (read.2 ∙ stands.0, refl, more.1),
+    )
+csv-reads remaining old new before false fields read = λ state given stands.
+    rw stands.1 (rows-end (lines_remaining remaining) old new fields default_config given stands.0 stands.2 read)
+
+-- a line that was taken of what is known
+line-taken : (before after : Option (List ℕ)) (given : List ℕ) (fields : List (List ℕ)) → before ≡ Some given → TakesLine before after fields
+    → (rest : List ℕ) × (after ≡ Some (10 ∷ rest)) × (next_record default_config st.StartRecord [] [] given ≡ Some (fields, st.StartRecord, rest))
+line-taken None after given fields e h = cc
+line-taken (Some x) None given fields e h = absurd h
+line-taken (Some x) (Some y) given fields e h =
+    let same : x ≡ given = cc in
+    (h.0, ap Some h.1, rw same at h.2)
+
+-- of what is known nothing comes
+none-known : (before : Option (List ℕ)) (given : List ℕ) → before ≡ Some given
+    → IfSome before (λ text. next_record default_config st.StartRecord [] [] text ≡ None) → next_record default_config st.StartRecord [] [] given ≡ None
+none-known None given e h = cc
+none-known (Some x) given e h = let same : x ≡ given = cc in rw same at h
+
+-- what a reader of lines tells is what comes next
+pub line-reads : {R : Type 0} (remaining : R → Option (List ℕ)) (old new : Lines R) (found : Bool) (fields : List (List ℕ))
+    → Tells (Some found) (lines_given remaining old) (lines_given remaining new) fields → ReadsNext remaining (stage.Lines old) (stage.Lines new) found fields
+line-reads remaining old new true fields h = λ state given stands.
+    let taken = line-taken (lines_given remaining old) (lines_given remaining new) given fields stands.1 h in
+    (st.StartRecord, taken.0, rw stands.0 taken.2, inr (refl, (refl, taken.1)))
+line-reads remaining old new false fields h = λ state given stands. rw stands.0 (none-known (lines_given remaining old) given stands.1 h)
+
+-- the records to come after one
+to-come-after : {R : Type 0} (remaining : R → Option (List ℕ)) (new : Records R) (after : State) (text left : List ℕ) (rows : List (List (List ℕ)))
+    → new.fault ≡ None → ends_at_end after ≡ false → (left ≡ text) ⊎ HasMark text left → AreRecords default_config after text rows
+    → StandsAfter remaining new.stage after left → ToCome remaining new rows
+to-come-after remaining new after text left rows going between gives all (inl stands) = record {
+  text = text;
+  given = left;
+  state = after;
+  going = going;
+  between = between;
+  stands = stands;
+  gives = whole text left gives;
+  all = all;
+}
+to-come-after remaining new after text left rows going between gives all (inr h) = record {
+  text = 10 ∷ text;
+  given = 10 ∷ left;
+  state = st.StartRecord;
+  going = going;
+  between = refl;
+  stands = h.1;
+  gives = whole (10 ∷ text) (10 ∷ left) (gives-cons 10 text left gives);
+  all = are-records-after_line text rows (rw h.0 at all);
+}
+
 -- a read goes on along the records to come
 pub goes-on : {R : Type 0} (remaining : R → Option (List ℕ)) (old new : Records R) (found : Bool) (rows : List (List (List ℕ)))
-    → ReadRecord (limited_remaining remaining) old.reader new.reader found (fields_of new.row) → new.fault ≡ None → AreBytes (fields_of new.row)
+    → ReadsNext remaining old.stage new.stage found (fields_of new.row) → new.fault ≡ None → AreBytes (fields_of new.row)
     → ToCome remaining old rows → Advances remaining new found rows
-unfolding Reached
-goes-on remaining old new true rows read going bytes h =
-    let more = rows-more (limited_remaining remaining) old.reader new.reader (fields_of new.row) default_config (reader_state old.reader) h.given h.given []
-    h.plain h.source (refl, refl) read in
-    let step = gives-some (reader_state old.reader) h.text h.given (fields_of new.row, reader_state new.reader, more.0) rows h.gives h.between bytes
-    (only-record (reader_state old.reader) h.given (fields_of new.row) (reader_state new.reader) more.0 more.2) h.all in (
+goes-on remaining old new true rows reads going bytes h =
+    let read = reads h.state h.given h.stands in
+    let step = gives-some h.state h.text h.given (fields_of new.row, read.0, read.1) rows h.gives h.between bytes read.2 h.all in (
       step.rest,
       step.first,
-      record {
-        text = step.left;
-        given = more.0;
-        going = going;
-        plain = read.2 ∙ h.plain;
-        between = step.between;
-        source = more.1;
-        gives = step.gives;
-        all = step.all;
-      },
+      to-come-after remaining new read.0 step.left read.1 step.rest going step.between step.gives step.all read.3,
     )
-goes-on remaining old new false rows read going bytes h =
-    gives-none (reader_state old.reader) h.text h.given rows h.gives h.between
-    (rows-end (limited_remaining remaining) old.reader new.reader (fields_of new.row) default_config h.given h.plain h.source read) h.all
+goes-on remaining old new false rows reads going bytes h =
+    gives-none h.state h.text h.given rows h.gives h.between (reads h.state h.given h.stands) h.all
 
--- a new reader of a text that is longer than the limit
-pub new-over : {R : Type 0} (remaining : R → Option (List ℕ)) (value : Records R) (limit : ℕ) (known : Option (List ℕ))
-    → value.fault ≡ None → reader_config value.reader ≡ default_config → reader_state value.reader ≡ st.StartRecord
-    → source_of (limited_remaining remaining) value.reader ≡ option_map strip_bom (given_of known limit None)
-    → IfSome known (λ text. limit < length text → IsOverLimit remaining value)
-new-over remaining value limit None going plain start source = tt
-new-over remaining value limit (Some text) going plain start source = λ long.
-    let m = stripped-over limit text long in record {
-      before = m.0;
-      after = m.1;
-      going = going;
-      plain = plain;
-      between = rw start refl;
-      source = source ∙ ap Some m.2;
-    }
-
--- a new reader of a text within the limit
-pub new-within : {R : Type 0} (remaining : R → Option (List ℕ)) (value : Records R) (limit : ℕ) (known : Option (List ℕ))
-    → source_of (limited_remaining remaining) value.reader ≡ option_map strip_bom (given_of known limit None)
-    → IfSome known (λ text. length text ≤ limit → IsUncut remaining value (strip_bom text))
-new-within remaining value limit None source = tt
-new-within remaining value limit (Some text) source = λ fits. record { source = source ∙ ap (λ t. Some (strip_bom t)) (marked-within limit text fits) }
+-- the text that goes on past the limit, after a record
+over-after : {R : Type 0} (remaining : R → Option (List ℕ)) (new : Records R) (state : State) (before after left : List ℕ)
+    → new.fault ≡ None → ends_at_end state ≡ false → left ≡ before ++ mark ∷ after
+    → StandsAfter remaining new.stage state left → IsOverLimit remaining new
+over-after remaining new state before after left going between e (inl stands) = record {
+  before = before;
+  after = after;
+  state = state;
+  going = going;
+  between = between;
+  stands = rw e at stands;
+}
+over-after remaining new state before after left going between e (inr h) = record {
+  before = 10 ∷ before;
+  after = after;
+  state = st.StartRecord;
+  going = going;
+  between = refl;
+  stands = rw e at h.1;
+}
 
 -- a read of a text that goes on past the limit finds a record before it
 pub over-goes-on : {R : Type 0} (remaining : R → Option (List ℕ)) (old new : Records R) (found : Bool)
-    → ReadRecord (limited_remaining remaining) old.reader new.reader found (fields_of new.row) → new.fault ≡ None → AreBytes (fields_of new.row)
+    → ReadsNext remaining old.stage new.stage found (fields_of new.row) → new.fault ≡ None → AreBytes (fields_of new.row)
     → IsOverLimit remaining old → (found ≡ true) × IsOverLimit remaining new
-unfolding Reached
-over-goes-on remaining old new true read going bytes h =
+over-goes-on remaining old new true reads going bytes h =
     let given = h.before ++ mark ∷ h.after in
-    let plain = plain-between (reader_state old.reader) h.between in
-    let more = rows-more (limited_remaining remaining) old.reader new.reader (fields_of new.row) default_config (reader_state old.reader) given given []
-    h.plain h.source (refl, refl) read in
-    let next = only-record (reader_state old.reader) given (fields_of new.row) (reader_state new.reader) more.0 more.2 in
-    let left = marked-some (reader_state old.reader) [] [] h.before h.after (fields_of new.row, reader_state new.reader, more.0) plain next bytes in (
+    let plain = plain-between h.state h.between in
+    let read = reads h.state given h.stands in
+    let next : next_record default_config h.state [] [] given ≡ Some (fields_of new.row, read.0, read.1) = read.2 in
+    let left = marked-some h.state [] [] h.before h.after (fields_of new.row, read.0, read.1) plain next bytes in (
       refl,
-      record {
-        before = left.0;
-        after = h.after;
-        going = going;
-        plain = read.2 ∙ h.plain;
-        between = between-after (reader_state old.reader) [] [] given (fields_of new.row, reader_state new.reader, more.0) plain next;
-        source = more.1 ∙ ap Some left.1;
-      },
+      over-after remaining new read.0 left.0 h.after read.1 going
+          (between-after h.state [] [] given (fields_of new.row, read.0, read.1) plain next) left.1 read.3,
     )
-over-goes-on remaining old new false read going bytes h =
-    absurd (marked-none (reader_state old.reader) [] [] h.before h.after (plain-between (reader_state old.reader) h.between)
-    (rows-end (limited_remaining remaining) old.reader new.reader (fields_of new.row) default_config _ h.plain h.source read))
+over-goes-on remaining old new false reads going bytes h =
+    absurd (marked-none h.state [] [] h.before h.after (plain-between h.state h.between)
+    (reads h.state (h.before ++ mark ∷ h.after) h.stands))
+
+-- bytes that are kept are known as before
+kept-known : (before after : Option (List ℕ)) (given : List ℕ) → Keeps before after → before ≡ Some given → after ≡ Some given
+kept-known None after given h e = cc
+kept-known (Some x) None given h e = absurd h
+kept-known (Some x) (Some y) given h e = ap Some h ∙ e
+
+-- a reader of lines that took none stands where it stood
+pub lines-stand : {R : Type 0} (remaining : R → Option (List ℕ)) (old : Stage R) (before after : Lines R) (state : State) (given : List ℕ)
+    → old ≡ stage.Lines before → Keeps (lines_given remaining before) (lines_given remaining after)
+    → StandsAt remaining old state given → StandsAt remaining (stage.Lines after) state given
+lines-stand remaining old before after state given first kept h =
+    let stands : StandsAt remaining (stage.Lines before) state given = rw first at h in
+    (stands.0, kept-known (lines_given remaining before) (lines_given remaining after) given kept stands.1)
+
+-- where a stage stands as another did, the same records are to come
+pub same-to-come : {R : Type 0} (remaining : R → Option (List ℕ)) (old new : Records R) (rows : List (List (List ℕ)))
+    → ((state : State) (given : List ℕ) → StandsAt remaining old.stage state given → StandsAt remaining new.stage state given)
+    → new.fault ≡ old.fault → ToCome remaining old rows → ToCome remaining new rows
+same-to-come remaining old new rows same fault h = record {
+  text = h.text;
+  given = h.given;
+  state = h.state;
+  going = fault ∙ h.going;
+  between = h.between;
+  stands = same h.state h.given h.stands;
+  gives = h.gives;
+  all = h.all;
+}
+
+-- and the text goes on past the limit as before
+pub same-over : {R : Type 0} (remaining : R → Option (List ℕ)) (old new : Records R)
+    → ((state : State) (given : List ℕ) → StandsAt remaining old.stage state given → StandsAt remaining new.stage state given)
+    → new.fault ≡ old.fault → IsOverLimit remaining old → IsOverLimit remaining new
+same-over remaining old new same fault h = record {
+  before = h.before;
+  after = h.after;
+  state = h.state;
+  going = fault ∙ h.going;
+  between = h.between;
+  stands = same h.state (h.before ++ mark ∷ h.after) h.stands;
+}
+
+-- what a fact of an answer yields
+pub IfOk-map : {T E : Type 0} (result : Result T E) (P Q : T → Type 0) → ((x : T) → P x → Q x) → IfOk result P → IfOk result Q
+IfOk-map (Ok x) P Q f h = f x h
+IfOk-map (Err e) P Q f h = tt
 
 -- a test of a header row
 no-headers : (headers : Option Headers) → is_none headers ≡ true → headers ≡ None
@@ -155,7 +272,7 @@ no-headers None e = refl
 no-headers (Some headers) e = cc
 
 -- the next read of a reader that is set up is of one record
-pub set-up-ready : {R : Type 0} (reader : Reader R) → IsSetUp reader → Ready reader
+pub set-up-ready : {R : Type 0} (reader : Reader R) → ReadsWhatStands reader → Ready reader
 set-up-ready reader h = by (took_first reader) refl
   where
     by : (b : Bool) → took_first reader ≡ b → Ready reader

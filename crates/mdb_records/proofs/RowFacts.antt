@@ -1,10 +1,10 @@
 -- The records that are still to come, one after the other.
-use Rattle.std.proofs.Common.{◌≡◌, ◌≤◌, ◌<◌, ◌+◌, inl, inr, ℕ, zero, suc, List, [], ◌∷◌, ◌++◌, length, Option, Some, None, true, false, refl, ap, subst, arith, ◌∙◌}
+use Rattle.std.proofs.Common.{◌≡◌, ◌≤◌, ◌<◌, ◌+◌, ◌⊎◌, inl, inr, ℕ, zero, suc, List, [], ◌∷◌, ◌++◌, length, Option, Some, None, true, false, refl, ap, subst, arith, ◌∙◌}
 use Rattle.csv.specs.Machine.{Read, ends_at_end, field_after, fields_after, is_end, next_record, step}
 use Rattle.csv.specs.Reading.{AreRecords, Reached, default_config, records, records_from, records_next}
 use Rattle.csv.specs.declared.parser.State.{State}
 use Rattle.csv.specs.declared.parser.State.TheVariants as st
-use Rattle.mdb_records.specs.ToCome.{Gives}
+use Rattle.mdb_records.specs.ToCome.{Gives, HasMark}
 use Rattle.mdb_records.proofs.MarkedRecords.{AreBytes, chosen, cut-some, marked-none, marked-some}
 use Rattle.mdb_records.proofs.StepFacts.{plain-between, step-steps, is_plain}
 
@@ -93,12 +93,25 @@ unfolding Reached
 no-record s text [] e h = refl
 no-record s text (row ∷ rest) e h = cc (h.2.1)
 
+-- the end of a line before a record is skipped
+pub after-line : (text : List ℕ) → next_record default_config st.StartRecord [] [] (10 ∷ text) ≡ next_record default_config st.StartRecord [] [] text
+unfolding next_record
+after-line text = refl
+
+-- so it adds no record to a text
+pub are-records-after_line : (text : List ℕ) (rows : List (List (List ℕ))) → AreRecords default_config st.StartRecord text rows
+    → AreRecords default_config st.StartRecord (10 ∷ text) rows
+unfolding Reached
+are-records-after_line text [] h =
+    (st.StartRecord, 10 ∷ text, (refl, refl), after-line text ∙ rw (h.2.0, h.2.1) h.3)
+are-records-after_line text (row ∷ rest) h = (h.0, h.1, (h.2.0, after-line text ∙ h.2.1, h.2.2, h.2.3), h.3)
+
 -- what the next record of a text leaves, where a part of the text was given
 pub record Follows (s : State) (text given : List ℕ) (p : Read) (rows : List (List (List ℕ))) : Type 0 where
   pub rest : List (List (List ℕ))
   pub left : List ℕ
   pub first : rows ≡ p.0 ∷ rest
-  pub gives : Gives left p.2
+  pub gives : (p.2 ≡ left) ⊎ HasMark left p.2
   pub between : ends_at_end p.1 ≡ false
   pub all : AreRecords default_config p.1 left rest
 
@@ -115,7 +128,7 @@ gives-some s text given p rows h between bytes e all =
       | inr (inl m) ↦
           let found = marked-some s [] [] m.0 m.1 p plain (rw m.3 at e) bytes in
           let step = first-record s text (p.0, p.1, found.0 ++ m.1) rows (rw m.2 found.2) all in
-          record { rest = step.0; left = found.0 ++ m.1; first = step.1; gives = inr (inl (found.0, m.1, refl, found.1)); between = after; all = step.2 }
+          record { rest = step.0; left = found.0 ++ m.1; first = step.1; gives = inr (found.0, m.1, refl, found.1); between = after; all = step.2 }
       | inr (inr m) ↦ absurd (cut-some s [] [] m.0 m.1 p plain m.2 (rw m.3 at e) bytes)
     ]
 

@@ -91,21 +91,22 @@ inside-after_copy st.AfterCr e = refl
 apart : (c n : ℕ) → n < c → (c == n) ≡ false
 apart c n h = grind (arith, nat_tests)
 
+-- a byte that is no comma, no quote and no end of a line joins the field at hand
+pub step-other : (s : State) (c : ℕ) → (c == 44) ≡ false → (c == 34) ≡ false → (c == 13) ≡ false → (c == 10) ≡ false
+    → is_plain s ≡ true → step default_config s c ≡ (after_copy s, act.Copy)
+step-other st.StartRecord c comma quote cr lf p = rw (cr, lf, quote, comma) refl
+step-other st.StartField c comma quote cr lf p = rw (quote, comma, cr, lf) refl
+step-other st.InField c comma quote cr lf p = rw (comma, cr, lf) refl
+step-other st.InQuoted c comma quote cr lf p = rw quote refl
+step-other st.AfterQuote c comma quote cr lf p = rw (quote, comma, cr, lf) refl
+step-other st.InEscape c comma quote cr lf p = refl
+step-other st.InComment c comma quote cr lf p = cc
+step-other st.AfterCr c comma quote cr lf p = rw (lf, cr, quote, comma) refl
+
 -- bytes above ASCII, and the mark, join the field at hand
 pub step-copy : (s : State) (c : ℕ) → 128 ≤ c → is_plain s ≡ true → step default_config s c ≡ (after_copy s, act.Copy)
 step-copy s c h e =
-    by s e (apart c 44 (omega arith)) (apart c 34 (omega arith)) (apart c 13 (omega arith)) (apart c 10 (omega arith))
-  where
-    by : (t : State) → is_plain t ≡ true → (c == 44) ≡ false → (c == 34) ≡ false → (c == 13) ≡ false → (c == 10) ≡ false
-        → step default_config t c ≡ (after_copy t, act.Copy)
-    by st.StartRecord p comma quote cr lf = rw (cr, lf, quote, comma) refl
-    by st.StartField p comma quote cr lf = rw (quote, comma, cr, lf) refl
-    by st.InField p comma quote cr lf = rw (comma, cr, lf) refl
-    by st.InQuoted p comma quote cr lf = rw quote refl
-    by st.AfterQuote p comma quote cr lf = rw (quote, comma, cr, lf) refl
-    by st.InEscape p comma quote cr lf = refl
-    by st.InComment p comma quote cr lf = cc
-    by st.AfterCr p comma quote cr lf = rw (lf, cr, quote, comma) refl
+    step-other s c (apart c 44 (omega arith)) (apart c 34 (omega arith)) (apart c 13 (omega arith)) (apart c 10 (omega arith)) e
 
 -- what a state and an action after one byte keep: the settings' states, a record that has begun, and its end
 abbrev pub Steps : Bool → State → Action → Type 0

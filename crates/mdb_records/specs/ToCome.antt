@@ -1,16 +1,13 @@
 -- Which records are still to come from a reader of records.
-use Rattle.std.specs.Prelude.{◌≡◌, ◌≤◌, ◌++◌, ◌-◌, ◌⊎◌, Bool, true, false, ℕ, List, [], ◌∷◌, Option, Some, None, IsSome, All}
+use Rattle.std.specs.Prelude.{◌≡◌, ◌≤◌, ◌++◌, ◌⊎◌, Bool, true, false, ℕ, List, [], ◌∷◌, Option, None, All}
 use Rattle.csv.specs.Machine.{ends_at_end}
-use Rattle.csv.specs.Reading.{AreRecords, default_config, reader_config, reader_source, reader_state, source_of}
+use Rattle.csv.specs.Reading.{AreRecords, default_config}
 use Rattle.csv.specs.Records.{fields_of}
-use Rattle.mdb_records.specs.Mark.{given_of, mark}
+use Rattle.csv.specs.declared.parser.State.{State}
+use Rattle.mdb_records.specs.Mark.{mark}
+use Rattle.mdb_records.specs.Stage.{IsPastIn, StandsAt, given_in, limit_in, source_in}
 use Rattle.mdb_records.specs.declared.ReadFault.{ReadFault}
 use Rattle.mdb_records.specs.declared.Records.{Records}
-use Rattle.mdb_records.specs.declared.limited.Limited.{Limited}
-
--- the bytes that a limited reader has left, by those of the reader that it limits
-abbrev pub limited_remaining : {R : Type 0} → (R → Option (List ℕ)) → Limited R → Option (List ℕ)
-limited_remaining remaining limited = given_of (remaining limited.inner) limited.left limited.held
 
 -- the mark stands somewhere in the text
 abbrev pub HasMark : List ℕ → List ℕ → Type 0
@@ -33,27 +30,28 @@ pub record ToCome {R : Type 0} (remaining : R → Option (List ℕ)) (value : Re
     (rows : List (List (List ℕ))) : Type 0 where
   pub text : List ℕ
   pub given : List ℕ
+  pub state : State
   pub going : value.fault ≡ None
-  pub plain : reader_config value.reader ≡ default_config
-  pub between : ends_at_end (reader_state value.reader) ≡ false
-  pub source : source_of (limited_remaining remaining) value.reader ≡ Some given
+  pub between : ends_at_end state ≡ false
+  pub stands : StandsAt remaining value.stage state given
   pub gives : Gives text given
-  pub all : AreRecords default_config (reader_state value.reader) text rows
+  pub all : AreRecords default_config state text rows
 
 -- the text that is left goes on past the limit
 pub record IsOverLimit {R : Type 0} (remaining : R → Option (List ℕ)) (value : Records R)
     : Type 0 where
   pub before : List ℕ
   pub after : List ℕ
+  pub state : State
   pub going : value.fault ≡ None
-  pub plain : reader_config value.reader ≡ default_config
-  pub between : ends_at_end (reader_state value.reader) ≡ false
-  pub source : source_of (limited_remaining remaining) value.reader ≡ Some (before ++ mark ∷ after)
+  pub between : ends_at_end state ≡ false
+  pub stands : StandsAt remaining value.stage state (before ++ mark ∷ after)
 
 -- this is the text that is left, past a byte order mark, and the limit cuts nothing from it
 pub record IsUncut {R : Type 0} (remaining : R → Option (List ℕ)) (value : Records R)
     (text : List ℕ) : Type 0 where
-  pub source : source_of (limited_remaining remaining) value.reader ≡ Some text
+  pub state : State
+  pub stands : StandsAt remaining value.stage state text
 
 -- the fields of the record that was read last
 abbrev pub current_fields : {R : Type 0} → Records R → List (List ℕ)
@@ -65,15 +63,15 @@ fault_of value = value.fault
 
 -- the most bytes of the text that are given
 abbrev pub limit_of : {R : Type 0} → Records R → ℕ
-limit_of value = (reader_source value.reader).limit
+limit_of value = limit_in (source_in value.stage)
 
 -- how many bytes of the text were given
 abbrev pub given_by : {R : Type 0} → Records R → ℕ
-given_by value = (reader_source value.reader).limit - (reader_source value.reader).left
+given_by value = given_in (source_in value.stage)
 
 -- a byte of the text past the limit was read
 abbrev pub IsPastLimit : {R : Type 0} → Records R → Type 0
-IsPastLimit value = IsSome (reader_source value.reader).held
+IsPastLimit value = IsPastIn (source_in value.stage)
 
 -- a read that found the next of the records to come, and one that found that there is none
 abbrev pub Advances : {R : Type 0} → (R → Option (List ℕ)) → Records R → Bool

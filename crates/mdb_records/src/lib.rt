@@ -3,20 +3,28 @@
 //! A text that is longer than the limit is an error, and never looks like the end of the text. So
 //! each record that [`Records`] returns is a record of the whole text, and the end is the end of
 //! the whole text.
+//!
+//! Records without quotes on lines that end in LF are cut at their commas, line by line. From the
+//! first other one on `csv` reads the text. What is read is the same: what `csv` reads of it.
 #![tactic(auto)]
 
 ghost use Rattle.std.specs.Prelude.{◌≡◌, ◌<◌, ◌≤◌, ◌+◌, ◌-◌, ◌^◌, ◌↔◌, ◌⊎◌, min, ℕ, All, List, [], None, length, true, IfErr, IfOk, OnOk, IfSome, IsSome, IsTrue, Some, Err, if◌then◌else◌};
-ghost use Rattle.csv.specs.Reading.{default_config, error_kind, is_io, records, stops_reader, strip_bom};
+ghost use Rattle.csv.specs.Reading.{default_config, records, strip_bom};
 ghost use Rattle.csv.specs.Records.{fields_of, partial_of};
 ghost use Rattle.mdb_records.specs.SetUp.{IsSetUp};
 
 mod limited;
+mod lines;
+mod plain;
+mod stage;
 
-use csv::{ByteRecord, ErrorKind, Reader, ReaderBuilder};
+use csv::ByteRecord;
 use limited::Limited;
+use lines::Lines;
+use stage::Stage;
 use std::alloc::Global;
-use std::io;
 use std::io::Read;
+use std::{io, mem};
 
 // For so many bytes of a record there is room from the start. A longer one makes room itself.
 const ROW_BYTES: usize = 64;
@@ -47,12 +55,13 @@ pub enum ReadCause {
 /// The records of the rest of a reader's text, one after the other.
 #[derive(Drop)]
 pub struct Records<R> {
-    reader: Reader<Limited<R>>,
+    alloc: Global,
+    stage: Stage<R>,
     // The record that was read last, whose memory the next one uses again.
     row: ByteRecord,
     // The fault that ended the reading.
     fault: Option<ReadFault>,
-    ghost set_up: { fault ≡ None → IsSetUp reader },
+    ghost set_up: { fault ≡ None → IsSetUp stage },
 }
 
 impl<R: Read + Drop> Records<R> {
@@ -79,10 +88,8 @@ impl<R: Read + Drop> Records<R> {
         ensures fresh { given_by result ≡ 0 }
     {
         Records {
-            reader: ReaderBuilder::new()
-                .has_headers(false)
-                .flexible(true)
-                .from_reader(alloc, Limited::new(reader, limit)),
+            alloc,
+            stage: Stage::Lines(Lines::new(Limited::new(reader, limit))),
             row: empty_row(alloc),
             fault: None,
         }
@@ -108,13 +115,52 @@ impl<R: Read + Drop> Records<R> {
         if let Some(fault) = self.fault {
             return Err(fault);
         }
-        match self.reader.read_byte_record(&mut self.row) {
+        if let Stage::Lines(lines) = &mut self.stage {
+            match lines.advance(&mut self.row) {
+                Ok(Some(found)) => {
+                    see_bytes(self.row.as_slice());
+                    return Ok(found);
+                }
+                Ok(None) => self.hand_over(),
+                Err(fault) => {
+                    self.fault = Some(fault);
+                    return Err(fault);
+                }
+            }
+        }
+        self.advance_by_csv()
+    }
+
+    // Lets `csv` read what is left.
+    #[cold]
+    #[inline(never)]
+    fn hand_over(&mut self)
+        ensures next { (rows : List (List (List ℕ))) → ToCome R.remaining self.old rows
+            → ToCome R.remaining self.new rows }
+        ensures endless { IsOverLimit R.remaining self.old → IsOverLimit R.remaining self.new }
+        ensures fault { fault_of self.new ≡ fault_of self.old }
+    {
+        let stage = mem::replace(&mut self.stage, Stage::Between);
+        self.stage = stage.handed_over(self.alloc);
+    }
+
+    // The next record, as `csv` reads it.
+    #[inline(never)]
+    fn advance_by_csv(&mut self) -> Result<bool, ReadFault>
+        requires { fault_of self.old ≡ None }
+        ensures next { IfOk result (λ found. (rows : List (List (List ℕ))) →
+            ToCome R.remaining self.old rows → Advances R.remaining self.new found rows) }
+        ensures endless { IfOk result (λ found.
+            IsOverLimit R.remaining self.old → (found ≡ true) × IsOverLimit R.remaining self.new) }
+        ensures failed { IfErr result (λ fault. fault_of self.new ≡ Some fault) }
+        ensures fine { OnOk result (fault_of self.new ≡ None) }
+    {
+        match self.stage.read_by_csv(&mut self.row) {
             Ok(found) => {
                 see_bytes(self.row.as_slice());
                 Ok(found)
             }
-            Err(e) => {
-                let fault = fault_by(e);
+            Err(fault) => {
                 self.fault = Some(fault);
                 Err(fault)
             }
@@ -128,7 +174,9 @@ impl<R: Read + Drop> Records<R> {
         ensures over { result ≡ ReadCause.OverLimit ↔ IsPastLimit self.now }
         ensures blocked { result ≡ ReadCause.WouldBlock ↔ HasBlocked self.now }
     {
-        let source = self.reader.get_ref();
+        let Some(source) = self.stage.source() else {
+            return ReadCause::Failed;
+        };
         if source.is_past() {
             return ReadCause::OverLimit;
         }
@@ -146,8 +194,11 @@ impl<R: Read + Drop> Records<R> {
         ensures within { result ≡ given_by self.now ⊎ IsPastLimit self.now }
         ensures past { IsPastLimit self.now → result ≡ min (limit_of self.now + 1) (2 ^ 64 - 1) }
     {
-        let given = self.reader.get_ref().given();
-        if self.reader.get_ref().is_past() {
+        let Some(source) = self.stage.source() else {
+            return 0;
+        };
+        let given = source.given();
+        if source.is_past() {
             given.saturating_add(1)
         } else {
             given
@@ -160,8 +211,7 @@ impl<R: Read + Drop> Records<R> {
     pub fn bytes_ahead(&self) -> u64
         ensures { result ≤ given_by self.now }
     {
-        let given = self.reader.get_ref().given();
-        given.saturating_sub(self.reader.position().byte())
+        self.stage.bytes_ahead()
     }
 
     /// The record that the last `advance` read, field by field.
@@ -189,15 +239,3 @@ fn empty_row(alloc: Global) -> ByteRecord
 fn see_bytes(_bytes: &[u8])
     ensures { All (λ b. b < 256) _bytes.now }
 {}
-
-// The fault that csv's error is, where it ends the reading.
-fn fault_by(error: csv::Error) -> ReadFault
-    requires { stops_reader (error_kind error) ≡ true }
-    ensures { result ≡ (if is_io (error_kind error) then ReadFault.Read else ReadFault.Memory) }
-{
-    match error.into_kind() {
-        ErrorKind::Io(_) => ReadFault::Read,
-        ErrorKind::OutOfMemory => ReadFault::Memory,
-        _ => unreachable!(),
-    }
-}

@@ -1,14 +1,44 @@
+use Rattle.std.proofs.Common.{refl}
 use Rattle.mdb_records.proofs.Records.advance.Goals as goal
-use Rattle.mdb_records.proofs.ReadingFacts.{AreBytes-fields, goes-on, over-goes-on, set-up-ready}
+use Rattle.mdb_records.proofs.Records.advance.Goals.{in-Lines+in-Ok-None, in_default-stage}
+use Rattle.mdb_records.proofs.ReadingFacts.{AreBytes-fields, IfOk-map, goes-on, line-reads, lines-stand, over-goes-on, same-over, same-to-come}
 
-pub returns-in-Ok-clause-next : goal.returns-in-Ok-clause-next
-returns-in-Ok-clause-next g c = λ rows h.
-    let set_up = c.args.self.now.set_up h.going in
-    goes-on g.R.Read.remaining c.args.self.now _ c.in-Ok.found rows (c.in-Ok.ensures.reads set_up.untrimmed (set-up-ready c.args.self.now.reader set_up)) h.going
-    (AreBytes-fields _ _ c.as_slice.ensures c.see_bytes.ensures) h
+pub returns-in-Ok-Some-clause-next : goal.returns-in-Ok-Some-clause-next
+returns-in-Ok-Some-clause-next g c = rw c.in-Ok-Some.found-is (λ rows h.
+    let told = rw c.in-Ok-Some.field-0-is at c.in-Ok-Some.ensures in
+    goes-on g.R.Read.remaining c.args.self.now _ c.in-Ok-Some.found rows
+    (rw c.in-Lines.is (line-reads g.R.Read.remaining c.in-Lines.lines c.advance.new.self c.in-Ok-Some.found _ told)) h.going
+    (AreBytes-fields _ _ c.as_slice.ensures c.see_bytes.ensures) h)
 
-pub returns-in-Ok-clause-endless : goal.returns-in-Ok-clause-endless
-returns-in-Ok-clause-endless g c = λ h.
-    let set_up = c.args.self.now.set_up h.going in
-    over-goes-on g.R.Read.remaining c.args.self.now _ c.in-Ok.found (c.in-Ok.ensures.reads set_up.untrimmed (set-up-ready c.args.self.now.reader set_up)) h.going
-    (AreBytes-fields _ _ c.as_slice.ensures c.see_bytes.ensures) h
+pub returns-in-Ok-Some-clause-endless : goal.returns-in-Ok-Some-clause-endless
+returns-in-Ok-Some-clause-endless g c = rw c.in-Ok-Some.found-is (λ h.
+    let told = rw c.in-Ok-Some.field-0-is at c.in-Ok-Some.ensures in
+    over-goes-on g.R.Read.remaining c.args.self.now _ c.in-Ok-Some.found
+    (rw c.in-Lines.is (line-reads g.R.Read.remaining c.in-Lines.lines c.advance.new.self c.in-Ok-Some.found _ told)) h.going
+    (AreBytes-fields _ _ c.as_slice.ensures c.see_bytes.ensures) h)
+
+pub returns-clause-next : goal.returns-clause-next
+returns-clause-next g c = elim c.match-self-2.branch [
+  | in-Lines+in-Ok-None w ↦
+      let kept = rw w.in-Ok-None.field-0-is at w.in-Ok-None.ensures in
+      IfOk-map c.advance_by_csv.result _ _ (λ found f rows h. f rows (rw w.self-is (w.hand_over.ensures.next rows
+      (same-to-come g.R.Read.remaining c.args.self.now _ rows
+      (λ state given. lines-stand g.R.Read.remaining c.args.self.now.stage w.in-Lines.lines w.advance.new.self state given w.in-Lines.is kept) refl h))))
+      c.advance_by_csv.ensures.next
+  | in_default-stage w ↦
+      IfOk-map c.advance_by_csv.result _ _ (λ found f rows h. f rows (rw w.self-is
+      (same-to-come g.R.Read.remaining c.args.self.now _ rows (λ state given stands. stands) refl h))) c.advance_by_csv.ensures.next
+]
+
+pub returns-clause-endless : goal.returns-clause-endless
+returns-clause-endless g c = elim c.match-self-2.branch [
+  | in-Lines+in-Ok-None w ↦
+      let kept = rw w.in-Ok-None.field-0-is at w.in-Ok-None.ensures in
+      IfOk-map c.advance_by_csv.result _ _ (λ found f h. f (rw w.self-is (w.hand_over.ensures.endless
+      (same-over g.R.Read.remaining c.args.self.now _
+      (λ state given. lines-stand g.R.Read.remaining c.args.self.now.stage w.in-Lines.lines w.advance.new.self state given w.in-Lines.is kept) refl h))))
+      c.advance_by_csv.ensures.endless
+  | in_default-stage w ↦
+      IfOk-map c.advance_by_csv.result _ _ (λ found f h. f (rw w.self-is
+      (same-over g.R.Read.remaining c.args.self.now _ (λ state given stands. stands) refl h))) c.advance_by_csv.ensures.endless
+]

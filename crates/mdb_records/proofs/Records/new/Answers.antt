@@ -1,18 +1,27 @@
-use Rattle.std.proofs.Common.{refl}
-use Rattle.mdb_records.proofs.Records.new.Goals as goal
+use Rattle.std.proofs.Common.{◌≡◌, None, refl}
+use Rattle.std.specs.Prelude.{option_map}
+use Rattle.csv.specs.Reading.{strip_bom}
+use Rattle.mdb_records.specs.Lines.{lines_given}
+use Rattle.mdb_records.specs.Mark.{given_of}
+use Rattle.mdb_records.proofs.LineFacts.{gives-below}
 use Rattle.mdb_records.proofs.ReadingFacts.{new-over, new-to-come, new-within}
+use Rattle.mdb_records.proofs.Records.new.Goals as goal
+
+-- what the new reader of lines is given
+given : (g : _) (c : goal.After-result-1 g) → lines_given g.R.Read.remaining c.new-2.result
+    ≡ option_map strip_bom (given_of (g.R.Read.remaining c.args.reader) c.args.limit None)
+given g c =
+    let e = c.new-2.ensures in
+    rw (e.begun, e.unread, e.source, c.new.ensures.inner, c.new.ensures.left, c.new.ensures.held, gives-below (given_of (g.R.Read.remaining c.args.reader) c.args.limit None)) refl
 
 pub returns-clause-records : goal.returns-clause-records
 returns-clause-records g c =
-    new-to-come g.R.Read.remaining _ c.args.limit (g.R.Read.remaining c.args.reader) refl (cc) (cc)
-    (rw (c.new-2.ensures.inner, c.new-2.ensures.left, c.new-2.ensures.held) at c.from_reader.ensures.source)
+    new-to-come g.R.Read.remaining _ c.new-2.result c.args.limit (g.R.Read.remaining c.args.reader) refl refl (given g c)
 
 pub returns-clause-over : goal.returns-clause-over
 returns-clause-over g c =
-    new-over g.R.Read.remaining _ c.args.limit (g.R.Read.remaining c.args.reader) refl (cc) (cc)
-    (rw (c.new-2.ensures.inner, c.new-2.ensures.left, c.new-2.ensures.held) at c.from_reader.ensures.source)
+    new-over g.R.Read.remaining _ c.new-2.result c.args.limit (g.R.Read.remaining c.args.reader) refl refl (given g c)
 
 pub returns-clause-within : goal.returns-clause-within
 returns-clause-within g c =
-    new-within g.R.Read.remaining _ c.args.limit (g.R.Read.remaining c.args.reader)
-    (rw (c.new-2.ensures.inner, c.new-2.ensures.left, c.new-2.ensures.held) at c.from_reader.ensures.source)
+    new-within g.R.Read.remaining _ c.new-2.result c.args.limit (g.R.Read.remaining c.args.reader) refl (given g c)

@@ -1,0 +1,12 @@
+use Rattle.std.proofs.Common.{◌≡◌, ◌-◌, ◌∙◌, sym}
+use Rattle.mdb_records.specs.Lines.{limited_remaining}
+use Rattle.mdb_records.proofs.LineFacts.{ends-text, keeps-on}
+use Rattle.mdb_records.proofs.lines.Lines.advance_by_reading.Goals as goal
+
+pub returns-then-is_end : goal.returns-then-is_end
+returns-then-is_end g c =
+    let lines = c.fill.new.self in
+    let none : lines.filled - lines.at ≡ 0 = sym c.unread_count-is_end.ensures ∙ c.if-is_end.true in
+    let kept = keeps-on _ _ _ c.reads.invariant c.in_ok-fill.ensures.keeps in
+    ends-text lines.begun _ (limited_remaining g.R.Read.remaining lines.source) (c.in_ok-fill.ensures.end c.if-branch-eq0.true)
+    (rw none at kept)

@@ -1,0 +1,208 @@
+// The bytes of a reader, from which records are taken that stand on a line of their own.
+
+ghost use Rattle.std.specs.Prelude.{◌≡◌, ◌≤◌, ◌<◌, ◌-◌, ◌+◌, ◌++◌, ◌∷◌, [], false, length, take, drop, IfOk, IfErr, OnOk, IsFalse};
+ghost use Rattle.std.specs.Io.{ReadsAtMost};
+ghost use Rattle.std.specs.Io.KnownBytes.{IsAtEnd, Keeps, ReadConsumes};
+ghost use Rattle.csv.specs.Records.{fields_of};
+ghost use Rattle.mdb_records.specs.Plain.{BeginsLow};
+
+use super::ReadFault;
+use super::limited::Limited;
+use super::plain::{Front, plain_record};
+use csv::ByteRecord;
+use std::io::{Read, Result as IoResult};
+
+// As many bytes as `csv` asks for at once.
+const BUFFER: usize = 8192;
+
+/// What the bytes that were read begin with.
+#[derive(Clone, Copy)]
+enum Step {
+    /// A record on a line of its own, which was taken.
+    Record,
+    /// The front of a line, whose end was not read yet, or nothing.
+    Unended,
+    /// What only csv reads.
+    Other,
+}
+
+/// The bytes that a limited reader gives. Its first records may be taken line by line, as long as
+/// no field is quoted and each line ends in LF alone. What is left is read as any reader's.
+#[derive(Drop)]
+pub(crate) struct Lines<R> {
+    source: Limited<R>,
+    buffer: [u8; BUFFER],
+    // What was read and not yet taken stands from here ..
+    at: usize,
+    // .. up to here.
+    filled: usize,
+    // A line was taken, whose end is still to be read before the rest.
+    begun: bool,
+    ghost rise: { at ≤ filled },
+    ghost fits: { filled ≤ 8192 },
+}
+
+impl<R> Lines<R> {
+    ghost use Rattle.mdb_records.specs.Lines.{unread};
+
+    /// The bytes of `source`.
+    pub(crate) fn new(source: Limited<R>) -> Lines<R>
+        ensures source { result.source ≡ source }
+        ensures unread { unread result ≡ [] }
+        ensures begun { result.begun ≡ false }
+    {
+        Lines {
+            source,
+            buffer: [0; BUFFER],
+            at: 0,
+            filled: 0,
+            begun: false,
+        }
+    }
+
+    /// The reader underneath.
+    pub(crate) fn source(&self) -> &Limited<R>
+        ensures { result.now ≡ self.now.source }
+    {
+        &self.source
+    }
+
+    /// How many bytes were read and not yet taken.
+    #[inline(always)]
+    pub(crate) fn unread_count(&self) -> usize
+        ensures { result ≡ self.now.filled - self.now.at }
+    {
+        self.filled - self.at
+    }
+
+    // Moves what is unread to the front of the buffer.
+    fn move_to_front(&mut self)
+        ensures unread { unread self.new ≡ unread self.old }
+        ensures at { self.new.at ≡ 0 }
+        ensures filled { self.new.filled ≡ self.old.filled - self.old.at }
+        ensures source { self.new.source ≡ self.old.source }
+        ensures begun { self.new.begun ≡ self.old.begun }
+        ensures fits { self.new.filled ≤ length self.new.buffer }
+    {
+        self.buffer.copy_within(self.at..self.filled, 0);
+        self.filled -= self.at;
+        self.at = 0;
+    }
+}
+
+// Whether a text begins with a byte above ASCII, as a byte order mark does.
+fn begins_high(text: &[u8]) -> bool
+    ensures { IsFalse result → BeginsLow text.now }
+{
+    !text.is_empty() && text[0] >= 128
+}
+
+impl<R: Read> Lines<R> {
+    ghost use Rattle.mdb_records.specs.Lines.{Steps, Tells, limited_remaining, lines_given};
+
+    /// Reads the next record into `row` and takes it, if it stands on a line of its own, and
+    /// answers whether there is one. It answers `None` where only csv can tell. Nothing is said of
+    /// what is left after a fault.
+    #[inline(always)]
+    pub(crate) fn advance(&mut self, row: &mut ByteRecord) -> Result<Option<bool>, ReadFault>
+        ensures { IfOk result (λ told. Tells told (lines_given R.remaining self.old)
+            (lines_given R.remaining self.new) (fields_of row.new)) }
+    {
+        match self.take(row)? {
+            Step::Record => Ok(Some(true)),
+            Step::Unended => self.advance_by_reading(row),
+            Step::Other => Ok(None),
+        }
+    }
+
+    // Takes the record that the bytes that were read begin with, if it is there whole.
+    #[inline(always)]
+    fn take(&mut self, row: &mut ByteRecord) -> Result<Step, ReadFault>
+        ensures { IfOk result (λ step. Steps step (lines_given R.remaining self.old)
+            (lines_given R.remaining self.new) (fields_of row.new)) }
+    {
+        let text = &self.buffer[self.at..self.filled];
+        if !self.begun && begins_high(text) {
+            return Ok(Step::Other);
+        }
+        match plain_record(text, row) {
+            Ok(Front::Line(count)) => {
+                self.at += count;
+                self.begun = true;
+                Ok(Step::Record)
+            }
+            Ok(Front::Unended) => Ok(Step::Unended),
+            Ok(Front::Other) => Ok(Step::Other),
+            Err(_) => Err(ReadFault::Memory),
+        }
+    }
+
+    // The next record, where more has to be read first.
+    #[inline(never)]
+    fn advance_by_reading(&mut self, row: &mut ByteRecord) -> Result<Option<bool>, ReadFault>
+        ensures { IfOk result (λ told. Tells told (lines_given R.remaining self.old)
+            (lines_given R.remaining self.new) (fields_of row.new)) }
+    {
+        'reads: for _ in 0..BUFFER {
+            if self.unread_count() == BUFFER {
+                return Ok(None);
+            }
+            if self.fill()? == 0 {
+                let is_end = self.unread_count() == 0;
+                return Ok(if is_end { Some(false) } else { None });
+            }
+            match self.take(row)? {
+                Step::Record => return Ok(Some(true)),
+                Step::Unended => {}
+                Step::Other => return Ok(None),
+            }
+        }
+        Ok(None)
+    }
+
+    // Reads more bytes, and answers how many: none at the end.
+    fn fill(&mut self) -> Result<usize, ReadFault>
+        requires { self.old.filled - self.old.at < BUFFER }
+        ensures keeps { OnOk result
+            (Keeps (lines_given R.remaining self.old) (lines_given R.remaining self.new)) }
+        ensures end { IfOk result (λ count. count ≡ 0
+            → IsAtEnd (limited_remaining R.remaining self.new.source)) }
+    {
+        self.move_to_front();
+        match self.source.read(&mut self.buffer[self.filled..]) {
+            Ok(count) => {
+                self.filled += count;
+                Ok(count)
+            }
+            Err(_) => Err(ReadFault::Read),
+        }
+    }
+}
+
+impl<R: Read> Read for Lines<R> {
+    ghost use Rattle.mdb_records.specs.Lines.{lines_remaining};
+
+    ghost remaining = { λ s. lines_remaining R.remaining s };
+
+    fn read(&mut self, buf: &mut [u8]) -> IoResult<usize>
+        ensures bound { ReadsAtMost result buf.new }
+        ensures bytes { ReadConsumes (lines_remaining R.remaining self.old)
+            (lines_remaining R.remaining self.new) result buf.new }
+    {
+        if buf.is_empty() {
+            return Ok(0);
+        }
+        if self.begun {
+            self.begun = false;
+            buf[0] = b'\n';
+            return Ok(1);
+        }
+        if self.unread_count() == 0 {
+            return self.source.read(buf);
+        }
+        let count = self.unread_count().min(buf.len());
+        buf[..count].copy_from_slice(&self.buffer[self.at..self.at + count]);
+        self.at += count;
+        Ok(count)
+    }
+}
