@@ -48,9 +48,9 @@ abbrev pub reader_place : ReaderUnit → ℕ
 reader_place First = 2
 reader_place Second = 3
 
--- The decimal places of a device are those that it has told in its last setup table, a reader in its
--- last config message, heard or not; where it has told none, those that are known from elsewhere.
--- Both readers have one rule.
+-- The decimal places of a device are those that it has told in its last setup table, a reader in
+-- its last config message, heard or not; where it has told none, those that are known from
+-- elsewhere. Both readers have one rule.
 abbrev pub spec_of : Device → DeviceSpec
 spec_of devices.Changer =
     record {

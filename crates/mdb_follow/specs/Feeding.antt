@@ -8,8 +8,8 @@ use Rattle.mdb_follow.specs.Offences.{IsOffence}
 use Rattle.mdb_follow.specs.Runs.{IsReached}
 use Rattle.mdb_follow.specs.Sales.{SalesFollowApprovals}
 
--- A follower has taken rows. Where it stood for events, it stands for these and the rows after them.
--- Some run reaches them all, and in each of their runs each sale follows its approval.
+-- A follower has taken rows. Where it stood for events, it stands for these and the rows after
+-- them. Some run reaches them all, and in each of their runs each sale follows its approval.
 pub record HasTaken (old new : Follower) (rows : List Event) : Type 0 where
   pub stands : (events : List Event) → StandsFor old events → StandsFor new (events ++ rows)
   pub reached : (events : List Event) → StandsFor old events
@@ -19,7 +19,8 @@ pub record HasTaken (old new : Follower) (rows : List Event) : Type 0 where
   pub counted : rows_of new ≡ rows_of old + length rows
 
 -- A follower has refused a row. Where it stood for events, this is the first row that no run
--- reaches, and of the events it keeps all. Where it had met an offence before, it is the same one.
+-- reaches, and of the events it keeps all. (That an offence which it had met before is met again is
+-- a clause of each way to feed.)
 pub record HasRefused (old new : Follower) (row : Event) (met : Offence) : Type 0 where
   pub offence : (events : List Event) → StandsFor old events
       → IsOffence (scope_of old) events row met

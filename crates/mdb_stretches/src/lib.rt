@@ -1,10 +1,10 @@
 //! The stretches of a recording: what lies between the rows that cannot be.
 //!
 //! A follower stops at the first impossible row. A [`Surveyor`] goes on after it. Feed it the rows
-//! one by one or in slices: at an impossible row it returns the [`Stretch`] that ends there, with its
-//! report, and the fault. The row after the fault begins the next stretch, which is taken as a recording that
-//! begins while the machine was running. It is told what the earlier stretches show of how the
-//! devices are set up.
+//! one by one or in slices: at an impossible row it returns the [`Stretch`] that ends there, with
+//! its report, and the fault. The row after the fault begins the next stretch. That is taken as a
+//! recording that begins while the machine was running. It is told what the earlier stretches show
+//! of how the devices are set up.
 //!
 //! Sums are in the smallest unit of money of their device. This crate allocates nothing.
 #![tactic(auto)]

@@ -1,4 +1,4 @@
-//! The text of an outcome.
+//! The text of an outcome, in memory.
 
 ghost use Rattle.std.specs.Prelude.{◌≡◌, IfOk};
 ghost use Rattle.mdb_bus.specs.Scopes.{power_on};
