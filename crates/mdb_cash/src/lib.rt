@@ -1,9 +1,9 @@
 //! What the changer, the validator and the controller may do, and the money that moves with it.
 //!
-//! [`Changer`] is the [`Pair`](mdb_machine::Pair) of the coin changer, and [`Bill`] that of the bill
-//! validator, as in MDB/ICP 4.3. Both are keepers ([`Keeper`](mdb_machine::keeper::Keeper)): they
-//! keep what they report until they hear its ACK. Sums are in the smallest unit of money. Nothing
-//! here allocates memory.
+//! [`Changer`] is the [`Pair`](mdb_machine::Pair) of the coin changer, and [`Bill`] that of the
+//! bill validator, as in MDB/ICP 4.3. Both are keepers ([`Keeper`](mdb_machine::keeper::Keeper)):
+//! they keep what they report until they hear its ACK. Sums are in the smallest unit of money.
+//! Nothing here allocates memory.
 #![tactic(auto)]
 
 mod bill;

@@ -1,8 +1,8 @@
 //! What a cashless reader and the controller may do, and the money that moves with it.
 //!
-//! [`Reader`] is the [`Pair`](mdb_machine::Pair) of a cashless reader, at 10H or at 60H, as in MDB/ICP
-//! 4.3, cashless device. Amounts in messages are in units of the reader's scale factor. Sums are in
-//! the smallest unit of money. Nothing here allocates memory.
+//! [`Reader`] is the [`Pair`](mdb_machine::Pair) of a cashless reader, at 10H or at 60H, as in
+//! MDB/ICP 4.3, cashless device. Amounts in messages are in units of the reader's scale factor.
+//! Sums are in the smallest unit of money. Nothing here allocates memory.
 #![tactic(auto)]
 
 pub mod laws;

@@ -22,8 +22,8 @@ use mdb_msgs::Device;
 
 /// A device and the controller's dealings with it: its states as codes, its facts, and its steps.
 ///
-/// The facts are a running value. They hold what counts of the acts so far, and don't grow with
-/// their number. Lists of acts are written newest first.
+/// The facts are a running value. They hold what is known of what counts of the acts so far, and
+/// don't grow with their number. Lists of acts are written newest first.
 pub trait Pair {
     /// The number of states. All codes are below it.
     const CODES: usize;
@@ -235,9 +235,8 @@ pub trait Pair {
     }
 
     /// The step that a settled act is by its other choice than the plain one, from the state of a
-    /// code:
-    /// the code after it, and what it adds to the sums. `None` where there is no such step, and
-    /// where no other choice can stand on the act.
+    /// code: the code after it, and what it adds to the sums. `None` where there is no such step,
+    /// and where no other choice can stand on the act.
     final fn other_step(facts: &Self::Facts, act: &Act, code: usize) -> Option<(usize, Gains)>
         requires code { code < CODES }
         requires settled { settled facts.now act.now ≡ true }

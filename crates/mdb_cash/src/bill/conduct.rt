@@ -1,4 +1,5 @@
-//! The steps of the validator and the controller.
+//! What the validator does of its own. The steps of devices that keep messages are in
+//! `mdb_machine`.
 
 ghost use Rattle.std.proofs.Common.{rules};
 ghost use Rattle.mdb_cash.specs.declared.bill.activity.BillActivity.TheVariants.{Stacked};

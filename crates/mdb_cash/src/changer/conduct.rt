@@ -1,4 +1,4 @@
-//! The steps of the changer and the controller.
+//! What the changer does of its own. The steps of devices that keep messages are in `mdb_machine`.
 
 ghost use Rattle.std.proofs.Common.{rules};
 ghost use Rattle.std.specs.Prelude.{◌≡◌, ◌↔◌, IsTrue, Option, Some};
