@@ -41,8 +41,9 @@ AllGo begins acts act choice before after sums_before sums =
 
 -- A way goes on by one act, under a choice that can stand on it: an ACK is one that its receiver
 -- didn't hear exactly where the loss of its rows has it so.
-pub record RunGoesOnBy (begins : Beginning) (loss : Loss) (pieces : List Piece) (act : Act) (count : ℕ)
-    (Before : States → AllSums → Type 0) (states : States) (sums : AllSums) : Type 0 where
+pub record RunGoesOnBy (begins : Beginning) (loss : Loss) (pieces : List Piece) (act : Act)
+    (count : ℕ) (Before : States → AllSums → Type 0) (states : States) (sums : AllSums)
+    : Type 0 where
   pub choice : Choice
   pub stands : CanStand act choice
   pub as_lost : IsAck act

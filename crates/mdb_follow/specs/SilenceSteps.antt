@@ -58,7 +58,8 @@ OneGoesOn further device old new =
 abbrev pub AllGoOn : (Device → List (List TimedAsk) → List (List TimedAsk)) → Silences → Silences
     → Type 0
 AllGoOn further old new =
-    (device : Device) → SilenceGoesOn (further device) (silence_in old device) (silence_in new device)
+    (device : Device)
+    → SilenceGoesOn (further device) (silence_in old device) (silence_in new device)
 
 -- Silences have followed an act whose last word started at a time, with what is known of the two
 -- readers after it.

@@ -170,7 +170,8 @@ pub fn lists_have_one_offence()
 pub fn cuts_change_no_answer()
     ensures whole { (scope : Scope) (earlier : List Event) (slices : List (List Event))
         (answer : Result Report Offence)
-        → AnswersInSlices scope earlier slices answer ↔ AnswersRows scope earlier (joined slices) answer }
+        → AnswersInSlices scope earlier slices answer
+        ↔ AnswersRows scope earlier (joined slices) answer }
     ensures alike { (scope : Scope) (earlier : List Event) (one other : List (List Event))
         (a b : Result Report Offence) → joined one ≡ joined other
         → AnswersInSlices scope earlier one a → AnswersInSlices scope earlier other b → a ≡ b }

@@ -274,7 +274,8 @@ fn take_in<const N: usize>(
     requires few { before.now.marks < 2 ^ 63 }
     requires chain { IsChain chains.old.links.items before.now.chain }
     ensures takes { IfOk result (λ _. TakesIn
-        (LinksGoOnFrom chains.old.links.items chains.new.links.items before.now row choice code value)
+        (LinksGoOnFrom chains.old.links.items chains.new.links.items before.now row choice code
+        value)
         room.old.entries.items room.new.entries.items) }
     ensures has { IfOk result (λ _. HasAsGood room.new.entries.items code value
         (before.now.marks + length (marks_at row choice))) }
