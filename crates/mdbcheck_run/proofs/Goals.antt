@@ -3,11 +3,7 @@ use Rattle.std.proofs.Common.{ap, refl, sym, ◌∙◌, ◌≡◌, List, [], ◌
 use Rattle.std.specs.Prelude.{if◌then◌else◌, slice_get, unwrap_or}
 use Rattle.std.specs.Str.{bytes_eq}
 use Rattle.clap.specs.Walk.{Text}
-use Rattle.mdb_msgs.specs.declared.command.ReaderUnit.TheVariants.{First, Second}
-use Rattle.mdb_follow.specs.AccountNames.{account_word}
 use Rattle.mdb_follow.specs.declared.account_name.AccountName.{AccountName}
-use Rattle.mdb_follow.specs.declared.account_name.AccountName.TheVariants.{CoinsIn, BillsIn}
-use Rattle.mdb_follow.specs.declared.account_name.AccountName.TheVariants.{PaidOut, Approved, Sold}
 use Rattle.mdb_follow.specs.declared.goal.AccountSide.{AccountSide}
 use Rattle.mdb_follow.specs.declared.goal.AccountSide.TheVariants as side
 use Rattle.mdb_follow.specs.declared.goal.Bound.{Bound}
@@ -16,29 +12,9 @@ use Rattle.mdb_follow.specs.declared.goal.Goal.{Goal}
 use Rattle.mdb_text.specs.Accounts.{side_word}
 use Rattle.mdb_explain.specs.Explain.{bound_word, goal_words}
 use Rattle.mdbcheck_run.specs.Program.{AskForGoal}
+use Rattle.mdbcheck_run.proofs.GoalWords.{one_account}
 
--- each is told by its word, so no two accounts have the same, no two sides, and no two ends of a
--- range
-account_in : Text → AccountName
-account_in word =
-    if bytes_eq word (codes "coins-in") then CoinsIn
-    else if bytes_eq word (codes "bills-in") then BillsIn
-    else if bytes_eq word (codes "paid-out") then PaidOut
-    else if bytes_eq word (codes "approved") then Approved First
-    else if bytes_eq word (codes "sold") then Sold First
-    else if bytes_eq word (codes "approved-2") then Approved Second
-    else Sold Second
-
-account_told : (account : AccountName) → account_in (account_word account) ≡ account
-unfolding account_in
-account_told CoinsIn = refl
-account_told BillsIn = refl
-account_told PaidOut = refl
-account_told (Approved First) = refl
-account_told (Sold First) = refl
-account_told (Approved Second) = refl
-account_told (Sold Second) = refl
-
+-- each is told by its word, so no two sides have the same, and no two ends of a range
 side_in : Text → AccountSide
 side_in word =
     if bytes_eq word (codes "device") then side.Device else if bytes_eq word (codes "controller")
@@ -57,9 +33,6 @@ bound_told : (bound : Bound) → bound_in (bound_word bound) ≡ bound
 unfolding bound_in
 bound_told Least = refl
 bound_told Greatest = refl
-
-one_account : (a b : AccountName) → account_word a ≡ account_word b → a ≡ b
-one_account a b same = sym (account_told a) ∙ ap account_in same ∙ account_told b
 
 one_side : (a b : AccountSide) → side_word a ≡ side_word b → a ≡ b
 one_side a b same = sym (side_told a) ∙ ap side_in same ∙ side_told b

@@ -8,6 +8,7 @@ use super::refusal::{Refusal, SetupFault};
 use super::setup_value::setups_of;
 use clap::error::ErrorKind;
 use command_words::{Named, row_of, tell_fault, tell_refused};
+use mdb_follow::AccountName;
 use mdb_msgs::Device;
 use mdb_verdict::RunFault;
 use mdb_writing::Excerpt;
@@ -46,11 +47,7 @@ impl fmt::Display for Fault<'_> {
                     "--without \"{word}\" isn't changer, bill, cashless, cashless-2"
                 )
             }
-            Fault::Account(word) => {
-                let word = Excerpt::of_word(word);
-                write!(f, "ACCOUNT \"{word}\" isn't coins-in, bills-in, paid-out, ")?;
-                f.write_str("approved, sold, approved-2, sold-2")
-            }
+            Fault::Account(word) => tell_no_account(f, word),
             Fault::Side(word) => {
                 let word = Excerpt::of_word(word);
                 write!(f, "SIDE \"{word}\" isn't device, controller or difference")
@@ -68,6 +65,18 @@ impl fmt::Display for Fault<'_> {
             Fault::Other(kind) => write!(f, "{kind}"),
         }
     }
+}
+
+/// Writes that a word is no account's, and the words of all accounts.
+fn tell_no_account<W: fmt::Write>(f: &mut fmt::Formatter<W>, word: &str) -> fmt::Result {
+    write!(f, "ACCOUNT \"{}\" isn't ", Excerpt::of_word(word))?;
+    for account in AccountName::ALL {
+        if account.place() > 0 {
+            f.write_str(", ")?;
+        }
+        f.write_str(account.word())?;
+    }
+    Ok(())
 }
 
 /// Writes the line on words that are refused. They are read once more to see which word it is.
