@@ -12,11 +12,13 @@ use Rattle.mdb_cashless.specs.declared.reader.device.DeviceState.{DeviceState}
 use Rattle.mdb_msgs.specs.declared.setups.ReaderConfig.{ReaderConfig}
 use Rattle.mdb_cashless.specs.declared.reader.messages.ReaderActivity.{ReaderActivity}
 use Rattle.mdb_cashless.specs.declared.reader.state.ReaderState.{ReaderState}
+use Rattle.mdb_cashless.specs.declared.reader.transaction.Ended.{Ended}
 use Rattle.mdb_cashless.specs.declared.reader.transaction.Transaction.{Transaction}
 use Rattle.mdb_cashless.specs.Reader.{ReplyStep, all_approved, before_messages, is_poll, last_transaction, owes_reset, read, sold_any, taken}
 use Rattle.mdb_cashless.specs.ReaderDevice.{all_told}
 use Rattle.mdb_cashless.specs.ReaderFacts.{Facts}
 use Rattle.mdb_cashless.specs.ReaderMessages.{config_in, last_said, messages_of, parts_of}
+use Rattle.mdb_cashless.specs.Transactions.{amounts}
 use Rattle.mdb_cashless.proofs.Steps.{same_state}
 
 -- what the code has found out of a reply before it looks for new messages
@@ -50,7 +52,7 @@ pub untold : {facts : Facts} {command : ReaderCommand} {reply : Reply} {choice :
 untold {facts} {command} {reply} looked none after gains step = none (parts_of reply) step.news looked.summary (telling looked step.has_news)
 
 -- a reply that it can tell, and what that is
-pub told : {facts : Facts} {command : ReaderCommand} {reply : Reply} {choice : Choice} {before : ReaderState} {poll owed reset early : Bool} {middle : ReaderState} {holding kept news : List ReaderActivity} {last : Option Transaction} {device : DeviceState} {after_holds : Bool} {config : Option ReaderConfig} {approved sold : ℕ} {gains : Gains}
+pub told : {facts : Facts} {command : ReaderCommand} {reply : Reply} {choice : Choice} {before : ReaderState} {poll owed reset early : Bool} {middle : ReaderState} {holding kept news : List ReaderActivity} {last : Option Transaction} {device : DeviceState} {after_holds : Bool} {config : Option ReaderConfig} {approved : ℕ} {sold : Ended} {gains : Gains}
     → Looked facts command reply choice before poll owed reset early middle holding kept
     → ((parts : List (Part ReaderActivity)) → IsSummary kept reset early parts → HasNews poll choice owed holding parts news)
     → ((parts : List (Part ReaderActivity)) (other : List ReaderActivity) → IsSummary kept reset early parts → HasNews poll choice owed holding parts other → other ≡ news)
@@ -58,7 +60,7 @@ pub told : {facts : Facts} {command : ReaderCommand} {reply : Reply} {choice : C
     → all_told last news middle.device ≡ Some device
     → after_holds ≡ holds_after kept middle.holds
     → config ≡ or_else (last_said config_in (messages_of reply)) facts.config
-    → approved ≡ all_approved config news → sold ≡ sold_any facts (taken command reply) (read choice before) → gains ≡ device_gains (in_slots (approved ∷ sold ∷ []))
+    → approved ≡ all_approved config news → sold ≡ sold_any facts (taken command reply) (read choice before) → gains ≡ device_gains (in_slots (amounts approved sold))
     → IsOnlyStep (ReplyStep facts command reply choice before) (Some (record { device = device; view = before.view; holds = after_holds }, gains))
 told {facts} {command} {reply} {choice} {before} {poll} {owed} {reset} {early} {middle} {holding} {kept} {news} {last} {device} {after_holds} {config} {approved} {sold} {gains} looked found only last_is told_is after_holds_is config_is approved_is sold_is gains_are =
     let ready = before_messages facts command reply choice before in
@@ -69,8 +71,8 @@ told {facts} {command} {reply} {choice} {before} {poll} {owed} {reset} {early} {
     ap (λ l. all_told l news ready.device) (sym last_is) ∙ (ap (all_told last news) (sym devices) ∙ told_is) in
     let holds : after_holds ≡ holds_after (kept_of (parts_of reply)) ready.holds =
     after_holds_is ∙ (ap (λ ks. holds_after ks middle.holds) looked.summary.kept_is ∙ ap (holds_after (kept_of (parts_of reply))) holding_on) in
-    let gained : gains ≡ device_gains (in_slots (all_approved own_config news ∷ sold_any facts (taken command reply) (read choice before) ∷ [])) =
-    gains_are ∙ (ap (λ a. device_gains (in_slots (a ∷ sold ∷ []))) (approved_is ∙ ap (λ c. all_approved c news) config_is) ∙ ap (λ s. device_gains (in_slots (all_approved own_config news ∷ s ∷ []))) sold_is) in (
+    let gained : gains ≡ device_gains (in_slots (amounts (all_approved own_config news) (sold_any facts (taken command reply) (read choice before)))) =
+    gains_are ∙ (ap (λ a. device_gains (in_slots (amounts a sold))) (approved_is ∙ ap (λ c. all_approved c news) config_is) ∙ ap (λ s. device_gains (in_slots (amounts (all_approved own_config news) s))) sold_is) in (
       record {
         news = news;
         has_news = told_back looked (found (parts_of reply) looked.summary);
@@ -85,6 +87,6 @@ told {facts} {command} {reply} {choice} {before} {poll} {owed} {reset} {early} {
           sym step.told ∙ (ap (λ ns. all_told (last_transaction facts (taken command reply)) ns ready.device) same ∙ tells) in
           let devices_same : other.device ≡ device = cc in (
             same_state devices_same step.view (step.holds ∙ sym holds),
-            step.gained ∙ (ap (λ ns. device_gains (in_slots (all_approved own_config ns ∷ sold_any facts (taken command reply) (read choice before) ∷ []))) same ∙ sym gained),
+            step.gained ∙ (ap (λ ns. device_gains (in_slots (amounts (all_approved own_config ns) (sold_any facts (taken command reply) (read choice before))))) same ∙ sym gained),
           ),
     )

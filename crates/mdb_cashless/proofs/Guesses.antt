@@ -24,11 +24,11 @@ use Rattle.mdb_cashless.specs.declared.reader.transaction.Transaction.TheVariant
 use Rattle.mdb_cashless.specs.declared.reader.view.View.{View}
 use Rattle.mdb_cashless.specs.declared.reader.view.View.TheVariants as view
 use Rattle.mdb_cashless.specs.Reader.{AckStep, AskStep, ReplyStep, all_approved, asked, before_messages, drops, is_poll, read, sold_any, take_any, taken, value, view_heard}
-use Rattle.mdb_cashless.specs.ReaderDevice.{all_told, effect, is_request, is_sale, then_by, told}
+use Rattle.mdb_cashless.specs.ReaderDevice.{all_told, effect, has_approved, is_request, then_by, told}
 use Rattle.mdb_cashless.specs.ReaderFacts.{Facts, own_transaction}
 use Rattle.mdb_cashless.specs.ReaderMessages.{config_in, last_said, messages_of, parts_of}
 use Rattle.mdb_cashless.specs.ReaderView.{sent}
-use Rattle.mdb_cashless.specs.Transactions.{is_again, is_same, transaction_of}
+use Rattle.mdb_cashless.specs.Transactions.{amounts, ended_by, is_again, is_same, no_end, transaction_of}
 use Rattle.mdb_cashless.specs.inner.Guesses.{again}
 
 -- facts with another guess of what may not be known
@@ -224,9 +224,9 @@ ack_with facts a b t u k l command choice before after gains same step =
         view = before.view;
         holds = if drops command then false else before.holds;
       }) { view = view_heard choice command before.view }) is;
-      gained = step.gained ∙ ap (λ (r : Bool). device_gains (in_slots (0 ∷ (if r then 0
-          else if is_sale command before.device then value facts.config facts.amount
-          else 0) ∷ []))) is;
+      gained = step.gained ∙ ap (λ (r : Bool). device_gains (in_slots (amounts 0 (if r then no_end
+          else ended_by (has_approved before.device) command
+          (value facts.config facts.amount))))) is;
     }
 
 pub ack_same : (facts : Facts) (a b t u : Option Transaction) (k l : List ReaderActivity)
@@ -262,9 +262,9 @@ sold_with : (facts : Facts) (a b t u : Option Transaction) (k l : List ReaderAct
     → sold_any (guessing facts b u l) its before ≡ sold_any (guessing facts a t k) its before
 sold_with facts a b t u k l None before same = refl
 sold_with facts a b t u k l (Some command) before same =
-    ap (λ (r : Bool). if r then 0
-    else if is_sale command before.device then value facts.config facts.amount
-    else 0) (same before.holds)
+    ap (λ (r : Bool). if r then no_end
+    else ended_by (has_approved before.device) command (value facts.config facts.amount))
+    (same before.holds)
 
 -- a reply depends on these guesses by the last transaction, and by what the reader holds
 pub reply_with : (facts : Facts) (a b t u : Option Transaction) (k l : List ReaderActivity)
@@ -298,7 +298,7 @@ reply_with facts a b t u k l command reply choice before after gains meets step 
       view = step.view;
       holds = step.holds ∙ ap (λ (s : ReaderState).
           holds_after (kept_of (parts_of reply)) s.holds) (sym middle);
-      gained = step.gained ∙ ap (λ n. device_gains (in_slots (approved ∷ n ∷ []))) (sym sold);
+      gained = step.gained ∙ ap (λ n. device_gains (in_slots (amounts approved n))) (sym sold);
     }
 
 -- A reader holds on once it has taken a command only where it held before.

@@ -24,12 +24,13 @@ use Rattle.mdb_machine.specs.shared.PastWays.{same_past}
 use Rattle.mdb_cashless.specs.declared.reader.messages.ReaderActivity.{ReaderActivity}
 use Rattle.mdb_cashless.specs.declared.reader.messages.ReaderActivity.TheVariants.{VendDenied}
 use Rattle.mdb_cashless.specs.declared.reader.state.ReaderState.{ReaderState}
+use Rattle.mdb_cashless.specs.declared.reader.transaction.Ended.{Ended}
 use Rattle.mdb_cashless.specs.declared.reader.transaction.Transaction.{Transaction}
 use Rattle.mdb_cashless.specs.Reader.{AckStep, all_approved, AskStep, ReaderStep, ReplyStep, StepKnowing, before_messages, drops, is_poll, is_repeated, machine, read, sold_any, take_any, taken, value, view_heard}
-use Rattle.mdb_cashless.specs.ReaderDevice.{all_told, effect, is_sale}
+use Rattle.mdb_cashless.specs.ReaderDevice.{all_told, effect, has_approved}
 use Rattle.mdb_cashless.specs.ReaderFacts.{AllowsFacts, Facts, asked_by, effect_of, effect_of_own, ends_transactions, facts_of, known_of, own_transaction, parts_by, taken_told, transaction_taken_by}
 use Rattle.mdb_cashless.specs.ReaderMessages.{config_in, last_said, messages_of, parts_of}
-use Rattle.mdb_cashless.specs.Transactions.{is_again, is_same, transaction_of}
+use Rattle.mdb_cashless.specs.Transactions.{amounts, ended_by, is_again, is_same, no_end, transaction_of}
 use Rattle.mdb_cashless.specs.Units.{own}
 use Rattle.mdb_cashless.specs.MidSession.{AckWay, AreHeld, IsSettled, ReplyWay, SendsNone, Takes, TakesNone, TellsNone, effected, facts_recorded, sale}
 use Rattle.mdb_machine.specs.shared.ToldWays.{allows_if, allows_told, as_allowed, asked_so, empty_unless, keeps_if, kept_so, kept_told, list_told, none_told, not_not, told_by_none}
@@ -289,16 +290,15 @@ repeated fields t its holds is held =
 -- the state after a command is taken, and its sale, by whether it is repeated
 taken_again : (facts : Facts) (command : ReaderCommand) (before : ReaderState)
     → is_repeated facts command before.holds ≡ true
-    → (take_any facts (Some command) before ≡ before) × (sold_any facts (Some command) before ≡ 0)
+    → (take_any facts (Some command) before ≡ before) × (sold_any facts (Some command) before ≡ no_end)
 taken_again facts command before is = (
   ap (λ (r : Bool). if r then before else record {
     device = effect command before.device;
     view = before.view;
     holds = if drops command then false else before.holds;
   }) is,
-  ap (λ (r : Bool). if r then 0
-      else if is_sale command before.device then value facts.config facts.amount
-      else 0) is,
+  ap (λ (r : Bool). if r then no_end
+      else ended_by (has_approved before.device) command (value facts.config facts.amount)) is,
 )
 
 taken_anew : (facts : Facts) (command : ReaderCommand) (before : ReaderState)
@@ -311,9 +311,8 @@ taken_anew facts command before is = (
     view = before.view;
     holds = if drops command then false else before.holds;
   }) is,
-  ap (λ (r : Bool). if r then 0
-      else if is_sale command before.device then value facts.config facts.amount
-      else 0) is,
+  ap (λ (r : Bool). if r then no_end
+      else ended_by (has_approved before.device) command (value facts.config facts.amount)) is,
 )
 
 -- a command that is taken after facts that may be is taken in one of the ways
@@ -357,16 +356,16 @@ takes_to fields unit setups so_far facts holds allowed (Some command) before =
               sym is ∙ ap (λ l. repeats l (transaction_of command) before.holds) last ∙ again in
               absurd cc,
           to.0,
-          to.1 ∙ ap (λ c. if is_sale command before.device then value c facts.amount else 0)
+          to.1 ∙ ap (λ c. ended_by (has_approved before.device) command (value c facts.amount))
               allowed.config
-              ∙ ap (λ a. if is_sale command before.device then value base.config a else 0)
+              ∙ ap (λ a. ended_by (has_approved before.device) command (value base.config a))
               allowed.amount,
         )
 
 -- and each way is one after some guess of the last transaction, which may be; where no transaction
 -- is taken, any that may be does
 abbrev TakesAfter : ReaderUnit → Setups → List Act → Option ReaderCommand → ReaderState → ReaderState
-    → ℕ → Option Transaction → Option Transaction → Type 0
+    → Ended → Option Transaction → Option Transaction → Type 0
 TakesAfter unit setups so_far its before after sold guess t =
     Allows (known_of (Joined setups) unit so_far).taken t
     × (or_else (own_transaction its) t ≡ or_else (own_transaction its) guess)
@@ -407,7 +406,7 @@ another_guess fields unit setups so_far (Some s) holds guess may other =
     ]
 
 takes_from : SameFields → (unit : ReaderUnit) (setups : Setups) (so_far : List Act)
-    (its : Option ReaderCommand) (before after : ReaderState) (sold : ℕ)
+    (its : Option ReaderCommand) (before after : ReaderState) (sold : Ended)
     (guess : Option Transaction) → Allows (known_of (Joined setups) unit so_far).taken guess
     → Takes unit so_far (facts_recorded unit setups so_far) its before after sold
     → (t : Option Transaction) × TakesAfter unit setups so_far its before after sold guess t
@@ -474,7 +473,7 @@ ack_ways fields unit setups so_far command choice before after gains = (
           to = way.to ∙ ap (λ (m : ReaderState). record m {
             view = view_heard choice command before.view;
           }) (sym to.0);
-          gained = way.gained ∙ ap (λ n. device_gains (in_slots (0 ∷ n ∷ []))) (sym to.1);
+          gained = way.gained ∙ ap (λ n. device_gains (in_slots (amounts 0 n))) (sym to.1);
         },
       ),
 )
@@ -582,10 +581,10 @@ reply_ways fields unit setups so_far command reply choice before after gains = (
           view = step.view;
           holds = step.holds;
           gained = step.gained
-              ∙ ap (λ n. device_gains (in_slots (all_approved (config facts.config) n ∷ sold ∷ [])))
+              ∙ ap (λ n. device_gains (in_slots (amounts (all_approved (config facts.config) n) sold)))
               is.1.1
               ∙ ap (λ c. device_gains (in_slots
-              (all_approved (config c) (drop is.0 kept) ∷ sold ∷ []))) allowed.config;
+              (amounts (all_approved (config c) (drop is.0 kept)) sold))) allowed.config;
         }
 
     back : ReplyWay unit so_far base command reply choice before after gains
@@ -617,7 +616,7 @@ reply_ways fields unit setups so_far command reply choice before after gains = (
             view = way.view;
             holds = way.holds ∙ ap (λ (m : ReaderState). holds_after kept m.holds) (sym to.0);
             gained = way.gained ∙ ap (λ n. device_gains (in_slots
-                (all_approved (config base.config) (drop way.count kept) ∷ n ∷ []))) (sym to.1);
+                (amounts (all_approved (config base.config) (drop way.count kept)) n))) (sym to.1);
           },
         )
 

@@ -20,6 +20,7 @@ use Rattle.mdb_machine.specs.Steps.{ForOwn}
 use Rattle.mdb_cashless.specs.Reader.{AckStep, AskStep, ReaderStep, ReplyStep, StepKnowing, VmcAckStep, asked, sold, sold_to, take, view_heard}
 use Rattle.mdb_cashless.specs.ReaderFacts.{Facts, KnownFacts, known_of}
 use Rattle.mdb_cashless.specs.ReaderValues.{changes_view}
+use Rattle.mdb_cashless.specs.Transactions.{amounts, no_end}
 use Rattle.mdb_cashless.specs.Units.{own}
 use Rattle.mdb_cashless.specs.inner.Guesses.{OfSome}
 use Rattle.mdb_cashless.specs.inner.KnowingReader.{stays}
@@ -56,7 +57,7 @@ vmc_acks facts before after gains unit act command reply its choice is found ste
     (for_own (λ c. VmcAckStep facts c reply choice) before (Some (after, gains)) (own unit command) its found (step, λ other more one. (one.to ∙ sym step.to, one.gained ∙ sym step.gained)))
 
 -- a command that leaves the view
-leaves : (facts : Facts) (command : ReaderCommand) (view : View) → changes_view command ≡ false → (asked facts command view ≡ Some view) × (sold_to facts command view ≡ 0)
+leaves : (facts : Facts) (command : ReaderCommand) (view : View) → changes_view command ≡ false → (asked facts command view ≡ Some view) × (sold_to facts command view ≡ no_end)
 leaves facts reader.Reset view still = absurd cc
 leaves facts (reader.SetupConfig level columns rows display) view still = (refl, refl)
 leaves facts (reader.SetupPrices maximum minimum) view still = (refl, refl)
@@ -80,14 +81,14 @@ ask_stays facts command before after gains still =
           let view : Some before.view ≡ Some after.view = sym left.0 ∙ step.view in
           let views : after.view ≡ before.view = cc in (
             same_state step.device views step.holds,
-            step.gained ∙ ap (λ n. controller_gains (in_slots (0 ∷ n ∷ []))) left.1,
+            step.gained ∙ ap (λ n. controller_gains (in_slots (amounts 0 n))) left.1,
           ),
       λ stays.
           record {
             view = left.0 ∙ ap (λ (s : ReaderState). Some s.view) (sym stays.0);
             device = ap (λ (s : ReaderState). s.device) stays.0;
             holds = ap (λ (s : ReaderState). s.holds) stays.0;
-            gained = stays.1 ∙ ap (λ n. controller_gains (in_slots (0 ∷ n ∷ []))) (sym left.1);
+            gained = stays.1 ∙ ap (λ n. controller_gains (in_slots (amounts 0 n))) (sym left.1);
           },
     )
 
@@ -116,8 +117,8 @@ same_after facts Lost device view = refl
 same_after facts Restart device view = refl
 
 none_gained : (facts : Facts) (device : DeviceState) (view : View)
-    → device_gains (in_slots (0 ∷ sold facts reader.Poll
-    (record { device = device; view = view; holds = false }) ∷ [])) ≡ no_gains
+    → device_gains (in_slots (amounts 0 (sold facts reader.Poll
+    (record { device = device; view = view; holds = false })))) ≡ no_gains
 none_gained facts device view = refl
 
 rests_apart : (facts : Facts) (choice : Choice) (device : DeviceState) (view : View)

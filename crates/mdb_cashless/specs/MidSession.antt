@@ -18,11 +18,13 @@ use Rattle.mdb_machine.specs.MidSession.{past_recorded}
 use Rattle.mdb_machine.specs.Past.{or_else}
 use Rattle.mdb_cashless.specs.declared.reader.messages.ReaderActivity.{ReaderActivity}
 use Rattle.mdb_cashless.specs.declared.reader.state.ReaderState.{ReaderState}
+use Rattle.mdb_cashless.specs.declared.reader.transaction.Ended.{Ended}
 use Rattle.mdb_cashless.specs.declared.reader.transaction.Transaction.{Transaction}
 use Rattle.mdb_cashless.specs.Reader.{all_approved, drops, is_poll, owes_reset, read, taken, value, view_heard}
 use Rattle.mdb_cashless.specs.ReaderDevice as reader_device
 use Rattle.mdb_cashless.specs.ReaderDevice.{all_told, effect}
 use Rattle.mdb_cashless.specs.ReaderFacts.{Facts, asked_by, effect_of, ends_transactions, facts_of, own_transaction, parts_by, transaction_taken_by}
+use Rattle.mdb_cashless.specs.Transactions.{amounts, ended_by, no_end}
 use Rattle.mdb_cashless.specs.Units.{own}
 use Rattle.mdb_cashless.specs.ReaderMessages.{config_in, last_said, messages_of, parts_of}
 
@@ -76,18 +78,18 @@ effected (Some command) before =
       holds = if drops command then false else before.holds;
     }
 
--- the sale that it is, in Approved
-abbrev pub sale : Facts → Option ReaderCommand → ReaderState → ℕ
-sale facts None before = 0
+-- what it adds, if it ends a sale
+abbrev pub sale : Facts → Option ReaderCommand → ReaderState → Ended
+sale facts None before = no_end
 sale facts (Some command) before =
-    if reader_device.is_sale command before.device then value facts.config facts.amount else 0
+    ended_by (reader_device.has_approved before.device) command (value facts.config facts.amount)
 
 -- The reader takes a command, or none: as the last transaction again, which has no effect, or as
 -- another.
 abbrev pub Takes : ReaderUnit → List Act → Facts → Option ReaderCommand → ReaderState → ReaderState
-    → ℕ → Type 0
+    → Ended → Type 0
 Takes unit so_far facts its before after sold =
-    (MayBeAgain unit so_far its before.holds × (after ≡ before) × (sold ≡ 0))
+    (MayBeAgain unit so_far its before.holds × (after ≡ before) × (sold ≡ no_end))
     ⊎ (MayBeAnother unit so_far its before.holds × (after ≡ effected its before)
     × (sold ≡ sale facts its before))
 
@@ -110,7 +112,7 @@ pub record ReplyWay (unit : ReaderUnit) (so_far : List Act) (facts : Facts)
     (command : ReaderCommand) (reply : Reply) (choice : Choice) (before after : ReaderState)
     (gains : Gains) : Type 0 where
   pub middle : ReaderState
-  pub sold : ℕ
+  pub sold : Ended
   pub count : ℕ
   pub last : Option Transaction
   pub may_be_read : MayBeRead choice (parts_of reply)
@@ -123,19 +125,19 @@ pub record ReplyWay (unit : ReaderUnit) (so_far : List Act) (facts : Facts)
   pub view : after.view ≡ before.view
   pub holds : after.holds ≡ holds_after (kept_of (parts_of reply)) middle.holds
   pub gained : gains ≡ device_gains (in_slots
-      (all_approved (or_else (last_said config_in (messages_of reply)) facts.config)
-      (drop count (kept_of (parts_of reply))) ∷ sold ∷ []))
+      (amounts (all_approved (or_else (last_said config_in (messages_of reply)) facts.config)
+      (drop count (kept_of (parts_of reply)))) sold))
 
 -- a way of an ACK: it is none to POLL while the reader holds messages
 pub record AckWay (unit : ReaderUnit) (so_far : List Act) (facts : Facts)
     (command : ReaderCommand) (choice : Choice) (before after : ReaderState) (gains : Gains)
     : Type 0 where
   pub middle : ReaderState
-  pub sold : ℕ
+  pub sold : Ended
   pub poll : (is_poll command && before.holds) ≡ false
   pub takes : Takes unit so_far facts (Some command) before middle sold
   pub to : after ≡ record middle { view = view_heard choice command before.view }
-  pub gained : gains ≡ device_gains (in_slots (0 ∷ sold ∷ []))
+  pub gained : gains ≡ device_gains (in_slots (amounts 0 sold))
 
 -- What isn't known is of no matter for an act. An ask is of no transaction command, or the acts so
 -- far send one. An ACK or a reply is of another device; `AckWay` and `ReplyWay` are for those of

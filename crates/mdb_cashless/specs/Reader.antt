@@ -1,5 +1,6 @@
 -- A cashless reader and the controller's dealings with it (MDB/ICP 4.3, cashless device; states and
--- sums, this profile). The accounts are approved and sold, by slot.
+-- sums, this profile). The accounts by slot are what was approved, and then what sales ended in
+-- (`amounts`).
 use Rattle.std.specs.Prelude.{◌≡◌, ℕ, ◌+◌, ◌*◌, Bool, true, false, ◌&&◌, ◌||◌, List, [], ◌∷◌, Option, Some, None, if◌then◌else◌, sum_by}
 use Rattle.std.specs.Option.{is_none}
 use Rattle.mdb_msgs.specs.declared.command.ReaderCommand.{ReaderCommand}
@@ -19,7 +20,7 @@ use Rattle.mdb_machine.specs.Kept.{HasNews, held, holds_acked, holds_after, kept
 use Rattle.mdb_machine.specs.Machine.{Machine, StartsIn}
 use Rattle.mdb_machine.specs.Past.{or_else, resets, tells_out_of_sequence}
 use Rattle.mdb_machine.specs.Steps.{StepBy}
-use Rattle.mdb_machine.specs.Unvalued as amounts
+use Rattle.mdb_machine.specs.Unvalued as unvalued_amounts
 use Rattle.mdb_machine.specs.Unvalued.{one_if}
 use Rattle.mdb_cashless.specs.declared.reader.device.DeviceState.TheVariants as device
 use Rattle.mdb_msgs.specs.declared.setups.ReaderConfig.{ReaderConfig}
@@ -28,6 +29,7 @@ use Rattle.mdb_cashless.specs.declared.reader.messages.ReaderActivity.TheVariant
 use Rattle.mdb_cashless.specs.declared.reader.state.ReaderState.{ReaderState}
 use Rattle.mdb_cashless.specs.declared.reader.view.View.{View}
 use Rattle.mdb_cashless.specs.declared.reader.view.View.TheVariants as view
+use Rattle.mdb_cashless.specs.declared.reader.transaction.Ended.{Ended}
 use Rattle.mdb_cashless.specs.declared.reader.transaction.Transaction.{Transaction}
 use Rattle.mdb_cashless.specs.ReaderDevice as reader_device
 use Rattle.mdb_cashless.specs.ReaderDevice.{all_told, effect}
@@ -35,7 +37,7 @@ use Rattle.mdb_cashless.specs.ReaderFacts.{AllowsFacts, Facts, KnownFacts, confi
 use Rattle.mdb_cashless.specs.ReaderMessages.{config_in, last_said, messages_of, parts_of}
 use Rattle.mdb_cashless.specs.ReaderView as reader_view
 use Rattle.mdb_cashless.specs.ReaderView.{all_heard, awaits, heard, sent}
-use Rattle.mdb_cashless.specs.Transactions.{is_again, transaction_of}
+use Rattle.mdb_cashless.specs.Transactions.{amounts, ended_by, ends_sale, is_again, no_end, transaction_of}
 use Rattle.mdb_cashless.specs.Units.{own}
 
 -- the power-on state: the reader is Inactive and holds nothing, and the controller knows of no
@@ -99,12 +101,13 @@ take facts command before =
       holds = if drops command then false else before.holds;
     }
 
--- what that adds to the reader's sold: VEND SUCCESS in Approved is a sale of the last amount of 05
-abbrev pub sold : Facts → ReaderCommand → ReaderState → ℕ
+-- what that adds to the reader's accounts, if it ends a sale: in Approved one of the last amount of
+-- 05 may end
+abbrev pub sold : Facts → ReaderCommand → ReaderState → Ended
 sold facts command before =
-    if is_repeated facts command before.holds then 0
-    else if reader_device.is_sale command before.device then value facts.config facts.amount
-    else 0
+    if is_repeated facts command before.holds then no_end
+    else ended_by (reader_device.has_approved before.device) command
+    (value facts.config facts.amount)
 
 -- The view after a command that the controller sends; None where it may not send it. RESET ends
 -- the session in its view, taken or not; the commands that are neither RESET nor a transaction
@@ -117,15 +120,11 @@ asked facts command before =
       | None ↦ Some before
     ]
 
--- what that adds to the controller's sold: VEND SUCCESS in the view Approved is a sale of the last
--- amount of 05
-abbrev pub sold_to : Facts → ReaderCommand → View → ℕ
+-- what that adds to the controller's accounts, if it ends a sale: in the view Approved one of the
+-- last amount of 05 may end
+abbrev pub sold_to : Facts → ReaderCommand → View → Ended
 sold_to facts command before =
-    elim (transaction_of command) [
-      | Some transaction ↦
-          if reader_view.is_sale transaction before then value facts.config facts.amount else 0
-      | None ↦ 0
-    ]
+    ended_by (reader_view.has_approved before) command (value facts.config facts.amount)
 
 -- The controller asks. Where it may not send the command, there is no step.
 pub record AskStep (facts : Facts) (command : ReaderCommand) (before after : ReaderState)
@@ -133,7 +132,7 @@ pub record AskStep (facts : Facts) (command : ReaderCommand) (before after : Rea
   pub view : asked facts command before.view ≡ Some after.view
   pub device : after.device ≡ before.device
   pub holds : after.holds ≡ before.holds
-  pub gained : gains ≡ controller_gains (in_slots (0 ∷ sold_to facts command before.view ∷ []))
+  pub gained : gains ≡ controller_gains (in_slots (amounts 0 (sold_to facts command before.view)))
 
 -- the view after hearing that the reader took a command: that tells something of a transaction
 -- command
@@ -157,7 +156,7 @@ pub record AckStep (facts : Facts) (command : ReaderCommand) (choice : Choice)
   pub to : after ≡ record (take facts command before) {
     view = view_heard choice command before.view;
   }
-  pub gained : gains ≡ device_gains (in_slots (0 ∷ sold facts command before ∷ []))
+  pub gained : gains ≡ device_gains (in_slots (amounts 0 (sold facts command before)))
 
 -- the state of the reader once a reply is read: after a restart it is in its power-on state, and
 -- holds nothing; the controller doesn't know of that yet
@@ -170,13 +169,13 @@ read choice before = before
 abbrev pub taken : ReaderCommand → Reply → Option ReaderCommand
 taken command reply = if tells_out_of_sequence reply then None else Some command
 
--- the state after taking it, if it is taken, and what that adds to the reader's sold
+-- the state after taking it, if it is taken, and what that adds if it ends a sale
 abbrev pub take_any : Facts → Option ReaderCommand → ReaderState → ReaderState
 take_any facts None before = before
 take_any facts (Some command) before = take facts command before
 
-abbrev pub sold_any : Facts → Option ReaderCommand → ReaderState → ℕ
-sold_any facts None before = 0
+abbrev pub sold_any : Facts → Option ReaderCommand → ReaderState → Ended
+sold_any facts None before = no_end
 sold_any facts (Some command) before = sold facts command before
 
 -- the state before the messages of a reply
@@ -211,8 +210,8 @@ pub record ReplyStep (facts : Facts) (command : ReaderCommand) (reply : Reply)
   pub holds : after.holds ≡ holds_after (kept_of (parts_of reply))
       (before_messages facts command reply choice before).holds
   pub gained : gains ≡ device_gains (in_slots
-      (all_approved (or_else (last_said config_in (messages_of reply)) facts.config) news
-      ∷ sold_any facts (taken command reply) (read choice before) ∷ []))
+      (amounts (all_approved (or_else (last_said config_in (messages_of reply)) facts.config) news)
+      (sold_any facts (taken command reply) (read choice before))))
 
 -- the view after hearing that the reply's command was taken, if it was
 abbrev pub view_answered : Option ReaderCommand → View → View
@@ -229,8 +228,8 @@ pub record VmcAckStep (facts : Facts) (command : ReaderCommand) (reply : Reply) 
     holds = holds_acked choice (kept_of (parts_of reply)) before.holds;
   }
   pub gained : gains ≡ controller_gains (in_slots
-      (all_approved_to facts.config (view_answered (taken command reply) before.view)
-      (messages_of reply) ∷ []))
+      (amounts (all_approved_to facts.config (view_answered (taken command reply) before.view)
+      (messages_of reply)) no_end))
 
 -- A step of a reader and the controller by an act under a choice, after acts that leave these
 -- facts.
@@ -265,23 +264,24 @@ abbrev pub is_approval : ReaderMsg → Bool
 is_approval (messages.VendApproved amount) = true
 is_approval message = false
 
--- whether the controller asks for money by a command to the reader: VEND SUCCESS
+-- whether the controller tells of an amount by a command to the reader, which ends a sale
 abbrev pub asks_sale : Option ReaderCommand → Bool
-asks_sale (Some (reader.VendSuccess item)) = true
-asks_sale command = false
+asks_sale None = false
+asks_sale (Some command) =
+    elim (transaction_of command) [ Some transaction ↦ ends_sale transaction | None ↦ false ]
 
 -- whether the value of a sale isn't known: there is no config message or no message 05 yet
 abbrev pub is_unpriced : KnownFacts → Bool
 is_unpriced known = is_none known.config || is_none known.amount
 
--- How many amounts without a value an act tells, where this is known before it: a VEND SUCCESS that
--- is asked, and messages 05 of a reply, told again or not; its own config message counts first. A
--- repeat is no further reply.
+-- How many amounts without a value an act tells, where this is known before it: a command that is
+-- asked and ends a sale, and messages 05 of a reply, told again or not; its own config message
+-- counts first. A repeat is no further reply.
 abbrev pub unvalued_by : ReaderUnit → KnownFacts → Act → ℕ
 unvalued_by unit known (acts.Ask command) =
     one_if (asks_sale (own unit command) && is_unpriced known)
 unvalued_by unit known act =
-    amounts.unvalued_by (or_else (config_by unit act) known.config)
+    unvalued_amounts.unvalued_by (or_else (config_by unit act) known.config)
     (sum_by (λ message. one_if (is_approval message)) (messages_by unit act))
 
 -- how many amounts without a value acts tell

@@ -43,10 +43,10 @@ effect reader.SessionComplete (Approved back) = Ending back
 effect reader.SessionComplete (Ending back) = Ending back
 effect command before = before
 
--- whether taking a command is a sale: VEND SUCCESS in Approved
-abbrev pub is_sale : ReaderCommand → DeviceState → Bool
-is_sale (reader.VendSuccess item) (Approved back) = true
-is_sale command before = false
+-- whether the reader has approved a sale that hasn't ended
+abbrev pub has_approved : DeviceState → Bool
+has_approved (Approved back) = true
+has_approved before = false
 
 -- the state in which a session leaves the reader
 abbrev pub returned : Home → DeviceState

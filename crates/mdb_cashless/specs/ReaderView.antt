@@ -25,10 +25,10 @@ sent last Failure FailureOwed = Some FailureOwed
 sent last Complete Ending = Some Ending
 sent last transaction before = None
 
--- whether sending a transaction command is a sale: VEND SUCCESS in the view Approved
-abbrev pub is_sale : Transaction → View → Bool
-is_sale (Success item) Approved = true
-is_sale transaction before = false
+-- whether the controller has heard the approval of a sale that hasn't ended
+abbrev pub has_approved : View → Bool
+has_approved Approved = true
+has_approved before = false
 
 -- the view after hearing that a transaction command was taken
 abbrev pub taken : View → View

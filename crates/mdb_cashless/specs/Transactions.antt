@@ -1,7 +1,8 @@
 -- The transaction commands: the five commands of a session (MDB/ICP 4.3, cashless device).
-use Rattle.std.specs.Prelude.{◌==◌, ◌&&◌, Bool, true, false, Option, Some, None}
+use Rattle.std.specs.Prelude.{◌==◌, ◌&&◌, ℕ, Bool, true, false, List, [], ◌∷◌, Option, Some, None, if◌then◌else◌}
 use Rattle.mdb_msgs.specs.declared.command.ReaderCommand.{ReaderCommand}
 use Rattle.mdb_msgs.specs.declared.command.ReaderCommand.TheVariants as reader
+use Rattle.mdb_cashless.specs.declared.reader.transaction.Ended.{Ended}
 use Rattle.mdb_cashless.specs.declared.reader.transaction.Transaction.{Transaction}
 use Rattle.mdb_cashless.specs.declared.reader.transaction.Transaction.TheVariants.{Request, Cancel, Success, Failure, Complete}
 
@@ -27,3 +28,30 @@ is_same one other = false
 abbrev pub is_again : Option Transaction → Transaction → Bool
 is_again None transaction = false
 is_again (Some last) transaction = is_same last transaction
+
+-- no sale ends
+abbrev pub no_end : Ended
+no_end = record { sold = 0 }
+
+-- whether a transaction command ends an approved sale: VEND SUCCESS
+abbrev pub ends_sale : Transaction → Bool
+ends_sale (Success item) = true
+ends_sale transaction = false
+
+-- what a transaction command adds to the accounts where it comes after the approval of a sale of
+-- this value
+abbrev pub ended : Transaction → ℕ → Ended
+ended (Success item) value = record { sold = value }
+ended transaction value = no_end
+
+-- what a command adds, where a sale of this value is approved, or none
+abbrev pub ended_by : Bool → ReaderCommand → ℕ → Ended
+ended_by approved command value =
+    elim (transaction_of command) [
+      | Some transaction ↦ if approved then ended transaction value else no_end
+      | None ↦ no_end
+    ]
+
+-- the amounts by slot: what was approved, and what ended
+abbrev pub amounts : ℕ → Ended → List ℕ
+amounts approved end = approved ∷ end.sold ∷ []

@@ -13,5 +13,5 @@ pub use reader::device::{DeviceState, Home};
 pub use reader::known::ReaderKnown;
 pub use reader::messages::ReaderActivity;
 pub use reader::state::ReaderState;
-pub use reader::transaction::Transaction;
+pub use reader::transaction::{Ended, Transaction};
 pub use reader::view::View;

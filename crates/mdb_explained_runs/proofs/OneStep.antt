@@ -44,6 +44,7 @@ use Rattle.mdb_cashless.specs.Reader as reader
 use Rattle.mdb_cashless.specs.ReaderDevice.{all_told}
 use Rattle.mdb_cashless.specs.ReaderFacts as reader_facts
 use Rattle.mdb_cashless.specs.ReaderMessages.{config_in, last_said, messages_of}
+use Rattle.mdb_cashless.specs.Transactions.{amounts}
 use Rattle.mdb_cashless.specs.Units.{own}
 use Rattle.mdb_follow.specs.Choosing.{Choices, Follows}
 use Rattle.mdb_follow.specs.Machines.{machine_of}
@@ -279,8 +280,8 @@ abbrev reader_gains : reader_facts.Facts → ReaderCommand → Reply → Choice 
     → List ReaderActivity → Gains
 reader_gains facts command reply choice before news =
     device_gains (in_slots
-    (reader.all_approved (or_else (last_said config_in (messages_of reply)) facts.config) news
-    ∷ reader.sold_any facts (reader.taken command reply) (reader.read choice before) ∷ []))
+    (amounts (reader.all_approved (or_else (last_said config_in (messages_of reply)) facts.config) news)
+    (reader.sold_any facts (reader.taken command reply) (reader.read choice before))))
 
 reader_replies : (facts : reader_facts.Facts) (command : ReaderCommand) (reply : Reply)
     (choice : Choice) (before : ReaderState)

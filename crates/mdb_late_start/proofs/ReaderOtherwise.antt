@@ -17,7 +17,6 @@ use Rattle.mdb_machine.specs.Gains.{controller_gains, device_gains, in_slots}
 use Rattle.mdb_machine.specs.Kept.{IsNew, kept_of}
 use Rattle.mdb_machine.specs.Past.{or_else, resets, tells_out_of_sequence}
 use Rattle.mdb_machine.specs.Unvalued.{one_if}
-use Rattle.mdb_cashless.specs.declared.reader.device.DeviceState.{DeviceState}
 use Rattle.mdb_cashless.specs.declared.reader.messages.ReaderActivity.{ReaderActivity}
 use Rattle.mdb_cashless.specs.declared.reader.state.ReaderState.{ReaderState}
 use Rattle.mdb_cashless.specs.declared.reader.view.View.{View}
@@ -28,7 +27,7 @@ use Rattle.mdb_cashless.specs.ReaderFacts.{Facts, KnownFacts, effect_of_own}
 use Rattle.mdb_cashless.specs.ReaderMessages.{config_in, last_said, messages_of, part_of, parts_of}
 use Rattle.mdb_cashless.specs.ReaderView as reader_view
 use Rattle.mdb_cashless.specs.ReaderView.{heard}
-use Rattle.mdb_cashless.specs.Transactions.{transaction_of}
+use Rattle.mdb_cashless.specs.Transactions.{amounts, ended_by, no_end}
 use Rattle.mdb_cashless.specs.Units.{own}
 
 -- the facts that may be where this is known, with what they guess of the rest
@@ -90,58 +89,44 @@ same_value : (one other : Option ReaderConfig) (a b : ℕ) → one ≡ other →
 same_value one other a b config amount =
     ap (λ c. value c a) config ∙ ap (λ n. value other n) amount
 
--- what a command that is no sale adds
-no_sale_to : (facts : Facts) (its : ReaderCommand) (before : View)
-    → asks_sale (Some its) ≡ false → sold_to facts its before ≡ 0
-no_sale_to facts (reader.VendSuccess item) before none = absurd cc
-no_sale_to facts its before none = refl
+-- a command that ends no sale adds nothing
+none_ended : (its : ReaderCommand) (n : ℕ) → asks_sale (Some its) ≡ false
+    → ended_by true its n ≡ no_end
+none_ended (reader.VendSuccess item) n none = absurd cc
+none_ended its n none = refl
 
--- and it is none for the reader
-no_sale : (its : ReaderCommand) (before : DeviceState) → asks_sale (Some its) ≡ false
-    → reader_device.is_sale its before ≡ false
-no_sale (reader.VendSuccess item) before none = absurd cc
-no_sale its before none = refl
+-- What a command adds is the same for two values, where it ends no sale, or they are the same.
+same_ended : (approved : Bool) (its : ReaderCommand) (n m : ℕ)
+    → (asks_sale (Some its) ≡ false) ⊎ (n ≡ m)
+    → ended_by approved its n ≡ ended_by approved its m
+same_ended approved its n m (inr same) = ap (ended_by approved its) same
+same_ended false its n m (inl none) = refl
+same_ended true its n m (inl none) = none_ended its n none ∙ sym (none_ended its m none)
 
--- a sale adds the same to the controller's sold, where its value is the same
-valued_to : (others facts : Facts) (its : ReaderCommand) (before : View)
-    → value others.config others.amount ≡ value facts.config facts.amount
-    → sold_to others its before ≡ sold_to facts its before
-valued_to others facts its before same = ap (λ n. elim (transaction_of its) [
-  | Some transaction ↦ if reader_view.is_sale transaction before then n else 0
-  | None ↦ 0
-]) same
+-- so it is where what it ends has its price
+priced : (others facts : Facts) (its : ReaderCommand) → IsSalePriced others facts its
+    → (asks_sale (Some its) ≡ false)
+    ⊎ (value others.config others.amount ≡ value facts.config facts.amount)
+priced others facts its (inl none) = inl none
+priced others facts its (inr same) =
+    inr (same_value others.config facts.config others.amount facts.amount same.0 same.1)
 
--- so with what has its price
+-- so with the controller's accounts
 same_sold_to : (others facts : Facts) (its : ReaderCommand) (before : View)
     → IsSalePriced others facts its → sold_to others its before ≡ sold_to facts its before
-same_sold_to others facts its before (inl none) =
-    no_sale_to others its before none ∙ sym (no_sale_to facts its before none)
-same_sold_to others facts its before (inr same) = valued_to others facts its before
-    (same_value others.config facts.config others.amount facts.amount same.0 same.1)
+same_sold_to others facts its before has =
+    same_ended (reader_view.has_approved before) its (value others.config others.amount)
+    (value facts.config facts.amount) (priced others facts its has)
 
--- a sale that isn't repeated adds the same, where its value is the same
-unless_repeated : (repeated sale : Bool) (n m : ℕ) → (sale ≡ false) ⊎ (n ≡ m)
-    → (if repeated then 0 else if sale then n else 0)
-    ≡ (if repeated then 0 else if sale then m else 0)
-unless_repeated true sale n m same = refl
-unless_repeated false false n m same = refl
-unless_repeated false true n m (inl none) = absurd cc
-unless_repeated false true n m (inr same) = same
-
--- so with the reader's sold
+-- and with the reader's
 same_sold : (facts : Facts) (known : KnownFacts) (its : ReaderCommand) (before : ReaderState)
     → IsSalePriced (otherwise facts known) facts its
     → sold (otherwise facts known) its before ≡ sold facts its before
-same_sold facts known its before (inl none) =
-    unless_repeated (is_repeated facts its before.holds)
-    (reader_device.is_sale its before.device) (value known.config (unwrap_or known.amount 0))
-    (value facts.config facts.amount) (inl (no_sale its before.device none))
-same_sold facts known its before (inr same) =
-    unless_repeated (is_repeated facts its before.holds)
-    (reader_device.is_sale its before.device) (value known.config (unwrap_or known.amount 0))
-    (value facts.config facts.amount)
-    (inr (same_value known.config facts.config (unwrap_or known.amount 0) facts.amount same.0
-    same.1))
+same_sold facts known its before has =
+    ap (λ end. if is_repeated facts its before.holds then no_end else end)
+    (same_ended (reader_device.has_approved before.device) its
+    (value known.config (unwrap_or known.amount 0)) (value facts.config facts.amount)
+    (priced (otherwise facts known) facts its has))
 
 -- and where a reply tells whether the command is taken
 same_sold_any : (facts : Facts) (known : KnownFacts) (its : ReaderCommand) (reply : Reply)
@@ -244,14 +229,14 @@ ask_otherwise : (facts : Facts) (known : KnownFacts) (its : ReaderCommand)
     (IsSalePriced (otherwise facts known) facts its) gains
 ask_otherwise facts known its before after gains step =
     let others = otherwise facts known in (
-      controller_gains (in_slots (0 ∷ sold_to others its before.view ∷ [])),
+      controller_gains (in_slots (amounts 0 (sold_to others its before.view))),
       record {
         view = same_asked facts known its before.view ∙ step.view;
         device = step.device;
         holds = step.holds;
         gained = refl;
       },
-      λ priced. ap (λ n. controller_gains (in_slots (0 ∷ n ∷ [])))
+      λ priced. ap (λ n. controller_gains (in_slots (amounts 0 n)))
           (same_sold_to others facts its before.view priced) ∙ sym step.gained,
     )
 
@@ -262,9 +247,9 @@ ack_otherwise : (facts : Facts) (known : KnownFacts) (its : ReaderCommand) (choi
     (IsSalePriced (otherwise facts known) facts its) gains
 ack_otherwise facts known its choice before after gains step =
     let others = otherwise facts known in (
-      device_gains (in_slots (0 ∷ sold others its before ∷ [])),
+      device_gains (in_slots (amounts 0 (sold others its before))),
       record { poll = step.poll; to = step.to; gained = refl },
-      λ priced. ap (λ n. device_gains (in_slots (0 ∷ n ∷ [])))
+      λ priced. ap (λ n. device_gains (in_slots (amounts 0 n)))
           (same_sold facts known its before priced)
           ∙ sym step.gained,
     )
@@ -286,8 +271,8 @@ reply_otherwise : (facts : Facts) (known : KnownFacts) (its : ReaderCommand) (re
     ⊎ (config_after reply known.config ≡ config_after reply facts.config))) gains
 reply_otherwise facts known its reply choice before after gains owed step =
     let others = otherwise facts known in (
-      device_gains (in_slots (all_approved (config_after reply known.config) step.news
-          ∷ sold_any others (taken its reply) (read choice before) ∷ [])),
+      device_gains (in_slots (amounts (all_approved (config_after reply known.config) step.news)
+          (sold_any others (taken its reply) (read choice before)))),
       record {
         news = step.news;
         has_news = record {
@@ -303,11 +288,11 @@ reply_otherwise facts known its reply choice before after gains owed step =
         gained = refl;
       },
       λ priced. ap (λ n. device_gains (in_slots
-          (n ∷ sold_any others (taken its reply) (read choice before) ∷ [])))
+          (amounts n (sold_any others (taken its reply) (read choice before)))))
           (same_approved (config_after reply known.config) (config_after reply facts.config) _ _
           reply step.news step.has_news.new priced.1)
           ∙ ap (λ n. device_gains (in_slots
-          (all_approved (config_after reply facts.config) step.news ∷ n ∷ [])))
+          (amounts (all_approved (config_after reply facts.config) step.news) n)))
           (same_sold_any facts known its reply (read choice before) priced.0)
           ∙ sym step.gained,
     )
@@ -320,9 +305,10 @@ vmc_ack_otherwise : (facts : Facts) (known : KnownFacts) (its : ReaderCommand) (
     ((approvals (messages_of reply) ≡ 0) ⊎ (known.config ≡ facts.config)) gains
 vmc_ack_otherwise facts known its reply choice before after gains step =
     let view = view_answered (taken its reply) before.view in (
-      controller_gains (in_slots (all_approved_to known.config view (messages_of reply) ∷ [])),
+      controller_gains (in_slots
+          (amounts (all_approved_to known.config view (messages_of reply)) no_end)),
       record { to = step.to; gained = refl },
-      λ priced. ap (λ n. controller_gains (in_slots (n ∷ [])))
+      λ priced. ap (λ n. controller_gains (in_slots (amounts n no_end)))
           (same_approved_to known.config facts.config view (messages_of reply) priced)
           ∙ sym step.gained,
     )

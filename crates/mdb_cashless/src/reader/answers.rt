@@ -2,7 +2,7 @@
 
 ghost use Rattle.std.specs.Prelude.{◌≡◌, ◌≤◌, ◌<◌, ◌^◌, ◌||◌, IfSome, IfNone, List, length, map};
 ghost use Rattle.std.specs.Bool.{OnFalse};
-ghost use Rattle.mdb_machine.specs.Gains.{IsSmall};
+ghost use Rattle.mdb_machine.specs.Gains.{AreSmall, IsSmall};
 ghost use Rattle.std.specs.List.{list_any};
 ghost use Rattle.mdb_machine.specs.Kept.{MayBeRead, holds_acked, kept_of};
 ghost use Rattle.mdb_machine.specs.Past.{is_out_of_sequence};
@@ -15,13 +15,14 @@ ghost use Rattle.mdb_cashless.specs.Reader as spec;
 ghost use Rattle.mdb_cashless.specs.ReaderDevice as reader_device;
 ghost use Rattle.mdb_cashless.specs.ReaderValues.{facts_in};
 ghost use Rattle.mdb_cashless.specs.ReaderView as reader_view;
+ghost use Rattle.mdb_cashless.specs.Transactions.{amounts};
 
 use super::device::DeviceState;
 use super::facts::ReaderFacts;
 use super::messages::{ReaderActivity, Said, is_kept, messages_of, tells_of_reset};
 use super::state::ReaderState;
 use super::taking::{is_poll, sold, take};
-use super::transaction::{Transaction, transaction_of};
+use super::transaction::{Ended, Transaction, transaction_of};
 use super::values::{all_approved, approved_to};
 use super::view::View;
 use mdb_machine::kept::{held, holds_after};
@@ -65,14 +66,14 @@ fn take_any(facts: &ReaderFacts, command: Option<ReaderCommand>, before: ReaderS
     }
 }
 
-/// What that adds to the reader's sold.
+/// What that adds to the reader's accounts, if it ends a sale.
 #[inline(always)]
-fn sold_any(facts: &ReaderFacts, command: Option<ReaderCommand>, before: ReaderState) -> u64
+fn sold_any(facts: &ReaderFacts, command: Option<ReaderCommand>, before: ReaderState) -> Ended
     ensures value { result ≡ spec.sold_any (facts_in facts.now) command before }
-    ensures small { result ≤ 16711425 }
+    ensures small { AreSmall (amounts 0 result) }
 {
     match command {
-        None => 0,
+        None => Ended::nothing(),
         Some(command) => sold(facts, command, before),
     }
 }
@@ -134,7 +135,7 @@ pub(crate) fn answer(
     let approved = all_approved(config, new);
     Some((
         after,
-        Gains::of_device(&[approved, sold_any(facts, taken, start)]),
+        Gains::of_device(&sold_any(facts, taken, start).amounts(approved)),
     ))
 }
 
@@ -194,7 +195,10 @@ pub(crate) fn vmc_ack(
         view: hearing.view,
         holds: holds_on(choice, hearing.keeps, before.holds),
     };
-    (after, Gains::of_controller(&[hearing.approved]))
+    (
+        after,
+        Gains::of_controller(&Ended::nothing().amounts(hearing.approved)),
+    )
 }
 
 /// What hearing messages makes of the controller's view and sums.

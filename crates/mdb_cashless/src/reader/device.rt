@@ -171,14 +171,11 @@ impl DeviceState {
         }
     }
 
-    /// Whether taking a command is a sale.
-    pub(crate) fn is_sale(self, command: ReaderCommand) -> bool
-        ensures { result ≡ spec.is_sale command self }
+    /// Whether it has approved a sale that hasn't ended.
+    pub(crate) fn has_approved(self) -> bool
+        ensures { result ≡ spec.has_approved self }
     {
-        matches!(
-            (command, self),
-            (ReaderCommand::VendSuccess { .. }, DeviceState::Approved(_))
-        )
+        matches!(self, DeviceState::Approved(_))
     }
 
     /// The state after a new kept message, where this was the last transaction taken; `None` where

@@ -8,19 +8,20 @@ ghost use Rattle.mdb_machine.specs.declared.choice.Choice.{Choice};
 ghost use Rattle.mdb_machine.specs.declared.choice.Choice.TheVariants.{Plain};
 ghost use Rattle.mdb_machine.specs.declared.gains.Gains.{Gains};
 ghost use Rattle.mdb_machine.specs.Choices.{CanStand};
-ghost use Rattle.mdb_machine.specs.Gains.{IsSmall, no_gains};
+ghost use Rattle.mdb_machine.specs.Gains.{AreSmall, IsSmall, no_gains};
 ghost use Rattle.mdb_machine.specs.Pair.{IsActOf, IsOnlyStep};
 ghost use Rattle.mdb_cashless.specs.declared.reader.state.ReaderState.{ReaderState};
 ghost use Rattle.mdb_cashless.specs.ReaderFacts.{Facts};
 ghost use Rattle.mdb_cashless.specs.Reader as spec;
 ghost use Rattle.mdb_cashless.specs.ReaderValues.{changes_view, facts_in};
+ghost use Rattle.mdb_cashless.specs.Transactions.{amounts};
 
 use super::answers::{answer, vmc_ack};
 use super::facts::ReaderFacts;
 use super::messages::tells_of_reset;
 use super::state::ReaderState;
 use super::taking::{heeds_taking, is_poll, sold, take, view_heard};
-use super::transaction::transaction_of;
+use super::transaction::{Ended, ended_by, transaction_of};
 use super::unit::own;
 use super::values::value;
 use super::view::View;
@@ -84,7 +85,7 @@ pub(crate) fn ask(
         holds: before.holds,
     };
     let sold = sold_to(facts, command, before.view);
-    Some((after, Gains::of_controller(&[0, sold])))
+    Some((after, Gains::of_controller(&sold.amounts(0))))
 }
 
 /// The view after a command that the controller sends; `None` where it may not send it.
@@ -100,18 +101,13 @@ fn asked(facts: &ReaderFacts, command: ReaderCommand, view: View) -> Option<View
     }
 }
 
-/// What that adds to the controller's sold.
-fn sold_to(facts: &ReaderFacts, command: ReaderCommand, view: View) -> u64
+/// What that adds to the controller's accounts, if it ends a sale.
+fn sold_to(facts: &ReaderFacts, command: ReaderCommand, view: View) -> Ended
     ensures value { result ≡ spec.sold_to (facts_in facts.now) command view }
-    ensures small { result ≤ 16711425 }
+    ensures small { AreSmall (amounts 0 result) }
 {
-    match transaction_of(command) {
-        Some(transaction) if view.is_sale(transaction) => value(
-            facts.config,
-            facts.amount.unwrap_or(0),
-        ),
-        _ => 0,
-    }
+    let value = value(facts.config, facts.amount.unwrap_or(0));
+    ended_by(view.has_approved(), command, value)
 }
 
 /// The reader acknowledges.
@@ -135,7 +131,7 @@ pub(crate) fn ack(
         holds: taken.holds,
     };
     let sold = sold(facts, command, before);
-    Some((after, Gains::of_device(&[0, sold])))
+    Some((after, Gains::of_device(&sold.amounts(0))))
 }
 
 /// Whether an act may change a state or a sum of this reader.

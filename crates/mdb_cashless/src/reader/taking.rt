@@ -2,12 +2,14 @@
 
 ghost use Rattle.std.specs.Prelude.{◌≡◌, ◌≤◌};
 ghost use Rattle.std.specs.Bool.{OnFalse};
+ghost use Rattle.mdb_machine.specs.Gains.{AreSmall};
 ghost use Rattle.mdb_cashless.specs.Reader as spec;
 ghost use Rattle.mdb_cashless.specs.ReaderValues.{facts_in};
+ghost use Rattle.mdb_cashless.specs.Transactions.{amounts};
 
 use super::facts::ReaderFacts;
 use super::state::ReaderState;
-use super::transaction::{is_again, transaction_of};
+use super::transaction::{Ended, ended_by, is_again, transaction_of};
 use super::values::value;
 use super::view::View;
 use mdb_machine::Choice;
@@ -70,16 +72,16 @@ pub(crate) fn take(facts: &ReaderFacts, command: ReaderCommand, before: ReaderSt
     }
 }
 
-/// What that adds to the reader's sold.
-pub(crate) fn sold(facts: &ReaderFacts, command: ReaderCommand, before: ReaderState) -> u64
+/// What that adds to the reader's accounts, if it ends a sale.
+pub(crate) fn sold(facts: &ReaderFacts, command: ReaderCommand, before: ReaderState) -> Ended
     ensures value { result ≡ spec.sold (facts_in facts.now) command before }
-    ensures small { result ≤ 16711425 }
+    ensures small { AreSmall (amounts 0 result) }
 {
-    if !is_repeated(facts, command, before.holds) && before.device.is_sale(command) {
-        value(facts.config, facts.amount.unwrap_or(0))
-    } else {
-        0
+    if is_repeated(facts, command, before.holds) {
+        return Ended::nothing();
     }
+    let value = value(facts.config, facts.amount.unwrap_or(0));
+    ended_by(before.device.has_approved(), command, value)
 }
 
 /// Whether a command is POLL.

@@ -1,6 +1,7 @@
 //! The commands of a session.
 
-ghost use Rattle.std.specs.Prelude.{◌≡◌};
+ghost use Rattle.std.specs.Prelude.{◌≡◌, ◌≤◌, ◌<◌, ◌^◌};
+ghost use Rattle.mdb_machine.specs.Gains.{AreSmall};
 ghost use Rattle.mdb_cashless.specs.Transactions as spec;
 
 use mdb_msgs::ReaderCommand;
@@ -27,6 +28,53 @@ pub enum Transaction {
     Failure,
     /// SESSION COMPLETE.
     Complete,
+}
+
+/// What the end of a sale adds to the accounts, in the smallest unit of money.
+#[derive(Clone, Copy)]
+pub struct Ended {
+    /// What the sale is worth, if it was made.
+    pub sold: u64,
+}
+
+impl Ended {
+    /// No sale ends.
+    pub(crate) fn nothing() -> Ended
+        ensures { result ≡ spec.no_end }
+    {
+        Ended { sold: 0 }
+    }
+
+    /// The amounts by slot: what was approved, and what ended.
+    #[inline(always)]
+    pub(crate) fn amounts(self, approved: u64) -> [u64; 2]
+        ensures amounts { result ≡ spec.amounts approved self }
+        ensures small { approved < 2 ^ 32 → AreSmall (spec.amounts 0 self) → AreSmall result }
+    {
+        [approved, self.sold]
+    }
+}
+
+impl Transaction {
+    /// Whether it ends an approved sale.
+    pub(crate) fn ends_sale(self) -> bool
+        ensures { result ≡ spec.ends_sale self }
+    {
+        matches!(self, Transaction::Success { .. })
+    }
+}
+
+/// What a command adds to the accounts, where a sale of this value is approved, or none.
+#[inline(always)]
+pub(crate) fn ended_by(approved: bool, command: ReaderCommand, value: u64) -> Ended
+    requires { value < 2 ^ 32 }
+    ensures amounts { result ≡ spec.ended_by approved command value }
+    ensures small { AreSmall (spec.amounts 0 result) }
+{
+    match transaction_of(command) {
+        Some(Transaction::Success { .. }) if approved => Ended { sold: value },
+        _ => Ended::nothing(),
+    }
 }
 
 /// The command of a session that a command is.

@@ -1,6 +1,6 @@
 //! Amounts without a value: nothing tells yet how the reader is set up.
 
-ghost use Rattle.std.specs.Prelude.{◌≡◌, ◌≤◌, length, sum_by};
+ghost use Rattle.std.specs.Prelude.{◌≡◌, ◌≤◌, Some, length, sum_by};
 ghost use Rattle.mdb_machine.specs.Past.{or_else};
 ghost use Rattle.mdb_machine.specs.Unvalued as amounts;
 ghost use Rattle.mdb_machine.specs.Unvalued.{one_if};
@@ -10,6 +10,7 @@ ghost use Rattle.mdb_cashless.specs.ReaderValues.{known_in};
 
 use super::known::ReaderKnown;
 use super::messages::{Said, messages_of};
+use super::transaction::transaction_of;
 use super::unit::own;
 use mdb_bus::Act;
 use mdb_msgs::{ReaderCommand, ReaderConfig, ReaderIter, ReaderMsg, ReaderUnit, Reply};
@@ -22,7 +23,7 @@ pub(crate) fn unvalued_by(unit: ReaderUnit, known: &ReaderKnown, act: &Act) -> u
 {
     match act {
         Act::Ask(command) => match own(unit, command) {
-            Some(ReaderCommand::VendSuccess { .. }) => u64::from(is_unpriced(known)),
+            Some(command) if asks_sale(command) => u64::from(is_unpriced(known)),
             _ => 0,
         },
         Act::Reply(command, reply) => match own(unit, command) {
@@ -30,6 +31,16 @@ pub(crate) fn unvalued_by(unit: ReaderUnit, known: &ReaderKnown, act: &Act) -> u
             None => 0,
         },
         _ => 0,
+    }
+}
+
+/// Whether the controller tells of an amount by a command to the reader.
+fn asks_sale(command: ReaderCommand) -> bool
+    ensures { result ≡ spec.asks_sale (Some command) }
+{
+    match transaction_of(command) {
+        Some(transaction) => transaction.ends_sale(),
+        None => false,
     }
 }
 

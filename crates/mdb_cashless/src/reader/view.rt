@@ -86,14 +86,11 @@ impl View {
         }
     }
 
-    /// Whether sending a transaction command in it is a sale.
-    pub(crate) fn is_sale(self, transaction: Transaction) -> bool
-        ensures { result ≡ spec.is_sale transaction self }
+    /// Whether the approval of a sale was heard that hasn't ended.
+    pub(crate) fn has_approved(self) -> bool
+        ensures { result ≡ spec.has_approved self }
     {
-        matches!(
-            (self, transaction),
-            (View::Approved, Transaction::Success { .. })
-        )
+        matches!(self, View::Approved)
     }
 
     /// The view after hearing that a transaction command was taken.

@@ -1,4 +1,5 @@
 use Rattle.std.proofs.Common.{◌∙◌, ap, subst, sym}
+use Rattle.mdb_machine.specs.Gains.{device_gains, in_slots}
 use Rattle.mdb_machine.specs.Kept.{held, holds_after}
 use Rattle.mdb_machine.specs.Past.{or_else}
 use Rattle.mdb_cashless.specs.Reader.{last_transaction, owes_reset, sold_any, take_any, taken}
@@ -43,4 +44,5 @@ returns-clause-step c =
     ∙ ap (λ o. or_else o c.args.facts.now.config) said.config_is) in
     let sold_is = c.sold_any.ensures.value ∙ (ap (λ t. sold_any (facts_in c.args.facts.now) t c.read-start.result) (c.taken-taken.ensures c.args.reply.now said.refused_is)
     ∙ ap (sold_any (facts_in c.args.facts.now) (taken c.args.command c.args.reply.now)) c.read-start.ensures) in
-    told looked c.in_ok-new.ensures.found c.in_ok-new.ensures.only last_is told_is after_holds_is config_is c.all_approved-approved.ensures.value sold_is c.of_device.ensures.gains
+    told looked c.in_ok-new.ensures.found c.in_ok-new.ensures.only last_is told_is after_holds_is config_is c.all_approved-approved.ensures.value sold_is
+    (c.of_device.ensures.gains ∙ ap (λ list. device_gains (in_slots list)) c.amounts.ensures.amounts)
