@@ -1,6 +1,6 @@
 //! What standard error is told.
 
-use super::hint::{Hint, hint_of};
+use super::hint::hint_of;
 use csv::ByteRecord;
 use mdb_edges::{EdgesFault, EdgesImported, EdgesOptions, LineFault};
 use mdb_exports::{Imported, RecordFault};
@@ -9,6 +9,7 @@ use mdb_rows_import::ImportFault;
 use mdb_saleae::SaleaeFault;
 use mdb_sigrok::{SigrokFault, SigrokRows};
 use mdb_writing::Excerpt;
+use std::fmt::Display;
 use std::io::{Read, Write};
 
 /// So many microseconds have 15 digits or fewer.
@@ -21,7 +22,14 @@ pub(crate) fn tell<R: Read + Drop, E: Write>(
     err: &mut E,
 ) {
     match answer {
-        Ok(imported) => note(&imported, err),
+        Ok(imported) => note(
+            Notes {
+                header: imported.header,
+                passed: imported.passed,
+                ..notes_on(&imported)
+            },
+            err,
+        ),
         Err(fault) => complain(fault, records, err),
     }
 }
@@ -29,8 +37,19 @@ pub(crate) fn tell<R: Read + Drop, E: Write>(
 /// Tells the same of a trace.
 pub(crate) fn tell_of_trace<E: Write>(answer: Result<SigrokRows, SigrokFault>, err: &mut E) {
     match answer {
-        Ok(rows) => note_trace(&rows, err),
-        Err(fault) => complain_of_trace(fault, err),
+        Ok(rows) => note(
+            Notes {
+                header: false,
+                before: rows.before,
+                after: rows.after,
+                passed: 0,
+                controller: rows.controller,
+                peripheral: rows.peripheral,
+                marked: rows.marked,
+            },
+            err,
+        ),
+        Err(fault) => complain_of(&fault, None, "", err),
     }
 }
 
@@ -41,7 +60,7 @@ pub(crate) fn tell_of_table<R: Read + Drop, E: Write>(
     err: &mut E,
 ) {
     match answer {
-        Ok(imported) => note_table(&imported, err),
+        Ok(imported) => note(notes_on(&imported), err),
         Err(fault) => complain_of_table(fault, records, err),
     }
 }
@@ -54,7 +73,18 @@ pub(crate) fn tell_of_edges<R: Read + Drop, E: Write>(
     err: &mut E,
 ) {
     match answer {
-        Ok(imported) => note_edges(&imported, err),
+        Ok(imported) => note(
+            Notes {
+                header: false,
+                before: imported.before,
+                after: imported.after,
+                passed: 0,
+                controller: imported.controller,
+                peripheral: imported.peripheral,
+                marked: imported.marked,
+            },
+            err,
+        ),
         Err(fault) => complain_of_edges(options, fault, records, err),
     }
 }
@@ -63,54 +93,65 @@ pub(crate) fn tell_of_edges<R: Read + Drop, E: Write>(
 /// where the reading failed its cause. The records are those that the fault was met with. Where the
 /// line is refused, nothing more is tried.
 fn complain<R: Read + Drop, E: Write>(fault: ImportFault, records: &Records<R>, err: &mut E) {
-    let _ = match fault {
+    match fault {
         ImportFault::BadRecord {
             number,
             own,
             last,
             fault,
         } => {
-            let refused = Refused { number, own, last };
-            complain_of_record(refused, fault, records.row(), err)
+            let refused = Refused {
+                number,
+                own,
+                last,
+                fault,
+            };
+            let _ = complain_of_record(&refused, records.row(), err);
         }
-        ImportFault::Read => writeln!(err, "mdbimport: {}", text_of_cause(records.cause())),
-        ImportFault::Write | ImportFault::Memory => writeln!(err, "mdbimport: {fault}"),
-    };
+        ImportFault::Read => say(text_of_cause(records.cause()), err),
+        ImportFault::Write | ImportFault::Memory => complain_of(&fault, None, "", err),
+    }
 }
 
-/// A record that is refused: its number, its own time, if it tells one, and that of the last row
-/// before it.
+/// A record that is refused: its number, its own time, if it tells one, that of the last row before
+/// it, and why.
 #[derive(Clone, Copy)]
 struct Refused {
     number: u64,
     own: Option<u64>,
     last: Option<u64>,
+    fault: RecordFault,
 }
 
 /// Writes the line on a record that is refused.
 fn complain_of_record<E: Write>(
-    refused: Refused,
-    fault: RecordFault,
+    refused: &Refused,
     fields: &ByteRecord,
     err: &mut E,
 ) -> std::io::Result<()> {
-    write!(err, "mdbimport: record {}", refused.number)?;
-    match (refused.own, refused.last) {
-        (Some(at), _) => write!(err, " at {at}")?,
-        (None, Some(at)) => write!(err, " after {at}")?,
-        (None, None) => {}
-    }
-    write!(err, ": {fault}")?;
-    write_found(fields, err)?;
-    if let Some(first) = first_after(refused) {
-        write!(err, "; go on with --from {first}")?;
-    }
+    let (number, fault) = (refused.number, refused.fault);
+    let (mark, time) = match (refused.own, refused.last) {
+        (Some(at), _) => (" at ", Some(at)),
+        (None, last) => (" after ", last),
+    };
+    write!(err, "mdbimport: record {number}")?;
+    write_time(mark, time, err)?;
+    write!(err, ": {fault}; found \"{}\"", found_in(fields))?;
+    write_time("; go on with --from ", first_after(refused), err)?;
     err.write_all(b"\n")
+}
+
+/// Writes a text and a time, if there is a time.
+fn write_time<E: Write>(mark: &str, time: Option<u64>, err: &mut E) -> std::io::Result<()> {
+    match time {
+        Some(time) => write!(err, "{mark}{time}"),
+        None => Ok(()),
+    }
 }
 
 /// The first microsecond after a record that is refused, and after all rows before it, where it
 /// tells its time and one of 15 digits comes after it.
-fn first_after(refused: Refused) -> Option<u64> {
+fn first_after(refused: &Refused) -> Option<u64> {
     let own = refused.own?;
     let first = own.max(refused.last.unwrap_or(0)).saturating_add(1);
     if first < TIMES { Some(first) } else { None }
@@ -125,187 +166,162 @@ fn text_of_cause(cause: ReadCause) -> &'static str {
     }
 }
 
-/// Writes one line on a fault of a trace. Where the line is refused, nothing more is tried.
-fn complain_of_trace<E: Write>(fault: SigrokFault, err: &mut E) {
-    let _ = writeln!(err, "mdbimport: {fault}");
-}
-
-/// Writes one line on a fault of an analyser's table: at a record that is refused what was wanted
-/// and what stands there, where the reading failed its cause. The records are those that the fault
-/// was met with. Where the line is refused, nothing more is tried.
+/// Writes one line on a fault of an analyser's table, as [`complain`] does.
 fn complain_of_table<R: Read + Drop, E: Write>(
     fault: SaleaeFault,
     records: &Records<R>,
     err: &mut E,
 ) {
-    let _ = match fault {
+    match fault {
         SaleaeFault::BadHeader { .. }
         | SaleaeFault::BadRecord { .. }
-        | SaleaeFault::BadRow { .. } => complain_of_row(fault, records.row(), err),
-        SaleaeFault::Read => writeln!(err, "mdbimport: {}", text_of_cause(records.cause())),
+        | SaleaeFault::BadRow { .. } => complain_of(&fault, Some(records.row()), "", err),
+        SaleaeFault::Read => say(text_of_cause(records.cause()), err),
         SaleaeFault::NoHeader | SaleaeFault::Write | SaleaeFault::Memory => {
-            writeln!(err, "mdbimport: {fault}")
+            complain_of(&fault, None, "", err)
         }
-    };
+    }
 }
 
-/// Writes the line on a record of a table that is refused.
-fn complain_of_row<E: Write>(
-    fault: SaleaeFault,
-    fields: &ByteRecord,
-    err: &mut E,
-) -> std::io::Result<()> {
-    write!(err, "mdbimport: {fault}")?;
-    write_found(fields, err)?;
-    err.write_all(b"\n")
-}
-
-/// Writes one line on a fault of a table of edges: at a record that is refused by itself what was
-/// wanted, what stands there and the likely cause, where the reading failed its cause. The records
-/// are those that the fault was met with. Where the line is refused, nothing more is tried.
+/// Writes one line on a fault of a table of edges, as [`complain`] does. At a record that is
+/// refused by itself it adds the likely cause.
 fn complain_of_edges<R: Read + Drop, E: Write>(
     options: &EdgesOptions,
     fault: EdgesFault,
     records: &Records<R>,
     err: &mut E,
 ) {
-    let _ = match fault {
+    let row = records.row();
+    match fault {
         EdgesFault::Form { fault: form, .. } => {
-            let hint = hint_of(options, form, records.row());
-            complain_of_edges_record(fault, hint, records.row(), err)
+            complain_of(&fault, Some(row), hint_of(options, form, row), err);
         }
         EdgesFault::Order { .. }
         | EdgesFault::Line {
             fault: LineFault::BadLevel,
             ..
-        } => complain_of_edges_record(fault, None, records.row(), err),
-        EdgesFault::Read => writeln!(err, "mdbimport: {}", text_of_cause(records.cause())),
+        } => complain_of(&fault, Some(row), "", err),
+        EdgesFault::Read => say(text_of_cause(records.cause()), err),
         EdgesFault::Line { .. } | EdgesFault::Write | EdgesFault::Memory => {
-            writeln!(err, "mdbimport: {fault}")
+            complain_of(&fault, None, "", err);
         }
-    };
+    }
 }
 
-/// Writes the line on a record of a table of edges that is refused. Where no record was there, it
-/// leaves out what stands there.
-fn complain_of_edges_record<E: Write>(
-    fault: EdgesFault,
-    hint: Option<Hint>,
-    fields: &ByteRecord,
+/// Writes one line: the fault, the fields of the record that is refused for it, and a hint. Without
+/// a record, it leaves out the fields. If the line is refused, nothing more is tried.
+fn complain_of<D: Display, E: Write>(
+    fault: &D,
+    record: Option<&ByteRecord>,
+    hint: &str,
     err: &mut E,
-) -> std::io::Result<()> {
-    write!(err, "mdbimport: {fault}")?;
-    if fields.len() > 0 {
-        write_found(fields, err)?;
-    }
-    if let Some(hint) = hint {
-        write!(err, "; {hint}")?;
-    }
-    err.write_all(b"\n")
-}
-
-/// Writes a line for each thing that whoever recorded should know of the rows that were imported: a
-/// header that was passed over, rows that were left out, and likely causes of what is missing.
-fn note<E: Write>(imported: &Imported, err: &mut E) {
-    let heard = Heard {
-        controller: imported.controller,
-        peripheral: imported.peripheral,
-        marked: imported.marked,
+) {
+    let _ = match record {
+        Some(fields) if fields.len() > 0 => {
+            writeln!(
+                err,
+                "mdbimport: {fault}; found \"{}\"{hint}",
+                found_in(fields)
+            )
+        }
+        _ => writeln!(err, "mdbimport: {fault}{hint}"),
     };
-    if imported.header {
-        let _ = writeln!(err, "mdbimport: the first record is taken for a header");
-    }
-    let _ = note_what_was_left_out(imported.before, imported.after, err);
-    if imported.passed > 0 {
-        let _ = writeln!(
-            err,
-            "mdbimport: left out {} records outside the part that are no rows, or not in order",
-            imported.passed
-        );
-    }
-    let _ = note_what_is_missing(heard, err);
 }
 
-/// Writes the same lines of a trace, which has no header.
-fn note_trace<E: Write>(rows: &SigrokRows, err: &mut E) {
-    let heard = Heard {
-        controller: rows.controller,
-        peripheral: rows.peripheral,
-        marked: rows.marked,
-    };
-    let _ = note_what_was_left_out(rows.before, rows.after, err);
-    let _ = note_what_is_missing(heard, err);
-}
-
-/// Writes the same lines of an analyser's table, which always has a header.
-fn note_table<E: Write>(imported: &Imported, err: &mut E) {
-    let heard = Heard {
-        controller: imported.controller,
-        peripheral: imported.peripheral,
-        marked: imported.marked,
-    };
-    let _ = note_what_was_left_out(imported.before, imported.after, err);
-    let _ = note_what_is_missing(heard, err);
-}
-
-/// Writes the same lines of a table of edges, which always has a header.
-fn note_edges<E: Write>(imported: &EdgesImported, err: &mut E) {
-    let heard = Heard {
-        controller: imported.controller,
-        peripheral: imported.peripheral,
-        marked: imported.marked,
-    };
-    let _ = note_what_was_left_out(imported.before, imported.after, err);
-    let _ = note_what_is_missing(heard, err);
-}
-
-/// Which words there are in a recording.
+/// What the recorder's user should know about the imported rows.
 #[derive(Clone, Copy)]
-struct Heard {
+struct Notes {
+    // Whether an optional header was passed over.
+    header: bool,
+    // How many rows stand before and after the part, and how many records outside it are no rows.
+    before: u64,
+    after: u64,
+    passed: u64,
+    // Whether either line has a word, and whether a word is marked.
     controller: bool,
     peripheral: bool,
     marked: bool,
 }
 
-/// Notes the rows that were left out.
-fn note_what_was_left_out<E: Write>(before: u64, after: u64, err: &mut E) -> std::io::Result<()> {
+/// The notes on an import that neither has an optional header nor passes records over.
+fn notes_on(imported: &Imported) -> Notes {
+    Notes {
+        header: false,
+        before: imported.before,
+        after: imported.after,
+        passed: 0,
+        controller: imported.controller,
+        peripheral: imported.peripheral,
+        marked: imported.marked,
+    }
+}
+
+/// Writes a line for each note: a header that was passed over, rows that were left out, and the
+/// likely cause if no word is marked or a line has no word.
+fn note<E: Write>(notes: Notes, err: &mut E) {
+    let Notes {
+        before,
+        after,
+        passed,
+        ..
+    } = notes;
+    say(text_on_header(notes), err);
     if before > 0 || after > 0 {
-        writeln!(
+        let _ = writeln!(
             err,
             "mdbimport: left out {before} rows before the part and {after} after it"
-        )?;
+        );
     }
-    Ok(())
+    if passed > 0 {
+        let _ = writeln!(
+            err,
+            "mdbimport: left out {passed} records outside the part that are no rows, or not in order"
+        );
+    }
+    say(text_on_lines(notes), err);
+    say(text_on_marks(notes), err);
 }
 
-/// Notes the likely cause where no word is marked, or a line has none.
-fn note_what_is_missing<E: Write>(heard: Heard, err: &mut E) -> std::io::Result<()> {
-    match (heard.controller, heard.peripheral) {
-        (false, false) => writeln!(err, "mdbimport: there is no word on either line")?,
-        (true, false) => writeln!(
-            err,
-            "mdbimport: no word of a peripheral (S): was only the controller's line recorded?"
-        )?,
-        (false, true) => writeln!(
-            err,
-            "mdbimport: no word of the controller (M): was only the peripherals' line recorded?"
-        )?,
-        (true, true) => {}
+/// Writes a line, unless its text is empty.
+fn say<E: Write>(text: &str, err: &mut E) {
+    if !text.is_empty() {
+        let _ = writeln!(err, "mdbimport: {text}");
     }
-    if !heard.marked && (heard.controller || heard.peripheral) {
-        writeln!(
-            err,
-            "mdbimport: no word has its mode bit set: was it recorded with 8 bits and not 9?"
-        )?;
-    }
-    Ok(())
 }
 
-/// Writes what stands in a record that is refused.
-fn write_found<E: Write>(fields: &ByteRecord, err: &mut E) -> std::io::Result<()> {
+/// The note on a header that was passed over.
+fn text_on_header(notes: Notes) -> &'static str {
+    if notes.header {
+        "the first record is taken for a header"
+    } else {
+        ""
+    }
+}
+
+/// The note on a line without a word.
+fn text_on_lines(notes: Notes) -> &'static str {
+    match (notes.controller, notes.peripheral) {
+        (false, false) => "there is no word on either line",
+        (true, false) => "no word of a peripheral (S): was only the controller's line recorded?",
+        (false, true) => "no word of the controller (M): was only the peripherals' line recorded?",
+        (true, true) => "",
+    }
+}
+
+/// The note on a recording without a marked word.
+fn text_on_marks(notes: Notes) -> &'static str {
+    if !notes.marked && (notes.controller || notes.peripheral) {
+        "no word has its mode bit set: was it recorded with 8 bits and not 9?"
+    } else {
+        ""
+    }
+}
+
+/// What stands in a record that is refused.
+fn found_in(fields: &ByteRecord) -> Excerpt {
     let mut found = Excerpt::of_record();
     for place in 0..fields.len() {
         found.add_field(fields.get(place).unwrap_or(&[]));
     }
-    write!(err, "; found \"{found}\"")
+    found
 }

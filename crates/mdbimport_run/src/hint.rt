@@ -3,52 +3,30 @@
 use csv::ByteRecord;
 use mdb_edges::{EdgesOptions, FormFault};
 use mdb_exports::bare;
-use thiserror::Error;
-
-/// The likely cause of a refusal.
-#[derive(Clone, Copy, PartialEq, Eq, Debug, Error)]
-pub(crate) enum Hint {
-    /// Semicolons stand between the fields.
-    #[error("are its fields parted by semicolons, and not by commas?")]
-    Semicolons,
-    /// Tabs stand between the fields.
-    #[error("are its fields parted by tabs, and not by commas?")]
-    Tabs,
-    /// A column is called as is wanted, but for the case of its letters.
-    #[error("does a name differ by great and small letters alone?")]
-    Case,
-    /// A decimal comma stands between commas.
-    #[error("is there a decimal comma that doesn't stand in quotes?")]
-    DecimalComma,
-}
 
 /// How many fields the records of a table have at least: a time and two levels.
 const FEWEST: usize = 3;
 
-/// The likely cause of a record that is misformed, if one is known.
-pub(crate) fn hint_of(options: &EdgesOptions, fault: FormFault, row: &ByteRecord) -> Option<Hint> {
+/// The likely cause of a misformed record, as it is reported after the fields; an empty text if no
+/// cause is known. Semicolons or tabs part the fields, a column's name differs in the case of its
+/// letters, or a decimal comma isn't in quotes.
+pub(crate) fn hint_of(options: &EdgesOptions, fault: FormFault, row: &ByteRecord) -> &'static str {
     if has(row, b';') {
-        return Some(Hint::Semicolons);
-    }
-    if has(row, b'\t') {
-        return Some(Hint::Tabs);
-    }
-    match fault {
-        FormFault::Columns => {
-            if is_called(row, &options.controller) || is_called(row, &options.peripheral) {
-                Some(Hint::Case)
-            } else {
-                None
-            }
-        }
-        FormFault::FieldCount => {
-            if row.len() > FEWEST && has_digits_alone(row, 0) && has_digits_alone(row, 1) {
-                Some(Hint::DecimalComma)
-            } else {
-                None
-            }
-        }
-        FormFault::NoHeader | FormFault::BadTime | FormFault::LongTime => None,
+        "; are its fields parted by semicolons, and not by commas?"
+    } else if has(row, b'\t') {
+        "; are its fields parted by tabs, and not by commas?"
+    } else if fault == FormFault::Columns
+        && (is_called(row, &options.controller) || is_called(row, &options.peripheral))
+    {
+        "; does a name differ by great and small letters alone?"
+    } else if fault == FormFault::FieldCount
+        && row.len() > FEWEST
+        && has_digits_alone(row, 0)
+        && has_digits_alone(row, 1)
+    {
+        "; is there a decimal comma that doesn't stand in quotes?"
+    } else {
+        ""
     }
 }
 
