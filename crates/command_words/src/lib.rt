@@ -2,21 +2,22 @@
 //!
 //! A [`Program`] has a [`CommandRow`] for each command: its name, and what its words may be.
 //! [`read`] returns what the words of a command line name, or the error of `clap` that refuses
-//! them. [`tell_refused`] writes the line that says why. What the values mean is the program's
-//! business, and [`tell_fault`] writes the line on one that it refuses. [`write_manual`] writes the
-//! program's manual.
+//! them. [`line_on_refused`] is the [`Line`] that says why. What the values mean is the program's
+//! business, and so is the line on one that it refuses. [`write_manual`] writes the program's
+//! manual.
 #![tactic(auto)]
 
 mod build;
-mod fault;
 pub mod laws;
+mod line;
 mod manual;
 mod named;
 mod refused;
 mod table;
 mod told;
 
+pub use line::Line;
 pub use manual::{manual_asked, write_manual};
 pub use named::{Named, read};
-pub use refused::{row_of, tell_fault, tell_refused};
+pub use refused::{line_on_refused, row_of};
 pub use table::{CommandRow, Program};

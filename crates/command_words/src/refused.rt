@@ -1,63 +1,42 @@
 //! The line on a command line that is refused.
 
+use super::line::Line;
 use super::table::{CommandRow, Program, command_named};
-use super::told::fault_of;
+use super::told::add_fault;
 use clap::error::{Error, ErrorKind};
 use std::alloc::Global;
-use std::fmt::Display;
-use std::io::Write;
 
-/// Writes the line on words that `clap` refuses, the program's name first, or that ask for help or
-/// for the version: what is wrong, and the usage of the command alone.
+/// The line about words that `clap` refuses, the program's name first: what is wrong, and the usage
+/// of the command alone. Requests for help or for the version are refused too.
 ///
-/// The line is printable ASCII, whatever the words are. It has at most 200 characters, if a usage
-/// line and the longest names of the table leave room for 24 bytes of a word. Where `err` refuses a
-/// part of it, nothing more is tried.
-pub fn tell_refused<'a, E: Write>(
+/// The line is printable ASCII, whatever the words are. Only words are cut, if a usage line and the
+/// longest names of the table leave room for 24 bytes of a word.
+pub fn line_on_refused(
     alloc: Global,
-    program: &Program<'a>,
-    words: &'a [String],
+    program: &Program<'_>,
+    words: &[String],
     error: &Error,
-    err: &mut E,
-) {
+) -> Line {
+    let mut line = Line::of(program);
     let row = row_of(program, words);
     let name = program.name;
-    let _ = match (error.kind(), row) {
-        (ErrorKind::OutOfMemory, _) => writeln!(err, "{name}: out of memory"),
-        (ErrorKind::DisplayVersion, _) => writeln!(err, "{name} {}", program.version),
-        (ErrorKind::DisplayHelp, Some(row)) => writeln!(
-            err,
-            "{name}: usage: {name} {}; all: {name} manual {}",
-            row.usage, row.name
-        ),
-        (ErrorKind::DisplayHelp, None) => writeln!(err, "{name}: commands: {}", program.summary),
+    match (error.kind(), row) {
+        (ErrorKind::DisplayVersion, _) => line.add(&[" ", program.version]),
+        (ErrorKind::DisplayHelp, Some(row)) => {
+            line.add(&[": usage: ", name, " ", row.usage]);
+            line.add(&["; all: ", name, " manual ", row.name]);
+        }
+        (ErrorKind::DisplayHelp, None) => line.add(&[": commands: ", program.summary]),
         (kind, row) => match format!(in alloc; "{error}") {
-            Ok(told) => {
-                let words = words.get(1..).unwrap_or(&[]);
-                let fault = fault_of(program, row, words, kind, told.as_str());
-                tell_fault(program, row, &fault, err);
-                Ok(())
+            Ok(told) if kind != ErrorKind::OutOfMemory => {
+                line.add(&[": "]);
+                add_fault(&mut line, program, row, words, kind, told.as_str());
+                line.add_usage(program, row);
             }
-            Err(_) => writeln!(err, "{name}: out of memory"),
+            _ => line.add(&[": out of memory"]),
         },
-    };
-}
-
-/// Writes the line on what is wrong with words of a command, or of none: the fault, and the usage
-/// of the command alone.
-///
-/// The text of the fault is one line of printable ASCII.
-pub fn tell_fault<D: Display, E: Write>(
-    program: &Program<'_>,
-    row: Option<&CommandRow<'_>>,
-    fault: &D,
-    err: &mut E,
-) {
-    let name = program.name;
-    let _ = match row {
-        Some(row) => writeln!(err, "{name}: {fault}; usage: {name} {}", row.usage),
-        None => writeln!(err, "{name}: {fault}; commands: {}", program.summary),
-    };
+    }
+    line
 }
 
 /// The command that the words name, or that they ask for help on, if there is one.

@@ -1,231 +1,180 @@
-//! What `clap` tells of words that it refuses.
+//! What `clap` reports about words that it refuses.
 //!
-//! Its error has a kind and a text. The text has the refused word as it stands, with whatever quotes
-//! and line ends it has: so the word is looked for among those of the command line.
+//! Its error has a kind and a text. The text quotes the refused word as it stands, whatever quotes
+//! and line ends the word has. A fixed mark and two line ends follow.
 
-use super::fault::{Fault, known_option};
+use super::line::Line;
 use super::table::{CommandRow, Program, command_named};
 use clap::error::ErrorKind;
 
-/// What is wrong with the words that stand after the program's name, of which `clap` told this.
-pub(crate) fn fault_of<'a>(
-    program: &Program<'a>,
-    row: Option<&'a CommandRow<'a>>,
-    words: &'a [String],
+/// The most bytes of a file's name that stands without quotes.
+const PLAIN: usize = 24;
+
+/// Adds what is wrong with the words, about which `clap` reported this.
+pub(crate) fn add_fault(
+    line: &mut Line,
+    program: &Program<'_>,
+    row: Option<&CommandRow<'_>>,
+    words: &[String],
     kind: ErrorKind,
     told: &str,
-) -> Fault<'a> {
-    let found = match kind {
+) {
+    let (_, quoted) = parted(told, "'");
+    match kind {
         ErrorKind::MissingSubcommand | ErrorKind::DisplayHelpOnMissingArgumentOrSubcommand => {
-            Some(Fault::NoCommand)
+            line.add(&["no command"]);
         }
-        ErrorKind::InvalidSubcommand => unknown_command(program, words, told),
-        ErrorKind::UnknownArgument => unknown_argument(program, row, words, told),
-        ErrorKind::InvalidValue => option_without_value(row, told),
-        ErrorKind::TooManyValues => flag_with_value(row, words, told),
-        ErrorKind::MissingRequiredArgument => missing_words(row, told),
-        _ => None,
-    };
-    found.unwrap_or(Fault::Other(kind))
+        ErrorKind::InvalidSubcommand => {
+            let (word, rest) = parted(quoted, "'\n\n");
+            line.add_word("unknown command \"", word, "\"");
+            add_near(line, rest);
+        }
+        ErrorKind::UnknownArgument => add_unknown(line, program, row, words, quoted),
+        ErrorKind::InvalidValue => line.add(&[parted(quoted, " <").0, " has no value"]),
+        ErrorKind::TooManyValues => add_value(line, quoted),
+        ErrorKind::MissingRequiredArgument => add_missing(line, row, told),
+        kind => line.add(&[kind.as_str().unwrap_or("")]),
+    }
 }
 
-/// The word that is no command, and the nearest one that is.
-fn unknown_command<'a>(
-    program: &Program<'a>,
-    words: &'a [String],
+/// The parts of a text before and after the first mark. A text without the mark is the first part.
+fn parted<'a>(text: &'a str, mark: &str) -> (&'a str, &'a str) {
+    text.split_once(mark).unwrap_or((text, ""))
+}
+
+/// The parts before and after the last mark.
+fn parted_at_last<'a>(text: &'a str, mark: &str) -> (&'a str, &'a str) {
+    text.rsplit_once(mark).unwrap_or((text, ""))
+}
+
+/// Adds what is near a refused word, if `clap` names it after the word: the last thing in quotes on
+/// the line of its first tip. A tip on how to pass the word as a value names nothing.
+fn add_near(line: &mut Line, told: &str) {
+    let (tip, _) = parted(told, "\n");
+    let (front, _) = parted_at_last(tip, "'");
+    let (_, near) = parted_at_last(front, "'");
+    if !near.is_empty() && !tip.starts_with("  tip: to pass ") {
+        line.add_word(" (", near, "?)");
+    }
+}
+
+/// Adds that a word is no argument of the command, or of the program if no command is named.
+fn add_unknown(
+    line: &mut Line,
+    program: &Program<'_>,
+    row: Option<&CommandRow<'_>>,
+    words: &[String],
     told: &str,
-) -> Option<Fault<'a>> {
-    let told = told.strip_prefix("error: unrecognized subcommand '")?;
+) {
+    let (word, rest) = parted(told, "' found\n\n");
+    match (row, option_told(words, word)) {
+        (Some(row), Some(_)) if word.starts_with("--") => add_long(line, program, row, word, rest),
+        (Some(row), Some(option)) => add_short(line, row, option),
+        (Some(row), None) => add_stray(line, program, row, word),
+        (None, Some(_)) => {
+            line.add_word("unknown option \"", word, "\"");
+            add_near(line, rest);
+        }
+        (None, None) => line.add(&["-- stands before the command"]),
+    }
+}
+
+/// The option that `clap` names, as it stands among the words; `None` if that is no option. `clap`
+/// leaves out what follows the `=` of a long option and the first letter of a short one.
+fn option_told<'a>(words: &'a [String], told: &str) -> Option<&'a str> {
+    let is_long = told.starts_with("--");
     for word in words {
         let word = word.as_str();
-        if let Some(rest) = rest_after(word, "'\n", told) {
-            return Some(Fault::Command(word, near_command(program, rest)));
+        if word == "--" || !told.starts_with("-") {
+            return None;
+        }
+        if word.starts_with(told) && word.starts_with("--") == is_long {
+            return Some(word);
         }
     }
     None
 }
 
-/// The nearest command, where `clap` tells of one after the word: the last one on its line.
-fn near_command<'a>(program: &Program<'a>, told: &str) -> Option<&'a str> {
-    let told = told.strip_prefix("\n  tip:")?;
-    let (line, _) = told.split_once('\n')?;
+/// Adds that the command has no such option, and which other command has it.
+fn add_long(line: &mut Line, program: &Program<'_>, row: &CommandRow<'_>, word: &str, told: &str) {
+    let (_, name) = parted(word, "--");
+    match owner_of(program, name) {
+        Some(other) => line.add(&[row.name, " has no --", name, ": ", other, " has it"]),
+        None => {
+            line.add_word("unknown option \"", word, "\"");
+            add_near(line, told);
+        }
+    }
+}
+
+/// Adds that a word is no option. It may lack only its second `-`.
+fn add_short(line: &mut Line, row: &CommandRow<'_>, word: &str) {
+    line.add_word("unknown option \"", word, "\"");
+    let (_, name) = parted(word, "-");
+    if has_option(row, name) {
+        line.add(&[" (--", name, "?)"]);
+    }
+}
+
+/// The first command that has an option or a flag of this name.
+fn owner_of<'a>(program: &Program<'a>, name: &str) -> Option<&'a str> {
     for row in program.commands {
-        if let Some(rest) = line.strip_suffix("'")?.strip_suffix(row.name) {
-            if rest.ends_with(" '") {
-                return Some(row.name);
-            }
+        if has_option(row, name) {
+            return Some(row.name);
         }
     }
     None
 }
 
-/// The word that is no argument of the command, or of the program where there is no command.
-fn unknown_argument<'a>(
-    program: &Program<'a>,
-    row: Option<&'a CommandRow<'a>>,
-    words: &'a [String],
-    told: &str,
-) -> Option<Fault<'a>> {
-    let told = told.strip_prefix("error: unexpected argument '")?;
-    let mut is_option = true;
-    for word in words {
-        let word = word.as_str();
-        is_option = is_option && word != "--";
-        if let Some((name, rest)) = argument_told(word, told) {
-            let is_option = is_option && word.starts_with("-");
-            return Some(match row {
-                Some(row) if is_option => unknown_option(program, row, name, rest),
-                Some(row) => stray_word(program, row, word),
-                None if is_option => early_option(program, name, rest),
-                None => Fault::Dashes,
-            });
-        }
-    }
-    None
+/// Whether a command has an option or a flag of this name.
+fn has_option(row: &CommandRow<'_>, name: &str) -> bool {
+    row.options.contains(&name) || row.flags.contains(&name)
 }
 
-/// The word, without its value if it is an option, and what `clap` tells after it, if it tells of
-/// this word. Of short options it tells the first letter.
-fn argument_told<'a, 't>(word: &'a str, told: &'t str) -> Option<(&'a str, &'t str)> {
-    if let Some(rest) = rest_after(word, "' found", told) {
-        return Some((word, rest));
-    }
-    if word.starts_with("--") {
-        let (name, _) = word.split_once('=')?;
-        let rest = rest_after(name, "' found", told)?;
-        return Some((name, rest));
-    }
-    let (letter, rest) = told.split_once("' found")?;
-    if letter.starts_with("-") && word.starts_with(letter) {
-        Some((word, rest))
-    } else {
-        None
-    }
-}
-
-/// What stands after a word and a mark, with which a text begins.
-fn rest_after<'t>(word: &str, mark: &str, text: &'t str) -> Option<&'t str> {
-    text.strip_prefix(word)?.strip_prefix(mark)
-}
-
-/// What is wrong with an option that the command hasn't, after which `clap` told this.
-fn unknown_option<'a>(
-    program: &Program<'a>,
-    row: &'a CommandRow<'a>,
-    word: &'a str,
-    told: &str,
-) -> Fault<'a> {
-    let Some(name) = word.strip_prefix("--") else {
-        return Fault::Option(word, near_short(row, word));
-    };
-    if known_option(row, name).is_some() {
-        return stray_word(program, row, word);
-    }
-    for other in program.commands {
-        if let Some(name) = known_option(other, name) {
-            return Fault::OfOther(row.name, name, other.name);
-        }
-    }
-    Fault::Option(word, near_option(row, told))
-}
-
-/// The option that a word names but for its second `-`.
-fn near_short<'a>(row: &CommandRow<'a>, word: &str) -> Option<&'a str> {
-    known_option(row, word.strip_prefix("-")?)
-}
-
-/// The nearest option of the command, where `clap` tells of one after the word.
-fn near_option<'a>(row: &CommandRow<'a>, told: &str) -> Option<&'a str> {
-    let told = told.strip_prefix("\n\n  tip: a similar argument exists: '--")?;
-    let (name, _) = told.split_once('\'')?;
-    known_option(row, name)
-}
-
-/// What is wrong with an option before the command: `clap` may tell of one of a command after it.
-fn early_option<'a>(program: &Program<'a>, word: &'a str, told: &str) -> Fault<'a> {
-    for row in program.commands {
-        if let Some(rest) = told.strip_prefix("\n\n  tip: '") {
-            if let Some(rest) = rest_after(row.name, " --", rest) {
-                if let Some((name, _)) = rest.split_once('\'') {
-                    if let Some(name) = known_option(row, name) {
-                        return Fault::EarlyOption(word, row.name, name);
-                    }
-                }
-            }
-        }
-    }
-    Fault::Option(word, None)
-}
-
-/// What is wrong with a word that stands alone: it may be an option without its `--`, or the name of
-/// a file, if the command reads one and takes no words.
-fn stray_word<'a>(program: &Program<'a>, row: &'a CommandRow<'a>, word: &'a str) -> Fault<'a> {
-    if let Some(name) = known_option(row, word) {
-        return Fault::Option(word, Some(name));
-    }
+/// Adds what is wrong with a word that stands alone. It may be an option without its `--`. If the
+/// command takes no words, it may be the name of a file.
+fn add_stray(line: &mut Line, program: &Program<'_>, row: &CommandRow<'_>, word: &str) {
+    let takes_words = !row.words.is_empty() || !row.further.is_empty();
     let is_known = word == "help" || command_named(program, word).is_some();
-    if is_known || word.starts_with("-") || !row.words.is_empty() || !row.usage.contains(" < ") {
-        Fault::TooMany(word)
+    if has_option(row, word) {
+        line.add(&["unknown option \"", word, "\" (--", word, "?)"]);
+    } else if takes_words || is_known || word.starts_with("-") {
+        line.add_word("one word too many: \"", word, "\"");
+    } else if is_plain(word) {
+        line.add(&["standard input is read: write < ", word]);
     } else {
-        Fault::File(word)
+        line.add_word("standard input is read: write < \"", word, "\"");
     }
 }
 
-/// The option that has no value.
-fn option_without_value<'a>(row: Option<&'a CommandRow<'a>>, told: &str) -> Option<Fault<'a>> {
-    let told = told.strip_prefix("error: a value is required for '--")?;
-    let name = name_before(row?.options, " <", told)?;
-    Some(Fault::NoValue(name))
-}
-
-/// The one of these names with which, and with a mark after it, a text begins.
-fn name_before<'a>(names: &[&'a str], mark: &str, text: &str) -> Option<&'a str> {
-    for name in names {
-        if rest_after(name, mark, text).is_some() {
-            return Some(*name);
+/// Whether a word fits, and needs no quotes for a shell: it consists of letters, digits and `._/-`.
+fn is_plain(word: &str) -> bool {
+    for byte in word.as_bytes() {
+        if !byte.is_ascii_alphanumeric() && !matches!(*byte, b'.' | b'_' | b'/' | b'-') {
+            return false;
         }
     }
-    None
+    !word.is_empty() && word.len() <= PLAIN
 }
 
-/// The flag that has a value. The program has `--help` and `--version` of its own.
-fn flag_with_value<'a>(
-    row: Option<&'a CommandRow<'a>>,
-    words: &'a [String],
-    told: &str,
-) -> Option<Fault<'a>> {
-    let told = told.strip_prefix("error: unexpected value '")?;
-    for word in words {
-        let Some((name, value)) = word.as_str().split_once('=') else {
-            continue;
-        };
-        if let Some(rest) = rest_after(value, "' for '", told) {
-            if rest_after(name, "' found", rest).is_some() {
-                return Some(Fault::Value(flag_named(row, name)?, value));
-            }
-        }
-    }
-    None
+/// Adds that a flag has a value. `clap` quotes the value first, whatever quotes the value has.
+fn add_value(line: &mut Line, told: &str) {
+    let (front, _) = parted_at_last(told, "' found; ");
+    let (value, flag) = parted_at_last(front, "' for '");
+    line.add(&[flag]);
+    line.add_word(" takes no value: \"", value, "\"");
 }
 
-/// The flag that a word is.
-fn flag_named<'a>(row: Option<&'a CommandRow<'a>>, word: &str) -> Option<&'a str> {
-    let name = word.strip_prefix("--")?;
-    match name {
-        "help" => Some("help"),
-        "version" => Some("version"),
-        name => known_option(row?, name),
+/// Adds the words that the command lacks. `clap` names each on a line.
+fn add_missing(line: &mut Line, row: Option<&CommandRow<'_>>, told: &str) {
+    let (_, list) = parted(told, "\n  <");
+    let (list, _) = parted(list, ">\n\n");
+    let mut is_first = true;
+    if let Some(row) = row {
+        line.add(&[row.name]);
     }
-}
-
-/// The words that the command lacks: the first that `clap` tells, and those after it.
-fn missing_words<'a>(row: Option<&'a CommandRow<'a>>, told: &str) -> Option<Fault<'a>> {
-    let row = row?;
-    let (_, told) = told.split_once("\n  <")?;
-    for place in 0..row.words.len() {
-        if rest_after(row.words[place], ">", told).is_some() {
-            return Some(Fault::Missing(row.name, &row.words[place..]));
-        }
+    for name in list.split(">\n  <") {
+        line.add(&[if is_first { " lacks " } else { ", " }, name]);
+        is_first = false;
     }
-    None
 }

@@ -5,131 +5,116 @@ use super::command_line::{
 };
 use super::refusal::{Refusal, ValueFault};
 use clap::error::ErrorKind;
-use command_words::{Named, row_of, tell_fault, tell_refused};
-use mdb_rows_import::ImportFault;
+use command_words::{Line, Named, Program, line_on_refused, row_of};
 use mdb_words::Time;
-use mdb_writing::Excerpt;
 use std::alloc::Global;
-use std::fmt;
 use std::io::Write;
 
-/// What is wrong with options that `clap` takes.
-#[derive(Clone, Copy)]
-enum Fault<'a> {
-    /// An option stands twice.
-    Twice(&'a str),
-    /// The value of an option is refused for this.
-    Value(&'a str, &'a str, &'a str),
-    /// Both lines have one name.
-    OneName,
-    /// The word of `manual` is no command.
-    Page(&'a str),
-    /// `clap` says so.
-    Other(ErrorKind),
-}
-
-impl fmt::Display for Fault<'_> {
-    fn fmt<W: fmt::Write>(&self, f: &mut fmt::Formatter<W>) -> fmt::Result {
-        match *self {
-            Fault::Twice(option) => write!(f, "--{option} stands twice"),
-            Fault::Value(option, value, reason) => {
-                let value = Excerpt::of_word(value);
-                write!(f, "--{option} \"{value}\" {reason}")
-            }
-            Fault::OneName => write!(f, "--{CONTROLLER} and --{PERIPHERAL} have one name"),
-            Fault::Page(word) => write!(f, "unknown command \"{}\"", Excerpt::of_word(word)),
-            Fault::Other(kind) => write!(f, "{kind}"),
-        }
-    }
-}
-
-/// Writes the line on words that are refused. They are read once more to see which word it is.
+/// Writes the line on words that are refused.
 pub(crate) fn tell_refusal<E: Write>(
     alloc: Global,
     refusal: Refusal,
     words: &[String],
     err: &mut E,
 ) {
+    line_on(alloc, &PROGRAM, refusal, words).tell(err);
+}
+
+/// The line on words that are refused. They are read once more to see which word it is.
+fn line_on(alloc: Global, program: &Program<'_>, refusal: Refusal, words: &[String]) -> Line {
     if matches!(refusal, Refusal::Words(ErrorKind::OutOfMemory)) {
-        let _ = writeln!(err, "mdbimport: {}", ImportFault::Memory);
-        return;
+        let mut line = Line::of(program);
+        line.add(&[": out of memory"]);
+        return line;
     }
     match read_words(alloc, words) {
-        Ok(found) => match fault_of(refusal, &found) {
-            // (the word names no command, so all of them are told)
-            Fault::Page(word) => tell_fault(&PROGRAM, None, &Fault::Page(word), err),
-            fault => tell_fault(&PROGRAM, row_of(&PROGRAM, words), &fault, err),
-        },
-        Err(error) => tell_refused(alloc, &PROGRAM, words, &error, err),
+        Ok(found) => line_on_values(program, refusal, words, &found),
+        Err(error) => line_on_refused(alloc, program, words, &error),
     }
 }
 
-/// What is wrong with the options that were read, which are refused for this.
-fn fault_of<'a>(refusal: Refusal, found: &Named<'a>) -> Fault<'a> {
+/// The line on values that are refused for this after `clap` read them.
+fn line_on_values(
+    program: &Program<'_>,
+    refusal: Refusal,
+    words: &[String],
+    found: &Named<'_>,
+) -> Line {
+    let mut line = Line::of(program);
+    line.add(&[": "]);
+    if let Some(name) = value_of(found, COMMAND) {
+        // (the word names no command, so all of them are told)
+        line.add_word("unknown command \"", name, "\"");
+        line.add_usage(program, None);
+        return line;
+    }
     match refusal {
-        Refusal::Words(kind) => match (found.value(COMMAND), option_twice(found)) {
-            (Ok(Some(name)), _) => Fault::Page(name),
-            (_, Some(option)) => Fault::Twice(option),
-            (_, None) => Fault::Other(kind),
-        },
+        Refusal::Words(kind) => add_option(&mut line, kind, found),
         Refusal::Value(ValueFault::Unit) => {
-            Fault::Value(UNIT, value_of(found, UNIT), "isn't s, ms, us or ns")
+            add_value(&mut line, found, UNIT, "\" isn't s, ms, us or ns");
         }
-        Refusal::Value(ValueFault::Length) => Fault::Value(
-            BREAK,
-            value_of(found, BREAK),
-            "isn't microseconds below 1000000000",
-        ),
-        Refusal::Value(ValueFault::Name) => name_fault(found),
-        Refusal::Value(ValueFault::Time) => time_fault(found),
+        Refusal::Value(ValueFault::Length) => {
+            add_value(
+                &mut line,
+                found,
+                BREAK,
+                "\" isn't microseconds below 1000000000",
+            );
+        }
+        Refusal::Value(ValueFault::Name) => add_name(&mut line, found),
+        Refusal::Value(ValueFault::Time) => add_time(&mut line, found),
+    }
+    line.add_usage(program, row_of(program, words));
+    line
+}
+
+/// The value of an option, if it has one.
+fn value_of<'a>(found: &Named<'a>, option: &str) -> Option<&'a str> {
+    match found.value(option) {
+        Ok(value) => value,
+        Err(_) => None,
     }
 }
 
-/// The first option that stands twice.
-fn option_twice(found: &Named<'_>) -> Option<&'static str> {
+/// Adds an option, its value, and why the value is refused.
+fn add_value(line: &mut Line, found: &Named<'_>, option: &str, reason: &str) {
+    line.add(&["--", option]);
+    line.add_word(" \"", value_of(found, option).unwrap_or(""), reason);
+}
+
+/// Adds the first option that stands twice.
+fn add_option(line: &mut Line, kind: ErrorKind, found: &Named<'_>) {
     for option in [UNIT, CONTROLLER, PERIPHERAL, BREAK, FROM, UNTIL] {
         if found.value(option).is_err() {
-            return Some(option);
+            line.add(&["--", option, " stands twice"]);
+            return;
         }
     }
-    None
+    line.add(&[kind.as_str().unwrap_or("")]);
 }
 
-/// The value of an option; an empty text where it has none.
-fn value_of<'a>(found: &Named<'a>, option: &str) -> &'a str {
-    match found.value(option) {
-        Ok(Some(value)) => value,
-        _ => "",
-    }
-}
-
-/// What is wrong with the names of the lines.
-fn name_fault<'a>(found: &Named<'a>) -> Fault<'a> {
+/// Adds what is wrong with the names of the lines.
+fn add_name(line: &mut Line, found: &Named<'_>) {
     for option in [CONTROLLER, PERIPHERAL] {
-        if let Ok(Some(name)) = found.value(option) {
-            if !is_line_name(name) {
-                return Fault::Value(option, name, "can't name a line");
-            }
+        if value_of(found, option).is_some_and(|name| !is_line_name(name)) {
+            add_value(line, found, option, "\" can't name a line");
+            return;
         }
     }
-    Fault::OneName
+    line.add(&["--", CONTROLLER, " and --", PERIPHERAL, " have one name"]);
 }
 
-/// What is wrong with the times of the part.
-fn time_fault<'a>(found: &Named<'a>) -> Fault<'a> {
-    let from = value_of(found, FROM);
-    let has_bad_start = matches!(found.value(FROM), Ok(Some(_)))
-        && Time::read(from.as_bytes()).is_none();
-    let (option, value) = if has_bad_start {
-        (FROM, from)
-    } else {
-        (UNTIL, value_of(found, UNTIL))
+/// Adds what is wrong with the times of the part.
+fn add_time(line: &mut Line, found: &Named<'_>) {
+    let (option, time) = match value_of(found, FROM) {
+        Some(from) if Time::read(from.as_bytes()).is_none() => (FROM, from),
+        _ => (UNTIL, value_of(found, UNTIL).unwrap_or("")),
     };
-    let is_long = !value.is_empty() && value.as_bytes().iter().all(|byte| byte.is_ascii_digit());
+    let is_long = !time.is_empty() && time.as_bytes().iter().all(|byte| byte.is_ascii_digit());
     let reason = if is_long {
-        "has more than 15 digits"
+        "\" has more than 15 digits"
     } else {
-        "isn't whole microseconds"
+        "\" isn't whole microseconds"
     };
-    Fault::Value(option, value, reason)
+    add_value(line, found, option, reason);
 }
