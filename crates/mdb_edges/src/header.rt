@@ -2,7 +2,7 @@
 
 ghost use Rattle.std.specs.Prelude.{◌≡◌, ◌↔◌, ◌∷◌, [], ℕ, IfOk, IfErr, IfSome, IfNone, IsTrue};
 ghost use Rattle.std.specs.Prelude.{option_map, string_bytes};
-ghost use Rattle.csv.specs.Records.{fields_of};
+ghost use Rattle.mdb_records.specs.Fields.{fields_of};
 ghost use Rattle.mdb_edges.specs.declared.columns.Columns.{Columns};
 ghost use Rattle.mdb_edges.specs.Faults.{IsNoHeader};
 ghost use Rattle.mdb_edges.specs.Table.{AreThere, IsColumn, IsHeader, IsName};
@@ -11,8 +11,8 @@ use super::columns::Columns;
 use super::fault::FormFault;
 use super::fields::field_of;
 use super::options::EdgesOptions;
-use csv::ByteRecord;
 use mdb_exports::read_number;
+use mdb_records::Record;
 
 /// What the column of a line is called.
 #[derive(Clone, Copy)]
@@ -44,7 +44,7 @@ fn is_letter(field: &[u8], letter: u8) -> bool
 }
 
 /// The columns that a header names.
-pub(crate) fn columns_of(options: &EdgesOptions, header: &ByteRecord) -> Result<Columns, FormFault>
+pub(crate) fn columns_of(options: &EdgesOptions, header: &Record<'_>) -> Result<Columns, FormFault>
     ensures ok { IfOk result (IsHeader options.now (fields_of header.now)) }
     ensures err { IfErr result (λ _. (columns : Columns) →
         IsHeader options.now (fields_of header.now) columns → ⊥) }
@@ -91,7 +91,7 @@ fn name_of(told: &Option<String>, letters: (u8, u8)) -> Name<'_>
 }
 
 /// The only column behind the first that has a name; `None` where none has it, or several have.
-fn column_of(name: &Name<'_>, header: &ByteRecord) -> Option<usize>
+fn column_of(name: &Name<'_>, header: &Record<'_>) -> Option<usize>
     ensures some { IfSome result (IsColumn (option_map (λ s. s.now) name.now.told)
         name.now.letters.0 name.now.letters.1 (fields_of header.now)) }
     ensures none { IfNone result ((place : ℕ) → IsColumn (option_map (λ s. s.now) name.now.told)

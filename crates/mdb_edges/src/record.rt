@@ -2,7 +2,7 @@
 
 ghost use Rattle.std.specs.Prelude.{◌≡◌, ◌≢◌, ◌*◌, ◌≤◌, ◌∷◌, [], Bool, ℕ, IfOk, IfErr, IfSome};
 ghost use Rattle.std.specs.Prelude.{IfNone};
-ghost use Rattle.csv.specs.Records.{fields_of};
+ghost use Rattle.mdb_records.specs.Fields.{fields_of};
 ghost use Rattle.mdb_edges.specs.declared.moment.Moment.{Moment};
 ghost use Rattle.mdb_edges.specs.Table.{AreParts, AreThere, IsInstant, IsMoment, level_digit};
 ghost use Rattle.mdb_edges.specs.Faults.{IsNoInstant};
@@ -15,8 +15,8 @@ use super::fields::field_of;
 use super::instant::Instant;
 use super::moment::Moment;
 use super::options::EdgesOptions;
-use csv::ByteRecord;
 use mdb_exports::{Number, Unit, power, read_number};
+use mdb_records::Record;
 use mdb_words::Line;
 
 /// 10^9.
@@ -26,7 +26,7 @@ const GIGA: u128 = 1_000_000_000;
 pub(crate) fn moment_of(
     options: &EdgesOptions,
     columns: &Columns,
-    row: &ByteRecord,
+    row: &Record<'_>,
 ) -> Result<Moment, Stop>
     requires { AreThere columns.now }
     ensures ok { IfOk result (IsMoment options.now columns.now (fields_of row.now)) }

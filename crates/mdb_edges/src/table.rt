@@ -2,7 +2,7 @@
 
 ghost use Rattle.std.specs.Prelude.{◌≡◌, ◌⊎◌, ◌+◌, ◌-◌, ◌<◌, ◌++◌, ◌∷◌, ◌^◌, [], List, ℕ, Some};
 ghost use Rattle.std.specs.Prelude.{IfErr, IfOk, OnOk};
-ghost use Rattle.csv.specs.Records.{fields_of};
+ghost use Rattle.mdb_records.specs.Fields.{fields_of};
 ghost use Rattle.mdb_records.specs.ToCome.{ToCome, fault_of};
 ghost use Rattle.mdb_words.specs.declared.event.Event.{Event};
 ghost use Rattle.mdb_edges.specs.Table.{AreRowsOfTable, AreThere, IsHeader};
@@ -22,9 +22,8 @@ use super::lines::Lines;
 use super::moment::Moment;
 use super::options::EdgesOptions;
 use super::record::moment_of;
-use csv::ByteRecord;
 use mdb_exports::merged;
-use mdb_records::{ReadFault, Records};
+use mdb_records::{ReadFault, Record, Records};
 use mdb_words::Event;
 use std::alloc::Global;
 use std::io::Read;
@@ -83,7 +82,7 @@ fn read_header<R: Read + Drop>(
         fault_of records.new ≡ Some ReadFault.Read) }
 {
     match records.advance() {
-        Ok(true) => match columns_of(options, records.row()) {
+        Ok(true) => match columns_of(options, &records.row()) {
             Ok(columns) => Ok(columns),
             Err(fault) => Err(EdgesFault::Form { number: 1, fault }),
         },
@@ -130,7 +129,7 @@ fn read_moments<R: Read + Drop>(
             }
             Err(fault) => return Err(fault_of_reading(fault)),
         }
-        match take_record(options, columns, earliest, records.row(), lines) {
+        match take_record(options, columns, earliest, &records.row(), lines) {
             Ok(at) => earliest = at.parts() + 1,
             Err(stop) => return Err(stop.at(number)),
         }
@@ -143,7 +142,7 @@ fn take_record(
     options: &EdgesOptions,
     columns: &Columns,
     earliest: u128,
-    row: &ByteRecord,
+    row: &Record<'_>,
     lines: &mut Lines,
 ) -> Result<Instant, Stop>
     requires { AreThere columns.now }

@@ -1,14 +1,14 @@
 //! What a record of an input of `replay` is read as.
 
 ghost use Rattle.std.specs.Prelude.{◌≡◌, ◌≢◌, ◌↔◌, ◌∷◌, List, [], ℕ, IfSome, IfNone, IsTrue};
-ghost use Rattle.csv.specs.Records.{fields_of};
+ghost use Rattle.mdb_records.specs.Fields.{fields_of};
 ghost use Rattle.mdb_words.specs.Row.{IsRefusal};
 ghost use Rattle.mdb_explain.specs.Replay.{dash, mark_letter};
 ghost use Rattle.mdb_explained_runs.specs.declared.mark.Mark.{Mark};
 ghost use Rattle.mdb_explain.specs.inner.Entries.{IsEntry, IsNoEntry};
 
-use csv::ByteRecord;
 use mdb_explained_runs::Mark;
+use mdb_records::Record;
 use mdb_verdict::{FromRecord, field};
 use mdb_words::{Event, RowFault, Time};
 
@@ -43,7 +43,7 @@ impl FromRecord for Entry {
 
     // A row is tried first, since nearly all records are rows.
     #[inline(always)]
-    fn of(fields: &ByteRecord) -> Result<Entry, RowFault> {
+    fn of(fields: &Record<'_>) -> Result<Entry, RowFault> {
         match Event::of(fields) {
             Ok(event) => Ok(Entry::Row(event)),
             Err(fault) => Ok(no_row(fields, fault)),
@@ -53,7 +53,7 @@ impl FromRecord for Entry {
 
 /// What a record is read as that is no row, for this fault.
 #[inline(never)]
-fn no_row(fields: &ByteRecord, fault: RowFault) -> Entry
+fn no_row(fields: &Record<'_>, fault: RowFault) -> Entry
     requires { IsRefusal (fields_of fields.now) fault }
     ensures { IsEntry (fields_of fields.now) result }
 {

@@ -3,6 +3,7 @@ pub mod MarkGives
 pub mod StepFacts
 pub mod MarkedRecords
 pub mod RowFacts
+pub mod PartFacts
 pub mod PlainFacts
 pub mod LineFacts
 pub mod ReadingFacts

@@ -1,21 +1,23 @@
 -- One read of a reader of records, as a step along the records to come.
-use Rattle.std.proofs.Common.{◌≡◌, ◌<◌, ◌≤◌, ◌-◌, ℕ, zero, suc, Bool, List, [], ◌∷◌, ◌++◌, ◌⊎◌, ap, length, take, drop, Option, Some, None, true, false, inl, inr, refl, ◌∙◌}
+use Rattle.std.proofs.Common.{◌≡◌, ◌<◌, ◌≤◌, ◌+◌, ◌-◌, ℕ, zero, suc, Bool, List, [], ◌∷◌, ◌++◌, ◌⊎◌, ap, length, take, drop, Option, Some, None, true, false, inl, inr, refl, ◌∙◌}
 use Rattle.std.specs.Prelude.{All, Err, IfOk, IfSome, Ok, Result, is_none, option_map}
 use Rattle.std.proofs.lemmas.List.Elements.{All-head, All-tail}
 use Rattle.std.specs.Io.KnownBytes.{Keeps}
 use Rattle.csv.specs.Machine.{ends_at_end, next_record}
 use Rattle.csv.specs.Reading.{AreRecords, ReadRecord, Reached, Ready, default_config, reader_headers, reader_state, records, strip_bom, took_first}
+use Rattle.csv.specs.Records as csv
 use Rattle.csv.specs.Records.{Row, cut_from, fields_of, text_of}
 use Rattle.csv.proofs.ReadFacts.{rows-end, rows-more}
 use Rattle.csv.specs.declared.parser.State.{State}
 use Rattle.csv.specs.declared.parser.State.TheVariants as st
 use Rattle.csv.specs.declared.reader.Headers.{Headers}
 use Rattle.csv.specs.declared.reader.Reader.{Reader}
+use Rattle.mdb_records.specs.Fields.{parted}
 use Rattle.mdb_records.specs.SetUp.{ReadsWhatStands}
 use Rattle.mdb_records.specs.Mark.{given_of, mark, marked}
-use Rattle.mdb_records.specs.Lines.{TakesLine, Tells, lines_given, lines_remaining}
-use Rattle.mdb_records.specs.Stage.{ReadsNext, StandsAfter, StandsAt}
-use Rattle.mdb_records.specs.ToCome.{Advances, HasMark, IsOverLimit, IsUncut, ToCome}
+use Rattle.mdb_records.specs.Lines.{TakesLine, Tells, line, lines_given, lines_remaining}
+use Rattle.mdb_records.specs.Stage.{ReadsNext, StandsAfter, StandsAt, fields_at}
+use Rattle.mdb_records.specs.ToCome.{Advances, HasMark, IsOverLimit, IsUncut, ToCome, current_fields}
 use Rattle.mdb_records.specs.declared.Records.{Records}
 use Rattle.mdb_records.specs.declared.lines.Lines.{Lines}
 use Rattle.mdb_records.specs.declared.stage.Stage.{Stage}
@@ -51,6 +53,17 @@ unfolding AreBytes cut_from
 AreBytes-cut_from start [] bytes h = tt
 AreBytes-cut_from start (end ∷ ends) bytes h =
     (IsBytes-take (end - start) (drop start bytes) (IsBytes-drop start bytes h), AreBytes-cut_from end ends bytes h)
+
+-- so are the parts of a line
+AreBytes-parted : (start : ℕ) (ends bytes : List ℕ) → IsBytes bytes → AreBytes (parted start ends bytes)
+unfolding AreBytes parted
+AreBytes-parted start [] bytes h = tt
+AreBytes-parted start (end ∷ ends) bytes h =
+    (IsBytes-take (end - start) (drop start bytes) (IsBytes-drop start bytes h), AreBytes-parted (end + 1) ends bytes h)
+
+-- of a line whose bytes were seen
+AreBytes-line : (ends line bytes : List ℕ) → bytes ≡ line → All (λ b. b < 256) bytes → AreBytes (parted 0 ends line)
+AreBytes-line ends line bytes e h = AreBytes-parted 0 ends line (rw e at (IsBytes-from_All bytes h))
 
 -- the fields of a record whose bytes were seen
 pub AreBytes-fields : (row : Row) (bytes : List ℕ) → bytes ≡ text_of row → All (λ b. b < 256) bytes → AreBytes (fields_of row)
@@ -134,7 +147,7 @@ none-known None given e h = cc
 none-known (Some x) given e h = let same : x ≡ given = cc in rw same at h
 
 -- what a reader of lines tells is what comes next
-pub line-reads : {R : Type 0} (remaining : R → Option (List ℕ)) (old new : Lines R) (found : Bool) (fields : List (List ℕ))
+line-reads : {R : Type 0} (remaining : R → Option (List ℕ)) (old new : Lines R) (found : Bool) (fields : List (List ℕ))
     → Tells (Some found) (lines_given remaining old) (lines_given remaining new) fields → ReadsNext remaining (stage.Lines old) (stage.Lines new) found fields
 line-reads remaining old new true fields h = λ state given stands.
     let taken = line-taken (lines_given remaining old) (lines_given remaining new) given fields stands.1 h in
@@ -168,17 +181,26 @@ to-come-after remaining new after text left rows going between gives all (inr h)
 
 -- a read goes on along the records to come
 pub goes-on : {R : Type 0} (remaining : R → Option (List ℕ)) (old new : Records R) (found : Bool) (rows : List (List (List ℕ)))
-    → ReadsNext remaining old.stage new.stage found (fields_of new.row) → new.fault ≡ None → AreBytes (fields_of new.row)
+    → ReadsNext remaining old.stage new.stage found (current_fields new) → new.fault ≡ None → AreBytes (current_fields new)
     → ToCome remaining old rows → Advances remaining new found rows
 goes-on remaining old new true rows reads going bytes h =
     let read = reads h.state h.given h.stands in
-    let step = gives-some h.state h.text h.given (fields_of new.row, read.0, read.1) rows h.gives h.between bytes read.2 h.all in (
+    let step = gives-some h.state h.text h.given (current_fields new, read.0, read.1) rows h.gives h.between bytes read.2 h.all in (
       step.rest,
       step.first,
       to-come-after remaining new read.0 step.left read.1 step.rest going step.between step.gives step.all read.3,
     )
 goes-on remaining old new false rows reads going bytes h =
     gives-none h.state h.text h.given rows h.gives h.between (reads h.state h.given h.stands) h.all
+
+-- and so does what a reader of lines tells
+pub line-goes-on : {R : Type 0} (remaining : R → Option (List ℕ)) (old new : Records R) (before after : Lines R) (found : Bool) (rows : List (List (List ℕ)))
+    → old.stage ≡ stage.Lines before → new.stage ≡ stage.Lines after → new.fault ≡ None
+    → Tells (Some found) (lines_given remaining before) (lines_given remaining after) (parted 0 new.ends.items (line after)) → All (λ b. b < 256) (line after)
+    → ToCome remaining old rows → Advances remaining new found rows
+line-goes-on remaining old new before after found rows first last going told bytes h =
+    goes-on remaining old new found rows (rw (first, last) (line-reads remaining before after found (parted 0 new.ends.items (line after)) told)) going
+    (rw last (AreBytes-line new.ends.items (line after) (line after) refl bytes)) h
 
 -- the text that goes on past the limit, after a record
 over-after : {R : Type 0} (remaining : R → Option (List ℕ)) (new : Records R) (state : State) (before after left : List ℕ)
@@ -203,21 +225,37 @@ over-after remaining new state before after left going between e (inr h) = recor
 
 -- a read of a text that goes on past the limit finds a record before it
 pub over-goes-on : {R : Type 0} (remaining : R → Option (List ℕ)) (old new : Records R) (found : Bool)
-    → ReadsNext remaining old.stage new.stage found (fields_of new.row) → new.fault ≡ None → AreBytes (fields_of new.row)
+    → ReadsNext remaining old.stage new.stage found (current_fields new) → new.fault ≡ None → AreBytes (current_fields new)
     → IsOverLimit remaining old → (found ≡ true) × IsOverLimit remaining new
 over-goes-on remaining old new true reads going bytes h =
     let given = h.before ++ mark ∷ h.after in
     let plain = plain-between h.state h.between in
     let read = reads h.state given h.stands in
-    let next : next_record default_config h.state [] [] given ≡ Some (fields_of new.row, read.0, read.1) = read.2 in
-    let left = marked-some h.state [] [] h.before h.after (fields_of new.row, read.0, read.1) plain next bytes in (
+    let next : next_record default_config h.state [] [] given ≡ Some (current_fields new, read.0, read.1) = read.2 in
+    let left = marked-some h.state [] [] h.before h.after (current_fields new, read.0, read.1) plain next bytes in (
       refl,
       over-after remaining new read.0 left.0 h.after read.1 going
-          (between-after h.state [] [] given (fields_of new.row, read.0, read.1) plain next) left.1 read.3,
+          (between-after h.state [] [] given (current_fields new, read.0, read.1) plain next) left.1 read.3,
     )
 over-goes-on remaining old new false reads going bytes h =
     absurd (marked-none h.state [] [] h.before h.after (plain-between h.state h.between)
     (reads h.state (h.before ++ mark ∷ h.after) h.stands))
+
+-- and a reader of lines tells of a record before it
+pub line-over : {R : Type 0} (remaining : R → Option (List ℕ)) (old new : Records R) (before after : Lines R) (found : Bool)
+    → old.stage ≡ stage.Lines before → new.stage ≡ stage.Lines after → new.fault ≡ None
+    → Tells (Some found) (lines_given remaining before) (lines_given remaining after) (parted 0 new.ends.items (line after)) → All (λ b. b < 256) (line after)
+    → IsOverLimit remaining old → (found ≡ true) × IsOverLimit remaining new
+line-over remaining old new before after found first last going told bytes h =
+    over-goes-on remaining old new found (rw (first, last) (line-reads remaining before after found (parted 0 new.ends.items (line after)) told)) going
+    (rw last (AreBytes-line new.ends.items (line after) (line after) refl bytes)) h
+
+-- whoever reads but a reader of lines has csv's fields
+pub fields-by-csv : {R : Type 0} (value : Stage R) (ends : List ℕ) (row : Row) → ((lines : Lines R) → value ≡ stage.Lines lines → ⊥)
+    → csv.fields_of row ≡ fields_at value ends row
+fields-by-csv (stage.Lines lines) ends row h = absurd (h lines refl)
+fields-by-csv (stage.Csv reader before) ends row h = refl
+fields-by-csv stage.Between ends row h = refl
 
 -- bytes that are kept are known as before
 kept-known : (before after : Option (List ℕ)) (given : List ℕ) → Keeps before after → before ≡ Some given → after ≡ Some given

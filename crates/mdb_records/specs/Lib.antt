@@ -1,3 +1,4 @@
+pub mod Fields
 pub mod Mark
 pub mod SetUp
 pub mod Lines

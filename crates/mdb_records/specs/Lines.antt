@@ -24,6 +24,10 @@ end_of_last false = []
 abbrev pub unread : {R : Type 0} → Lines R → List ℕ
 unread lines = take (lines.filled - lines.at) (drop lines.at lines.buffer)
 
+-- the line that was taken last, and what was read after it
+abbrev pub line : {R : Type 0} → Lines R → List ℕ
+line lines = take (lines.filled - lines.start) (drop lines.start lines.buffer)
+
 -- the bytes that a reader of lines has left, by those of the reader underneath
 abbrev pub lines_remaining : {R : Type 0} → (R → Option (List ℕ)) → Lines R → Option (List ℕ)
 lines_remaining remaining lines =

@@ -5,7 +5,9 @@ use Rattle.csv.specs.Machine.{line_feed, next_record}
 use Rattle.csv.specs.Reading.{default_config, reader_config, reader_source, reader_state, source_of}
 use Rattle.csv.specs.declared.parser.State.{State}
 use Rattle.csv.specs.declared.parser.State.TheVariants.{StartRecord}
-use Rattle.mdb_records.specs.Lines.{lines_given, lines_remaining}
+use Rattle.csv.specs.Records.{Row, fields_of}
+use Rattle.mdb_records.specs.Fields.{parted}
+use Rattle.mdb_records.specs.Lines.{line, lines_given, lines_remaining}
 use Rattle.mdb_records.specs.declared.limited.Limited.{Limited}
 use Rattle.mdb_records.specs.declared.stage.Stage.{Stage}
 use Rattle.mdb_records.specs.declared.stage.Stage.TheVariants.{Between, Csv, Lines}
@@ -35,6 +37,13 @@ IsPastIn (Some source) = IsSome source.held
 abbrev pub HasBlockedIn : {R : Type 0} → Option (Limited R) → Type 0
 HasBlockedIn None = ⊥
 HasBlockedIn (Some source) = source.failed ≡ Some WouldBlock
+
+-- the fields of the record that was read last, which end at these places of the line, or which csv
+-- has
+abbrev pub fields_at : {R : Type 0} → Stage R → List ℕ → Row → List (List ℕ)
+fields_at (Lines lines) ends row = parted 0 ends (line lines)
+fields_at (Csv reader before) ends row = fields_of row
+fields_at Between ends row = fields_of row
 
 -- csv's machine is in this state, and these are the bytes that it reads next
 abbrev pub StandsAt : {R : Type 0} → (R → Option (List ℕ)) → Stage R → State → List ℕ → Type 0

@@ -2,10 +2,9 @@
 use Rattle.std.specs.Prelude.{◌≡◌, ◌≤◌, ◌++◌, ◌⊎◌, Bool, true, false, ℕ, List, [], ◌∷◌, Option, None, All}
 use Rattle.csv.specs.Machine.{ends_at_end}
 use Rattle.csv.specs.Reading.{AreRecords, default_config}
-use Rattle.csv.specs.Records.{fields_of}
 use Rattle.csv.specs.declared.parser.State.{State}
 use Rattle.mdb_records.specs.Mark.{mark}
-use Rattle.mdb_records.specs.Stage.{IsPastIn, StandsAt, given_in, limit_in, source_in}
+use Rattle.mdb_records.specs.Stage.{IsPastIn, StandsAt, fields_at, given_in, limit_in, source_in}
 use Rattle.mdb_records.specs.declared.ReadFault.{ReadFault}
 use Rattle.mdb_records.specs.declared.Records.{Records}
 
@@ -55,7 +54,7 @@ pub record IsUncut {R : Type 0} (remaining : R → Option (List ℕ)) (value : R
 
 -- the fields of the record that was read last
 abbrev pub current_fields : {R : Type 0} → Records R → List (List ℕ)
-current_fields value = fields_of value.row
+current_fields value = fields_at value.stage value.ends.items value.row
 
 -- the fault that ended the reading
 abbrev pub fault_of : {R : Type 0} → Records R → Option ReadFault

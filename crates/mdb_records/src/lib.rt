@@ -10,17 +10,21 @@
 
 ghost use Rattle.std.specs.Prelude.{◌≡◌, ◌<◌, ◌≤◌, ◌+◌, ◌-◌, ◌^◌, ◌↔◌, ◌⊎◌, min, ℕ, All, List, [], None, length, true, IfErr, IfOk, OnOk, IfSome, IsSome, IsTrue, Some, Err, if◌then◌else◌};
 ghost use Rattle.csv.specs.Reading.{default_config, records, strip_bom};
-ghost use Rattle.csv.specs.Records.{fields_of, partial_of};
+ghost use Rattle.csv.specs.Records as csv;
+ghost use Rattle.mdb_records.specs.Fields.{fields_of};
 ghost use Rattle.mdb_records.specs.SetUp.{IsSetUp};
 
 mod limited;
 mod lines;
 mod plain;
+mod record;
 mod stage;
 
 use csv::ByteRecord;
 use limited::Limited;
 use lines::Lines;
+use record::Fields;
+pub use record::Record;
 use stage::Stage;
 use std::alloc::Global;
 use std::io::Read;
@@ -57,7 +61,9 @@ pub enum ReadCause {
 pub struct Records<R> {
     alloc: Global,
     stage: Stage<R>,
-    // The record that was read last, whose memory the next one uses again.
+    // Where the fields of the line that was taken last end.
+    ends: Vec<usize>,
+    // The record that csv read last, whose memory the next one uses again.
     row: ByteRecord,
     // The fault that ended the reading.
     fault: Option<ReadFault>,
@@ -90,6 +96,7 @@ impl<R: Read + Drop> Records<R> {
         Records {
             alloc,
             stage: Stage::Lines(Lines::new(Limited::new(reader, limit))),
+            ends: Vec::new(alloc),
             row: empty_row(alloc),
             fault: None,
         }
@@ -116,11 +123,8 @@ impl<R: Read + Drop> Records<R> {
             return Err(fault);
         }
         if let Stage::Lines(lines) = &mut self.stage {
-            match lines.advance(&mut self.row) {
-                Ok(Some(found)) => {
-                    see_bytes(self.row.as_slice());
-                    return Ok(found);
-                }
+            match lines.advance(&mut self.ends) {
+                Ok(Some(found)) => return Ok(found),
                 Ok(None) => self.hand_over(),
                 Err(fault) => {
                     self.fault = Some(fault);
@@ -215,10 +219,15 @@ impl<R: Read + Drop> Records<R> {
     }
 
     /// The record that the last `advance` read, field by field.
-    pub fn row(&self) -> &ByteRecord
-        ensures { fields_of result.now ≡ current_fields self.now }
+    #[inline(always)]
+    pub fn row(&self) -> Record<'_>
+        ensures { fields_of result ≡ current_fields self.now }
     {
-        &self.row
+        let fields = match &self.stage {
+            Stage::Lines(lines) => Fields::Line(lines.line(), self.ends.as_slice()),
+            _ => Fields::Csv(&self.row),
+        };
+        Record { fields }
     }
 }
 
@@ -226,8 +235,7 @@ impl<R: Read + Drop> Records<R> {
 // there is room for, so one that doesn't fit takes longer. Where memory is refused, there is no
 // room at first, and it is asked for again with the first record.
 fn empty_row(alloc: Global) -> ByteRecord
-    ensures fields { fields_of result ≡ [] }
-    ensures partial { partial_of result ≡ [] }
+    ensures { csv.fields_of result ≡ [] }
 {
     match ByteRecord::with_capacity(alloc, ROW_BYTES, ROW_FIELDS) {
         Ok(row) => row,
@@ -236,6 +244,6 @@ fn empty_row(alloc: Global) -> ByteRecord
 }
 
 // Each element of the slice is a byte, as its type says.
-fn see_bytes(_bytes: &[u8])
+pub(crate) fn see_bytes(_bytes: &[u8])
     ensures { All (λ b. b < 256) _bytes.now }
 {}

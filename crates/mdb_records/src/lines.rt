@@ -1,15 +1,14 @@
 // The bytes of a reader, from which records are taken that stand on a line of their own.
 
-ghost use Rattle.std.specs.Prelude.{◌≡◌, ◌≤◌, ◌<◌, ◌-◌, ◌+◌, ◌++◌, ◌∷◌, [], false, length, take, drop, IfOk, IfErr, OnOk, IsFalse};
+ghost use Rattle.std.specs.Prelude.{All, ◌≡◌, ◌≤◌, ◌<◌, ◌-◌, ◌+◌, ◌++◌, ◌∷◌, [], false, length, take, drop, IfOk, IfErr, OnOk, IsFalse};
 ghost use Rattle.std.specs.Io.{ReadsAtMost};
 ghost use Rattle.std.specs.Io.KnownBytes.{IsAtEnd, Keeps, ReadConsumes};
-ghost use Rattle.csv.specs.Records.{fields_of};
+ghost use Rattle.mdb_records.specs.Fields.{parted};
 ghost use Rattle.mdb_records.specs.Plain.{BeginsLow};
 
-use super::ReadFault;
 use super::limited::Limited;
 use super::plain::{Front, plain_record};
-use csv::ByteRecord;
+use super::{ReadFault, see_bytes};
 use std::io::{Read, Result as IoResult};
 
 // As many bytes as `csv` asks for at once.
@@ -32,18 +31,21 @@ enum Step {
 pub(crate) struct Lines<R> {
     source: Limited<R>,
     buffer: [u8; BUFFER],
+    // The line that was taken last begins here.
+    start: usize,
     // What was read and not yet taken stands from here ..
     at: usize,
     // .. up to here.
     filled: usize,
     // A line was taken, whose end is still to be read before the rest.
     begun: bool,
+    ghost starts: { start ≤ filled },
     ghost rise: { at ≤ filled },
     ghost fits: { filled ≤ 8192 },
 }
 
 impl<R> Lines<R> {
-    ghost use Rattle.mdb_records.specs.Lines.{unread};
+    ghost use Rattle.mdb_records.specs.Lines.{line, unread};
 
     /// The bytes of `source`.
     pub(crate) fn new(source: Limited<R>) -> Lines<R>
@@ -54,6 +56,7 @@ impl<R> Lines<R> {
         Lines {
             source,
             buffer: [0; BUFFER],
+            start: 0,
             at: 0,
             filled: 0,
             begun: false,
@@ -75,6 +78,14 @@ impl<R> Lines<R> {
         self.filled - self.at
     }
 
+    /// The line that was taken last, and what was read after it.
+    #[inline(always)]
+    pub(crate) fn line(&self) -> &[u8]
+        ensures { result.now ≡ line self.now }
+    {
+        &self.buffer[self.start..self.filled]
+    }
+
     // Moves what is unread to the front of the buffer.
     fn move_to_front(&mut self)
         ensures unread { unread self.new ≡ unread self.old }
@@ -86,6 +97,7 @@ impl<R> Lines<R> {
     {
         self.buffer.copy_within(self.at..self.filled, 0);
         self.filled -= self.at;
+        self.start = 0;
         self.at = 0;
     }
 }
@@ -98,35 +110,39 @@ fn begins_high(text: &[u8]) -> bool
 }
 
 impl<R: Read> Lines<R> {
-    ghost use Rattle.mdb_records.specs.Lines.{Steps, Tells, limited_remaining, lines_given};
+    ghost use Rattle.mdb_records.specs.Lines.{Steps, Tells, limited_remaining, line, lines_given};
 
-    /// Reads the next record into `row` and takes it, if it stands on a line of its own, and
-    /// answers whether there is one. It answers `None` where only csv can tell. Nothing is said of
+    /// Takes the next record, if it stands on a line of its own, and answers whether there is one:
+    /// its fields are those parts of [`Lines::line`] that end at `ends`. It answers `None` where only csv can tell. Nothing is said of
     /// what is left after a fault.
     #[inline(always)]
-    pub(crate) fn advance(&mut self, row: &mut ByteRecord) -> Result<Option<bool>, ReadFault>
-        ensures { IfOk result (λ told. Tells told (lines_given R.remaining self.old)
-            (lines_given R.remaining self.new) (fields_of row.new)) }
+    pub(crate) fn advance(&mut self, ends: &mut Vec<usize>) -> Result<Option<bool>, ReadFault>
+        ensures bytes { OnOk result (All (λ b. b < 256) (line self.new)) }
+        ensures told { IfOk result (λ told. Tells told (lines_given R.remaining self.old)
+            (lines_given R.remaining self.new) (parted 0 ends.new.items (line self.new))) }
     {
-        match self.take(row)? {
-            Step::Record => Ok(Some(true)),
-            Step::Unended => self.advance_by_reading(row),
-            Step::Other => Ok(None),
-        }
+        let told = match self.take(ends)? {
+            Step::Record => Some(true),
+            Step::Unended => self.advance_by_reading(ends)?,
+            Step::Other => None,
+        };
+        see_bytes(self.line());
+        Ok(told)
     }
 
     // Takes the record that the bytes that were read begin with, if it is there whole.
     #[inline(always)]
-    fn take(&mut self, row: &mut ByteRecord) -> Result<Step, ReadFault>
+    fn take(&mut self, ends: &mut Vec<usize>) -> Result<Step, ReadFault>
         ensures { IfOk result (λ step. Steps step (lines_given R.remaining self.old)
-            (lines_given R.remaining self.new) (fields_of row.new)) }
+            (lines_given R.remaining self.new) (parted 0 ends.new.items (line self.new))) }
     {
         let text = &self.buffer[self.at..self.filled];
         if !self.begun && begins_high(text) {
             return Ok(Step::Other);
         }
-        match plain_record(text, row) {
+        match plain_record(text, ends) {
             Ok(Front::Line(count)) => {
+                self.start = self.at;
                 self.at += count;
                 self.begun = true;
                 Ok(Step::Record)
@@ -139,9 +155,9 @@ impl<R: Read> Lines<R> {
 
     // The next record, where more has to be read first.
     #[inline(never)]
-    fn advance_by_reading(&mut self, row: &mut ByteRecord) -> Result<Option<bool>, ReadFault>
+    fn advance_by_reading(&mut self, ends: &mut Vec<usize>) -> Result<Option<bool>, ReadFault>
         ensures { IfOk result (λ told. Tells told (lines_given R.remaining self.old)
-            (lines_given R.remaining self.new) (fields_of row.new)) }
+            (lines_given R.remaining self.new) (parted 0 ends.new.items (line self.new))) }
     {
         'reads: for _ in 0..BUFFER {
             if self.unread_count() == BUFFER {
@@ -151,7 +167,7 @@ impl<R: Read> Lines<R> {
                 let is_end = self.unread_count() == 0;
                 return Ok(if is_end { Some(false) } else { None });
             }
-            match self.take(row)? {
+            match self.take(ends)? {
                 Step::Record => return Ok(Some(true)),
                 Step::Unended => {}
                 Step::Other => return Ok(None),

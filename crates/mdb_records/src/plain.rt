@@ -1,13 +1,9 @@
 // A record at the front of a text that stands on a line of its own, with no quote.
 
-ghost use Rattle.std.specs.Prelude.{◌≡◌, ◌≤◌, ◌<◌, ◌-◌, ◌+◌, ◌++◌, ◌∷◌, All, [], false, length, take, drop, get_or, List, ℕ, Some, OnOk, IfOk};
-ghost use Rattle.csv.specs.Machine.{next_record};
-ghost use Rattle.csv.specs.Reading.{default_config};
-ghost use Rattle.csv.specs.Records.{fields_of, partial_of};
-ghost use Rattle.csv.specs.declared.parser.State.TheVariants.{StartRecord};
+ghost use Rattle.std.specs.Prelude.{◌≡◌, ◌≤◌, ◌<◌, ◌-◌, ◌+◌, ◌++◌, ◌∷◌, All, [], false, true, length, take, drop, get_or, List, ℕ, Some, OnOk, IfOk};
+ghost use Rattle.mdb_records.specs.Fields.{parted};
 ghost use Rattle.mdb_records.specs.Plain.{HasFront, is_special};
 
-use csv::ByteRecord;
 use std::alloc::AllocError;
 
 /// What stands at the front of a text.
@@ -46,26 +42,35 @@ fn field_end(text: &[u8], from: usize) -> usize
     end
 }
 
-/// Reads the record at the front of a text into `row`, if it is a whole line and csv would find in
-/// it what its commas part.
+// Whether a byte ends the record on a line that it is so far into.
 #[inline(always)]
-pub(crate) fn plain_record(text: &[u8], row: &mut ByteRecord) -> Result<Front, AllocError>
-    ensures { IfOk result (λ front. HasFront text.now front (fields_of row.new)) }
+fn ends_record(c: u8, place: usize) -> bool
+    ensures { result ≡ true → (c ≡ 10) × (0 < place) }
 {
-    row.clear();
+    c == b'\n' && place > 0
+}
+
+/// Finds where the fields of the record at the front of a text end, if it is a whole line and csv
+/// would find in it what its commas part.
+#[inline(always)]
+pub(crate) fn plain_record(text: &[u8], ends: &mut Vec<usize>) -> Result<Front, AllocError>
+    ensures { IfOk result (λ front. HasFront text.now front (parted 0 ends.new.items text.now)) }
+{
+    ends.clear();
     let mut start = 0;
     'fields: while start < text.len() {
         let end = field_end(text, start);
         if end == text.len() {
             return Ok(Front::Unended);
         }
-        match text[end] {
-            b',' => row.push_field(&text[start..end])?,
-            b'\n' if end > 0 => {
-                row.push_field(&text[start..end])?;
-                return Ok(Front::Line(end + 1));
-            }
-            _ => return Ok(Front::Other),
+        let is_last = ends_record(text[end], end);
+        if !is_last && text[end] != b',' {
+            return Ok(Front::Other);
+        }
+        ends.reserve(1)?;
+        ends.push_reserved(end);
+        if is_last {
+            return Ok(Front::Line(end + 1));
         }
         start = end + 1;
     }

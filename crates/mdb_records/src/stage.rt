@@ -1,10 +1,10 @@
 // Who reads the next record: lines as long as they are plain, and then csv.
 
-ghost use Rattle.std.specs.Prelude.{◌≡◌, ◌≤◌, IfOk, OnOk, if◌then◌else◌, option_map, true};
+ghost use Rattle.std.specs.Prelude.{◌≡◌, ◌≤◌, ℕ, List, IfOk, OnOk, if◌then◌else◌, option_map, true};
 ghost use Rattle.csv.specs.Reading.{error_kind, is_io, stops_reader};
 ghost use Rattle.csv.specs.Records.{fields_of};
 ghost use Rattle.mdb_records.specs.SetUp.{IsSetUp};
-ghost use Rattle.mdb_records.specs.Stage.{HandsOver, ReadsNext, given_in, source_in};
+ghost use Rattle.mdb_records.specs.Stage.{HandsOver, ReadsNext, fields_at, given_in, source_in};
 
 use super::ReadFault;
 use super::limited::Limited;
@@ -77,6 +77,8 @@ impl<R: Read + Drop> Stage<R> {
         requires { IsSetUp self.old }
         ensures reads { IfOk result (λ found.
             ReadsNext R.remaining self.old self.new found (fields_of row.new)) }
+        ensures fields { OnOk result ((ends : List ℕ)
+            → fields_at self.new ends row.new ≡ fields_of row.new) }
         ensures set_up { OnOk result (IsSetUp self.new) }
     {
         let Stage::Csv(reader, _) = self else {

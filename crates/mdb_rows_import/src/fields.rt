@@ -2,16 +2,17 @@
 
 ghost use Rattle.std.specs.Prelude.{◌≡◌, ◌≢◌, ◌<◌, ◌∷◌, [], List, ℕ, IfNone, IfSome};
 ghost use Rattle.std.specs.Prelude.{OnOk, Some, length};
-ghost use Rattle.csv.specs.Records.{field_at, fields_of};
+ghost use Rattle.csv.specs.Records.{field_at};
+ghost use Rattle.mdb_records.specs.Fields.{fields_of};
 ghost use Rattle.mdb_words.specs.Row.{joined_by_commas};
 ghost use Rattle.mdb_rows_import.specs.Fields.{parts_of, separator_of as separator_in};
 
-use csv::ByteRecord;
 use mdb_exports::parted;
+use mdb_records::Record;
 use std::alloc::AllocError;
 
 /// Writes the fields of a record, with commas between them, into a line.
-pub(crate) fn join(fields: &ByteRecord, line: &mut Vec<u8>) -> Result<(), AllocError>
+pub(crate) fn join(fields: &Record<'_>, line: &mut Vec<u8>) -> Result<(), AllocError>
     ensures { OnOk result (line.new.items ≡ joined_by_commas (fields_of fields.now)) }
 {
     line.clear();
@@ -25,7 +26,7 @@ pub(crate) fn join(fields: &ByteRecord, line: &mut Vec<u8>) -> Result<(), AllocE
 }
 
 /// A field of a record.
-fn field(fields: &ByteRecord, place: usize) -> &[u8]
+fn field<'a>(fields: &Record<'a>, place: usize) -> &'a [u8]
     requires { place < length (fields_of fields.now) }
     ensures { field_at (fields_of fields.now) place ≡ Some result.now }
 {

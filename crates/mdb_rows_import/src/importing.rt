@@ -2,7 +2,7 @@
 
 ghost use Rattle.std.specs.Prelude.{◌≡◌, ◌<◌, ◌-◌, ◌^◌, [], List, ℕ, IfErr, IfOk, IfSome, OnOk};
 ghost use Rattle.std.specs.Prelude.{None, OnErr, Some, length, true};
-ghost use Rattle.csv.specs.Records.{fields_of};
+ghost use Rattle.mdb_records.specs.Fields.{fields_of};
 ghost use Rattle.mdb_records.specs.ToCome.{ToCome};
 ghost use Rattle.mdb_words.specs.Event.{start_of};
 ghost use Rattle.mdb_exports.specs.Records.{HasFailed, export_records};
@@ -19,9 +19,8 @@ use super::fault::ImportFault;
 use super::fields::join;
 use super::options::RowsOptions;
 use super::rows::{event_in, is_header, time_in};
-use csv::ByteRecord;
 use mdb_exports::{Imported, RecordFault, expect_after, line_of, records_of};
-use mdb_records::Records;
+use mdb_records::{Record, Records};
 use mdb_words::{Event, Line};
 use mdb_writing::{Page, WriteFailed};
 use std::alloc::Global;
@@ -141,7 +140,7 @@ impl Importing {
             if !found {
                 return Ok(self.tally);
             }
-            if let Err(fault) = self.take(options, done, records.row(), writer) {
+            if let Err(fault) = self.take(options, done, &records.row(), writer) {
                 return Err(fault);
             }
         }
@@ -153,7 +152,7 @@ impl Importing {
         &mut self,
         options: &RowsOptions,
         done: u64,
-        fields: &ByteRecord,
+        fields: &Record<'_>,
         writer: &mut W,
     ) -> Result<(), ImportFault>
         requires { done < 2 ^ 64 - 1 }

@@ -1,15 +1,15 @@
 //! The fields of a record.
 
 ghost use Rattle.std.specs.Prelude.{◌≡◌, ◌↔◌, IsTrue};
-ghost use Rattle.csv.specs.Records.{fields_of};
+ghost use Rattle.mdb_records.specs.Fields.{fields_of};
 ghost use Rattle.mdb_saleae.specs.Cells.{cell as cell_in, cell_or as cell_or_in};
 
-use csv::ByteRecord;
 use mdb_exports::bare;
+use mdb_records::Record;
 
 /// The field at a place without the blanks and quotation marks around it; nothing where the record
 /// has no such field.
-pub(crate) fn cell(fields: &ByteRecord, place: usize) -> &[u8]
+pub(crate) fn cell<'a>(fields: &'a Record<'_>, place: usize) -> &'a [u8]
     ensures { result.now ≡ cell_in (fields_of fields.now) place }
 {
     match fields.get(place) {
@@ -19,7 +19,7 @@ pub(crate) fn cell(fields: &ByteRecord, place: usize) -> &[u8]
 }
 
 /// The field of a column that may be there, and another text where it isn't.
-pub(crate) fn cell_or<'a>(fields: &'a ByteRecord, place: Option<usize>, other: &'a [u8]) -> &'a [u8]
+pub(crate) fn cell_or<'a>(fields: &'a Record<'_>, place: Option<usize>, other: &'a [u8]) -> &'a [u8]
     ensures { result.now ≡ cell_or_in (fields_of fields.now) place other.now }
 {
     match place {

@@ -1,12 +1,12 @@
 //! The header of a table, and where its columns are.
 
 ghost use Rattle.std.specs.Prelude.{◌↔◌, IfErr, IfOk, IsTrue, Some};
-ghost use Rattle.csv.specs.Records.{fields_of};
+ghost use Rattle.mdb_records.specs.Fields.{fields_of};
 ghost use Rattle.mdb_saleae.specs.Columns.{IsColumns, IsHeaderFault, IsOnly, IsTitle, IsWanted};
 
 use super::cells::{cell, is_text};
 use super::fault::HeaderFault;
-use csv::ByteRecord;
+use mdb_records::Record;
 use std::fmt;
 
 /// What a column of a table contains.
@@ -69,7 +69,7 @@ pub struct Columns {
 }
 
 /// The columns that a header names, or what is wrong with it.
-pub(crate) fn read_columns(header: &ByteRecord) -> Result<Columns, HeaderFault>
+pub(crate) fn read_columns(header: &Record<'_>) -> Result<Columns, HeaderFault>
     ensures ok { IfOk result (IsColumns (fields_of header.now)) }
     ensures err { IfErr result (IsHeaderFault (fields_of header.now)) }
 {
@@ -95,7 +95,7 @@ pub(crate) fn read_columns(header: &ByteRecord) -> Result<Columns, HeaderFault>
 }
 
 /// The place of a column that has to be there.
-fn wanted_place(header: &ByteRecord, column: Column) -> Result<usize, HeaderFault>
+fn wanted_place(header: &Record<'_>, column: Column) -> Result<usize, HeaderFault>
     requires wanted { IsWanted column }
     ensures ok { IfOk result (λ place. IsOnly (fields_of header.now) column (Some place)) }
     ensures err { IfErr result (IsHeaderFault (fields_of header.now)) }
@@ -108,7 +108,7 @@ fn wanted_place(header: &ByteRecord, column: Column) -> Result<usize, HeaderFaul
 }
 
 /// The place of a column, if it is there.
-fn place_of(header: &ByteRecord, column: Column) -> Result<Option<usize>, HeaderFault>
+fn place_of(header: &Record<'_>, column: Column) -> Result<Option<usize>, HeaderFault>
     ensures ok { IfOk result (IsOnly (fields_of header.now) column) }
     ensures err { IfErr result (IsHeaderFault (fields_of header.now)) }
 {

@@ -1,16 +1,16 @@
 //! What a record tells of the errors of its word.
 
 ghost use Rattle.std.specs.Prelude.{◌≡◌, Bool, IfErr, IfOk};
-ghost use Rattle.csv.specs.Records.{fields_of};
+ghost use Rattle.mdb_records.specs.Fields.{fields_of};
 ghost use Rattle.mdb_saleae.specs.Frames.{IsFrameFault, IsFramed, TellsFrame, TellsNoFrame};
 
 use super::cells::{cell_or, is_text};
 use super::columns::Columns;
 use super::fault::RowFault;
-use csv::ByteRecord;
+use mdb_records::Record;
 
 /// Whether the stop bit of a record's word is missing, where nothing else is wrong with it.
-pub(crate) fn is_framed(columns: &Columns, fields: &ByteRecord) -> Result<bool, RowFault>
+pub(crate) fn is_framed(columns: &Columns, fields: &Record<'_>) -> Result<bool, RowFault>
     ensures ok { IfOk result (IsFramed columns.now (fields_of fields.now)) }
     ensures only { IfOk result (λ framed. (other : Bool)
         → IsFramed columns.now (fields_of fields.now) other → other ≡ framed) }

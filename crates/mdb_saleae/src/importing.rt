@@ -2,7 +2,7 @@
 
 ghost use Rattle.std.specs.Prelude.{◌≡◌, ◌<◌, ◌≤◌, ◌+◌, ◌-◌, ◌^◌, [], List, ℕ, IfErr, IfOk, IfSome};
 ghost use Rattle.std.specs.Prelude.{OnErr, OnOk, None, Some, length};
-ghost use Rattle.csv.specs.Records.{fields_of};
+ghost use Rattle.mdb_records.specs.Fields.{fields_of};
 ghost use Rattle.mdb_records.specs.ToCome.{ToCome, fault_of};
 ghost use Rattle.mdb_words.specs.Event.{start_of};
 ghost use Rattle.mdb_exports.specs.Records.{HasFailed, export_records};
@@ -17,9 +17,8 @@ use super::columns::{Columns, read_columns};
 use super::fault::{RowFault, SaleaeFault};
 use super::options::SaleaeOptions;
 use super::rows::{Refusal, event_in};
-use csv::ByteRecord;
 use mdb_exports::{Imported, expect_after, line_of, records_of};
-use mdb_records::{ReadFault, Records};
+use mdb_records::{ReadFault, Record, Records};
 use mdb_words::{Event, Line};
 use mdb_writing::{Page, WriteFailed};
 use std::alloc::Global;
@@ -86,7 +85,7 @@ fn columns_of<R: Read + Drop>(records: &mut Records<R>) -> Result<Columns, Salea
         → fault_of records.new ≡ Some ReadFault.Read) }
 {
     match records.advance() {
-        Ok(true) => match read_columns(records.row()) {
+        Ok(true) => match read_columns(&records.row()) {
             Ok(columns) => Ok(columns),
             Err(fault) => Err(SaleaeFault::BadHeader { fault }),
         },
@@ -158,7 +157,7 @@ impl Importing {
             if !found {
                 return Ok(self.tally);
             }
-            if let Err(fault) = self.take(options, columns, taken + 1, records.row(), writer) {
+            if let Err(fault) = self.take(options, columns, taken + 1, &records.row(), writer) {
                 return Err(fault);
             }
         }
@@ -171,7 +170,7 @@ impl Importing {
         options: &SaleaeOptions,
         columns: &Columns,
         number: u64,
-        fields: &ByteRecord,
+        fields: &Record<'_>,
         writer: &mut W,
     ) -> Result<(), SaleaeFault>
         ensures unread { IfErr result (λ fault. fault ≡ SaleaeFault.Read → ⊥) }
@@ -243,7 +242,7 @@ fn next_in(
     options: &SaleaeOptions,
     columns: &Columns,
     last: Option<u64>,
-    fields: &ByteRecord,
+    fields: &Record<'_>,
 ) -> Result<Event, Refusal>
     ensures { IsNext options.now columns.now last (fields_of fields.now) result }
 {

@@ -1,7 +1,7 @@
 //! The rows of a table.
 
 ghost use Rattle.std.specs.Prelude.{◌≡◌, ◌↔◌, IfErr, IfNone, IfOk, IfSome, IsTrue};
-ghost use Rattle.csv.specs.Records.{fields_of};
+ghost use Rattle.mdb_records.specs.Fields.{fields_of};
 ghost use Rattle.mdb_words.specs.Event.{start_of};
 ghost use Rattle.mdb_words.specs.declared.event.Event.{Event};
 ghost use Rattle.mdb_words.specs.declared.word.Line.{Line};
@@ -16,8 +16,8 @@ use super::frames::is_framed;
 use super::options::SaleaeOptions;
 use super::seconds::read_seconds;
 use super::values::read_value;
-use csv::ByteRecord;
 use mdb_exports::is_named;
+use mdb_records::Record;
 use mdb_words::{Event, Line, Time, Word};
 
 /// A record that is no row.
@@ -33,7 +33,7 @@ pub(crate) struct Refusal {
 pub(crate) fn event_in(
     options: &SaleaeOptions,
     columns: &Columns,
-    fields: &ByteRecord,
+    fields: &Record<'_>,
 ) -> Result<Event, Refusal>
     ensures ok { IfOk result (IsTableRow options.now columns.now (fields_of fields.now)) }
     ensures only { IfOk result (λ event. (other : Event)
@@ -67,7 +67,7 @@ pub(crate) fn event_in(
 fn event_at(
     options: &SaleaeOptions,
     columns: &Columns,
-    fields: &ByteRecord,
+    fields: &Record<'_>,
     at: Time,
 ) -> Result<Event, RowFault>
     ensures ok { IfOk result (IsEventAt options.now columns.now (fields_of fields.now) at) }
@@ -114,7 +114,7 @@ fn break_of(options: &SaleaeOptions, at: Time, line: Line, word: Word) -> Result
 }
 
 /// Whether a record is that of a word.
-fn is_word_kind(columns: &Columns, fields: &ByteRecord) -> bool
+fn is_word_kind(columns: &Columns, fields: &Record<'_>) -> bool
     ensures { IsTrue result ↔ IsWordKind columns.now (fields_of fields.now) }
 {
     is_text(cell_or(fields, columns.kind, b"data"), b"data")

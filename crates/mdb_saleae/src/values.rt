@@ -2,19 +2,19 @@
 
 ghost use Rattle.std.specs.Prelude.{◌≡◌, ◌<◌, ◌+◌, ℕ, Bool, IfErr, IfNone, IfOk, IfSome};
 ghost use Rattle.std.specs.Prelude.{if◌then◌else◌};
-ghost use Rattle.csv.specs.Records.{fields_of};
+ghost use Rattle.mdb_records.specs.Fields.{fields_of};
 ghost use Rattle.mdb_saleae.specs.Values.{AreNoBits, IsMark, IsNoMark, IsNumberOf, IsValue};
 ghost use Rattle.mdb_saleae.specs.Values.{IsValueFault};
 
 use super::cells::{cell, is_text};
 use super::columns::Columns;
 use super::fault::RowFault;
-use csv::ByteRecord;
 use mdb_exports::{behind_prefix, read_hex};
+use mdb_records::Record;
 use mdb_words::Word;
 
 /// The word that a record tells.
-pub(crate) fn read_value(columns: &Columns, fields: &ByteRecord) -> Result<Word, RowFault>
+pub(crate) fn read_value(columns: &Columns, fields: &Record<'_>) -> Result<Word, RowFault>
     ensures ok { IfOk result (IsValue columns.now (fields_of fields.now)) }
     ensures only { IfOk result (λ word. (other : ℕ)
         → IsValue columns.now (fields_of fields.now) other → other ≡ word) }

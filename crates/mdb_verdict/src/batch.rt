@@ -116,7 +116,7 @@ impl<T: FromRecord> Batch<T> {
             if !found {
                 return Next::End;
             }
-            let row = match T::of(records.row()) {
+            let row = match T::of(&records.row()) {
                 Ok(row) => row,
                 Err(fault) => return Next::BadRow(fault),
             };

@@ -1,11 +1,12 @@
 //! A kind of row that a record is read as.
 
 ghost use Rattle.std.specs.Prelude.{◌≡◌, ◌<◌, List, ℕ, IfErr, IfOk, Some, length};
-ghost use Rattle.csv.specs.Records.{field_at, fields_of};
+ghost use Rattle.csv.specs.Records.{field_at};
+ghost use Rattle.mdb_records.specs.Fields.{fields_of};
 ghost use Rattle.mdb_words.specs.declared.row.RowFault.{RowFault};
 ghost use Rattle.mdb_words.specs.Row.{IsRefusal, IsRow};
 
-use csv::ByteRecord;
+use mdb_records::Record;
 use mdb_words::{Event, Line, RowFault, Time, Word};
 
 /// A kind of row that a record is read as.
@@ -24,7 +25,7 @@ pub trait FromRecord: Copy {
     fn is_alone(&self) -> bool;
 
     /// The row of a record.
-    fn of(fields: &ByteRecord) -> Result<Self, RowFault>
+    fn of(fields: &Record<'_>) -> Result<Self, RowFault>
         ensures row { IfOk result (is (fields_of fields.now)) }
         ensures refused { IfErr result (refuses (fields_of fields.now)) };
 }
@@ -54,7 +55,7 @@ impl FromRecord for Event {
     }
 
     #[inline(always)]
-    fn of(fields: &ByteRecord) -> Result<Event, RowFault> {
+    fn of(fields: &Record<'_>) -> Result<Event, RowFault> {
         if fields.len() != 3 {
             return Err(RowFault::FieldCount);
         }
@@ -63,7 +64,7 @@ impl FromRecord for Event {
 }
 
 /// A field of a record.
-pub fn field(fields: &ByteRecord, i: usize) -> &[u8]
+pub fn field<'a>(fields: &Record<'a>, i: usize) -> &'a [u8]
     requires { i < length (fields_of fields.now) }
     ensures { field_at (fields_of fields.now) i ≡ Some result.now }
 {

@@ -4,8 +4,7 @@ ghost use Rattle.std.specs.Prelude.{◌≡◌};
 ghost use Rattle.mdb_writing.specs.Written.{HasTaken};
 ghost use Rattle.mdbcheck_run.specs.Complaint.{IsToldCause, cause_line, excess_line};
 
-use csv::ByteRecord;
-use mdb_records::{ReadCause, Records};
+use mdb_records::{ReadCause, Record, Records};
 use mdb_verdict::RunFault;
 use mdb_words::RowFault;
 use mdb_writing::{Excerpt, write_text};
@@ -36,7 +35,7 @@ pub(crate) fn complain<R: Read + Drop, E: Write>(
 {
     match fault {
         RunFault::BadRow { .. } => {
-            let _ = complain_of_row(fault, wanted, records.row(), err);
+            let _ = complain_of_row(fault, wanted, &records.row(), err);
         }
         RunFault::TooLong => tell(err, text_of_excess()),
         RunFault::Read => tell(err, text_of_cause(records.cause())),
@@ -57,7 +56,7 @@ fn tell<E: Write>(err: &mut E, line: &str)
 fn complain_of_row<E: Write>(
     fault: RunFault,
     wanted: Wanted,
-    row: &ByteRecord,
+    row: &Record<'_>,
     err: &mut E,
 ) -> std::io::Result<()> {
     let mut found = Excerpt::of_record();
@@ -70,7 +69,7 @@ fn complain_of_row<E: Write>(
 
 /// The form that is wanted where a record is refused: that of a row, or of a mark, where it was
 /// taken for one in front of the rows.
-fn form_of(fault: RunFault, wanted: Wanted, row: &ByteRecord) -> &'static str {
+fn form_of(fault: RunFault, wanted: Wanted, row: &Record<'_>) -> &'static str {
     let is_misplaced = matches!(
         fault,
         RunFault::BadRow {

@@ -1,10 +1,9 @@
 //! What standard error is told.
 
 use super::hint::hint_of;
-use csv::ByteRecord;
 use mdb_edges::{EdgesFault, EdgesImported, EdgesOptions, LineFault};
 use mdb_exports::{Imported, RecordFault};
-use mdb_records::{ReadCause, Records};
+use mdb_records::{ReadCause, Record, Records};
 use mdb_rows_import::ImportFault;
 use mdb_saleae::SaleaeFault;
 use mdb_sigrok::{SigrokFault, SigrokRows};
@@ -106,7 +105,7 @@ fn complain<R: Read + Drop, E: Write>(fault: ImportFault, records: &Records<R>, 
                 last,
                 fault,
             };
-            let _ = complain_of_record(&refused, records.row(), err);
+            let _ = complain_of_record(&refused, &records.row(), err);
         }
         ImportFault::Read => say(text_of_cause(records.cause()), err),
         ImportFault::Write | ImportFault::Memory => complain_of(&fault, None, "", err),
@@ -126,7 +125,7 @@ struct Refused {
 /// Writes the line on a record that is refused.
 fn complain_of_record<E: Write>(
     refused: &Refused,
-    fields: &ByteRecord,
+    fields: &Record<'_>,
     err: &mut E,
 ) -> std::io::Result<()> {
     let (number, fault) = (refused.number, refused.fault);
@@ -175,7 +174,7 @@ fn complain_of_table<R: Read + Drop, E: Write>(
     match fault {
         SaleaeFault::BadHeader { .. }
         | SaleaeFault::BadRecord { .. }
-        | SaleaeFault::BadRow { .. } => complain_of(&fault, Some(records.row()), "", err),
+        | SaleaeFault::BadRow { .. } => complain_of(&fault, Some(&records.row()), "", err),
         SaleaeFault::Read => say(text_of_cause(records.cause()), err),
         SaleaeFault::NoHeader | SaleaeFault::Write | SaleaeFault::Memory => {
             complain_of(&fault, None, "", err)
@@ -191,7 +190,7 @@ fn complain_of_edges<R: Read + Drop, E: Write>(
     records: &Records<R>,
     err: &mut E,
 ) {
-    let row = records.row();
+    let row = &records.row();
     match fault {
         EdgesFault::Form { fault: form, .. } => {
             complain_of(&fault, Some(row), hint_of(options, form, row), err);
@@ -212,7 +211,7 @@ fn complain_of_edges<R: Read + Drop, E: Write>(
 /// a record, it leaves out the fields. If the line is refused, nothing more is tried.
 fn complain_of<D: Display, E: Write>(
     fault: &D,
-    record: Option<&ByteRecord>,
+    record: Option<&Record<'_>>,
     hint: &str,
     err: &mut E,
 ) {
@@ -318,7 +317,7 @@ fn text_on_marks(notes: Notes) -> &'static str {
 }
 
 /// What stands in a record that is refused.
-fn found_in(fields: &ByteRecord) -> Excerpt {
+fn found_in(fields: &Record<'_>) -> Excerpt {
     let mut found = Excerpt::of_record();
     for place in 0..fields.len() {
         found.add_field(fields.get(place).unwrap_or(&[]));

@@ -1,8 +1,8 @@
 //! What a header or record of a table of edges is likely to be refused for.
 
-use csv::ByteRecord;
 use mdb_edges::{EdgesOptions, FormFault};
 use mdb_exports::bare;
+use mdb_records::Record;
 
 /// How many fields the records of a table have at least: a time and two levels.
 const FEWEST: usize = 3;
@@ -10,7 +10,7 @@ const FEWEST: usize = 3;
 /// The likely cause of a misformed record, as it is reported after the fields; an empty text if no
 /// cause is known. Semicolons or tabs part the fields, a column's name differs in the case of its
 /// letters, or a decimal comma isn't in quotes.
-pub(crate) fn hint_of(options: &EdgesOptions, fault: FormFault, row: &ByteRecord) -> &'static str {
+pub(crate) fn hint_of(options: &EdgesOptions, fault: FormFault, row: &Record<'_>) -> &'static str {
     if has(row, b';') {
         "; are its fields parted by semicolons, and not by commas?"
     } else if has(row, b'\t') {
@@ -31,7 +31,7 @@ pub(crate) fn hint_of(options: &EdgesOptions, fault: FormFault, row: &ByteRecord
 }
 
 /// Whether a byte stands in a field of a record.
-fn has(row: &ByteRecord, byte: u8) -> bool {
+fn has(row: &Record<'_>, byte: u8) -> bool {
     for place in 0..row.len() {
         if field_at(row, place).iter().any(|it| *it == byte) {
             return true;
@@ -42,7 +42,7 @@ fn has(row: &ByteRecord, byte: u8) -> bool {
 
 /// Whether a column behind the first is called by a name but for the case of its letters, if one was
 /// told and none is called by that itself.
-fn is_called(row: &ByteRecord, name: &Option<String>) -> bool {
+fn is_called(row: &Record<'_>, name: &Option<String>) -> bool {
     let Some(name) = name else {
         return false;
     };
@@ -58,12 +58,12 @@ fn is_called(row: &ByteRecord, name: &Option<String>) -> bool {
 }
 
 /// Whether a field has digits, and nothing else.
-fn has_digits_alone(row: &ByteRecord, place: usize) -> bool {
+fn has_digits_alone(row: &Record<'_>, place: usize) -> bool {
     let field = bare(field_at(row, place));
     !field.is_empty() && field.iter().all(|it| it.is_ascii_digit())
 }
 
 /// A field of a record; no bytes where it has so few.
-fn field_at(row: &ByteRecord, place: usize) -> &[u8] {
+fn field_at<'a>(row: &Record<'a>, place: usize) -> &'a [u8] {
     row.get(place).unwrap_or(&[])
 }

@@ -1,5 +1,5 @@
 use Rattle.std.specs.Prelude.{option_map}
-use Rattle.csv.specs.Records.{fields_of}
+use Rattle.mdb_records.specs.Fields.{fields_of}
 use Rattle.mdb_edges.proofs.Headers.{IsFoundBelow}
 use Rattle.mdb_edges.proofs.header.column_of.Given as goal
 

@@ -1,6 +1,6 @@
 use Rattle.std.proofs.Common.{◌∙◌, arith, subst, sym}
 use Rattle.std.specs.Prelude.{option_map}
-use Rattle.csv.specs.Records.{fields_of}
+use Rattle.mdb_records.specs.Fields.{fields_of}
 use Rattle.mdb_exports.specs.Numbers.{IsNumber}
 use Rattle.mdb_edges.specs.Table.{IsColumn}
 use Rattle.mdb_edges.proofs.Headers.{is_below, one_column, one_field}

@@ -1,5 +1,5 @@
 use Rattle.std.proofs.Common.{Bool, ◌+◌, ◌++◌, ◌∷◌, ◌∙◌, [], Some, ap, arith, inl, inr, sym, subst}
-use Rattle.csv.specs.Records.{fields_of}
+use Rattle.mdb_records.specs.Fields.{fields_of}
 use Rattle.mdb_records.specs.ToCome.{Advances}
 use Rattle.mdb_edges.proofs.Faults.{first_at, met_end, no_read, reached, too_many}
 use Rattle.mdb_edges.proofs.Records.{moments_rise}
@@ -29,18 +29,18 @@ pub returns-in-Err-take_record-clause-err : goal.returns-in-Err-take_record-clau
 returns-in-Err-take_record-clause-err g c all to_come others sent answered =
     let so_far = c.loop-number.invariant all to_come in
     let P : Bool → Type 0 = λ b. Advances g.R.Read.remaining c.advance.new.self b so_far.rest in
-    stops_come g.R.Read.remaining c.loop-number.records c.advance.new.self c.args.options.now c.args.columns.now c.loop-number.earliest c.loop-number.number c.loop-number.lines all (fields_of c.row.result.now) c.in-Err-take_record.stop c.at-in-Err-take_record.result others sent answered so_far c.row.ensures
+    stops_come g.R.Read.remaining c.loop-number.records c.advance.new.self c.args.options.now c.args.columns.now c.loop-number.earliest c.loop-number.number c.loop-number.lines all (fields_of c.row.result) c.in-Err-take_record.stop c.at-in-Err-take_record.result others sent answered so_far c.row.ensures
     (subst P c.in-Ok-true.field-0-test (c.in-Ok-true.ensures.next so_far.rest so_far.to_come)) c.in-Err-take_record.ensures.err c.at-in-Err-take_record.ensures
 
 pub loop-number-preserved : goal.loop-number-preserved
 loop-number-preserved g c all to_come =
     let so_far = c.loop-number.invariant all to_come in
     let P : Bool → Type 0 = λ b. Advances g.R.Read.remaining c.advance.new.self b so_far.rest in
-    so_far_more g.R.Read.remaining c.loop-number.records c.advance.new.self c.args.options.now c.args.columns.now c.loop-number.earliest (c.parts-earliest.result + 1) c.loop-number.number c.loop-number.lines c.take_record.new.lines all (fields_of c.row.result.now) so_far c.row.ensures
+    so_far_more g.R.Read.remaining c.loop-number.records c.advance.new.self c.args.options.now c.args.columns.now c.loop-number.earliest (c.parts-earliest.result + 1) c.loop-number.number c.loop-number.lines c.take_record.new.lines all (fields_of c.row.result) so_far c.row.ensures
     (subst P c.in-Ok-true.field-0-test (c.in-Ok-true.ensures.next so_far.rest so_far.to_come))
     (λ body ms has.
     let more = c.in-Ok-take_record.ensures.ok body ms has in
-    (more.0, subst (λ n. HasRead c.args.options.now c.args.columns.now (n + 1) c.take_record.new.lines (body ++ fields_of c.row.result.now ∷ []) more.0) (sym c.parts-earliest.ensures.value) more.1))
+    (more.0, subst (λ n. HasRead c.args.options.now c.args.columns.now (n + 1) c.take_record.new.lines (body ++ fields_of c.row.result ∷ []) more.0) (sym c.parts-earliest.ensures.value) more.1))
 
 pub returns-in-Err-end-clause-why : goal.returns-in-Err-end-clause-why
 returns-in-Err-end-clause-why g c header all named to_come =
@@ -57,7 +57,7 @@ returns-in-Err-take_record-clause-why g c header all named to_come =
     let so_far = c.loop-number.invariant all to_come in
     let P : Bool → Type 0 = λ b. Advances g.R.Read.remaining c.advance.new.self b so_far.rest in
     let next = subst P c.in-Ok-true.field-0-test (c.in-Ok-true.ensures.next so_far.rest so_far.to_come) in
-    let row = fields_of c.row.result.now in
+    let row = fields_of c.row.result in
     first_at c.in-Err-take_record.stop c.at-in-Err-take_record.result c.args.options.now (header ∷ all) c.loop-number.number c.args.columns.now so_far.moments (row ∷ next.0)
     (reached g.R.Read.remaining c.loop-number.records c.args.options.now c.args.columns.now c.loop-number.earliest c.loop-number.number c.loop-number.lines all (row ∷ next.0) header so_far (next.1 ∙ ap (λ r. r ∷ next.0) (sym c.row.ensures)) named)
     (c.in-Err-take_record.ensures.why so_far.done next.0 so_far.moments so_far.has) c.at-in-Err-take_record.ensures

@@ -1,5 +1,5 @@
 use Rattle.std.proofs.Common.{◌++◌, ◌∷◌, [], arith, ◌≤◌, ◌<◌}
-use Rattle.csv.specs.Records.{fields_of}
+use Rattle.mdb_records.specs.Fields.{fields_of}
 use Rattle.mdb_edges.specs.Table.{end_of}
 use Rattle.mdb_edges.proofs.Faults.{met_early, met_lines, met_record}
 use Rattle.mdb_edges.proofs.Tables.{barred_next, no_moment, not_later, read_more}

@@ -1,5 +1,5 @@
 use Rattle.std.proofs.Common.{◌∙◌, sym, subst, List, ℕ, ◌≡◌, ◌∷◌, [], length}
-use Rattle.csv.specs.Records.{fields_of}
+use Rattle.mdb_records.specs.Fields.{fields_of}
 use Rattle.mdb_explain.specs.Replay.{IsForMark, mark_letter}
 use Rattle.mdb_explain.specs.inner.Entries.{IsEntry}
 use Rattle.mdb_verdict.proofs.Fields.{three_fields}

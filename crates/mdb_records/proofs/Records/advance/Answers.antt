@@ -1,26 +1,22 @@
 use Rattle.std.proofs.Common.{refl}
 use Rattle.mdb_records.proofs.Records.advance.Goals as goal
 use Rattle.mdb_records.proofs.Records.advance.Goals.{in-Lines+in-Ok-None, in_default-stage}
-use Rattle.mdb_records.proofs.ReadingFacts.{AreBytes-fields, IfOk-map, goes-on, line-reads, lines-stand, over-goes-on, same-over, same-to-come}
+use Rattle.mdb_records.proofs.ReadingFacts.{IfOk-map, line-goes-on, line-over, lines-stand, same-over, same-to-come}
 
 pub returns-in-Ok-Some-clause-next : goal.returns-in-Ok-Some-clause-next
 returns-in-Ok-Some-clause-next g c = rw c.in-Ok-Some.found-is (λ rows h.
-    let told = rw c.in-Ok-Some.field-0-is at c.in-Ok-Some.ensures in
-    goes-on g.R.Read.remaining c.args.self.now _ c.in-Ok-Some.found rows
-    (rw c.in-Lines.is (line-reads g.R.Read.remaining c.in-Lines.lines c.advance.new.self c.in-Ok-Some.found _ told)) h.going
-    (AreBytes-fields _ _ c.as_slice.ensures c.see_bytes.ensures) h)
+    line-goes-on g.R.Read.remaining c.args.self.now _ c.in-Lines.lines c.advance.new.self c.in-Ok-Some.found rows c.in-Lines.is refl h.going
+    (rw c.in-Ok-Some.field-0-is at c.in-Ok-Some.ensures.told) c.in-Ok-Some.ensures.bytes h)
 
 pub returns-in-Ok-Some-clause-endless : goal.returns-in-Ok-Some-clause-endless
 returns-in-Ok-Some-clause-endless g c = rw c.in-Ok-Some.found-is (λ h.
-    let told = rw c.in-Ok-Some.field-0-is at c.in-Ok-Some.ensures in
-    over-goes-on g.R.Read.remaining c.args.self.now _ c.in-Ok-Some.found
-    (rw c.in-Lines.is (line-reads g.R.Read.remaining c.in-Lines.lines c.advance.new.self c.in-Ok-Some.found _ told)) h.going
-    (AreBytes-fields _ _ c.as_slice.ensures c.see_bytes.ensures) h)
+    line-over g.R.Read.remaining c.args.self.now _ c.in-Lines.lines c.advance.new.self c.in-Ok-Some.found c.in-Lines.is refl h.going
+    (rw c.in-Ok-Some.field-0-is at c.in-Ok-Some.ensures.told) c.in-Ok-Some.ensures.bytes h)
 
 pub returns-clause-next : goal.returns-clause-next
 returns-clause-next g c = elim c.match-self-2.branch [
   | in-Lines+in-Ok-None w ↦
-      let kept = rw w.in-Ok-None.field-0-is at w.in-Ok-None.ensures in
+      let kept = rw w.in-Ok-None.field-0-is at w.in-Ok-None.ensures.told in
       IfOk-map c.advance_by_csv.result _ _ (λ found f rows h. f rows (rw w.self-is (w.hand_over.ensures.next rows
       (same-to-come g.R.Read.remaining c.args.self.now _ rows
       (λ state given. lines-stand g.R.Read.remaining c.args.self.now.stage w.in-Lines.lines w.advance.new.self state given w.in-Lines.is kept) refl h))))
@@ -33,7 +29,7 @@ returns-clause-next g c = elim c.match-self-2.branch [
 pub returns-clause-endless : goal.returns-clause-endless
 returns-clause-endless g c = elim c.match-self-2.branch [
   | in-Lines+in-Ok-None w ↦
-      let kept = rw w.in-Ok-None.field-0-is at w.in-Ok-None.ensures in
+      let kept = rw w.in-Ok-None.field-0-is at w.in-Ok-None.ensures.told in
       IfOk-map c.advance_by_csv.result _ _ (λ found f h. f (rw w.self-is (w.hand_over.ensures.endless
       (same-over g.R.Read.remaining c.args.self.now _
       (λ state given. lines-stand g.R.Read.remaining c.args.self.now.stage w.in-Lines.lines w.advance.new.self state given w.in-Lines.is kept) refl h))))

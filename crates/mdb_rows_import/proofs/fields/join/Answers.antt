@@ -1,5 +1,5 @@
 use Rattle.std.proofs.Common.{ap, sym, arith, ◌∙◌, ◌≡◌, ◌<◌, ◌++◌, ◌∷◌, length, take, zero}
-use Rattle.csv.specs.Records.{fields_of}
+use Rattle.mdb_records.specs.Fields.{fields_of}
 use Rattle.mdb_words.specs.Row.{joined_by_commas}
 use Rattle.mdb_rows_import.proofs.Records.{join_first, join_more, joined_parts}
 use Rattle.mdb_rows_import.proofs.fields.join.Goals.{then-place-gt0+in_ok-push, else-place-gt0}

@@ -1,4 +1,4 @@
-use Rattle.csv.specs.Records.{fields_of}
+use Rattle.mdb_records.specs.Fields.{fields_of}
 use Rattle.mdb_saleae.proofs.Places.{IsOnlyBelow}
 use Rattle.mdb_saleae.proofs.columns.place_of.Given as goal
 

@@ -1,5 +1,5 @@
 use Rattle.std.proofs.Common.{ap, sym, subst, ◌∙◌, ◌∷◌, Bool, Some}
-use Rattle.csv.specs.Records.{fields_of}
+use Rattle.mdb_records.specs.Fields.{fields_of}
 use Rattle.mdb_records.specs.ToCome.{Advances}
 use Rattle.mdb_saleae.proofs.Imports.{read_fault}
 use Rattle.mdb_saleae.proofs.Places.{no_columns}
@@ -9,7 +9,7 @@ pub returns-in-Ok-clause-begins : goal.returns-in-Ok-clause-begins
 returns-in-Ok-clause-begins g c all to_come =
     let P : Bool → Type 0 = λ b. Advances g.R.Read.remaining c.advance.new.self b all in
     let next = subst P c.in-Ok-true.field-0-test (c.in-Ok-true.ensures.next all to_come) in (
-      fields_of c.row.result.now,
+      fields_of c.row.result,
       next.0,
       next.1 ∙ ap (λ r. r ∷ next.0) (sym c.row.ensures),
       c.in-Ok.ensures.ok,
@@ -20,7 +20,7 @@ pub returns-in-Err-read_columns-clause-begins : goal.returns-in-Err-read_columns
 returns-in-Err-read_columns-clause-begins g c all to_come =
     let P : Bool → Type 0 = λ b. Advances g.R.Read.remaining c.advance.new.self b all in
     let next = subst P c.in-Ok-true.field-0-test (c.in-Ok-true.ensures.next all to_come) in
-    let header = fields_of c.row.result.now in (
+    let header = fields_of c.row.result in (
       header,
       next.0,
       next.1 ∙ ap (λ r. r ∷ next.0) (sym c.row.ensures),

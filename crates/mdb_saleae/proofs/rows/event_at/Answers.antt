@@ -1,5 +1,5 @@
 use Rattle.std.proofs.Common.{refl, inl, inr, subst}
-use Rattle.csv.specs.Records.{fields_of}
+use Rattle.mdb_records.specs.Fields.{fields_of}
 use Rattle.mdb_saleae.specs.Frames.{IsFramed}
 use Rattle.mdb_saleae.proofs.Refused.{break_why, name_why, no_name}
 use Rattle.mdb_saleae.proofs.rows.event_at.Goals as goal

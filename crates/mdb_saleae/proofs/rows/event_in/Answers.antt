@@ -1,5 +1,5 @@
 use Rattle.std.proofs.Common.{refl, inl, inr, subst, sym, ◌∙◌}
-use Rattle.csv.specs.Records.{fields_of}
+use Rattle.mdb_records.specs.Fields.{fields_of}
 use Rattle.mdb_words.specs.Event.{start_of}
 use Rattle.mdb_saleae.specs.Cells.{cell}
 use Rattle.mdb_saleae.specs.Rows.{IsEventAt}

@@ -1,5 +1,5 @@
 use Rattle.std.proofs.Common.{ap, sym, refl, inr}
-use Rattle.csv.specs.Records.{fields_of}
+use Rattle.mdb_records.specs.Fields.{fields_of}
 use Rattle.mdb_saleae.specs.Values.{limit_of}
 use Rattle.mdb_saleae.proofs.Words.{bits_why, joined_err, joined_only, no_mark, whole_err}
 use Rattle.mdb_saleae.proofs.Words.{whole_only}

@@ -1,7 +1,7 @@
 use Rattle.std.proofs.Common.{refl, IfErr, OnOk, ap, sym, subst, ◌∙◌, ◌≡◌, Ok, Option, Result}
 use Rattle.std.specs.Prelude.{◌==◌}
 use Rattle.std.proofs.lemmas.Bool.{eqb-true}
-use Rattle.csv.specs.Records.{fields_of}
+use Rattle.mdb_records.specs.Fields.{fields_of}
 use Rattle.mdb_words.specs.Row.{joined_by_commas}
 use Rattle.mdb_words.specs.declared.event.Event.{Event}
 use Rattle.mdb_rows_import.specs.Fields.{record_fields, line_fields}

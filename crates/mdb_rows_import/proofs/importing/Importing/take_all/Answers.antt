@@ -1,5 +1,5 @@
 use Rattle.std.proofs.Common.{inl, inr, arith, Some, ap, sym, subst, refl, ◌∙◌, ◌∷◌, Bool, Err, []}
-use Rattle.csv.specs.Records.{fields_of}
+use Rattle.mdb_records.specs.Fields.{fields_of}
 use Rattle.mdb_records.specs.ToCome.{Advances}
 use Rattle.mdb_records.specs.declared.ReadFault.TheVariants as reading
 use Rattle.mdb_writing.specs.Output.{begun, output}
@@ -50,7 +50,7 @@ returns-in-Err-take-clause-puts g c all to_come =
     c.loop-done.self c.take.new.self before
     (output (g.W.Write.contents c.loop-done.writer) c.loop-done.self.page)
     (output (g.W.Write.contents c.take.new.writer) c.take.new.self.page)
-    c.loop-done.done all (fields_of c.row.result.now) so_far next.0
+    c.loop-done.done all (fields_of c.row.result) so_far next.0
     (next.1 ∙ ap (λ r. r ∷ next.0) (sym c.row.ensures)) c.in-Err-take.fault
     (c.in-Err-take.ensures.takes before so_far.done so_far.events so_far.counted so_far.has)
 
@@ -64,7 +64,7 @@ loop-done-preserved g c all to_come =
     c.loop-done.self c.take.new.self before
     (output (g.W.Write.contents c.loop-done.writer) c.loop-done.self.page)
     (output (g.W.Write.contents c.take.new.writer) c.take.new.self.page)
-    c.loop-done.done all (fields_of c.row.result.now) so_far next.0
+    c.loop-done.done all (fields_of c.row.result) so_far next.0
     (next.1 ∙ ap (λ r. r ∷ next.0) (sym c.row.ensures)) next.2
     (c.in_default.ensures.takes before so_far.done so_far.events so_far.counted so_far.has)
 

@@ -1,5 +1,5 @@
 use Rattle.std.proofs.Common.{subst, Result}
-use Rattle.csv.specs.Records.{fields_of}
+use Rattle.mdb_records.specs.Fields.{fields_of}
 use Rattle.mdb_words.specs.declared.event.Event.{Event}
 use Rattle.mdb_writing.specs.Output.{output}
 use Rattle.mdb_saleae.specs.inner.Steps.{IsNext}

@@ -1,6 +1,6 @@
 use Rattle.std.proofs.Common.{arith, ap, sym, subst, refl, inl, inr, ◌∙◌, ◌∷◌, Bool, Err, Some}
 use Rattle.std.proofs.Common.{[]}
-use Rattle.csv.specs.Records.{fields_of}
+use Rattle.mdb_records.specs.Fields.{fields_of}
 use Rattle.mdb_records.specs.ToCome.{Advances}
 use Rattle.mdb_records.specs.declared.ReadFault.TheVariants as reading
 use Rattle.mdb_writing.specs.Output.{begun, output}
@@ -52,7 +52,7 @@ returns-in-Err-take-clause-puts g c all to_come =
     not_taken g.R.Read.remaining c.loop-taken.records c.args.options.now c.args.columns.now
     c.loop-taken.self c.take.new.self before (output (g.W.Write.contents c.loop-taken.writer)
     c.loop-taken.self.page) (output (g.W.Write.contents c.take.new.writer) c.take.new.self.page)
-    c.loop-taken.taken all (fields_of c.row.result.now) so_far next.0
+    c.loop-taken.taken all (fields_of c.row.result) so_far next.0
     (next.1 ∙ ap (λ r. r ∷ next.0) (sym c.row.ensures)) c.in-Err-take.fault
     (c.in-Err-take.ensures.takes before so_far.done so_far.events
     (next_number so_far.done c.loop-taken.taken so_far.counted) so_far.has)
@@ -67,7 +67,7 @@ loop-taken-preserved g c all to_come =
     c.args.columns.now c.loop-taken.self c.take.new.self before
     (output (g.W.Write.contents c.loop-taken.writer) c.loop-taken.self.page)
     (output (g.W.Write.contents c.take.new.writer) c.take.new.self.page)
-    c.loop-taken.taken all (fields_of c.row.result.now) so_far next.0
+    c.loop-taken.taken all (fields_of c.row.result) so_far next.0
     (next.1 ∙ ap (λ r. r ∷ next.0) (sym c.row.ensures)) next.2
     (c.in_default.ensures.takes before so_far.done so_far.events
     (next_number so_far.done c.loop-taken.taken so_far.counted) so_far.has)

@@ -1,5 +1,5 @@
 use Rattle.std.proofs.Common.{◌∙◌, sym, subst, IfErr, IfOk, List, ℕ, ◌≡◌, length}
-use Rattle.csv.specs.Records.{fields_of}
+use Rattle.mdb_records.specs.Fields.{fields_of}
 use Rattle.mdb_words.specs.Row.{IsRefusal, IsRow}
 use Rattle.mdb_verdict.proofs.Fields.{three_fields}
 use Rattle.mdb_verdict.proofs.row.EventFromRecord.of.Goals as goal
