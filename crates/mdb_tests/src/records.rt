@@ -2,7 +2,8 @@
 
 use super::asserts::same;
 use super::streams::Pieces;
-use mdb_records::{ReadCause, ReadFault, Records};
+use csv::{ByteRecord, ReaderBuilder};
+use mdb_records::{ReadCause, ReadFault, Record, Records};
 use std::alloc::{AllocError, Global};
 use std::io::{ErrorKind, Read};
 use std::process::Abort;
@@ -183,4 +184,62 @@ fn a_long_text_is_read_to_its_end(rt: HostRuntime) {
     let end = (1_499, Err(ReadFault::Read));
     let cause = is_counted(&rt, rt.alloc(), (text, LONG_BYTES - 1), end);
     same(&rt, cause, ReadCause::OverLimit);
+}
+
+/// What short texts are put together of: all that means something to csv, and other bytes.
+static PARTS: [&[u8]; 8] = [
+    b"",
+    b"a",
+    b",",
+    b"\"",
+    b"\r",
+    b"\n",
+    b"\xef\xbb\xbf",
+    b"1,M,8\n",
+];
+
+/// The text of five parts, by the digits of a number of the base 8.
+fn text_of_parts(alloc: Global, number: usize) -> Result<Vec<u8>, AllocError> {
+    let mut text = Vec::new(alloc);
+    let mut rest = number;
+    for _ in 0..5 {
+        text.extend_from_slice(PARTS[rest % 8])?;
+        rest /= 8;
+    }
+    Ok(text)
+}
+
+/// Ends the test where a record has other fields than csv's.
+fn same_fields(rt: &impl Abort, record: &Record<'_>, wanted: &ByteRecord) {
+    same(rt, record.len(), wanted.len());
+    for place in 0..wanted.len() {
+        same(rt, record.get(place), wanted.get(place));
+    }
+}
+
+/// Ends the test where other records are given of a text than csv gives. The text is read in pieces
+/// of three bytes.
+fn same_records(rt: &impl Abort, alloc: Global, text: &[u8]) {
+    let mut records = Records::new(alloc, Pieces::new(text, 3), 99);
+    let mut reader = ReaderBuilder::new()
+        .has_headers(false)
+        .flexible(true)
+        .from_reader(alloc, text);
+    let mut row = ByteRecord::new(alloc);
+    for _ in 0..ROWS {
+        let wanted = reader.read_byte_record(&mut row).ok();
+        same(rt, records.advance().ok(), wanted);
+        if wanted != Some(true) {
+            return;
+        }
+        same_fields(rt, &records.row(), &row);
+    }
+}
+
+#[test]
+fn gives_the_records_of_csv(rt: HostRuntime) {
+    for number in 0..32_768 {
+        let text = text_of_parts(rt.alloc(), number).expect(&rt, "memory");
+        same_records(&rt, rt.alloc(), text.as_slice());
+    }
 }

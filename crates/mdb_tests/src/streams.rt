@@ -21,7 +21,7 @@ const AT_ONCE: &[u8] =
     b"1,S,100\n1,M,000\n2,M,000\n3,M,000\n4,M,000\n5,M,000\n6,M,000\n7,M,000\n8,M,000\n9,M,000\n";
 
 /// Texts whose first row cannot be, the most bytes that a read gives of them, and whether the third
-/// read, which fails, is made. A first read asks for one byte.
+/// read, which fails, is made.
 pub(crate) static ENDED: [(&str, &[u8], usize, bool); 3] = [
     ("small pieces", b"1,S,100\nx\nx\nx\nx\n", 8, false),
     ("many rows", AT_ONCE, 80, false),
