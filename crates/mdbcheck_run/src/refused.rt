@@ -37,10 +37,8 @@ pub(crate) fn tell_refusal<E: Write>(
 
 /// The line on words that are refused. They are read once more to see which word it is.
 fn line_on(alloc: Global, program: &Program<'_>, refusal: Refusal, words: &[String]) -> Line {
-    if matches!(refusal, Refusal::Words(ErrorKind::OutOfMemory)) {
-        let mut line = Line::of(program);
-        line.add(&[": ", reason_of(refusal)]);
-        return line;
+    if is_memory(refusal) {
+        return line_on_memory(program, refusal);
     }
     match read_words(alloc, words) {
         Ok(found) => line_on_values(alloc, program, refusal, words, &found),
@@ -66,24 +64,43 @@ fn line_on_values(
     }
     match refusal {
         Refusal::Setup(SetupFault::NotJoined) => line.add(&["--setup ", reason_of(refusal)]),
-        Refusal::Setup(_) => add_setup(&mut line, alloc, found),
+        Refusal::Setup(_) => {
+            if let Some((text, reason)) = refused_setup(alloc, found) {
+                if is_memory(reason) {
+                    return line_on_memory(program, reason);
+                }
+                line.add_word("--setup \"", text, "\" ");
+                line.add(&[reason_of(reason)]);
+            }
+        }
         Refusal::Words(_) => add_value(&mut line, refusal, found),
     }
     line.add_usage(program, row_of(program, words));
     line
 }
 
-/// Adds the first value of `--setup` that is refused, and why.
-fn add_setup(line: &mut Line, alloc: Global, found: &Named<'_>) {
+/// Whether memory was refused.
+fn is_memory(refusal: Refusal) -> bool {
+    matches!(refusal, Refusal::Words(ErrorKind::OutOfMemory))
+}
+
+/// The line that says that memory was refused.
+fn line_on_memory(program: &Program<'_>, refusal: Refusal) -> Line {
+    let mut line = Line::of(program);
+    line.add(&[": ", reason_of(refusal)]);
+    line
+}
+
+/// The first value of `--setup` that is refused, and why.
+fn refused_setup<'a>(alloc: Global, found: &Named<'a>) -> Option<(&'a str, Refusal)> {
     let without = left_out_by(found).unwrap_or(DeviceSet::NONE);
     let texts = found.values(SETUP).unwrap_or(&[]);
     for place in 0..texts.len() {
         if let Err(refusal) = setups_of(alloc, without, &texts[..=place]) {
-            line.add_word("--setup \"", texts[place], "\" ");
-            line.add(&[reason_of(refusal)]);
-            return;
+            return Some((texts[place], refusal));
         }
     }
+    None
 }
 
 /// Adds the first other value that is none of those that may stand there.
