@@ -13,6 +13,7 @@ ghost use Rattle.csv.specs.Reading.{default_config, records, strip_bom};
 ghost use Rattle.csv.specs.Records as csv;
 ghost use Rattle.mdb_records.specs.Fields.{fields_of};
 ghost use Rattle.mdb_records.specs.SetUp.{IsSetUp};
+ghost use Rattle.mdb_records.specs.Stage.{source_in};
 
 mod limited;
 mod lines;
@@ -68,6 +69,7 @@ pub struct Records<R> {
     // The fault that ended the reading.
     fault: Option<ReadFault>,
     ghost set_up: { fault ≡ None → IsSetUp stage },
+    ghost there: { IsSome (source_in stage) },
 }
 
 impl<R: Read + Drop> Records<R> {

@@ -1,6 +1,6 @@
 // Who reads the next record: lines as long as they are plain, and then csv.
 
-ghost use Rattle.std.specs.Prelude.{◌≡◌, ◌≤◌, ℕ, List, IfOk, OnOk, if◌then◌else◌, option_map, true};
+ghost use Rattle.std.specs.Prelude.{◌≡◌, ◌≤◌, ℕ, List, IfOk, OnOk, IsSome, if◌then◌else◌, option_map, true};
 ghost use Rattle.csv.specs.Reading.{error_kind, is_io, stops_reader};
 ghost use Rattle.csv.specs.Records.{fields_of};
 ghost use Rattle.mdb_records.specs.SetUp.{IsSetUp};
@@ -57,6 +57,7 @@ impl<R: Read + Drop> Stage<R> {
     pub(crate) fn handed_over(self, alloc: Global) -> Stage<R>
         ensures hands { HandsOver R.remaining self result }
         ensures set_up { IsSetUp self → IsSetUp result }
+        ensures there { IsSome (source_in self) → IsSome (source_in result) }
     {
         match self {
             Stage::Lines(lines) => {
@@ -80,6 +81,7 @@ impl<R: Read + Drop> Stage<R> {
         ensures fields { OnOk result ((ends : List ℕ)
             → fields_at self.new ends row.new ≡ fields_of row.new) }
         ensures set_up { OnOk result (IsSetUp self.new) }
+        ensures there { IsSome (source_in self.old) → IsSome (source_in self.new) }
     {
         let Stage::Csv(reader, _) = self else {
             return Err(ReadFault::Read);
