@@ -12,7 +12,7 @@ ghost use Rattle.std.specs.Prelude.{◌≡◌, ◌<◌, ◌≤◌, ◌+◌, ◌-
 ghost use Rattle.csv.specs.Reading.{default_config, records, strip_bom};
 ghost use Rattle.csv.specs.Records as csv;
 ghost use Rattle.mdb_records.specs.Fields.{fields_of};
-ghost use Rattle.mdb_records.specs.SetUp.{IsSetUp};
+ghost use Rattle.mdb_records.specs.SetUp.{IsSetUp, reader_in};
 ghost use Rattle.mdb_records.specs.Stage.{source_in};
 
 mod limited;
@@ -145,6 +145,7 @@ impl<R: Read + Drop> Records<R> {
             → ToCome R.remaining self.new rows }
         ensures endless { IsOverLimit R.remaining self.old → IsOverLimit R.remaining self.new }
         ensures fault { fault_of self.new ≡ fault_of self.old }
+        ensures csv { IsSome (reader_in self.new.stage) }
     {
         let stage = mem::replace(&mut self.stage, Stage::Between);
         self.stage = stage.handed_over(self.alloc);
@@ -153,7 +154,8 @@ impl<R: Read + Drop> Records<R> {
     // The next record, as `csv` reads it.
     #[inline(never)]
     fn advance_by_csv(&mut self) -> Result<bool, ReadFault>
-        requires { fault_of self.old ≡ None }
+        requires going { fault_of self.old ≡ None }
+        requires csv { IsSome (reader_in self.old.stage) }
         ensures next { IfOk result (λ found. (rows : List (List (List ℕ))) →
             ToCome R.remaining self.old rows → Advances R.remaining self.new found rows) }
         ensures endless { IfOk result (λ found.

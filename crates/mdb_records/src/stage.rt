@@ -3,7 +3,7 @@
 ghost use Rattle.std.specs.Prelude.{◌≡◌, ◌≤◌, ℕ, List, IfOk, OnOk, IsSome, if◌then◌else◌, option_map, true};
 ghost use Rattle.csv.specs.Reading.{error_kind, is_io, stops_reader};
 ghost use Rattle.csv.specs.Records.{fields_of};
-ghost use Rattle.mdb_records.specs.SetUp.{IsSetUp};
+ghost use Rattle.mdb_records.specs.SetUp.{IsSetUp, reader_in};
 ghost use Rattle.mdb_records.specs.Stage.{HandsOver, ReadsNext, fields_at, given_in, source_in};
 
 use super::ReadFault;
@@ -57,6 +57,7 @@ impl<R: Read + Drop> Stage<R> {
     pub(crate) fn handed_over(self, alloc: Global) -> Stage<R>
         ensures hands { HandsOver R.remaining self result }
         ensures set_up { IsSetUp self → IsSetUp result }
+        ensures csv { IsSome (source_in self) → IsSome (reader_in result) }
         ensures there { IsSome (source_in self) → IsSome (source_in result) }
     {
         match self {
@@ -75,7 +76,8 @@ impl<R: Read + Drop> Stage<R> {
 
     /// Reads the next record into `row`, as csv reads it, and answers whether there is one.
     pub(crate) fn read_by_csv(&mut self, row: &mut ByteRecord) -> Result<bool, ReadFault>
-        requires { IsSetUp self.old }
+        requires set_up { IsSetUp self.old }
+        requires csv { IsSome (reader_in self.old) }
         ensures reads { IfOk result (λ found.
             ReadsNext R.remaining self.old self.new found (fields_of row.new)) }
         ensures fields { OnOk result ((ends : List ℕ)
@@ -84,7 +86,7 @@ impl<R: Read + Drop> Stage<R> {
         ensures there { IsSome (source_in self.old) → IsSome (source_in self.new) }
     {
         let Stage::Csv(reader, _) = self else {
-            return Err(ReadFault::Read);
+            unreachable!()
         };
         match reader.read_byte_record(row) {
             Ok(found) => Ok(found),

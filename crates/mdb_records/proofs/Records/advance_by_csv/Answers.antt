@@ -1,8 +1,8 @@
 use Rattle.mdb_records.proofs.Records.advance_by_csv.Goals as goal
 use Rattle.mdb_records.proofs.ReadingFacts.{AreBytes-fields, goes-on, over-goes-on}
 
-pub read_by_csv-requires : goal.read_by_csv-requires
-read_by_csv-requires g c = c.args.self.now.set_up c.requires
+pub read_by_csv-requires-clause-set_up : goal.read_by_csv-requires-clause-set_up
+read_by_csv-requires-clause-set_up g c = c.args.self.now.set_up c.requires.going
 
 pub returns-in-Ok-clause-next : goal.returns-in-Ok-clause-next
 returns-in-Ok-clause-next g c = λ rows h.
