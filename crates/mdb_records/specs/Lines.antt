@@ -1,5 +1,5 @@
 -- What a reader of lines has left, and what it does with the record that comes next.
-use Rattle.std.specs.Prelude.{◌≡◌, ◌-◌, Bool, true, false, ℕ, List, [], ◌∷◌, take, drop, ⊤, Option, Some, None, IfSome, option_map}
+use Rattle.std.specs.Prelude.{◌≡◌, ◌-◌, Bool, true, false, ℕ, List, [], ◌∷◌, take, drop, ⊤, ◌⊎◌, Option, Some, None, IfSome, IsSome, option_map}
 use Rattle.std.specs.Io.KnownBytes.{Keeps, prepend_known}
 use Rattle.csv.specs.Machine.{line_feed, next_record}
 use Rattle.csv.specs.Reading.{default_config, strip_bom}
@@ -13,6 +13,10 @@ use Rattle.mdb_records.specs.declared.lines.Step.TheVariants as step
 -- the bytes that a limited reader has left, by those of the reader that it limits
 abbrev pub limited_remaining : {R : Type 0} → (R → Option (List ℕ)) → Limited R → Option (List ℕ)
 limited_remaining remaining limited = given_of (remaining limited.inner) limited.left limited.held
+
+-- its reader failed, or its text was seen to go on past the limit
+abbrev pub HasFailed : {R : Type 0} → Limited R → Type 0
+HasFailed source = IsSome source.held ⊎ IsSome source.failed
 
 -- the end of the line that was taken last: before it csv looks for no byte order mark, and alone it
 -- is no record

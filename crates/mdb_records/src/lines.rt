@@ -110,16 +110,18 @@ fn begins_high(text: &[u8]) -> bool
 }
 
 impl<R: Read> Lines<R> {
-    ghost use Rattle.mdb_records.specs.Lines.{Steps, Tells, limited_remaining, line, lines_given};
+    ghost use Rattle.mdb_records.specs.Lines.{HasFailed, Steps, Tells, limited_remaining, line, lines_given};
 
     /// Takes the next record, if it stands on a line of its own, and answers whether there is one:
-    /// its fields are those parts of [`Lines::line`] that end at `ends`. It answers `None` where only csv can tell. Nothing is said of
-    /// what is left after a fault.
+    /// its fields are those parts of [`Lines::line`] that end at `ends`. It answers `None` where
+    /// only csv can tell. Nothing is said of what is left after a fault.
     #[inline(always)]
     pub(crate) fn advance(&mut self, ends: &mut Vec<usize>) -> Result<Option<bool>, ReadFault>
         ensures bytes { OnOk result (All (λ b. b < 256) (line self.new)) }
         ensures told { IfOk result (λ told. Tells told (lines_given R.remaining self.old)
             (lines_given R.remaining self.new) (parted 0 ends.new.items (line self.new))) }
+        ensures fault { IfErr result (λ fault.
+            fault ≡ ReadFault.Read → HasFailed self.new.source) }
     {
         let told = match self.take(ends)? {
             Step::Record => Some(true),
@@ -133,7 +135,8 @@ impl<R: Read> Lines<R> {
     // Takes the record that the bytes that were read begin with, if it is there whole.
     #[inline(always)]
     fn take(&mut self, ends: &mut Vec<usize>) -> Result<Step, ReadFault>
-        ensures { IfOk result (λ step. Steps step (lines_given R.remaining self.old)
+        ensures fault { IfErr result (λ fault. fault ≡ ReadFault.Memory) }
+        ensures steps { IfOk result (λ step. Steps step (lines_given R.remaining self.old)
             (lines_given R.remaining self.new) (parted 0 ends.new.items (line self.new))) }
     {
         let text = &self.buffer[self.at..self.filled];
@@ -156,7 +159,9 @@ impl<R: Read> Lines<R> {
     // The next record, where more has to be read first.
     #[inline(never)]
     fn advance_by_reading(&mut self, ends: &mut Vec<usize>) -> Result<Option<bool>, ReadFault>
-        ensures { IfOk result (λ told. Tells told (lines_given R.remaining self.old)
+        ensures fault { IfErr result (λ fault.
+            fault ≡ ReadFault.Read → HasFailed self.new.source) }
+        ensures told { IfOk result (λ told. Tells told (lines_given R.remaining self.old)
             (lines_given R.remaining self.new) (parted 0 ends.new.items (line self.new))) }
     {
         'reads: for _ in 0..BUFFER {
@@ -183,6 +188,8 @@ impl<R: Read> Lines<R> {
             (Keeps (lines_given R.remaining self.old) (lines_given R.remaining self.new)) }
         ensures end { IfOk result (λ count. count ≡ 0
             → IsAtEnd (limited_remaining R.remaining self.new.source)) }
+        ensures fault { IfErr result (λ fault. (fault ≡ ReadFault.Read)
+            × HasFailed self.new.source) }
     {
         self.move_to_front();
         match self.source.read(&mut self.buffer[self.filled..]) {

@@ -3,8 +3,8 @@ use Rattle.mdb_records.specs.Lines.{limited_remaining}
 use Rattle.mdb_records.proofs.LineFacts.{ends-text, keeps-on}
 use Rattle.mdb_records.proofs.lines.Lines.advance_by_reading.Goals as goal
 
-pub returns-then-is_end : goal.returns-then-is_end
-returns-then-is_end g c =
+pub returns-then-is_end-clause-told : goal.returns-then-is_end-clause-told
+returns-then-is_end-clause-told g c =
     let lines = c.fill.new.self in
     let none : lines.filled - lines.at ≡ 0 = sym c.unread_count-is_end.ensures ∙ c.if-is_end.true in
     let kept = keeps-on _ _ _ c.reads.invariant c.in_ok-fill.ensures.keeps in

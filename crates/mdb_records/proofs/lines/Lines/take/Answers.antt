@@ -5,8 +5,8 @@ use Rattle.mdb_records.proofs.LineFacts.{takes-line, unread-dropped}
 use Rattle.mdb_records.proofs.lines.Lines.take.Goals as goal
 use Rattle.mdb_records.proofs.lines.Lines.take.Goals.{else-not-self-via-then-not-self+else-begins_high, else-not-self-via-else-not-self}
 
-pub returns-in-Ok-Line : goal.returns-in-Ok-Line
-returns-in-Ok-Line g c =
+pub returns-in-Ok-Line-clause-steps : goal.returns-in-Ok-Line-clause-steps
+returns-in-Ok-Line-clause-steps g c =
     let lines = c.args.self.now in
     let low : lines.begun ≡ false → BeginsLow (unread lines) = λ e. elim c.else-not-self.branch [
       | else-not-self-via-then-not-self+else-begins_high w ↦ w.begins_high.ensures w.if-begins_high.false
