@@ -71,8 +71,13 @@ fn add_unknown(
         (Some(row), Some(_)) if word.starts_with("--") => add_long(line, program, row, word, rest),
         (Some(row), Some(option)) => add_short(line, row, option),
         (Some(row), None) => add_stray(line, program, row, word),
-        (None, Some(_)) => {
-            line.add_word("unknown option \"", word, "\"");
+        (None, Some(option)) => {
+            let is_long = word.starts_with("--");
+            line.add_word(
+                "unknown option \"",
+                if is_long { word } else { option },
+                "\"",
+            );
             add_near(line, rest);
         }
         (None, None) => line.add(&["-- stands before the command"]),
