@@ -32,7 +32,8 @@ use Rattle.mdb_bus.specs.declared.scope.Beginning.TheVariants.{PowerOn, Joined}
 use Rattle.mdb_bus.specs.declared.scope.Scope.{Scope}
 
 -- the act list before the last row, and the step by which that row led on
-pub record Before (scope : Scope) (pieces : List Piece) (rows : List Event) (row : Event) : Type 0 where
+pub record Before (scope : Scope) (pieces : List Piece) (rows : List Event)
+    (row : Event) : Type 0 where
   pub before : List Piece
   pub in_order : ArePieces scope before
   pub rows_before : events_of before ≡ rows
@@ -46,17 +47,19 @@ led : (s : Situation) (row : Event) (line : Line) (word : ℕ) (next : Step)
     → WordLeads s.scope s.position s.last s.levels row line word next → Leads s row next
 led s (Word at l w) line word next said leads =
     let same : (line, word) ≡ (l, w) = cc in
-    let P : Line × ℕ → Type 0 = λ p. WordLeads s.scope s.position s.last s.levels (Word at l w) p.0 p.1
-    next in
+    let P : Line × ℕ → Type 0 =
+    λ p. WordLeads s.scope s.position s.last s.levels (Word at l w) p.0 p.1 next in
     subst P same leads
 led s (Break at length) line word next said leads = cc
 
 -- the events of a piece in another form
-with_events : (scope : Scope) (make : List Event → Piece) (rest : List Piece) (rows : List Event) (row : Event)
+with_events : (scope : Scope) (make : List Event → Piece) (rest : List Piece) (rows : List Event)
+    (row : Event)
     (events shown : List Event)
     → events ≡ shown → (IsPiece scope (make shown) → MayStand scope rest (make shown)
     → Before scope (make shown ∷ rest) rows row)
-    → IsPiece scope (make events) → MayStand scope rest (make events) → Before scope (make events ∷ rest) rows row
+    → IsPiece scope (make events) → MayStand scope rest (make events)
+    → Before scope (make events ∷ rest) rows row
 with_events scope make rest rows row events shown is known =
     let P : List Event → Type 0 = λ es. IsPiece scope (make es) → MayStand scope rest (make es)
     → Before scope (make es ∷ rest) rows row in
@@ -70,11 +73,13 @@ comes_at : (scope : Scope) (rest : List Piece) (piece : Piece) (to : Event) (bac
 comes_at scope rest piece to back stands is =
     let events : to ∷ back ≡ stands.first ∷ stands.others = sym is ∙ stands.begins in
     let same : stands.first ≡ to = cc in
-    let P : Event → Type 0 = λ e. MayCome piece (position_of scope rest) (last_of (events_of rest)) e in
+    let P : Event → Type 0 =
+    λ e. MayCome piece (position_of scope rest) (last_of (events_of rest)) e in
     subst P same stands.comes
 
 -- a piece that has lost its last event stands where it stood
-shorter : (scope : Scope) (rest : List Piece) (piece tail : Piece) (front : List Event) (row : Event) → front ≢ []
+shorter : (scope : Scope) (rest : List Piece) (piece tail : Piece) (front : List Event)
+    (row : Event) → front ≢ []
     → piece_events piece ≡ front ++ row ∷ []
     → piece_events tail ≡ front
     → ((to : Event) (back : List Event) → front ≡ to ∷ back
@@ -110,7 +115,8 @@ grown_alone scope (ReplyTail command bytes events ∷ rest) row piece settled = 
 grown_alone scope (RepeatTail command reply words events ∷ rest) row piece settled = absurd settled
 
 -- a piece of one word
-fresh : (scope : Scope) (rest : List Piece) (row : Event) (line : Line) (word : ℕ) (position : Position)
+fresh : (scope : Scope) (rest : List Piece) (row : Event) (line : Line) (word : ℕ)
+    (position : Position)
     (next : Step)
     (piece : List Event → Piece)
     → ArePieces scope rest → position_of scope rest ≡ position → IsSettled position
@@ -157,7 +163,8 @@ block_settled (InRepeat command reply words) from to may = may
 block_settled InForeign from to may = tt
 
 -- an ask begins
-ask_opens : (scope : Scope) (position : Position) (from : Option Event) (levels : Levels) (to : Event)
+ask_opens : (scope : Scope) (position : Position) (from : Option Event) (levels : Levels)
+    (to : Event)
     (word byte : ℕ)
     → word ≡ 256 + byte
     → IsAskFront scope (byte ∷ []) → BlockMayCome position from to
@@ -183,20 +190,23 @@ ask_made (InRepeat command reply words) byte settled = refl
 ask_made InForeign byte settled = refl
 
 -- a foreign block begins
-foreign_opens : (scope : Scope) (position : Position) (from : Option Event) (levels : Levels) (to : Event)
+foreign_opens : (scope : Scope) (position : Position) (from : Option Event) (levels : Levels)
+    (to : Event)
     (word byte : ℕ)
     → word ≡ 256 + byte
     → IsForeignOpening scope (byte ∷ []) → BlockMayCome position from to
     → WordLeads scope position from levels to Controller word step.Foreign
 foreign_opens scope Quiet from levels to word byte is opening may = (byte, is, opening, may)
 foreign_opens scope (InAsk bytes) from levels to word byte is opening may = absurd may
-foreign_opens scope (Asked command) from levels to word byte is opening may = (byte, is, opening, may)
+foreign_opens scope (Asked command) from levels to word byte is opening may =
+    (byte, is, opening, may)
 foreign_opens scope (InReply command bytes) from levels to word byte is opening may = absurd may
 foreign_opens scope (Replied command reply) from levels to word byte is opening may =
     (byte, is, opening, may)
 foreign_opens scope (Returned command reply) from levels to word byte is opening may =
     (byte, is, opening, may)
-foreign_opens scope (InRepeat command reply words) from levels to word byte is opening may = absurd may
+foreign_opens scope (InRepeat command reply words) from levels to word byte is opening may =
+    absurd may
 foreign_opens scope InForeign from levels to word byte is opening may = inl (byte, is, opening, may)
 
 foreign_made : (position : Position) → piece_after position step.Foreign ≡ Whole acts.Foreign
@@ -233,32 +243,37 @@ marked_not_foreign (Word at Peripheral word) byte said foreign =
 marked_not_foreign (Break at length) byte said foreign = foreign
 
 -- a further word of foreign traffic
-foreign_word : (scope : Scope) (rest : List Piece) (row : Event) → ArePieces scope rest → position_of scope rest ≡ InForeign
+foreign_word : (scope : Scope) (rest : List Piece) (row : Event) → ArePieces scope rest
+    → position_of scope rest ≡ InForeign
     → IsForeignWord row
     → WordLeads scope InForeign (last_of (events_of rest)) (levels_of scope.levels rest) row
     Peripheral 0 step.Foreign
     → Before scope (Whole acts.Foreign (row ∷ []) ∷ rest) (events_of rest) row
 foreign_word scope rest (Word at Controller word) earlier position foreign may =
-    fresh scope rest (Word at Controller word) Controller word InForeign step.Foreign (Whole acts.Foreign)
+    fresh scope rest (Word at Controller word) Controller word InForeign step.Foreign
+    (Whole acts.Foreign)
     earlier position tt
     refl
     (inr (foreign, may)) refl refl
 foreign_word scope rest (Word at Peripheral word) earlier position foreign may =
-    fresh scope rest (Word at Peripheral word) Peripheral word InForeign step.Foreign (Whole acts.Foreign)
+    fresh scope rest (Word at Peripheral word) Peripheral word InForeign step.Foreign
+    (Whole acts.Foreign)
     earlier position tt
     refl
     may refl refl
 foreign_word scope rest (Break at length) earlier position foreign may = absurd foreign
 
 -- the opening of a foreign block, of one word
-foreign_block : (scope : Scope) (bytes : List ℕ) (rest : List Piece) (row : Event) → ArePieces scope rest
+foreign_block : (scope : Scope) (bytes : List ℕ) (rest : List Piece) (row : Event)
+    → ArePieces scope rest
     → IsForeignOpening scope bytes
     → Say Controller (controller_words bytes) (row ∷ [])
     → BlockMayCome (position_of scope rest) (last_of (events_of rest)) row
     → Before scope (Whole acts.Foreign (row ∷ []) ∷ rest) (events_of rest) row
 foreign_block scope [] rest row earlier opening says may = absurd opening
 foreign_block scope (byte ∷ []) rest row earlier opening says may =
-    fresh scope rest row Controller (256 + byte) (position_of scope rest) step.Foreign (Whole acts.Foreign)
+    fresh scope rest row Controller (256 + byte) (position_of scope rest) step.Foreign
+    (Whole acts.Foreign)
     earlier refl
     (block_settled (position_of scope rest) (last_of (events_of rest)) row may)
     (said_alone Controller (256 + byte) row says)
@@ -269,18 +284,22 @@ foreign_block scope (byte ∷ []) rest row earlier opening says may =
 foreign_block scope (byte ∷ next ∷ bytes) rest row earlier opening says may =
     absurd (omega (arith, say_length Controller ((256 + byte) ∷ next ∷ bytes) (row ∷ []) says))
 
-alone_foreign : (scope : Scope) (rest : List Piece) (row : Event) → IsPiece scope (Whole acts.Foreign (row ∷ []))
+alone_foreign : (scope : Scope) (rest : List Piece) (row : Event)
+    → IsPiece scope (Whole acts.Foreign (row ∷ []))
     → MayStand scope rest (Whole acts.Foreign (row ∷ []))
-    → ArePieces scope rest → Before scope (Whole acts.Foreign (row ∷ []) ∷ rest) (events_of rest) row
+    → ArePieces scope rest
+    → Before scope (Whole acts.Foreign (row ∷ []) ∷ rest) (events_of rest) row
 alone_foreign scope rest row right stands earlier =
     cases right.said (comes_at scope rest (Whole acts.Foreign (row ∷ [])) row [] stands refl)
   where
-    cases : ((bytes : List ℕ) × IsForeignOpening scope bytes × Say Controller (controller_words bytes)
-        (row ∷ []))
+    cases : ((bytes : List ℕ) × IsForeignOpening scope bytes
+        × Say Controller (controller_words bytes) (row ∷ []))
         ⊎ ((event : Event) × (row ∷ [] ≡ event ∷ []) × IsForeignWord event)
-        → MayCome (Whole acts.Foreign (row ∷ [])) (position_of scope rest) (last_of (events_of rest)) row
+        → MayCome (Whole acts.Foreign (row ∷ [])) (position_of scope rest)
+        (last_of (events_of rest)) row
         → Before scope (Whole acts.Foreign (row ∷ []) ∷ rest) (events_of rest) row
-    cases (inl opening) (inl block) = foreign_block scope opening.0 rest row earlier opening.1 opening.2
+    cases (inl opening) (inl block) =
+        foreign_block scope opening.0 rest row earlier opening.1 opening.2
         block.1
     cases (inr word) (inl block) =
         let same : word.0 ≡ row = cc in
@@ -298,9 +317,11 @@ first_holds : (begins : Beginning) → Holds (first_position begins)
 first_holds PowerOn = tt
 first_holds (Joined setups) = tt
 
-replied : (scope : Scope) (pieces : List Piece) → ArePieces scope pieces → Holds (position_of scope pieces)
+replied : (scope : Scope) (pieces : List Piece) → ArePieces scope pieces
+    → Holds (position_of scope pieces)
 replied scope [] right = first_holds scope.begins
-replied scope (Whole (acts.Reply command reply) events ∷ pieces) right = right.0.said.0.content.at_least
+replied scope (Whole (acts.Reply command reply) events ∷ pieces) right =
+    right.0.said.0.content.at_least
 replied scope (Whole (acts.VmcRet command reply) events ∷ pieces) right =
     let P : Position → Type 0 = λ p. Holds p in
     subst P right.1.comes.0 (replied scope pieces right.2)
@@ -326,7 +347,8 @@ reply_long reply events row some says is =
     )
 
 -- a piece of one event
-alone : (scope : Scope) (piece : Piece) (rest : List Piece) (row : Event) → IsPiece scope piece → MayStand scope rest piece
+alone : (scope : Scope) (piece : Piece) (rest : List Piece) (row : Event) → IsPiece scope piece
+    → MayStand scope rest piece
     → ArePieces scope rest
     → piece_events piece ≡ row ∷ [] → Before scope (piece ∷ rest) (events_of rest) row
 alone scope (Whole (acts.Ask command) events) rest row right stands earlier is =
@@ -340,13 +362,15 @@ alone scope (Whole (acts.Ask command) events) rest row right stands earlier is =
       length-append bytes (sum bytes % 256 ∷ []),
     ))
 alone scope (Whole (acts.Ack command) events) rest row right stands earlier is =
-    with_events scope (Whole (acts.Ack command)) rest (events_of rest) row events (row ∷ []) is (λ r s.
+    with_events scope (Whole (acts.Ack command)) rest (events_of rest) row events (row ∷ []) is
+    (λ r s.
     let comes = comes_at scope rest (Whole (acts.Ack command) (row ∷ [])) row [] s refl in
     fresh scope rest row Peripheral 256 (Asked command) step.Ack (Whole (acts.Ack command)) earlier
     comes.0 tt
     (said_alone Peripheral 256 row r.said) (refl, comes.1) refl refl) right stands
 alone scope (Whole (acts.Nak command) events) rest row right stands earlier is =
-    with_events scope (Whole (acts.Nak command)) rest (events_of rest) row events (row ∷ []) is (λ r s.
+    with_events scope (Whole (acts.Nak command)) rest (events_of rest) row events (row ∷ []) is
+    (λ r s.
     let comes = comes_at scope rest (Whole (acts.Nak command) (row ∷ [])) row [] s refl in
     fresh scope rest row Peripheral 511 (Asked command) step.Nak (Whole (acts.Nak command)) earlier
     comes.0 tt
@@ -354,7 +378,8 @@ alone scope (Whole (acts.Nak command) events) rest row right stands earlier is =
 alone scope (Whole (acts.Reply command reply) events) rest row right stands earlier is =
     absurd (reply_long reply events row right.said.0.content.at_least right.said.1 is)
 alone scope (Whole (acts.VmcAck command reply) events) rest row right stands earlier is =
-    with_events scope (Whole (acts.VmcAck command reply)) rest (events_of rest) row events (row ∷ []) is
+    with_events scope (Whole (acts.VmcAck command reply)) rest (events_of rest) row events
+    (row ∷ []) is
     (λ r s.
     let comes = comes_at scope rest (Whole (acts.VmcAck command reply) (row ∷ [])) row [] s refl in
     fresh scope rest row Controller 0 (Replied command reply) step.VmcAck
@@ -362,7 +387,8 @@ alone scope (Whole (acts.VmcAck command reply) events) rest row right stands ear
     comes.0 tt
     (said_alone Controller 0 row r.said) (refl, comes.1) refl refl) right stands
 alone scope (Whole (acts.VmcNak command reply) events) rest row right stands earlier is =
-    with_events scope (Whole (acts.VmcNak command reply)) rest (events_of rest) row events (row ∷ []) is
+    with_events scope (Whole (acts.VmcNak command reply)) rest (events_of rest) row events
+    (row ∷ []) is
     (λ r s.
     let comes = comes_at scope rest (Whole (acts.VmcNak command reply) (row ∷ [])) row [] s refl in
     fresh scope rest row Controller 255 (Replied command reply) step.VmcNak
@@ -370,7 +396,8 @@ alone scope (Whole (acts.VmcNak command reply) events) rest row right stands ear
     comes.0 tt
     (said_alone Controller 255 row r.said) (refl, comes.1) refl refl) right stands
 alone scope (Whole (acts.VmcRet command reply) events) rest row right stands earlier is =
-    with_events scope (Whole (acts.VmcRet command reply)) rest (events_of rest) row events (row ∷ []) is
+    with_events scope (Whole (acts.VmcRet command reply)) rest (events_of rest) row events
+    (row ∷ []) is
     (λ r s.
     let comes = comes_at scope rest (Whole (acts.VmcRet command reply) (row ∷ [])) row [] s refl in
     fresh scope rest row Controller 170 (Replied command reply) step.VmcRet
@@ -379,8 +406,8 @@ alone scope (Whole (acts.VmcRet command reply) events) rest row right stands ear
     (said_alone Controller 170 row r.said) (refl, comes.1) refl refl) right stands
 alone scope (Whole (acts.Repeat command reply) events) rest row right stands earlier is =
     let P : Position → Type 0 = λ p. Holds p in
-    absurd (reply_long reply events row (subst P stands.comes.0 (replied scope rest earlier)) right.said
-    is)
+    absurd (reply_long reply events row (subst P stands.comes.0 (replied scope rest earlier))
+    right.said is)
 alone scope (Whole acts.Foreign events) rest row right stands earlier is =
     with_events scope (Whole acts.Foreign) rest (events_of rest) row events (row ∷ []) is
     (λ r s. alone_foreign scope rest row r s earlier)
@@ -443,7 +470,8 @@ alone scope (ReplyTail command bytes events) rest row right stands earlier is =
         → Before scope (ReplyTail command bytes (row ∷ []) ∷ rest) (events_of rest) row
     one [] right stands = absurd (omega (arith, right.said.0.some))
     one (byte ∷ []) right stands =
-        let comes = comes_at scope rest (ReplyTail command (byte ∷ []) (row ∷ [])) row [] stands refl in
+        let comes =
+        comes_at scope rest (ReplyTail command (byte ∷ []) (row ∷ [])) row [] stands refl in
         fresh scope rest row Peripheral byte (Asked command) (step.ReplyByte byte)
         (ReplyTail command (byte ∷ [])) earlier
         comes.0 tt
@@ -453,7 +481,8 @@ alone scope (ReplyTail command bytes events) rest row right stands earlier is =
     one (byte ∷ next ∷ more) right stands =
         absurd (omega (arith, say_length Peripheral (byte ∷ next ∷ more) (row ∷ []) right.said.1))
 alone scope (RepeatTail command reply words events) rest row right stands earlier is =
-    with_events scope (RepeatTail command reply words) rest (events_of rest) row events (row ∷ []) is
+    with_events scope (RepeatTail command reply words) rest (events_of rest) row events (row ∷ [])
+    is
     (λ r s. one words r s)
     right stands
   where
@@ -462,7 +491,8 @@ alone scope (RepeatTail command reply words events) rest row right stands earlie
         → Before scope (RepeatTail command reply words (row ∷ []) ∷ rest) (events_of rest) row
     one [] right stands = absurd (right.said.0.some refl)
     one (word ∷ []) right stands =
-        let comes = comes_at scope rest (RepeatTail command reply (word ∷ []) (row ∷ [])) row [] stands
+        let comes =
+        comes_at scope rest (RepeatTail command reply (word ∷ []) (row ∷ [])) row [] stands
         refl in
         fresh scope rest row Peripheral word (Returned command reply) (step.RepeatWord word)
         (RepeatTail command reply (word ∷ [])) earlier
@@ -472,7 +502,8 @@ alone scope (RepeatTail command reply words events) rest row right stands earlie
         absurd (omega (arith, say_length Peripheral (word ∷ next ∷ more) (row ∷ []) right.said.1))
 
 -- an ask ends
-more_ask : (scope : Scope) (command : Command) (rest : List Piece) (front : List Event) (row : Event) → front ≢ []
+more_ask : (scope : Scope) (command : Command) (rest : List Piece) (front : List Event)
+    (row : Event) → front ≢ []
     → IsPiece scope (Whole (acts.Ask command) (front ++ row ∷ []))
     → MayStand scope rest (Whole (acts.Ask command) (front ++ row ∷ []))
     → ArePieces scope rest → Before scope (Whole (acts.Ask command) (front ++ row ∷ []) ∷ rest)
@@ -514,10 +545,12 @@ more_ask scope command rest front row some right stands earlier =
     }
 
 -- an ask goes on
-more_ask_tail : (scope : Scope) (bytes : List ℕ) (rest : List Piece) (front : List Event) (row : Event) → front ≢ []
+more_ask_tail : (scope : Scope) (bytes : List ℕ) (rest : List Piece) (front : List Event)
+    (row : Event) → front ≢ []
     → IsPiece scope (AskTail bytes (front ++ row ∷ []))
     → MayStand scope rest (AskTail bytes (front ++ row ∷ []))
-    → ArePieces scope rest → Before scope (AskTail bytes (front ++ row ∷ []) ∷ rest) (events_of rest ++ front)
+    → ArePieces scope rest
+    → Before scope (AskTail bytes (front ++ row ∷ []) ∷ rest) (events_of rest ++ front)
     row
 more_ask_tail scope bytes rest front row some right stands earlier =
     let last = controller_last bytes front row some right.said.1 in
@@ -541,9 +574,9 @@ more_ask_tail scope bytes rest front row some right stands earlier =
       said = (begun, last.says);
       spaced = gaps.0;
     } in
-    let stood = shorter scope rest (AskTail bytes (front ++ row ∷ [])) (AskTail last.start front) front
-    row some refl refl
-    (λ to back is may. may) tt stands in
+    let stood =
+    shorter scope rest (AskTail bytes (front ++ row ∷ [])) (AskTail last.start front) front row
+    some refl refl (λ to back is may. may) tt stands in
     record {
       before = AskTail last.start front ∷ rest;
       in_order = (tail, stood, earlier);
@@ -557,7 +590,8 @@ more_ask_tail scope bytes rest front row some right stands earlier =
     }
 
 -- a foreign block of two words opens
-foreign_two : (scope : Scope) (opens : OpenIsAFront scope) (first second : ℕ) (rest : List Piece) (front : List Event)
+foreign_two : (scope : Scope) (opens : OpenIsAFront scope) (first second : ℕ) (rest : List Piece)
+    (front : List Event)
     (row : Event)
     → front ≢ []
     → IsForeignOpening scope (first ∷ second ∷ [])
@@ -587,10 +621,9 @@ foreign_two scope opens first second rest front row some opening says spaced sta
     } in
     let tail : IsPiece scope (AskTail (first ∷ []) front) =
     record { said = (begun, spoken); spaced = gaps.0 } in
-    let stood = shorter scope rest (Whole acts.Foreign (front ++ row ∷ [])) (AskTail (first ∷ []) front)
-    front row some refl
-    refl
-    (λ to back is may. comes to back is spoken may) tt stands in
+    let stood =
+    shorter scope rest (Whole acts.Foreign (front ++ row ∷ [])) (AskTail (first ∷ []) front)
+    front row some refl refl (λ to back is may. comes to back is spoken may) tt stands in
     record {
       before = AskTail (first ∷ []) front ∷ rest;
       in_order = (tail, stood, earlier);
@@ -619,7 +652,8 @@ foreign_two scope opens first second rest front row some opening says spaced sta
     comes to back is spoken (inr further) =
         absurd (marked_not_foreign to first (begins to back is spoken) further.0)
 
-more_foreign : (scope : Scope) (opens : OpenIsAFront scope) (rest : List Piece) (front : List Event) (row : Event)
+more_foreign : (scope : Scope) (opens : OpenIsAFront scope) (rest : List Piece) (front : List Event)
+    (row : Event)
     → front ≢ []
     → IsPiece scope (Whole acts.Foreign (front ++ row ∷ []))
     → MayStand scope rest (Whole acts.Foreign (front ++ row ∷ []))
@@ -634,23 +668,26 @@ more_foreign scope opens rest front row some right stands earlier = cases right.
     block (first ∷ []) opening says =
         absurd (some (one_alone Controller (256 + first) front row says))
     block (first ∷ second ∷ []) opening says =
-        foreign_two scope opens first second rest front row some opening says right.spaced stands earlier
+        foreign_two scope opens first second rest front row some opening says right.spaced stands
+        earlier
     block (first ∷ second ∷ third ∷ bytes) opening says = absurd opening
 
-    cases : ((bytes : List ℕ) × IsForeignOpening scope bytes × Say Controller (controller_words bytes)
-        (front ++ row ∷ []))
+    cases : ((bytes : List ℕ) × IsForeignOpening scope bytes
+        × Say Controller (controller_words bytes) (front ++ row ∷ []))
         ⊎ ((event : Event) × (front ++ row ∷ [] ≡ event ∷ []) × IsForeignWord event)
         → Before scope (Whole acts.Foreign (front ++ row ∷ []) ∷ rest) (events_of rest ++ front) row
     cases (inl opening) = block opening.0 opening.1 opening.2
     cases (inr word) = absurd (some (same_from_push front [] row word.0 word.1).0)
 
 -- a reply ends
-more_reply : (scope : Scope) (command : Command) (reply : Reply) (rest : List Piece) (front : List Event)
+more_reply : (scope : Scope) (command : Command) (reply : Reply) (rest : List Piece)
+    (front : List Event)
     (row : Event) → front ≢ []
     → IsPiece scope (Whole (acts.Reply command reply) (front ++ row ∷ []))
     → MayStand scope rest (Whole (acts.Reply command reply) (front ++ row ∷ []))
     → ArePieces scope rest
-    → Before scope (Whole (acts.Reply command reply) (front ++ row ∷ []) ∷ rest) (events_of rest ++ front)
+    → Before scope (Whole (acts.Reply command reply) (front ++ row ∷ []) ∷ rest)
+    (events_of rest ++ front)
     row
 more_reply scope command reply rest front row some right stands earlier =
     let bytes = reply_bytes reply in
@@ -686,7 +723,8 @@ more_reply scope command reply rest front row some right stands earlier =
     }
 
 -- a reply goes on
-more_reply_tail : (scope : Scope) (command : Command) (bytes : List ℕ) (rest : List Piece) (front : List Event)
+more_reply_tail : (scope : Scope) (command : Command) (bytes : List ℕ) (rest : List Piece)
+    (front : List Event)
     (row : Event)
     → front ≢ []
     → IsPiece scope (ReplyTail command bytes (front ++ row ∷ []))
@@ -738,12 +776,14 @@ some_words words front some says none =
     ))
 
 -- a repeat goes on
-more_repeat_tail : (scope : Scope) (command : Command) (reply : Reply) (words : List ℕ) (rest : List Piece)
+more_repeat_tail : (scope : Scope) (command : Command) (reply : Reply) (words : List ℕ)
+    (rest : List Piece)
     (front : List Event)
     (row : Event) → front ≢ []
     → IsPiece scope (RepeatTail command reply words (front ++ row ∷ []))
     → MayStand scope rest (RepeatTail command reply words (front ++ row ∷ []))
-    → ArePieces scope rest → Before scope (RepeatTail command reply words (front ++ row ∷ []) ∷ rest)
+    → ArePieces scope rest
+    → Before scope (RepeatTail command reply words (front ++ row ∷ []) ∷ rest)
     (events_of rest ++ front) row
 more_repeat_tail scope command reply words rest front row some right stands earlier =
     let last = say_last Peripheral words front row right.said.1 in
@@ -774,7 +814,8 @@ more_repeat_tail scope command reply words rest front row some right stands earl
     }
 
 -- a repeat ends
-more_repeat : (scope : Scope) (command : Command) (reply : Reply) (rest : List Piece) (front : List Event)
+more_repeat : (scope : Scope) (command : Command) (reply : Reply) (rest : List Piece)
+    (front : List Event)
     (row : Event) → front ≢ []
     → IsPiece scope (Whole (acts.Repeat command reply) (front ++ row ∷ []))
     → MayStand scope rest (Whole (acts.Repeat command reply) (front ++ row ∷ []))
@@ -815,9 +856,11 @@ answer_alone line word events front row some says is =
     some (one_alone line word front row (subst Spoken is says))
 
 -- a piece of more events
-more : (scope : Scope) (opens : OpenIsAFront scope) (piece : Piece) (rest : List Piece) (front : List Event) (row : Event)
+more : (scope : Scope) (opens : OpenIsAFront scope) (piece : Piece) (rest : List Piece)
+    (front : List Event) (row : Event)
     → front ≢ []
-    → IsPiece scope piece → MayStand scope rest piece → ArePieces scope rest → piece_events piece ≡ front ++ row ∷ []
+    → IsPiece scope piece → MayStand scope rest piece → ArePieces scope rest
+    → piece_events piece ≡ front ++ row ∷ []
     → Before scope (piece ∷ rest) (events_of rest ++ front) row
 more scope opens (Whole (acts.Ask command) events) rest front row some right stands earlier is =
     with_events scope (Whole (acts.Ask command)) rest (events_of rest ++ front) row events
@@ -827,43 +870,53 @@ more scope opens (Whole (acts.Ack command) events) rest front row some right sta
     absurd (answer_alone Peripheral 256 events front row some right.said is)
 more scope opens (Whole (acts.Nak command) events) rest front row some right stands earlier is =
     absurd (answer_alone Peripheral 511 events front row some right.said is)
-more scope opens (Whole (acts.Reply command reply) events) rest front row some right stands earlier is =
+more scope opens (Whole (acts.Reply command reply) events) rest front row some right stands earlier
+    is =
     with_events scope (Whole (acts.Reply command reply)) rest (events_of rest ++ front) row events
     (front ++ row ∷ []) is
     (λ r s. more_reply scope command reply rest front row some r s earlier) right stands
-more scope opens (Whole (acts.VmcAck command reply) events) rest front row some right stands earlier is =
+more scope opens (Whole (acts.VmcAck command reply) events) rest front row some right stands earlier
+    is =
     absurd (answer_alone Controller 0 events front row some right.said is)
-more scope opens (Whole (acts.VmcNak command reply) events) rest front row some right stands earlier is =
+more scope opens (Whole (acts.VmcNak command reply) events) rest front row some right stands earlier
+    is =
     absurd (answer_alone Controller 255 events front row some right.said is)
-more scope opens (Whole (acts.VmcRet command reply) events) rest front row some right stands earlier is =
+more scope opens (Whole (acts.VmcRet command reply) events) rest front row some right stands earlier
+    is =
     absurd (answer_alone Controller 170 events front row some right.said is)
-more scope opens (Whole (acts.Repeat command reply) events) rest front row some right stands earlier is =
+more scope opens (Whole (acts.Repeat command reply) events) rest front row some right stands earlier
+    is =
     with_events scope (Whole (acts.Repeat command reply)) rest (events_of rest ++ front) row events
     (front ++ row ∷ []) is
     (λ r s. more_repeat scope command reply rest front row some r s earlier) right stands
 more scope opens (Whole acts.Foreign events) rest front row some right stands earlier is =
-    with_events scope (Whole acts.Foreign) rest (events_of rest ++ front) row events (front ++ row ∷ [])
+    with_events scope (Whole acts.Foreign) rest (events_of rest ++ front) row events
+    (front ++ row ∷ [])
     is
     (λ r s. more_foreign scope opens rest front row some r s earlier) right stands
 more scope opens (Whole (acts.Break length) events) rest front row some right stands earlier is =
     absurd (some (same_from_push front [] row (Break right.said.0 length) (sym is
     ∙ right.said.1)).0)
 more scope opens (AskTail bytes events) rest front row some right stands earlier is =
-    with_events scope (AskTail bytes) rest (events_of rest ++ front) row events (front ++ row ∷ []) is
+    with_events scope (AskTail bytes) rest (events_of rest ++ front) row events (front ++ row ∷ [])
+    is
     (λ r s. more_ask_tail scope bytes rest front row some r s earlier) right stands
 more scope opens (ReplyTail command bytes events) rest front row some right stands earlier is =
     with_events scope (ReplyTail command bytes) rest (events_of rest ++ front) row events
     (front ++ row ∷ []) is
     (λ r s. more_reply_tail scope command bytes rest front row some r s earlier) right stands
-more scope opens (RepeatTail command reply words events) rest front row some right stands earlier is =
+more scope opens (RepeatTail command reply words events) rest front row some right stands earlier
+    is =
     with_events scope (RepeatTail command reply words) rest (events_of rest ++ front) row events
     (front ++ row ∷ []) is
     (λ r s. more_repeat_tail scope command reply words rest front row some r s earlier) right stands
 
 -- a piece by its last event
-back_at : (scope : Scope) (opens : OpenIsAFront scope) (piece : Piece) (rest : List Piece) (front : List Event)
+back_at : (scope : Scope) (opens : OpenIsAFront scope) (piece : Piece) (rest : List Piece)
+    (front : List Event)
     (row : Event)
-    → IsPiece scope piece → MayStand scope rest piece → ArePieces scope rest → piece_events piece ≡ front ++ row ∷ []
+    → IsPiece scope piece → MayStand scope rest piece → ArePieces scope rest
+    → piece_events piece ≡ front ++ row ∷ []
     → Before scope (piece ∷ rest) (events_of rest ++ front) row
 back_at scope opens piece rest [] row right stands earlier is =
     let P : List Event → Type 0 = λ rows. Before scope (piece ∷ rest) rows row in
@@ -872,11 +925,13 @@ back_at scope opens piece rest (f ∷ front) row right stands earlier is =
     more scope opens piece rest (f ∷ front) row (λ none. cc) right stands earlier is
 
 -- a piece has events
-pub piece_some : (scope : Scope) (rest : List Piece) (piece : Piece) → MayStand scope rest piece → piece_events piece ≢ []
+pub piece_some : (scope : Scope) (rest : List Piece) (piece : Piece) → MayStand scope rest piece
+    → piece_events piece ≢ []
 piece_some scope rest piece stands none = let clash : [] ≡ stands.first ∷ stands.others = sym none
     ∙ stands.begins in cc
 
-pub backward : (scope : Scope) (opens : OpenIsAFront scope) (pieces : List Piece) (rows : List Event) (row : Event)
+pub backward : (scope : Scope) (opens : OpenIsAFront scope) (pieces : List Piece)
+    (rows : List Event) (row : Event)
     → ArePieces scope pieces
     → events_of pieces ≡ rows ++ row ∷ [] → Before scope pieces rows row
 backward scope opens [] rows row right whole = absurd (not_empty rows row (sym whole))

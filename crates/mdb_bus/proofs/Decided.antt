@@ -102,7 +102,8 @@ first_from : (Breaks : Rule → Type 0) → ((r : Rule) → Decided (Breaks r)) 
 first_from Breaks decided [] = inr tt
 first_from Breaks decided (r ∷ rules) = here (decided r) (first_from Breaks decided rules)
   where
-    here : Decided (Breaks r) → Found Breaks rules ⊎ AllByRecursion (λ other. Breaks other → ⊥) rules
+    here : Decided (Breaks r)
+        → Found Breaks rules ⊎ AllByRecursion (λ other. Breaks other → ⊥) rules
         → Found Breaks (r ∷ rules) ⊎ AllByRecursion (λ other. Breaks other → ⊥) (r ∷ rules)
     here (inl breaks) later =
         inl (record {

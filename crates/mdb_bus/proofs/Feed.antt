@@ -66,7 +66,8 @@ sound_at bus pieces stands =
     subst (IsSound bus.scope) stands.position (is_sound bus.scope pieces stands.in_order)
 
 -- a step belongs to the position that it leads from
-word_at : (scope : Scope) (at : Position) (from : Option Event) (levels : Levels) (to : Event) (line : Line)
+word_at : (scope : Scope) (at : Position) (from : Option Event) (levels : Levels) (to : Event)
+    (line : Line)
     (word : ℕ) (next : Step)
     → WordLeads scope at from levels to line word next → IsAt at next
 word_at scope at from levels to line word (step.AskByte byte) leads = tt
@@ -86,7 +87,8 @@ word_at scope (Replied command reply) from levels to line word step.VmcRet leads
 word_at scope (InRepeat command reply words) from levels to line word step.Repeat leads = tt
 word_at scope (Returned command reply) from levels to Peripheral word (step.RepeatWord said) leads =
     let P : ℕ → Type 0 = λ w. IsRepeatFront reply (w ∷ []) in subst P leads.0 leads.1
-word_at scope (InRepeat command reply words) from levels to Peripheral word (step.RepeatWord said) leads =
+word_at scope (InRepeat command reply words) from levels to Peripheral word (step.RepeatWord said)
+    leads =
     let P : ℕ → Type 0 = λ w. IsRepeatFront reply (words ++ w ∷ []) in subst P leads.0 leads.1
 word_at scope Quiet from levels to Controller word next leads = absurd leads
 word_at scope Quiet from levels to Peripheral word next leads = absurd leads
@@ -100,14 +102,17 @@ word_at scope (Replied command reply) from levels to Controller word next leads 
 word_at scope (Replied command reply) from levels to Peripheral word next leads = absurd leads
 word_at scope (Returned command reply) from levels to Controller word next leads = absurd leads
 word_at scope (Returned command reply) from levels to Peripheral word next leads = absurd leads
-word_at scope (InRepeat command reply words) from levels to Controller word next leads = absurd leads
-word_at scope (InRepeat command reply words) from levels to Peripheral word next leads = absurd leads
+word_at scope (InRepeat command reply words) from levels to Controller word next leads =
+    absurd leads
+word_at scope (InRepeat command reply words) from levels to Peripheral word next leads =
+    absurd leads
 word_at scope InForeign from levels to Controller word next (inl leads) = absurd leads
 word_at scope InForeign from levels to Controller word next (inr leads) = absurd leads.1
 word_at scope InForeign from levels to Peripheral word next leads = absurd leads
 
 pub leads_at : (s : Situation) (row : Event) (next : Step) → Leads s row next → IsAt s.position next
-leads_at s (Word at line word) next leads = word_at s.scope s.position s.last s.levels (Word at line word)
+leads_at s (Word at line word) next leads =
+    word_at s.scope s.position s.last s.levels (Word at line word)
     line word next leads
 leads_at s (Break at length) (step.Break lasted) leads = tt
 leads_at s (Break at length) next leads = absurd leads
@@ -205,7 +210,8 @@ fault_of old pieces row broken told blamed stands judged same blame =
       blame = blame
           ∙ (ap (λ p. blame_of p old.asked row broken) (sym stands.position)
           ∙ (ap (λ a. blame_of (position_of old.scope pieces) a row broken) (sym stands.asked)
-          ∙ ap (λ r. blame_of (position_of old.scope pieces) (asked_device pieces) row r) (sym same)));
+          ∙ ap (λ r. blame_of (position_of old.scope pieces) (asked_device pieces) row r)
+          (sym same)));
     }
 
 -- the bus after a row that ends a reply: the row goes on where the reply can be read, and else
@@ -278,7 +284,8 @@ pub gone_ask : (old new : Bus) (place : Place) (row : Event) (found : Judged) (e
     → HasAdvanced (position_at old.place) next (position_at place) (ended_act ended act))
     → EachStep found row (λ next. IsAt (position_at old.place) next
     → HasGone old next row new (ended_act ended act))
-gone_ask old new place row judged.Ask ended act is there scope last levels asked advanced = λ command at.
+gone_ask old new place row judged.Ask ended act is there scope last levels asked advanced =
+    λ command at.
     let Led : Place → Type 0 = λ p.
     HasAdvanced (position_at old.place) (step.Ask command) (position_at p) (ended_act ended act) in
     let has = subst Led (sym there) (advanced command at) in
@@ -316,7 +323,8 @@ pub gone_on : (old new : Bus) (row : Event) (found : Judged) (act : Option Act)
     → EachStep found row (λ next. IsAt (position_at old.place) next
     → HasAdvanced (position_at old.place) next (position_at new.place) act)
     → EachStep found row (λ next. IsAt (position_at old.place) next → HasGone old next row new act)
-gone_on old new row judged.Ask act ask foreign pause scope last levels asked advanced = absurd (ask refl)
+gone_on old new row judged.Ask act ask foreign pause scope last levels asked advanced =
+    absurd (ask refl)
 gone_on old new row judged.Foreign act ask foreign pause scope last levels asked advanced =
     absurd (foreign refl)
 gone_on old new row judged.Break act ask foreign pause scope last levels asked advanced =

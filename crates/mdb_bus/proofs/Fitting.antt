@@ -179,7 +179,8 @@ has_row scope pieces act events stands = omega (arith, ap length stands.begins)
 
 -- the loss of the newest piece is as the act after it tells
 fits_next : (scope : Scope) (wish : Wish) (loss : Loss) (pieces : List Piece) (next : Act)
-    → Agree (damage wish pieces (told_by next)) loss (length (events_of pieces)) → ArePieces scope pieces
+    → Agree (damage wish pieces (told_by next)) loss (length (events_of pieces))
+    → ArePieces scope pieces
     → TellsSparingly (told_by next) pieces → FitsNext loss pieces next
 fits_next scope wish loss (Whole act rows ∷ pieces) next agree are sparing =
     let before = length (events_of pieces) in
@@ -215,8 +216,8 @@ wished scope wish loss (Whole act events ∷ pieces) tells agree are sparing =
       is_wished (tells act) (wish before) loss act before (length events)
           (has_row scope pieces act events are.1)
           (agree_late inner loss _ (events_of pieces) events agree) sparing,
-      wished scope wish loss pieces (told_by act) (agree_early inner loss _ (events_of pieces) events
-          agree) are.2
+      wished scope wish loss pieces (told_by act)
+          (agree_early inner loss _ (events_of pieces) events agree) are.2
           (next_sparing scope pieces act events are.1),
     )
 wished scope wish loss (piece ∷ pieces) tells agree are sparing =

@@ -30,14 +30,18 @@ use Rattle.mdb_bus.specs.declared.scope.Scope.{Scope}
 pub record Extended (scope : Scope) (pieces : List Piece) (row : Event) (next : Step) : Type 0 where
   pub in_order : ArePieces scope (pieces_after scope pieces row next)
   pub rows : events_of (pieces_after scope pieces row next) ≡ events_of pieces ++ row ∷ []
-  pub acts : acts_of (pieces_after scope pieces row next) ≡ with_act (act_after (position_of scope pieces) next)
+  pub acts : acts_of (pieces_after scope pieces row next)
+      ≡ with_act (act_after (position_of scope pieces) next)
       (acts_of pieces)
-  pub position : position_of scope (pieces_after scope pieces row next) ≡ position_after (position_of scope pieces)
+  pub position : position_of scope (pieces_after scope pieces row next)
+      ≡ position_after (position_of scope pieces)
       next
   pub levels : levels_of scope.levels (pieces_after scope pieces row next)
       ≡ levels_after_step (levels_of scope.levels pieces) next
-  pub asked : asked_device (pieces_after scope pieces row next) ≡ asked_after (asked_device pieces) next
-  pub grown : Grown pieces row (act_after (position_of scope pieces) next) (pieces_after scope pieces row next)
+  pub asked : asked_device (pieces_after scope pieces row next)
+      ≡ asked_after (asked_device pieces) next
+  pub grown : Grown pieces row (act_after (position_of scope pieces) next)
+      (pieces_after scope pieces row next)
 
 -- a step and the piece that it adds agree on what they leave
 record Adds (scope : Scope) (next : Step) (piece : List Event → Piece) : Type 0 where
@@ -53,7 +57,8 @@ record Adds (scope : Scope) (next : Step) (piece : List Event → Piece) : Type 
   asked : (events : List Event) (pieces : List Piece)
       → asked_device (piece events ∷ pieces) ≡ asked_after (asked_device pieces) next
 
-adds_ask_byte : (scope : Scope) (byte : ℕ) (bytes : List ℕ) → Adds scope (step.AskByte byte) (AskTail bytes)
+adds_ask_byte : (scope : Scope) (byte : ℕ) (bytes : List ℕ)
+    → Adds scope (step.AskByte byte) (AskTail bytes)
 adds_ask_byte scope byte bytes = record {
   rows = λ e. refl;
   acts = λ e p. refl;
@@ -63,7 +68,8 @@ adds_ask_byte scope byte bytes = record {
   asked = λ e p. refl;
 }
 
-adds_ask : (scope : Scope) (command : Command) → Adds scope (step.Ask command) (Whole (acts.Ask command))
+adds_ask : (scope : Scope) (command : Command)
+    → Adds scope (step.Ask command) (Whole (acts.Ask command))
 adds_ask scope command = record {
   rows = λ e. refl;
   acts = λ e p. refl;
@@ -180,7 +186,8 @@ adds_repeat scope command reply = record {
   asked = λ e p. refl;
 }
 
-adds_break : (scope : Scope) (length : ℕ) → Adds scope (step.Break length) (Whole (acts.Break length))
+adds_break : (scope : Scope) (length : ℕ)
+    → Adds scope (step.Break length) (Whole (acts.Break length))
 adds_break scope length = record {
   rows = λ e. refl;
   acts = λ e p. refl;
@@ -197,15 +204,19 @@ GoesOnFromPieces pieces begun rest =
     ⊎ ((tail : Piece) × IsTail tail × (piece_events tail ≡ begun) × (pieces ≡ tail ∷ rest))
 
 -- pieces that a step leads to, as they stand, are what it makes of the pieces before it
-extended : (scope : Scope) (pieces rest : List Piece) (begun events : List Event) (row : Event) (next : Step)
+extended : (scope : Scope) (pieces rest : List Piece) (begun events : List Event) (row : Event)
+    (next : Step)
     (piece : List Event → Piece)
     → Adds scope next piece → piece_after (position_of scope pieces) next ≡ piece
-    → pieces_after scope pieces row next ≡ piece events ∷ rest → ArePieces scope (piece events ∷ rest)
+    → pieces_after scope pieces row next ≡ piece events ∷ rest
+    → ArePieces scope (piece events ∷ rest)
     → events_of rest ++ events ≡ events_of pieces ++ row ∷ [] → acts_of pieces ≡ acts_of rest
     → levels_of scope.levels pieces ≡ levels_of scope.levels rest
     → asked_device pieces ≡ asked_device rest
-    → events ≡ begun ++ row ∷ [] → GoesOnFromPieces pieces begun rest → Extended scope pieces row next
-extended scope pieces rest begun events row next piece adds added made are rows same_acts same_levels
+    → events ≡ begun ++ row ∷ [] → GoesOnFromPieces pieces begun rest
+    → Extended scope pieces row next
+extended scope pieces rest begun events row next piece adds added made are rows same_acts
+    same_levels
     same_asked begins from =
     let Right : List Piece → Type 0 = λ ps. ArePieces scope ps in
     let act : act_in (piece []) ≡ act_after (position_of scope pieces) next =
@@ -219,8 +230,8 @@ extended scope pieces rest begun events row next piece adds added made are rows 
       rows = ap events_of made ∙ (ap (λ es. events_of rest ++ es) (adds.rows events) ∙ rows);
       acts = ap acts_of made ∙ acts;
       position = ap (position_of scope) made
-          ∙ (adds.position events rest ∙ ap (λ (p : List Event → Piece). (position_of scope) (p [] ∷ []))
-          (sym added));
+          ∙ (adds.position events rest
+          ∙ ap (λ (p : List Event → Piece). (position_of scope) (p [] ∷ [])) (sym added));
       levels = ap (levels_of scope.levels) made
           ∙ (adds.levels events rest ∙ ap (λ ls. levels_after_step ls next) (sym same_levels));
       asked = ap asked_device made
@@ -237,7 +248,8 @@ extended scope pieces rest begun events row next piece adds added made are rows 
     }
 
 -- a piece of one event after pieces
-fresh : (scope : Scope) (pieces : List Piece) (row : Event) (next : Step) (piece : List Event → Piece)
+fresh : (scope : Scope) (pieces : List Piece) (row : Event) (next : Step)
+    (piece : List Event → Piece)
     → Adds scope next piece → piece_after (position_of scope pieces) next ≡ piece
     → pieces_after scope pieces row next ≡ piece (row ∷ []) ∷ pieces → ArePieces scope pieces
     → IsSaid scope (piece (row ∷ []))
@@ -256,7 +268,8 @@ fresh scope pieces row next piece adds added made are said comes levels =
       comes = comes;
       levels = levels;
     } in
-    extended scope pieces pieces [] (row ∷ []) row next piece adds added made (right, stands, are) refl
+    extended scope pieces pieces [] (row ∷ []) row next piece adds added made (right, stands, are)
+    refl
     refl refl refl
     refl (inl (refl, refl))
 
@@ -269,9 +282,10 @@ record HasNoEffect (tail : Piece) : Type 0 where
   asked : (pieces : List Piece) → asked_device (tail ∷ pieces) ≡ asked_device pieces
 
 -- a tail at the head goes on, or ends
-longer : (scope : Scope) (tail : Piece) (pieces : List Piece) (row : Event) (next : Step) (piece : List Event
-    → Piece)
-    → HasNoEffect tail → Adds scope next piece → piece_after (position_of scope (tail ∷ pieces)) next ≡ piece
+longer : (scope : Scope) (tail : Piece) (pieces : List Piece) (row : Event) (next : Step)
+    (piece : List Event → Piece)
+    → HasNoEffect tail → Adds scope next piece
+    → piece_after (position_of scope (tail ∷ pieces)) next ≡ piece
     → pieces_after scope (tail ∷ pieces) row next ≡ piece (piece_events tail ++ row ∷ []) ∷ pieces
     → ArePieces scope (tail ∷ pieces) → IsSaid scope (piece (piece_events tail ++ row ∷ []))
     → ((first : Event) (others : List Event) → piece_events tail ≡ first ∷ others
@@ -284,8 +298,8 @@ longer : (scope : Scope) (tail : Piece) (pieces : List Piece) (row : Event) (nex
 longer scope tail pieces row next piece is_tail adds added made are said comes levels gap =
     let stood = are.1 in
     let old = piece_events tail in
-    let Timed : List Event → Type 0 = λ es. Within WORD_GAP_MIN BLOCK_GAP_MAX (last_of (events_of pieces ++ es))
-    row in
+    let Timed : List Event → Type 0 =
+    λ es. Within WORD_GAP_MIN BLOCK_GAP_MAX (last_of (events_of pieces ++ es)) row in
     let Spaced : List Event → Type 0 = λ es. AreSpaced es in
     let Longer : List Event → Type 0 = λ es. AreSpaced (es ++ row ∷ []) in
     let more : AreSpaced (old ++ row ∷ []) = subst Longer (sym stood.begins)
@@ -346,9 +360,11 @@ AreClosed pieces = (row : Event) (piece : List Event → Piece)
     → grown pieces row piece ≡ piece (row ∷ []) ∷ pieces
 
 -- a marked word of the controller begins a block
-opens : (scope : Scope) (pieces : List Piece) (at word : ℕ) (next : Step) → ArePieces scope pieces → AreClosed pieces
+opens : (scope : Scope) (pieces : List Piece) (at word : ℕ) (next : Step) → ArePieces scope pieces
+    → AreClosed pieces
     → IsFree (position_of scope pieces)
-    → Opens scope (position_of scope pieces) (last_of (events_of pieces)) (Word at Controller word) word next
+    → Opens scope (position_of scope pieces) (last_of (events_of pieces)) (Word at Controller word)
+    word next
     → Extended scope pieces (Word at Controller word) next
 opens scope pieces at word (step.AskByte byte) are closed is leads =
     let row = Word at Controller word in
@@ -359,7 +375,8 @@ opens scope pieces at word (step.AskByte byte) are closed is leads =
     ∙ ap (λ (p : List Event → Piece). p (row ∷ []) ∷ pieces) added in
     let says : Say Controller ((256 + byte) ∷ []) (row ∷ []) =
     ap (λ w. Some (Controller, w) ∷ []) leads.0 in
-    fresh scope pieces row (step.AskByte byte) (AskTail (byte ∷ [])) (adds_ask_byte scope byte (byte ∷ []))
+    fresh scope pieces row (step.AskByte byte) (AskTail (byte ∷ []))
+    (adds_ask_byte scope byte (byte ∷ []))
     added made are
     (leads.1, says) leads.2 tt
 opens scope pieces at word step.Foreign are closed is leads =
@@ -386,27 +403,31 @@ opens_at scope position pieces at word next are closed here is leads =
     let Free : Position → Type 0 = λ p. IsFree p in
     let Led : Position → Type 0 = λ p. Opens scope p (last_of (events_of pieces))
     (Word at Controller word) word next in
-    opens scope pieces at word next are closed (subst Free (sym here) is) (subst Led (sym here) leads)
+    opens scope pieces at word next are closed (subst Free (sym here) is)
+    (subst Led (sym here) leads)
 
 -- a new piece of one word at a position that is told
-begun : (scope : Scope) (position : Position) (pieces : List Piece) (row : Event) (next : Step) (piece : List Event
-    → Piece)
-    → Adds scope next piece → ArePieces scope pieces → AreClosed pieces → position_of scope pieces ≡ position
-    → pieces_after scope pieces row next ≡ grown pieces row (piece_after (position_of scope pieces) next)
+begun : (scope : Scope) (position : Position) (pieces : List Piece) (row : Event) (next : Step)
+    (piece : List Event → Piece)
+    → Adds scope next piece → ArePieces scope pieces → AreClosed pieces
+    → position_of scope pieces ≡ position
+    → pieces_after scope pieces row next
+    ≡ grown pieces row (piece_after (position_of scope pieces) next)
     → piece_after position next ≡ piece → IsSaid scope (piece (row ∷ []))
     → MayCome (piece (row ∷ [])) (position_of scope pieces) (last_of (events_of pieces)) row
     → PieceFitsLevels (levels_of scope.levels pieces) (piece (row ∷ []))
     → Extended scope pieces row next
 begun scope position pieces row next piece adds are closed here grows gives said comes levels =
-    let added : piece_after (position_of scope pieces) next ≡ piece = ap (λ p. piece_after p next) here
-    ∙ gives in
+    let added : piece_after (position_of scope pieces) next ≡ piece =
+    ap (λ p. piece_after p next) here ∙ gives in
     let made : pieces_after scope pieces row next ≡ piece (row ∷ []) ∷ pieces =
     grows ∙ (closed row (piece_after (position_of scope pieces) next)
     ∙ ap (λ (p : List Event → Piece). p (row ∷ []) ∷ pieces) added) in
     fresh scope pieces row next piece adds added made are said comes levels
 
 -- an answer to a command
-answered : (scope : Scope) (command : Command) (pieces : List Piece) (at word : ℕ) (next : Step) → ArePieces scope pieces
+answered : (scope : Scope) (command : Command) (pieces : List Piece) (at word : ℕ) (next : Step)
+    → ArePieces scope pieces
     → AreClosed pieces
     → position_of scope pieces ≡ Asked command
     → Answers command (last_of (events_of pieces)) (Word at Peripheral word) word next
@@ -434,10 +455,12 @@ answered scope command pieces at word (step.ReplyByte byte) are closed here lead
 answered scope command pieces at word next are closed here leads = absurd leads
 
 -- an answer of the controller to a reply, or a new block
-replied : (scope : Scope) (command : Command) (reply : Reply) (pieces : List Piece) (at word : ℕ) (next : Step)
+replied : (scope : Scope) (command : Command) (reply : Reply) (pieces : List Piece) (at word : ℕ)
+    (next : Step)
     → ArePieces scope pieces
     → AreClosed pieces → position_of scope pieces ≡ Replied command reply
-    → AnswersReply scope command reply (last_of (events_of pieces)) (Word at Controller word) word next
+    → AnswersReply scope command reply (last_of (events_of pieces)) (Word at Controller word) word
+    next
     → Extended scope pieces (Word at Controller word) next
 replied scope command reply pieces at word step.VmcAck are closed here leads =
     begun scope (Replied command reply) pieces (Word at Controller word) step.VmcAck
@@ -458,22 +481,26 @@ replied scope command reply pieces at word step.VmcRet are closed here leads =
     (ap (λ w. Some (Controller, w) ∷ []) leads.0)
     (here, leads.1) tt
 replied scope command reply pieces at word (step.AskByte byte) are closed here leads =
-    opens_at scope (Replied command reply) pieces at word (step.AskByte byte) are closed here tt leads
+    opens_at scope (Replied command reply) pieces at word (step.AskByte byte) are closed here tt
+    leads
 replied scope command reply pieces at word step.Foreign are closed here leads =
     opens_at scope (Replied command reply) pieces at word step.Foreign are closed here tt leads
 replied scope command reply pieces at word next are closed here leads = absurd leads
 
 -- the first word of a repeat
-returned : (scope : Scope) (command : Command) (reply : Reply) (pieces : List Piece) (at word : ℕ) (next : Step)
+returned : (scope : Scope) (command : Command) (reply : Reply) (pieces : List Piece) (at word : ℕ)
+    (next : Step)
     → ArePieces scope pieces
     → AreClosed pieces → position_of scope pieces ≡ Returned command reply
     → BeginsRepeat reply (last_of (events_of pieces)) (Word at Peripheral word) word next
     → Extended scope pieces (Word at Peripheral word) next
 returned scope command reply pieces at word (step.RepeatWord said) are closed here leads =
     let Front : ℕ
-    → Type 0 = λ w. IsSaid scope (RepeatTail command reply (w ∷ []) (Word at Peripheral word ∷ [])) in
+    → Type 0 =
+    λ w. IsSaid scope (RepeatTail command reply (w ∷ []) (Word at Peripheral word ∷ [])) in
     begun scope (Returned command reply) pieces (Word at Peripheral word) (step.RepeatWord said)
-    (RepeatTail command reply (said ∷ [])) (adds_repeat_word scope command reply said (said ∷ [])) are
+    (RepeatTail command reply (said ∷ [])) (adds_repeat_word scope command reply said (said ∷ []))
+    are
     closed here refl refl
     (subst Front leads.0 (leads.1, refl)) (here, leads.2) tt
 returned scope command reply pieces at word next are closed here leads = absurd leads
@@ -488,20 +515,24 @@ foreign_word : (scope : Scope) (pieces : List Piece) (at : ℕ) (line : Line) (w
 foreign_word scope pieces at Controller word next are closed here (inl leads) =
     opens_at scope InForeign pieces at word next are closed here tt leads
 foreign_word scope pieces at Controller word step.Foreign are closed here (inr leads) =
-    begun scope InForeign pieces (Word at Controller word) step.Foreign (Whole acts.Foreign) (adds_foreign scope)
+    begun scope InForeign pieces (Word at Controller word) step.Foreign (Whole acts.Foreign)
+    (adds_foreign scope)
     are closed
     here refl refl (inr (Word at Controller word, refl, leads.0)) (inr (leads.0, here, leads.1)) tt
 foreign_word scope pieces at Controller word next are closed here (inr leads) = absurd leads.1
 foreign_word scope pieces at Peripheral word step.Foreign are closed here leads =
-    begun scope InForeign pieces (Word at Peripheral word) step.Foreign (Whole acts.Foreign) (adds_foreign scope)
+    begun scope InForeign pieces (Word at Peripheral word) step.Foreign (Whole acts.Foreign)
+    (adds_foreign scope)
     are closed
     here refl refl (inr (Word at Peripheral word, refl, tt)) (inr (tt, here, leads)) tt
 foreign_word scope pieces at Peripheral word next are closed here leads = absurd leads
 
 -- a word after closed pieces
-after_closed : (scope : Scope) (position : Position) (pieces : List Piece) (at : ℕ) (line : Line) (word : ℕ)
+after_closed : (scope : Scope) (position : Position) (pieces : List Piece) (at : ℕ) (line : Line)
+    (word : ℕ)
     (next : Step)
-    → ArePieces scope pieces → AreClosed pieces → position_of scope pieces ≡ position → IsFree position
+    → ArePieces scope pieces → AreClosed pieces → position_of scope pieces ≡ position
+    → IsFree position
     → WordLeads scope position (last_of (events_of pieces)) (levels_of scope.levels pieces)
     (Word at line word) line word next
     → Extended scope pieces (Word at line word) next
@@ -513,24 +544,30 @@ after_closed scope (Asked command) pieces at Controller word next are closed her
     opens_at scope (Asked command) pieces at word next are closed here tt leads
 after_closed scope (Asked command) pieces at Peripheral word next are closed here is leads =
     answered scope command pieces at word next are closed here leads
-after_closed scope (InReply command bytes) pieces at line word next are closed here is leads = absurd is
+after_closed scope (InReply command bytes) pieces at line word next are closed here is leads =
+    absurd is
 after_closed scope (Replied command reply) pieces at Controller word next are closed here is leads =
     replied scope command reply pieces at word next are closed here leads
 after_closed scope (Replied command reply) pieces at Peripheral word next are closed here is leads =
     absurd leads
-after_closed scope (Returned command reply) pieces at Controller word next are closed here is leads =
+after_closed scope (Returned command reply) pieces at Controller word next are closed here is
+    leads =
     opens_at scope (Returned command reply) pieces at word next are closed here tt leads
-after_closed scope (Returned command reply) pieces at Peripheral word next are closed here is leads =
+after_closed scope (Returned command reply) pieces at Peripheral word next are closed here is
+    leads =
     returned scope command reply pieces at word next are closed here leads
-after_closed scope (InRepeat command reply words) pieces at line word next are closed here is leads =
+after_closed scope (InRepeat command reply words) pieces at line word next are closed here is
+    leads =
     absurd is
 after_closed scope InForeign pieces at line word next are closed here is leads =
     foreign_word scope pieces at line word next are closed here leads
 
 -- a word in a block of the controller
-in_ask : (scope : Scope) (bytes : List ℕ) (events : List Event) (pieces : List Piece) (at word : ℕ) (next : Step)
+in_ask : (scope : Scope) (bytes : List ℕ) (events : List Event) (pieces : List Piece) (at word : ℕ)
+    (next : Step)
     → ArePieces scope (AskTail bytes events ∷ pieces)
-    → GoesOnAsking scope bytes (last_of (events_of pieces ++ events)) (Word at Controller word) word next
+    → GoesOnAsking scope bytes (last_of (events_of pieces ++ events)) (Word at Controller word) word
+    next
     → Extended scope (AskTail bytes events ∷ pieces) (Word at Controller word) next
 in_ask scope bytes events pieces at word (step.AskByte byte) are leads =
     let said = are.0.said in
@@ -539,7 +576,8 @@ in_ask scope bytes events pieces at word (step.AskByte byte) are leads =
     (events ++ row ∷ []) in
     let says : Say Controller (controller_words (bytes ++ byte ∷ [])) (events ++ row ∷ []) =
     subst Spoken leads.0 (say_byte bytes events at word said.0.some said.1) in
-    longer scope (AskTail bytes events) pieces row (step.AskByte byte) (AskTail (bytes ++ byte ∷ []))
+    longer scope (AskTail bytes events) pieces row (step.AskByte byte)
+    (AskTail (bytes ++ byte ∷ []))
     (record { open_end = tt; acts = λ ps. refl; levels = λ told ps. refl; asked = λ ps. refl })
     (adds_ask_byte scope byte (bytes ++ byte ∷ [])) refl refl are (leads.2, says)
     (λ first others is comes. comes) tt leads.3
@@ -572,7 +610,8 @@ in_ask scope bytes events pieces at word step.Foreign are leads =
 in_ask scope bytes events pieces at word next are leads = absurd leads
 
 -- a word in a reply
-in_reply : (scope : Scope) (command : Command) (bytes : List ℕ) (events : List Event) (pieces : List Piece)
+in_reply : (scope : Scope) (command : Command) (bytes : List ℕ) (events : List Event)
+    (pieces : List Piece)
     (at word : ℕ) (next : Step)
     → ArePieces scope (ReplyTail command bytes events ∷ pieces)
     → GoesOnReplying command bytes (last_of (events_of pieces ++ events))
@@ -610,7 +649,8 @@ in_reply scope command bytes events pieces at word (step.Reply reply) are leads 
 in_reply scope command bytes events pieces at word next are leads = absurd leads
 
 -- a word in a repeat
-in_repeat : (scope : Scope) (command : Command) (reply : Reply) (words : List ℕ) (events : List Event)
+in_repeat : (scope : Scope) (command : Command) (reply : Reply) (words : List ℕ)
+    (events : List Event)
     (pieces : List Piece)
     (at word : ℕ) (next : Step) → ArePieces scope (RepeatTail command reply words events ∷ pieces)
     → GoesOnRepeating reply words (last_of (events_of pieces ++ events)) (Word at Peripheral word)
@@ -619,7 +659,8 @@ in_repeat : (scope : Scope) (command : Command) (reply : Reply) (words : List �
 in_repeat scope command reply words events pieces at word (step.RepeatWord told) are leads =
     let row = Word at Peripheral word in
     let Front : ℕ
-    → Type 0 = λ w. IsSaid scope (RepeatTail command reply (words ++ w ∷ []) (events ++ row ∷ [])) in
+    → Type 0 =
+    λ w. IsSaid scope (RepeatTail command reply (words ++ w ∷ []) (events ++ row ∷ [])) in
     longer scope (RepeatTail command reply words events) pieces row (step.RepeatWord told)
     (RepeatTail command reply (words ++ told ∷ []))
     (record { open_end = tt; acts = λ ps. refl; levels = λ told ps. refl; asked = λ ps. refl })
@@ -638,8 +679,10 @@ in_repeat scope command reply words events pieces at word step.Repeat are leads 
 in_repeat scope command reply words events pieces at word next are leads = absurd leads
 
 -- a break after any pieces
-broken : (scope : Scope) (pieces : List Piece) (at length : ℕ) (next : Step) → ArePieces scope pieces
-    → Leads (situation_of scope pieces) (Break at length) next → Extended scope pieces (Break at length) next
+broken : (scope : Scope) (pieces : List Piece) (at length : ℕ) (next : Step)
+    → ArePieces scope pieces
+    → Leads (situation_of scope pieces) (Break at length) next
+    → Extended scope pieces (Break at length) next
 broken scope pieces at length (step.Break lasted) are leads =
     let row = Break at length in
     let Long : ℕ → Type 0 = λ l. BREAK_LENGTH_MIN ≤ l in
@@ -649,7 +692,8 @@ broken scope pieces at length (step.Break lasted) are leads =
 broken scope pieces at length next are leads = absurd leads
 
 -- a row that breaks no rule extends the act list by its step
-pub forward : (scope : Scope) (pieces : List Piece) (row : Event) (next : Step) → ArePieces scope pieces
+pub forward : (scope : Scope) (pieces : List Piece) (row : Event) (next : Step)
+    → ArePieces scope pieces
     → Leads (situation_of scope pieces) row next → Extended scope pieces row next
 forward scope pieces (Break at length) next are leads = broken scope pieces at length next are leads
 forward scope [] (Word at line word) next are leads =
@@ -661,12 +705,15 @@ forward scope (Whole act events ∷ pieces) (Word at line word) next are leads =
     (free act) leads
 forward scope (AskTail bytes events ∷ pieces) (Word at Controller word) next are leads =
     in_ask scope bytes events pieces at word next are leads
-forward scope (AskTail bytes events ∷ pieces) (Word at Peripheral word) next are leads = absurd leads
+forward scope (AskTail bytes events ∷ pieces) (Word at Peripheral word) next are leads =
+    absurd leads
 forward scope (ReplyTail command bytes events ∷ pieces) (Word at Controller word) next are leads =
     absurd leads
 forward scope (ReplyTail command bytes events ∷ pieces) (Word at Peripheral word) next are leads =
     in_reply scope command bytes events pieces at word next are leads
-forward scope (RepeatTail command reply words events ∷ pieces) (Word at Controller word) next are leads =
+forward scope (RepeatTail command reply words events ∷ pieces) (Word at Controller word) next are
+    leads =
     absurd leads
-forward scope (RepeatTail command reply words events ∷ pieces) (Word at Peripheral word) next are leads =
+forward scope (RepeatTail command reply words events ∷ pieces) (Word at Peripheral word) next are
+    leads =
     in_repeat scope command reply words events pieces at word next are leads

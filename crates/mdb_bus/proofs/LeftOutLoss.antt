@@ -1,5 +1,5 @@
--- A loss that fits pieces fits them where further devices are left out exactly where blocks to these
--- that were cut tell what foreign blocks tell.
+-- A loss that fits pieces fits them where further devices are left out exactly where blocks to
+-- these that were cut tell what foreign blocks tell.
 use Rattle.std.proofs.Common.{◌⊎◌, ap, refl, sym, subst, ◌∙◌, ◌≡◌, inl, inr, ℕ, Bool, true, false, if◌then◌else◌, List, [], ◌∷◌, Option, length}
 use Rattle.std.proofs.lemmas.Bool.{cond_both}
 use Rattle.mdb_words.specs.declared.event.Event.{Event}
@@ -129,19 +129,23 @@ tells_foreign less more loss (Whole (acts.Reply command reply) events) pieces po
     moved out comes fits tell =
     foreign_next less more loss pieces order
     (inl (moved.leaves (device_of command) (ap device_at comes.0) out))
-tells_foreign less more loss (Whole (acts.VmcAck command reply) events) pieces position from to order
+tells_foreign less more loss (Whole (acts.VmcAck command reply) events) pieces position from to
+    order
     moved out comes fits tell =
     foreign_next less more loss pieces order
     (inl (moved.leaves (device_of command) (ap device_at comes.0) out))
-tells_foreign less more loss (Whole (acts.VmcNak command reply) events) pieces position from to order
+tells_foreign less more loss (Whole (acts.VmcNak command reply) events) pieces position from to
+    order
     moved out comes fits tell =
     foreign_next less more loss pieces order
     (inl (moved.leaves (device_of command) (ap device_at comes.0) out))
-tells_foreign less more loss (Whole (acts.VmcRet command reply) events) pieces position from to order
+tells_foreign less more loss (Whole (acts.VmcRet command reply) events) pieces position from to
+    order
     moved out comes fits tell =
     foreign_next less more loss pieces order
     (inl (moved.leaves (device_of command) (ap device_at comes.0) out))
-tells_foreign less more loss (Whole (acts.Repeat command reply) events) pieces position from to order
+tells_foreign less more loss (Whole (acts.Repeat command reply) events) pieces position from to
+    order
     moved out comes fits tell =
     foreign_next less more loss pieces order
     (inl (moved.leaves (device_of command) (ap device_at comes.0) out))

@@ -30,15 +30,18 @@ reply_of_bytes one_reply command one other first second same =
 none_of_none : (scope : Scope) (pieces : List Piece) → IsActList scope pieces [] → pieces ≡ []
 none_of_none scope [] list = refl
 none_of_none scope (piece ∷ pieces) list =
-    let split = front_and_last (piece_events piece) (piece_some scope pieces piece list.in_order.1) in
+    let split =
+    front_and_last (piece_events piece) (piece_some scope pieces piece list.in_order.1) in
     let whole : events_of pieces ++ piece_events piece ≡ [] = list.whole in
     absurd (not_empty (events_of pieces ++ split.0) split.1
     (append_assoc (events_of pieces) split.0 (split.1 ∷ [])
     ∙ (ap (λ es. events_of pieces ++ es) (sym split.2) ∙ whole)))
 
 -- from one act list before a row, one after it
-one_more : (scope : Scope) (opens : OpenIsAFront scope) (readings : Readings scope) (rows : List Event) (row : Event)
-    → ((one other : List Piece) → IsActList scope one rows → IsActList scope other rows → one ≡ other)
+one_more : (scope : Scope) (opens : OpenIsAFront scope) (readings : Readings scope)
+    (rows : List Event) (row : Event)
+    → ((one other : List Piece) → IsActList scope one rows → IsActList scope other rows
+    → one ≡ other)
     → (one other : List Piece) → IsActList scope one (rows ++ row ∷ [])
     → IsActList scope other (rows ++ row ∷ []) → one ≡ other
 one_more scope opens readings rows row known one other first second =
@@ -67,12 +70,13 @@ by_last P none more rows = all rows [] none
         (all rest (done ++ row ∷ []) (more done row here))
 
 -- a transcript has at most one act list
-pub one_act_list : (scope : Scope) (opens : OpenIsAFront scope) (readings : Readings scope) (rows : List Event)
+pub one_act_list : (scope : Scope) (opens : OpenIsAFront scope) (readings : Readings scope)
+    (rows : List Event)
     (one other : List Piece)
     → IsActList scope one rows → IsActList scope other rows → one ≡ other
 one_act_list scope opens readings =
-    by_last (λ rows. (one other : List Piece) → IsActList scope one rows → IsActList scope other rows
-    → one ≡ other)
+    by_last (λ rows. (one other : List Piece) → IsActList scope one rows
+    → IsActList scope other rows → one ≡ other)
     (λ one other first second. none_of_none scope one first ∙ sym (none_of_none scope other second))
     (one_more scope opens readings)
 
@@ -85,7 +89,8 @@ without_last scope opens rows row list =
     (b.before, record { in_order = b.in_order; whole = b.rows_before })
 
 -- what has an act list has one at each of its fronts
-pub fronts : (scope : Scope) (opens : OpenIsAFront scope) (rows more : List Event) → HasActList scope (rows ++ more)
+pub fronts : (scope : Scope) (opens : OpenIsAFront scope) (rows more : List Event)
+    → HasActList scope (rows ++ more)
     → HasActList scope rows
 fronts scope opens rows =
     by_last (λ more. HasActList scope (rows ++ more) → HasActList scope rows)
@@ -95,7 +100,8 @@ fronts scope opens rows =
     (subst (HasActList scope) (sym (append_assoc rows more (row ∷ []))) list)))
 
 -- an act list of one row more goes on from one of the rows
-pub goes_on_from : (scope : Scope) (opens : OpenIsAFront scope) (rows : List Event) (row : Event) (pieces : List Piece)
+pub goes_on_from : (scope : Scope) (opens : OpenIsAFront scope) (rows : List Event) (row : Event)
+    (pieces : List Piece)
     → IsActList scope pieces (rows ++ row ∷ []) → GoesOnFrom scope rows pieces
 goes_on_from scope opens rows row pieces list =
     let b = backward scope opens pieces rows row list.in_order list.whole in

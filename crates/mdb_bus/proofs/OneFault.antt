@@ -29,7 +29,8 @@ one_broken : (s : Situation) (row : Event) (one other : Rule) → IsFirstBroken 
 one_broken s row one other first second =
     one_first (RowBreaks s row) one other first.before second.before first.after second.after
     (sym first.stands ∙ second.stands) first.breaks second.breaks
-    (recursion_from_All _ first.before first.keeps) (recursion_from_All _ second.before second.keeps)
+    (recursion_from_All _ first.before first.keeps)
+    (recursion_from_All _ second.before second.keeps)
 
 pub one_fault : (scope : Scope) (pieces : List Piece) (row : Event) (r s : Rule) (a b : Blame)
     → IsLinkFault scope pieces row r a

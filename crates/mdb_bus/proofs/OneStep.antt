@@ -24,7 +24,8 @@ use Rattle.mdb_bus.specs.declared.scope.Scope.{Scope}
 
 -- what mdb_msgs promises of the commands and replies that a block may be
 pub record Readings (scope : Scope) : Type 0 where
-  pub one_command : (block : List ℕ) (one other : Command) → Asks scope one block → Asks scope other block
+  pub one_command : (block : List ℕ) (one other : Command) → Asks scope one block
+      → Asks scope other block
       → one ≡ other
   pub needs : (block : List ℕ) (command : Command) → Asks scope command block
       → needed_in scope block ≡ Exactly (length block)
@@ -44,14 +45,16 @@ readings_of scope grammar = record {
 }
 
 -- what opens a foreign block is foreign
-opening_foreign : (scope : Scope) (bytes : List ℕ) → IsForeignOpening scope bytes → needed_in scope bytes ≡ Foreign
+opening_foreign : (scope : Scope) (bytes : List ℕ) → IsForeignOpening scope bytes
+    → needed_in scope bytes ≡ Foreign
 opening_foreign scope [] opening = absurd opening
 opening_foreign scope (first ∷ []) opening = opening
 opening_foreign scope (first ∷ second ∷ []) opening = opening.1
 opening_foreign scope (first ∷ second ∷ third ∷ bytes) opening = absurd opening
 
 -- no front of a command is
-front_not_foreign : (scope : Scope) (readings : Readings scope) (bytes : List ℕ) → IsAskFront scope bytes
+front_not_foreign : (scope : Scope) (readings : Readings scope) (bytes : List ℕ)
+    → IsAskFront scope bytes
     → IsForeignOpening scope bytes → ⊥
 front_not_foreign scope readings bytes front opening =
     let Told : Need → Type 0 = λ need. IsTold need (length bytes) (length (bytes ++ front.rest)) in
@@ -59,7 +62,8 @@ front_not_foreign scope readings bytes front opening =
     (readings.tells bytes front.rest front.command (some_length bytes front.some) front.spelled)
 
 -- nor is a command
-command_not_foreign : (scope : Scope) (readings : Readings scope) (bytes : List ℕ) (command : Command)
+command_not_foreign : (scope : Scope) (readings : Readings scope) (bytes : List ℕ)
+    (command : Command)
     → Asks scope command bytes
     → IsForeignOpening scope bytes → ⊥
 command_not_foreign scope readings bytes command spells opening =
@@ -68,7 +72,8 @@ command_not_foreign scope readings bytes command spells opening =
     cc clash
 
 -- no command is the front of another
-front_not_command : (scope : Scope) (readings : Readings scope) (bytes : List ℕ) (command : Command) → IsAskFront scope bytes
+front_not_command : (scope : Scope) (readings : Readings scope) (bytes : List ℕ) (command : Command)
+    → IsAskFront scope bytes
     → Asks scope command bytes → ⊥
 front_not_command scope readings bytes command front spells =
     let Told : Need → Type 0 = λ need. IsTold need (length bytes) (length (bytes ++ front.rest)) in
@@ -84,10 +89,12 @@ repeat_not_whole reply words front whole =
     front.open_end (nothing_after words front.rest (ap length (whole ∙ sym front.same)))
 
 -- a block begins with one step
-open_byte : (scope : Scope) (readings : Readings scope) (position : Position) (from : Option Event) (to : Event)
+open_byte : (scope : Scope) (readings : Readings scope) (position : Position) (from : Option Event)
+    (to : Event)
     (word byte : ℕ)
     (other : Step)
-    → Opens scope position from to word (step.AskByte byte) → Opens scope position from to word other
+    → Opens scope position from to word (step.AskByte byte)
+    → Opens scope position from to word other
     → step.AskByte byte ≡ other
 open_byte scope readings position from to word byte (step.AskByte other) p q =
     let same : byte ≡ other = omega (arith, p.0, q.0) in ap step.AskByte same
@@ -97,7 +104,8 @@ open_byte scope readings position from to word byte step.Foreign p q =
     absurd (front_not_foreign scope readings (byte ∷ []) p.1 (subst P same q.2))
 open_byte scope readings position from to word byte other p q = absurd q
 
-open_foreign : (scope : Scope) (readings : Readings scope) (position : Position) (from : Option Event) (to : Event)
+open_foreign : (scope : Scope) (readings : Readings scope) (position : Position)
+    (from : Option Event) (to : Event)
     (word : ℕ) (other : Step)
     → Opens scope position from to word step.Foreign → Opens scope position from to word other
     → step.Foreign ≡ other
@@ -106,7 +114,8 @@ open_foreign scope readings position from to word (step.AskByte byte) p q =
 open_foreign scope readings position from to word step.Foreign p q = refl
 open_foreign scope readings position from to word other p q = absurd q
 
-one_opening : (scope : Scope) (readings : Readings scope) (position : Position) (from : Option Event) (to : Event)
+one_opening : (scope : Scope) (readings : Readings scope) (position : Position)
+    (from : Option Event) (to : Event)
     (word : ℕ)
     (one other : Step)
     → Opens scope position from to word one → Opens scope position from to word other → one ≡ other
@@ -117,18 +126,22 @@ one_opening scope readings position from to word step.Foreign other p q =
 one_opening scope readings position from to word one other p q = absurd p
 
 -- the word that begins a block is marked
-opens_marked : (scope : Scope) (position : Position) (from : Option Event) (to : Event) (word : ℕ) (next : Step)
+opens_marked : (scope : Scope) (position : Position) (from : Option Event) (to : Event) (word : ℕ)
+    (next : Step)
     → Opens scope position from to word next → word < 256 → ⊥
 opens_marked scope position from to word (step.AskByte byte) p low = omega (arith, p.0, low)
 opens_marked scope position from to word step.Foreign p low = omega (arith, p.1, low)
 opens_marked scope position from to word next p low = absurd p
 
 -- a block goes on with one step
-ask_byte : (scope : Scope) (readings : Readings scope) (bytes : List ℕ) (from : Option Event) (to : Event) (word byte : ℕ)
+ask_byte : (scope : Scope) (readings : Readings scope) (bytes : List ℕ) (from : Option Event)
+    (to : Event) (word byte : ℕ)
     (other : Step)
-    → GoesOnAsking scope bytes from to word (step.AskByte byte) → GoesOnAsking scope bytes from to word other
+    → GoesOnAsking scope bytes from to word (step.AskByte byte)
+    → GoesOnAsking scope bytes from to word other
     → step.AskByte byte ≡ other
-ask_byte scope readings bytes from to word byte (step.AskByte other) p q = ap step.AskByte (sym p.0 ∙ q.0)
+ask_byte scope readings bytes from to word byte (step.AskByte other) p q =
+    ap step.AskByte (sym p.0 ∙ q.0)
 ask_byte scope readings bytes from to word byte (step.Ask command) p q =
     let P : ℕ → Type 0 = λ w. Asks scope command (bytes ++ w ∷ []) in
     absurd (front_not_command scope readings (bytes ++ byte ∷ []) command p.2 (subst P p.0 q.1))
@@ -137,10 +150,12 @@ ask_byte scope readings bytes from to word byte step.Foreign p q =
     absurd (front_not_foreign scope readings (bytes ++ byte ∷ []) p.2 (subst P p.0 q.1))
 ask_byte scope readings bytes from to word byte other p q = absurd q
 
-ask_end : (scope : Scope) (readings : Readings scope) (bytes : List ℕ) (from : Option Event) (to : Event) (word : ℕ)
+ask_end : (scope : Scope) (readings : Readings scope) (bytes : List ℕ) (from : Option Event)
+    (to : Event) (word : ℕ)
     (command : Command)
     (other : Step)
-    → GoesOnAsking scope bytes from to word (step.Ask command) → GoesOnAsking scope bytes from to word other
+    → GoesOnAsking scope bytes from to word (step.Ask command)
+    → GoesOnAsking scope bytes from to word other
     → step.Ask command ≡ other
 ask_end scope readings bytes from to word command (step.AskByte byte) p q =
     sym (ask_byte scope readings bytes from to word byte (step.Ask command) q p)
@@ -150,9 +165,11 @@ ask_end scope readings bytes from to word command step.Foreign p q =
     absurd (command_not_foreign scope readings (bytes ++ word ∷ []) command p.1 q.1)
 ask_end scope readings bytes from to word command other p q = absurd q
 
-ask_foreign : (scope : Scope) (readings : Readings scope) (bytes : List ℕ) (from : Option Event) (to : Event) (word : ℕ)
+ask_foreign : (scope : Scope) (readings : Readings scope) (bytes : List ℕ) (from : Option Event)
+    (to : Event) (word : ℕ)
     (other : Step)
-    → GoesOnAsking scope bytes from to word step.Foreign → GoesOnAsking scope bytes from to word other
+    → GoesOnAsking scope bytes from to word step.Foreign
+    → GoesOnAsking scope bytes from to word other
     → step.Foreign ≡ other
 ask_foreign scope readings bytes from to word (step.AskByte byte) p q =
     sym (ask_byte scope readings bytes from to word byte step.Foreign q p)
@@ -161,14 +178,17 @@ ask_foreign scope readings bytes from to word (step.Ask command) p q =
 ask_foreign scope readings bytes from to word step.Foreign p q = refl
 ask_foreign scope readings bytes from to word other p q = absurd q
 
-one_asking : (scope : Scope) (readings : Readings scope) (bytes : List ℕ) (from : Option Event) (to : Event) (word : ℕ)
+one_asking : (scope : Scope) (readings : Readings scope) (bytes : List ℕ) (from : Option Event)
+    (to : Event) (word : ℕ)
     (one other : Step)
-    → GoesOnAsking scope bytes from to word one → GoesOnAsking scope bytes from to word other → one ≡ other
+    → GoesOnAsking scope bytes from to word one → GoesOnAsking scope bytes from to word other
+    → one ≡ other
 one_asking scope readings bytes from to word (step.AskByte byte) other p q =
     ask_byte scope readings bytes from to word byte other p q
 one_asking scope readings bytes from to word (step.Ask command) other p q =
     ask_end scope readings bytes from to word command other p q
-one_asking scope readings bytes from to word step.Foreign other p q = ask_foreign scope readings bytes from to
+one_asking scope readings bytes from to word step.Foreign other p q =
+    ask_foreign scope readings bytes from to
     word other p q
 one_asking scope readings bytes from to word one other p q = absurd p
 
@@ -215,7 +235,8 @@ reply_byte command bytes from levels to word byte (step.Reply reply) p q =
     absurd (omega (arith, p.1, q.0))
 reply_byte command bytes from levels to word byte other p q = absurd q
 
-reply_end : (scope : Scope) (readings : Readings scope) (command : Command) (bytes : List ℕ) (from : Option Event)
+reply_end : (scope : Scope) (readings : Readings scope) (command : Command) (bytes : List ℕ)
+    (from : Option Event)
     (levels : Levels)
     (to : Event) (word : ℕ)
     (reply : Reply) (other : Step) → GoesOnReplying command bytes from levels to word
@@ -227,7 +248,8 @@ reply_end scope readings command bytes from levels to word reply (step.Reply oth
     ap step.Reply (readings.one_reply command reply other p.1.answers q.1.answers (sym p.2 ∙ q.2))
 reply_end scope readings command bytes from levels to word reply other p q = absurd q
 
-one_replying : (scope : Scope) (readings : Readings scope) (command : Command) (bytes : List ℕ) (from : Option Event)
+one_replying : (scope : Scope) (readings : Readings scope) (command : Command) (bytes : List ℕ)
+    (from : Option Event)
     (levels : Levels)
     (to : Event) (word : ℕ)
     (one other : Step) → GoesOnReplying command bytes from levels to word one
@@ -239,47 +261,57 @@ one_replying scope readings command bytes from levels to word (step.Reply reply)
 one_replying scope readings command bytes from levels to word one other p q = absurd p
 
 -- the controller answers a reply with one step
-vmc_low : (scope : Scope) (command : Command) (reply : Reply) (from : Option Event) (to : Event) (word answer : ℕ)
+vmc_low : (scope : Scope) (command : Command) (reply : Reply) (from : Option Event) (to : Event)
+    (word answer : ℕ)
     (one other : Step)
     → word ≡ answer
     → answer < 256 → Opens scope (Replied command reply) from to word other → one ≡ other
 vmc_low scope command reply from to word answer one other is low opens =
-    absurd (opens_marked scope (Replied command reply) from to word other opens (omega (arith, is, low)))
+    absurd (opens_marked scope (Replied command reply) from to word other opens
+    (omega (arith, is, low)))
 
-vmc_ack : (scope : Scope) (command : Command) (reply : Reply) (from : Option Event) (to : Event) (word : ℕ)
+vmc_ack : (scope : Scope) (command : Command) (reply : Reply) (from : Option Event) (to : Event)
+    (word : ℕ)
     (other : Step) → word ≡ 0x00
     → AnswersReply scope command reply from to word other → step.VmcAck ≡ other
 vmc_ack scope command reply from to word step.VmcAck is q = refl
 vmc_ack scope command reply from to word step.VmcNak is q = absurd (omega (arith, is, q.0))
 vmc_ack scope command reply from to word step.VmcRet is q = absurd (omega (arith, is, q.0))
-vmc_ack scope command reply from to word other is q = vmc_low scope command reply from to word 0x00 step.VmcAck
+vmc_ack scope command reply from to word other is q =
+    vmc_low scope command reply from to word 0x00 step.VmcAck
     other is
     (omega arith) q
 
-vmc_nak : (scope : Scope) (command : Command) (reply : Reply) (from : Option Event) (to : Event) (word : ℕ)
+vmc_nak : (scope : Scope) (command : Command) (reply : Reply) (from : Option Event) (to : Event)
+    (word : ℕ)
     (other : Step) → word ≡ 0xFF
     → AnswersReply scope command reply from to word other → step.VmcNak ≡ other
 vmc_nak scope command reply from to word step.VmcAck is q = absurd (omega (arith, is, q.0))
 vmc_nak scope command reply from to word step.VmcNak is q = refl
 vmc_nak scope command reply from to word step.VmcRet is q = absurd (omega (arith, is, q.0))
-vmc_nak scope command reply from to word other is q = vmc_low scope command reply from to word 0xFF step.VmcNak
+vmc_nak scope command reply from to word other is q =
+    vmc_low scope command reply from to word 0xFF step.VmcNak
     other is
     (omega arith) q
 
-vmc_ret : (scope : Scope) (command : Command) (reply : Reply) (from : Option Event) (to : Event) (word : ℕ)
+vmc_ret : (scope : Scope) (command : Command) (reply : Reply) (from : Option Event) (to : Event)
+    (word : ℕ)
     (other : Step) → word ≡ 0xAA
     → AnswersReply scope command reply from to word other → step.VmcRet ≡ other
 vmc_ret scope command reply from to word step.VmcAck is q = absurd (omega (arith, is, q.0))
 vmc_ret scope command reply from to word step.VmcNak is q = absurd (omega (arith, is, q.0))
 vmc_ret scope command reply from to word step.VmcRet is q = refl
-vmc_ret scope command reply from to word other is q = vmc_low scope command reply from to word 0xAA step.VmcRet
+vmc_ret scope command reply from to word other is q =
+    vmc_low scope command reply from to word 0xAA step.VmcRet
     other is
     (omega arith) q
 
-vmc_opens : (scope : Scope) (readings : Readings scope) (command : Command) (reply : Reply) (from : Option Event)
+vmc_opens : (scope : Scope) (readings : Readings scope) (command : Command) (reply : Reply)
+    (from : Option Event)
     (to : Event) (word : ℕ)
     (one other : Step)
-    → Opens scope (Replied command reply) from to word one → AnswersReply scope command reply from to word other
+    → Opens scope (Replied command reply) from to word one
+    → AnswersReply scope command reply from to word other
     → one ≡ other
 vmc_opens scope readings command reply from to word one step.VmcAck p q =
     sym (vmc_low scope command reply from to word 0x00 step.VmcAck one q.0 (omega arith) p)
@@ -290,10 +322,12 @@ vmc_opens scope readings command reply from to word one step.VmcRet p q =
 vmc_opens scope readings command reply from to word one other p q =
     one_opening scope readings (Replied command reply) from to word one other p q
 
-one_vmc_answer : (scope : Scope) (readings : Readings scope) (command : Command) (reply : Reply) (from : Option Event)
+one_vmc_answer : (scope : Scope) (readings : Readings scope) (command : Command) (reply : Reply)
+    (from : Option Event)
     (to : Event)
     (word : ℕ) (one other : Step)
-    → AnswersReply scope command reply from to word one → AnswersReply scope command reply from to word other
+    → AnswersReply scope command reply from to word one
+    → AnswersReply scope command reply from to word other
     → one ≡ other
 one_vmc_answer scope readings command reply from to word step.VmcAck other p q =
     vmc_ack scope command reply from to word other p.0 q
@@ -356,7 +390,8 @@ is_foreign : (from : Option Event) (to : Event) (next : Step) → GoesOnForeign 
 is_foreign from to step.Foreign p = refl
 is_foreign from to next p = absurd p
 
-one_after_foreign : (scope : Scope) (readings : Readings scope) (from : Option Event) (to : Event) (word : ℕ)
+one_after_foreign : (scope : Scope) (readings : Readings scope) (from : Option Event) (to : Event)
+    (word : ℕ)
     (one other : Step)
     → Opens scope InForeign from to word one ⊎ ((word < 256) × GoesOnForeign from to one)
     → Opens scope InForeign from to word other ⊎ ((word < 256) × GoesOnForeign from to other)
@@ -371,7 +406,8 @@ one_after_foreign scope readings from to word one other (inr p) (inr q) =
     is_foreign from to one p.1 ∙ sym (is_foreign from to other q.1)
 
 -- a word leads to one step
-one_word : (scope : Scope) (readings : Readings scope) (position : Position) (from : Option Event) (levels : Levels)
+one_word : (scope : Scope) (readings : Readings scope) (position : Position) (from : Option Event)
+    (levels : Levels)
     (to : Event)
     (line : Line) (word : ℕ)
     (one other : Step) → WordLeads scope position from levels to line word one
@@ -386,19 +422,23 @@ one_word scope readings (Asked command) from levels to Controller word one other
     one_opening scope readings (Asked command) from to word one other p q
 one_word scope readings (Asked command) from levels to Peripheral word one other p q =
     one_answer command from to word one other p q
-one_word scope readings (InReply command bytes) from levels to Controller word one other p q = absurd p
+one_word scope readings (InReply command bytes) from levels to Controller word one other p q =
+    absurd p
 one_word scope readings (InReply command bytes) from levels to Peripheral word one other p q =
     one_replying scope readings command bytes from levels to word one other p q
 one_word scope readings (Replied command reply) from levels to Controller word one other p q =
     one_vmc_answer scope readings command reply from to word one other p q
-one_word scope readings (Replied command reply) from levels to Peripheral word one other p q = absurd p
+one_word scope readings (Replied command reply) from levels to Peripheral word one other p q =
+    absurd p
 one_word scope readings (Returned command reply) from levels to Controller word one other p q =
     one_opening scope readings (Returned command reply) from to word one other p q
 one_word scope readings (Returned command reply) from levels to Peripheral word one other p q =
     one_repeat reply from to word one other p q
-one_word scope readings (InRepeat command reply words) from levels to Controller word one other p q =
+one_word scope readings (InRepeat command reply words) from levels to Controller word one other p
+    q =
     absurd p
-one_word scope readings (InRepeat command reply words) from levels to Peripheral word one other p q =
+one_word scope readings (InRepeat command reply words) from levels to Peripheral word one other p
+    q =
     one_repeating reply words from to word one other p q
 one_word scope readings InForeign from levels to Controller word one other p q =
     one_after_foreign scope readings from to word one other p q

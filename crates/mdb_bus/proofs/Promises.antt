@@ -75,7 +75,8 @@ is_command first law scope content all told =
 -- open bytes are the front of a command's block
 pub open_front : FirstTells → PlainOpenIsAFront → (scope : Scope) → OpenIsAFront scope
 open_front first law scope bytes all wanting =
-    let plain = within scope bytes (needed_in scope bytes) refl (is_some (needed_in scope bytes) wanting) in
+    let plain =
+    within scope bytes (needed_in scope bytes) refl (is_some (needed_in scope bytes) wanting) in
     let Short : Need → Type 0 = λ n. IsShort n (length bytes) in
     let found = law bytes all (subst Short (sym plain.1) wanting) in (
       found.0,

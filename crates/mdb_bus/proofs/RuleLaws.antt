@@ -42,9 +42,11 @@ GoesForward scope = (pieces : List Piece) (row : Event) (next : Step) → ArePie
     × (events_of (pieces_after scope pieces row next) ≡ events_of pieces ++ row ∷ [])
 
 -- no act list goes on with a row that breaks a rule
-pub ends : (scope : Scope) → Stops → ComesFrom scope → OneActList scope → (pieces : List Piece) (row : Event) (broken : Rule)
+pub ends : (scope : Scope) → Stops → ComesFrom scope → OneActList scope
+    → (pieces : List Piece) (row : Event) (broken : Rule)
     → ArePieces scope pieces
-    → RowBreaks (situation_of scope pieces) row broken → HasActList scope (events_of pieces ++ row ∷ []) → ⊥
+    → RowBreaks (situation_of scope pieces) row broken
+    → HasActList scope (events_of pieces ++ row ∷ []) → ⊥
 ends scope stops comes unique pieces row broken order breaks list =
     let from = comes list.0 (events_of pieces) row list.1.in_order list.1.whole in
     let same : from.0 ≡ pieces = unique (events_of pieces) from.0 pieces
@@ -55,11 +57,13 @@ ends scope stops comes unique pieces row broken order breaks list =
     (subst P same from.4)
 
 -- where no act list goes on, some rule is the first that the row breaks
-pub some_rule : (scope : Scope) → Decides → GoesForward scope → (pieces : List Piece) (row : Event) → ArePieces scope pieces
+pub some_rule : (scope : Scope) → Decides → GoesForward scope → (pieces : List Piece) (row : Event)
+    → ArePieces scope pieces
     → (HasActList scope (events_of pieces ++ row ∷ []) → ⊥)
     → (broken : Rule) × IsFirstBroken (situation_of scope pieces) row broken
 some_rule scope decides forward pieces row order none =
-    told (decides (situation_of scope pieces) row (is_sound scope pieces order) (has_reply scope pieces order))
+    told (decides (situation_of scope pieces) row (is_sound scope pieces order)
+    (has_reply scope pieces order))
   where
     told : ((next : Step) × Leads (situation_of scope pieces) row next)
         ⊎ ((broken : Rule) × IsFirstBroken (situation_of scope pieces) row broken)

@@ -176,9 +176,11 @@ is_outside : (needs : Need) → Decided (needs ≡ need.Outside)
 is_outside need.Outside = inl refl
 is_outside needs = never (λ e. cc)
 
-wrong_sum : (scope : Scope) (position : Position) (row : Event) → Decided (WrongSum scope position row)
+wrong_sum : (scope : Scope) (position : Position) (row : Event)
+    → Decided (WrongSum scope position row)
 wrong_sum scope (InAsk bytes) (Word at Controller word) =
-    both (is_exactly (needed_in scope bytes) (length bytes + 1)) (denied (same word (sum bytes % 256)))
+    both (is_exactly (needed_in scope bytes) (length bytes + 1))
+    (denied (same word (sum bytes % 256)))
 wrong_sum scope (InReply command bytes) (Word at Peripheral word) =
     both (within 256 word) (denied (same word (256 + sum bytes % 256)))
 wrong_sum scope position row = never (λ h. h)
@@ -208,7 +210,8 @@ Read command bytes =
     ((reply : Reply) × IsReply command reply × (bytes ≡ reply_bytes reply))
     ⊎ ((fault : MsgFault) × IsReadFault command bytes fault)
 
-read : (scope : Scope) → Grammar scope → (command : Command) (bytes : List ℕ) → IsContent bytes → Read command bytes
+read : (scope : Scope) → Grammar scope → (command : Command) (bytes : List ℕ) → IsContent bytes
+    → Read command bytes
 read scope grammar command bytes content = told (grammar.readable command bytes content)
   where
     told : ((reply : Reply) × IsReplyTo command reply × (bytes ≡ reply_bytes reply))
@@ -220,7 +223,8 @@ read scope grammar command bytes content = told (grammar.readable command bytes 
         inl (good.0, record { answers = good.1; content = there }, good.2)
     told (inr bad) = inr bad
 
-read_fault : (scope : Scope) → Grammar scope → (command : Command) (bytes : List ℕ) (fault : MsgFault) → Read command bytes
+read_fault : (scope : Scope) → Grammar scope
+    → (command : Command) (bytes : List ℕ) (fault : MsgFault) → Read command bytes
     → Decided (IsReadFault command bytes fault)
 read_fault scope grammar command bytes fault (inl good) =
     never (none_bad scope grammar command bytes good.0 fault good.1 good.2)
@@ -233,7 +237,8 @@ is_low : (level : Option ℕ) → Decided (IsLow level)
 is_low None = inl tt
 is_low (Some level) = less level 2
 
-high_levels : (scope : Scope) → Grammar scope → (command : Command) (bytes : List ℕ) (levels : Levels) → Read command bytes
+high_levels : (scope : Scope) → Grammar scope
+    → (command : Command) (bytes : List ℕ) (levels : Levels) → Read command bytes
     → Decided (HasHighLevels command bytes levels)
 high_levels scope grammar command bytes levels (inl good) =
     meant to from (both (is_true (tells_high good.0)) (denied (is_low (level_for command levels))))
@@ -271,7 +276,8 @@ no_vmc_answer word =
         × (word ≢ answer_word Controller answers.Ret)
     from h = (h answers.Ack, h answers.Nak, h answers.Ret)
 
-wrong_answer : (scope : Scope) → Grammar scope → (position : Position) (row : Event) → IsSound scope position
+wrong_answer : (scope : Scope) → Grammar scope → (position : Position) (row : Event)
+    → IsSound scope position
     → Decided (WrongAnswer position row)
 wrong_answer scope grammar (Asked command) (Word at Peripheral word) sound =
     either (all_three (within 256 word) (denied (same word (answer_word Peripheral answers.Ack)))
@@ -284,7 +290,8 @@ wrong_answer scope grammar (Replied command reply) (Word at Controller word) sou
     both (less word 256) (no_vmc_answer word)
 wrong_answer scope grammar position row sound = never (λ h. h)
 
-bad_message : (scope : Scope) → Grammar scope → (position : Position) (row : Event) → IsSound scope position
+bad_message : (scope : Scope) → Grammar scope → (position : Position) (row : Event)
+    → IsSound scope position
     → Decided (HasBadMessage position row)
 bad_message scope grammar (InReply command bytes) (Word at Peripheral word) sound =
     both (within 256 word) (read_fault scope grammar command bytes reading.Message
@@ -301,7 +308,8 @@ is_changed position row = never (λ h. h)
 outside_word : (scope : Scope) (word : ℕ) → Decided (IsOutside scope word)
 outside_word scope word = by (less word 256)
   where
-    at : 256 ≤ word → Decided (needed_in scope ((word - 256) ∷ []) ≡ need.Outside) → Decided (IsOutside scope word)
+    at : 256 ≤ word → Decided (needed_in scope ((word - 256) ∷ []) ≡ need.Outside)
+        → Decided (IsOutside scope word)
     at high (inl outside) = inl (word - 256, omega arith, outside)
     at high (inr inside) = never told
       where
@@ -315,7 +323,8 @@ outside_word scope word = by (less word 256)
     by (inl low) = never (λ h. absurd (omega (arith, low, h.1)))
     by (inr high) = at (omega (arith, high)) (is_outside (needed_in scope ((word - 256) ∷ [])))
 
-left_out : (scope : Scope) → Grammar scope → (position : Position) (levels : Levels) (row : Event) → IsSound scope position
+left_out : (scope : Scope) → Grammar scope → (position : Position) (levels : Levels) (row : Event)
+    → IsSound scope position
     → Decided (IsBeyondProfile scope position levels row)
 left_out scope grammar (InAsk bytes) levels (Word at Controller word) sound =
     both (is_more (needed_in scope bytes)) (is_outside (needed_in scope (bytes ++ word ∷ [])))
@@ -353,14 +362,16 @@ breaks s grammar row sound rule.Cashless = never (λ h. h)
 -- where a row leads
 abbrev LeadsOn : (scope : Scope) → Position → Option Event → Levels → Event → Type 0
 LeadsOn scope position from levels row =
-    (next : Step) × Leads (record { scope = scope; position = position; last = from; levels = levels }) row next
+    (next : Step)
+    × Leads (record { scope = scope; position = position; last = from; levels = levels }) row next
 
 -- none of the rules is broken
 abbrev NoneBroken : (scope : Scope) → Position → Option Event → Levels → Event → Type 0
 NoneBroken scope position from levels row = (r : Rule) → Broken scope position from levels row r → ⊥
 
 -- a marked word that isn't left out opens a block
-opens_on : (scope : Scope) → Grammar scope → (position : Position) (from : Option Event) (to : Event) (word : ℕ)
+opens_on : (scope : Scope) → Grammar scope
+    → (position : Position) (from : Option Event) (to : Event) (word : ℕ)
     → 256 ≤ word
     → (IsOutside scope word → ⊥)
     → BlockMayCome position from to
@@ -372,7 +383,8 @@ opens_on scope grammar position from to word high inside comes (inr foreign) =
     (step.Foreign, (word - 256, omega arith, foreign, comes))
 
 -- a marked word of the controller opens a block
-opens : (scope : Scope) → Grammar scope → (position : Position) (from : Option Event) (to : Event) (word : ℕ) → 256 ≤ word
+opens : (scope : Scope) → Grammar scope
+    → (position : Position) (from : Option Event) (to : Event) (word : ℕ) → 256 ≤ word
     → (IsOutside scope word → ⊥)
     → BlockMayCome position from to → (next : Step) × Opens scope position from to word next
 opens scope grammar position from to word high inside comes =
@@ -380,7 +392,8 @@ opens scope grammar position from to word high inside comes =
     (first_byte scope grammar (word - 256) (λ out. inside (word - 256, omega arith, out)))
 
 -- a whole ask
-ask_whole : (scope : Scope) → Grammar scope → (bytes : List ℕ) (from : Option Event) (to : Event) (word : ℕ)
+ask_whole : (scope : Scope) → Grammar scope
+    → (bytes : List ℕ) (from : Option Event) (to : Event) (word : ℕ)
     → All IsByte bytes
     → needed_in scope bytes ≡ need.Exactly (length bytes + 1) → word < 256 → word ≡ sum bytes % 256
     → Within WORD_GAP_MIN BLOCK_GAP_MAX from to
@@ -391,7 +404,8 @@ ask_whole scope grammar bytes from to word low told small total near =
     (step.Ask found.0, (small, subst P (sym total) found.1, near))
 
 -- a longer front of an ask
-ask_longer : (scope : Scope) → Grammar scope → (bytes : List ℕ) (from : Option Event) (to : Event) (word n : ℕ) → bytes ≢ []
+ask_longer : (scope : Scope) → Grammar scope
+    → (bytes : List ℕ) (from : Option Event) (to : Event) (word n : ℕ) → bytes ≢ []
     → All IsByte bytes
     → needed_in scope (bytes ++ word ∷ []) ≡ need.Exactly n → length bytes + 1 < n → word < 256
     → Within WORD_GAP_MIN BLOCK_GAP_MAX from to
@@ -401,7 +415,8 @@ ask_longer scope grammar bytes from to word n some low told long small near =
     let count : length (bytes ++ word ∷ []) ≡ length bytes + 1 =
     omega (arith, length-append bytes (word ∷ [])) in
     let front : IsAskFront scope (bytes ++ word ∷ []) =
-    front_of scope grammar (bytes ++ word ∷ []) (some_there bytes) (All-push IsByte bytes word low small)
+    front_of scope grammar (bytes ++ word ∷ []) (some_there bytes)
+    (All-push IsByte bytes word low small)
     (inr (n, told, omega (arith, count, long))) in
     (step.AskByte word, (refl, small, front, near))
   where
@@ -410,15 +425,19 @@ ask_longer scope grammar bytes from to word n some low told long small near =
     some_there (b ∷ bs) is = cc
 
 -- the second byte of a block
-second_byte : (scope : Scope) → Grammar scope → (first : ℕ) (from : Option Event) (to : Event) (word : ℕ)
+second_byte : (scope : Scope) → Grammar scope
+    → (first : ℕ) (from : Option Event) (to : Event) (word : ℕ)
     → All IsByte (first ∷ [])
-    → needed_in scope (first ∷ []) ≡ need.More → (needed_in scope (first ∷ word ∷ []) ≡ need.Outside → ⊥) → word < 256
+    → needed_in scope (first ∷ []) ≡ need.More
+    → (needed_in scope (first ∷ word ∷ []) ≡ need.Outside → ⊥) → word < 256
     → Within WORD_GAP_MIN BLOCK_GAP_MAX from to
-    → (n : Need) → needed_in scope (first ∷ word ∷ []) ≡ n → (next : Step) × GoesOnAsking scope (first ∷ []) from
+    → (n : Need) → needed_in scope (first ∷ word ∷ []) ≡ n
+    → (next : Step) × GoesOnAsking scope (first ∷ []) from
     to word next
 second_byte scope grammar first from to word low more inside small near (need.Exactly n) told =
     let three : 3 ≤ n = need_three scope first word n more told in
-    ask_longer scope grammar (first ∷ []) from to word n (λ none. cc) low told (omega (arith, three))
+    ask_longer scope grammar (first ∷ []) from to word n (λ none. cc) low told
+    (omega (arith, three))
     small near
 second_byte scope grammar first from to word low more inside small near need.More told =
     absurd (need_ends scope first word told)
@@ -428,59 +447,76 @@ second_byte scope grammar first from to word low more inside small near need.Out
     absurd (inside told)
 
 -- where the first byte left it to the second
-asks_second : (scope : Scope) → Grammar scope → (bytes : List ℕ) (from : Option Event) (to : Event) (word : ℕ)
+asks_second : (scope : Scope) → Grammar scope
+    → (bytes : List ℕ) (from : Option Event) (to : Event) (word : ℕ)
     → length bytes ≡ 1
     → All IsByte bytes
-    → needed_in scope bytes ≡ need.More → (needed_in scope (bytes ++ word ∷ []) ≡ need.Outside → ⊥) → word < 256
+    → needed_in scope bytes ≡ need.More → (needed_in scope (bytes ++ word ∷ []) ≡ need.Outside → ⊥)
+    → word < 256
     → Within WORD_GAP_MIN BLOCK_GAP_MAX from to
     → (next : Step) × GoesOnAsking scope bytes from to word next
-asks_second scope grammar [] from to word one low more inside small near = absurd (omega (arith, one))
+asks_second scope grammar [] from to word one low more inside small near =
+    absurd (omega (arith, one))
 asks_second scope grammar (first ∷ []) from to word one low more inside small near =
-    second_byte scope grammar first from to word low more inside small near (needed_in scope (first ∷ word ∷ []))
+    second_byte scope grammar first from to word low more inside small near
+    (needed_in scope (first ∷ word ∷ []))
     refl
 asks_second scope grammar (first ∷ second ∷ bytes) from to word one low more inside small near =
     absurd (omega (arith, one))
 
 -- where the first bytes told the length
-asks_further : (scope : Scope) → Grammar scope → (bytes : List ℕ) (from : Option Event) (to : Event) (word n : ℕ)
+asks_further : (scope : Scope) → Grammar scope
+    → (bytes : List ℕ) (from : Option Event) (to : Event) (word n : ℕ)
     → bytes ≢ []
     → All IsByte bytes
     → needed_in scope bytes ≡ need.Exactly n → length bytes + 1 ≤ n
-    → ((needed_in scope bytes ≡ need.Exactly (length bytes + 1)) × (word ≢ sum bytes % 256) → ⊥) → word < 256
+    → ((needed_in scope bytes ≡ need.Exactly (length bytes + 1)) × (word ≢ sum bytes % 256) → ⊥)
+    → word < 256
     → Within WORD_GAP_MIN BLOCK_GAP_MAX from to
     → Decided (n ≡ length bytes + 1) → (next : Step) × GoesOnAsking scope bytes from to word next
 asks_further scope grammar bytes from to word n some low told enough summed small near (inl is) =
-    let whole : needed_in scope bytes ≡ need.Exactly (length bytes + 1) = told ∙ ap need.Exactly is in
+    let whole : needed_in scope bytes ≡ need.Exactly (length bytes + 1) =
+    told ∙ ap need.Exactly is in
     ask_whole scope grammar bytes from to word low whole small
     (held (same word (sum bytes % 256)) (λ wrong. summed (whole, wrong))) near
 asks_further scope grammar bytes from to word n some low told enough summed small near (inr more) =
-    ask_longer scope grammar bytes from to word n some low (needed_stays scope bytes word n some told)
+    ask_longer scope grammar bytes from to word n some low
+    (needed_stays scope bytes word n some told)
     (omega (arith, enough, more))
     small near
 
 -- an unmarked word goes on with a block, or ends it
-asks : (scope : Scope) → Grammar scope → (bytes : List ℕ) (from : Option Event) (to : Event) (word whole : ℕ) → bytes ≢ []
+asks : (scope : Scope) → Grammar scope
+    → (bytes : List ℕ) (from : Option Event) (to : Event) (word whole : ℕ) → bytes ≢ []
     → All IsByte bytes
     → length bytes + 1 ≤ whole
     → ((needed_in scope bytes ≡ need.Exactly (length bytes + 1)) × (word ≢ sum bytes % 256) → ⊥)
-    → ((needed_in scope bytes ≡ need.More) × (needed_in scope (bytes ++ word ∷ []) ≡ need.Outside) → ⊥) → word < 256
+    → ((needed_in scope bytes ≡ need.More) × (needed_in scope (bytes ++ word ∷ []) ≡ need.Outside)
+    → ⊥)
+    → word < 256
     → Within WORD_GAP_MIN BLOCK_GAP_MAX from to
     → (n : Need) → needed_in scope bytes ≡ n → IsTold n (length bytes) whole
     → (next : Step) × GoesOnAsking scope bytes from to word next
-asks scope grammar bytes from to word whole some low enough summed inside small near (need.Exactly n) told
+asks scope grammar bytes from to word whole some low enough summed inside small near
+    (need.Exactly n) told
     is =
-    asks_further scope grammar bytes from to word n some low told (omega (arith, enough, is)) summed small
+    asks_further scope grammar bytes from to word n some low told (omega (arith, enough, is)) summed
+    small
     near
     (same n (length bytes + 1))
-asks scope grammar bytes from to word whole some low enough summed inside small near need.More told is =
+asks scope grammar bytes from to word whole some low enough summed inside small near need.More told
+    is =
     asks_second scope grammar bytes from to word is low told (λ out. inside (told, out)) small near
-asks scope grammar bytes from to word whole some low enough summed inside small near need.Foreign told
+asks scope grammar bytes from to word whole some low enough summed inside small near need.Foreign
+    told
     is = absurd is
-asks scope grammar bytes from to word whole some low enough summed inside small near need.Outside told
+asks scope grammar bytes from to word whole some low enough summed inside small near need.Outside
+    told
     is = absurd is
 
 -- a word inside an ask leads on
-goes_on_asking : (scope : Scope) → Grammar scope → (bytes : List ℕ) (from : Option Event) (levels : Levels) (at word : ℕ)
+goes_on_asking : (scope : Scope) → Grammar scope
+    → (bytes : List ℕ) (from : Option Event) (levels : Levels) (at word : ℕ)
     → IsAskFront scope bytes
     → NoneBroken scope (InAsk bytes) from levels (Word at Controller word)
     → LeadsOn scope (InAsk bytes) from levels (Word at Controller word)
@@ -494,13 +530,16 @@ goes_on_asking scope grammar bytes from levels at word front none =
     let more : 0 < length front.rest = some_long front.rest front.open_end in
     let enough : length bytes + 1 ≤ length (bytes ++ front.rest) =
     omega (arith, more, length-append bytes front.rest) in
-    asks scope grammar bytes from (Word at Controller word) word (length (bytes ++ front.rest)) front.some
-    (front_bytes scope bytes front) enough (none rule.Sum) (none rule.Profile) small near (needed_in scope bytes)
+    asks scope grammar bytes from (Word at Controller word) word (length (bytes ++ front.rest))
+    front.some
+    (front_bytes scope bytes front) enough (none rule.Sum) (none rule.Profile) small near
+    (needed_in scope bytes)
     refl
     (grammar.tells bytes front.rest front.command some front.spelled)
 
 -- a peripheral's word answers a command
-when_asked : (scope : Scope) (command : Command) (from : Option Event) (levels : Levels) (at word : ℕ)
+when_asked : (scope : Scope) (command : Command) (from : Option Event) (levels : Levels)
+    (at word : ℕ)
     → NoneBroken scope (Asked command) from levels (Word at Peripheral word) → Decided (word < 256)
     → LeadsOn scope (Asked command) from levels (Word at Peripheral word)
 when_asked scope command from levels at word none (inl low) = (
@@ -534,7 +573,8 @@ when_asked scope command from levels at word none (inr high) =
         absurd (none rule.Answer (inl (omega (arith, high), not_ack, not_nak)))
 
 -- an unmarked word goes on with a reply
-reply_longer : (scope : Scope) (command : Command) (bytes : List ℕ) (from : Option Event) (levels : Levels)
+reply_longer : (scope : Scope) (command : Command) (bytes : List ℕ) (from : Option Event)
+    (levels : Levels)
     (at word : ℕ)
     → NoneBroken scope (InReply command bytes) from levels (Word at Peripheral word) → word < 256
     → Within WORD_GAP_MIN BLOCK_GAP_MAX from (Word at Peripheral word)
@@ -545,7 +585,8 @@ reply_longer scope command bytes from levels at word none low near =
     (step.ReplyByte word, (refl, low, short, near))
 
 -- a marked word ends it
-reply_whole : (scope : Scope) → Grammar scope → (command : Command) (bytes : List ℕ) (from : Option Event) (levels : Levels)
+reply_whole : (scope : Scope) → Grammar scope
+    → (command : Command) (bytes : List ℕ) (from : Option Event) (levels : Levels)
     (at word : ℕ)
     → NoneBroken scope (InReply command bytes) from levels (Word at Peripheral word) → 256 ≤ word
     → Within WORD_GAP_MIN BLOCK_GAP_MAX from (Word at Peripheral word) → Read command bytes
@@ -580,7 +621,8 @@ reply_whole scope grammar command bytes from levels at word none high near (inr 
     faulty reading.Answer told = none rule.Answer (high, told)
 
 -- a word inside a reply leads on
-replies : (scope : Scope) → Grammar scope → (command : Command) (bytes : List ℕ) (from : Option Event) (levels : Levels)
+replies : (scope : Scope) → Grammar scope
+    → (command : Command) (bytes : List ℕ) (from : Option Event) (levels : Levels)
     (at word : ℕ)
     → IsReplyFront command bytes → NoneBroken scope (InReply command bytes) from levels
     (Word at Peripheral word)
@@ -602,7 +644,8 @@ replies scope grammar command bytes from levels at word front none sized = by si
         (read scope grammar command bytes (content_of command bytes front))
 
 -- a controller's unmarked word answers a reply
-vmc_answers : (scope : Scope) (command : Command) (reply : Reply) (from : Option Event) (levels : Levels)
+vmc_answers : (scope : Scope) (command : Command) (reply : Reply) (from : Option Event)
+    (levels : Levels)
     (at word : ℕ)
     → NoneBroken scope (Replied command reply) from levels (Word at Controller word) → word < 256
     → Decided (word ≡ answer_word Controller answers.Ack)
@@ -636,17 +679,20 @@ vmc_answers scope command reply from levels at word none low ack nak ret = by ac
     by (inr a) (inr n) (inr r) = absurd (none rule.Answer (low, no_answer a n r))
 
 -- an opening leads on after a reply too
-opening_leads : (scope : Scope) (command : Command) (reply : Reply) (from : Option Event) (levels : Levels)
+opening_leads : (scope : Scope) (command : Command) (reply : Reply) (from : Option Event)
+    (levels : Levels)
     (at word : ℕ) (next : Step)
     → Opens scope (Replied command reply) from (Word at Controller word) word next
-    → Leads (record { scope = scope; position = Replied command reply; last = from; levels = levels })
+    → Leads
+    (record { scope = scope; position = Replied command reply; last = from; levels = levels })
     (Word at Controller word) next
 opening_leads scope command reply from levels at word (step.AskByte byte) leads = leads
 opening_leads scope command reply from levels at word step.Foreign leads = leads
 opening_leads scope command reply from levels at word next leads = absurd leads
 
 -- an answer to a reply, or a block after it
-when_replied : (scope : Scope) → Grammar scope → (command : Command) (reply : Reply) (from : Option Event) (levels : Levels)
+when_replied : (scope : Scope) → Grammar scope
+    → (command : Command) (reply : Reply) (from : Option Event) (levels : Levels)
     (at word : ℕ)
     → NoneBroken scope (Replied command reply) from levels (Word at Controller word)
     → Decided (word < 256)
@@ -683,7 +729,8 @@ words_long command reply good =
     )
 
 -- a word begins a repeat
-repeat_begins : (scope : Scope) (command : Command) (reply : Reply) (from : Option Event) (levels : Levels)
+repeat_begins : (scope : Scope) (command : Command) (reply : Reply) (from : Option Event)
+    (levels : Levels)
     (at word : ℕ)
     → IsReply command reply
     → Within WORD_GAP_MIN ANSWER_GAP_MAX from (Word at Peripheral word) → (rest : List ℕ)
@@ -707,7 +754,8 @@ repeat_begins scope command reply from levels at word good near (next ∷ rest) 
 )
 
 -- a word that begins a repeat
-when_returned : (scope : Scope) (command : Command) (reply : Reply) (from : Option Event) (levels : Levels)
+when_returned : (scope : Scope) (command : Command) (reply : Reply) (from : Option Event)
+    (levels : Levels)
     (at word : ℕ)
     → IsReply command reply
     → NoneBroken scope (Returned command reply) from levels (Word at Peripheral word)
@@ -725,7 +773,8 @@ not_empty [] word none = cc
 not_empty (w ∷ words) word none = cc
 
 -- a word goes on with a repeat, or ends it
-repeat_goes_on : (scope : Scope) (command : Command) (reply : Reply) (words : List ℕ) (from : Option Event)
+repeat_goes_on : (scope : Scope) (command : Command) (reply : Reply) (words : List ℕ)
+    (from : Option Event)
     (levels : Levels)
     (at word : ℕ)
     → Within WORD_GAP_MIN BLOCK_GAP_MAX from (Word at Peripheral word) → (rest : List ℕ)
@@ -747,7 +796,8 @@ repeat_goes_on scope command reply words from levels at word near (next ∷ rest
 )
 
 -- a word inside a repeat
-in_repeat : (scope : Scope) (command : Command) (reply : Reply) (words : List ℕ) (from : Option Event)
+in_repeat : (scope : Scope) (command : Command) (reply : Reply) (words : List ℕ)
+    (from : Option Event)
     (levels : Levels) (at word : ℕ)
     → NoneBroken scope (InRepeat command reply words) from levels (Word at Peripheral word)
     → LeadsOn scope (InRepeat command reply words) from levels (Word at Peripheral word)
@@ -767,7 +817,8 @@ in_foreign scope grammar from levels at word none (inl low) = (
   inr (low, not_before WORD_GAP_MIN from (Word at Controller word) (none rule.Early)),
 )
 in_foreign scope grammar from levels at word none (inr large) =
-    let on = opens scope grammar InForeign from (Word at Controller word) word (omega (arith, large))
+    let on =
+    opens scope grammar InForeign from (Word at Controller word) word (omega (arith, large))
     (none rule.Profile)
     (not_before WORD_GAP_MIN from (Word at Controller word) (none rule.Early)) in
     (on.0, inl on.1)
@@ -777,9 +828,11 @@ high_word : (word : ℕ) → (word < 256 → ⊥) → 256 ≤ word
 high_word word low = omega (arith, low)
 
 -- a word that breaks no rule leads on
-word_leads : (scope : Scope) → Grammar scope → (position : Position) (from : Option Event) (levels : Levels) (at : ℕ)
+word_leads : (scope : Scope) → Grammar scope
+    → (position : Position) (from : Option Event) (levels : Levels) (at : ℕ)
     (line : Line) (word : ℕ)
-    → IsSound scope position → HasReply position → NoneBroken scope position from levels (Word at line word)
+    → IsSound scope position → HasReply position
+    → NoneBroken scope position from levels (Word at line word)
     → LeadsOn scope position from levels (Word at line word)
 word_leads scope grammar Quiet from levels at Controller word sound replied none =
     opens scope grammar Quiet from (Word at Controller word) word (high_word word (none rule.Mode))
@@ -806,12 +859,14 @@ word_leads scope grammar (Replied command reply) from levels at Controller word 
     when_replied scope grammar command reply from levels at word none (less word 256)
 word_leads scope grammar (Replied command reply) from levels at Peripheral word sound replied none =
     absurd (none rule.Speaker tt)
-word_leads scope grammar (Returned command reply) from levels at Controller word sound replied none =
+word_leads scope grammar (Returned command reply) from levels at Controller word sound replied
+    none =
     opens scope grammar (Returned command reply) from (Word at Controller word) word
     (high_word word (none rule.Mode))
     (none rule.Profile)
     (not_before NEW_BLOCK_GAP_MIN from (Word at Controller word) (none rule.Early))
-word_leads scope grammar (Returned command reply) from levels at Peripheral word sound replied none =
+word_leads scope grammar (Returned command reply) from levels at Peripheral word sound replied
+    none =
     when_returned scope command reply from levels at word replied none
 word_leads scope grammar (InRepeat command reply words) from levels at Controller word sound replied
     none =
@@ -825,7 +880,8 @@ word_leads scope grammar InForeign from levels at Peripheral word sound replied 
     (step.Foreign, not_before WORD_GAP_MIN from (Word at Peripheral word) (none rule.Early))
 
 -- a row that breaks no rule leads on
-leads_on : (s : Situation) → Grammar s.scope → (row : Event) → IsSound s.scope s.position → HasReply s.position
+leads_on : (s : Situation) → Grammar s.scope → (row : Event) → IsSound s.scope s.position
+    → HasReply s.position
     → ((r : Rule) → RowBreaks s row r → ⊥) → (next : Step) × Leads s row next
 leads_on s grammar (Word at line word) sound replied none =
     word_leads s.scope grammar s.position s.last s.levels at line word sound replied none
@@ -841,7 +897,8 @@ leads_on s grammar (Break at lasted) sound replied none =
     )
 
 -- a row leads on, or some rule is the first that it breaks
-pub decide : (s : Situation) → Grammar s.scope → (row : Event) → IsSound s.scope s.position → HasReply s.position
+pub decide : (s : Situation) → Grammar s.scope → (row : Event) → IsSound s.scope s.position
+    → HasReply s.position
     → ((next : Step) × Leads s row next) ⊎ ((broken : Rule) × IsFirstBroken s row broken)
 decide s grammar row sound replied =
     told (first_or_none (RowBreaks s row) (breaks s grammar row sound))

@@ -29,7 +29,8 @@ first_replied PowerOn = tt
 first_replied (Joined setups) = tt
 
 -- the position after pieces in order is sound
-pub is_sound : (scope : Scope) (pieces : List Piece) → ArePieces scope pieces → IsSound scope (position_of scope pieces)
+pub is_sound : (scope : Scope) (pieces : List Piece) → ArePieces scope pieces
+    → IsSound scope (position_of scope pieces)
 is_sound scope [] order = first_sound scope scope.begins
 is_sound scope (AskTail bytes events ∷ pieces) order = order.0.said.0
 is_sound scope (ReplyTail command bytes events ∷ pieces) order = order.0.said.0
@@ -59,22 +60,27 @@ foreign_long (Word at line word) further = tt
 foreign_long (Break at length) further = absurd further
 
 -- nor does a foreign act end in one
-a_foreign_long : (scope : Scope) (events : List Event) → IsForeign scope events → LastIsLong (last_of events)
-a_foreign_long scope events (inl opening) = say_long Controller (words_on Controller opening.0) events
+a_foreign_long : (scope : Scope) (events : List Event) → IsForeign scope events
+    → LastIsLong (last_of events)
+a_foreign_long scope events (inl opening) =
+    say_long Controller (words_on Controller opening.0) events
     opening.2
 a_foreign_long scope events (inr further) =
     let P : List Event → Type 0 = λ es. LastIsLong (last_of es) in
     subst P (sym further.1) (foreign_long further.0 further.2)
 
 -- the last row of a piece that is a break is long
-piece_long : (scope : Scope) (piece : Piece) → IsSaid scope piece → LastIsLong (last_of (piece_events piece))
-piece_long scope (Whole (acts.Ask command) events) said = say_long Controller (command_words command)
+piece_long : (scope : Scope) (piece : Piece) → IsSaid scope piece
+    → LastIsLong (last_of (piece_events piece))
+piece_long scope (Whole (acts.Ask command) events) said =
+    say_long Controller (command_words command)
     events said.1
 piece_long scope (Whole (acts.Ack command) events) said =
     say_long Peripheral (answer_word Peripheral answers.Ack ∷ []) events said
 piece_long scope (Whole (acts.Nak command) events) said =
     say_long Peripheral (answer_word Peripheral answers.Nak ∷ []) events said
-piece_long scope (Whole (acts.Reply command reply) events) said = say_long Peripheral (reply_words reply)
+piece_long scope (Whole (acts.Reply command reply) events) said =
+    say_long Peripheral (reply_words reply)
     events said.1
 piece_long scope (Whole (acts.VmcAck command reply) events) said =
     say_long Controller (answer_word Controller answers.Ack ∷ []) events said
@@ -82,16 +88,19 @@ piece_long scope (Whole (acts.VmcNak command reply) events) said =
     say_long Controller (answer_word Controller answers.Nak ∷ []) events said
 piece_long scope (Whole (acts.VmcRet command reply) events) said =
     say_long Controller (answer_word Controller answers.Ret ∷ []) events said
-piece_long scope (Whole (acts.Repeat command reply) events) said = say_long Peripheral (reply_words reply)
+piece_long scope (Whole (acts.Repeat command reply) events) said =
+    say_long Peripheral (reply_words reply)
     events said
 piece_long scope (Whole acts.Foreign events) said = a_foreign_long scope events said
 piece_long scope (Whole (acts.Break length) events) said =
     let P : List Event → Type 0 = λ es. LastIsLong (last_of es) in
     subst P (sym said.1) said.2
-piece_long scope (AskTail bytes events) said = say_long Controller (words_on Controller bytes) events
+piece_long scope (AskTail bytes events) said =
+    say_long Controller (words_on Controller bytes) events
     said.1
 piece_long scope (ReplyTail command bytes events) said = say_long Peripheral bytes events said.1
-piece_long scope (RepeatTail command reply words events) said = say_long Peripheral words events said.1
+piece_long scope (RepeatTail command reply words events) said =
+    say_long Peripheral words events said.1
 
 -- the last row of pieces that is a break is long
 pub last_is_long : (scope : Scope) (pieces : List Piece) → ArePieces scope pieces
@@ -109,7 +118,8 @@ last_is_long scope (piece ∷ pieces) order =
     here)
 
 -- after a reply or a repeat, and where it was asked for again, there is a reply
-pub has_reply : (scope : Scope) (pieces : List Piece) → ArePieces scope pieces → HasReply (position_of scope pieces)
+pub has_reply : (scope : Scope) (pieces : List Piece) → ArePieces scope pieces
+    → HasReply (position_of scope pieces)
 has_reply scope [] order = first_replied scope.begins
 has_reply scope (Whole (acts.Reply command reply) events ∷ pieces) order = order.0.said.0
 has_reply scope (Whole (acts.VmcRet command reply) events ∷ pieces) order =

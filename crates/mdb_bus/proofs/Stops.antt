@@ -82,13 +82,15 @@ some_long [] some = absurd (some refl)
 some_long (x ∷ xs) some = omega arith
 
 -- the front of a command's block isn't outside the profile
-front_inside : (scope : Scope) → Grammar scope → (bytes : List ℕ) → IsAskFront scope bytes → needed_in scope bytes ≡ need.Outside → ⊥
+front_inside : (scope : Scope) → Grammar scope → (bytes : List ℕ) → IsAskFront scope bytes
+    → needed_in scope bytes ≡ need.Outside → ⊥
 front_inside scope grammar bytes front outside =
     not_told (needed_in scope bytes) (length bytes) (length (bytes ++ front.rest)) outside
     (grammar.tells bytes front.rest front.command (some_long bytes front.some) front.spelled)
 
 -- the front of a longer front needs more than one byte
-front_open : (scope : Scope) → Grammar scope → (bytes : List ℕ) (byte : ℕ) → bytes ≢ [] → IsAskFront scope (bytes ++ byte ∷ [])
+front_open : (scope : Scope) → Grammar scope → (bytes : List ℕ) (byte : ℕ) → bytes ≢ []
+    → IsAskFront scope (bytes ++ byte ∷ [])
     → needed_in scope bytes ≡ need.Exactly (length bytes + 1) → ⊥
 front_open scope grammar bytes byte some front short =
     let P : List ℕ → Type 0 = λ block. Asks scope front.command block in
@@ -103,21 +105,24 @@ front_open scope grammar bytes byte some front short =
     absurd (omega (arith, same, more, length-append bytes (byte ∷ front.rest)))
 
 -- where a block opens, its word is marked
-opens_marked : (scope : Scope) (position : Position) (from : Option Event) (to : Event) (word : ℕ) (next : Step)
+opens_marked : (scope : Scope) (position : Position) (from : Option Event) (to : Event) (word : ℕ)
+    (next : Step)
     → Opens scope position from to word next → 256 ≤ word
 opens_marked scope position from to word (step.AskByte byte) leads = omega (arith, leads.0)
 opens_marked scope position from to word step.Foreign leads = omega (arith, leads.1)
 opens_marked scope position from to word next leads = absurd leads
 
 -- and it may come
-opens_comes : (scope : Scope) (position : Position) (from : Option Event) (to : Event) (word : ℕ) (next : Step)
+opens_comes : (scope : Scope) (position : Position) (from : Option Event) (to : Event) (word : ℕ)
+    (next : Step)
     → Opens scope position from to word next → BlockMayCome position from to
 opens_comes scope position from to word (step.AskByte byte) leads = leads.2
 opens_comes scope position from to word step.Foreign leads = leads.3
 opens_comes scope position from to word next leads = absurd leads
 
 -- and it isn't one that is left out
-opens_inside : (scope : Scope) → Grammar scope → (position : Position) (from : Option Event) (to : Event) (word : ℕ)
+opens_inside : (scope : Scope) → Grammar scope
+    → (position : Position) (from : Option Event) (to : Event) (word : ℕ)
     (next : Step)
     → Opens scope position from to word next → IsOutside scope word → ⊥
 opens_inside scope grammar position from to word (step.AskByte byte) leads outside =
@@ -135,10 +140,12 @@ opens_inside scope grammar position from to word next leads outside = absurd lea
 -- a row in a situation breaks a rule
 abbrev pub Broken : (scope : Scope) → Position → Option Event → Levels → Event → Rule → Type 0
 Broken scope position from levels row broken =
-    RowBreaks (record { scope = scope; position = position; last = from; levels = levels }) row broken
+    RowBreaks (record { scope = scope; position = position; last = from; levels = levels }) row
+    broken
 
 -- where nothing is open, a word that breaks a rule opens no block
-when_quiet : (scope : Scope) → Grammar scope → (from : Option Event) (levels : Levels) (at word : ℕ) (broken : Rule)
+when_quiet : (scope : Scope) → Grammar scope
+    → (from : Option Event) (levels : Levels) (at word : ℕ) (broken : Rule)
     (next : Step)
     → Broken scope Quiet from levels (Word at Controller word) broken
     → Opens scope Quiet from (Word at Controller word) word next
@@ -161,7 +168,8 @@ when_quiet scope grammar from levels at word rule.Profile next breaks leads =
 when_quiet scope grammar from levels at word other next breaks leads = breaks
 
 -- nor does one after a command
-ask_when_asked : (scope : Scope) → Grammar scope → (command : Command) (from : Option Event) (levels : Levels) (at word : ℕ)
+ask_when_asked : (scope : Scope) → Grammar scope
+    → (command : Command) (from : Option Event) (levels : Levels) (at word : ℕ)
     (broken : Rule)
     (next : Step)
     → Broken scope (Asked command) from levels (Word at Controller word) broken
@@ -204,7 +212,8 @@ ask_when_returned scope grammar command reply from levels at word rule.Early nex
     not_early NEW_BLOCK_GAP_MIN from (Word at Controller word) breaks
     (opens_comes scope (Returned command reply) from (Word at Controller word) word next leads)
 ask_when_returned scope grammar command reply from levels at word rule.Profile next breaks leads =
-    opens_inside scope grammar (Returned command reply) from (Word at Controller word) word next leads
+    opens_inside scope grammar (Returned command reply) from (Word at Controller word) word next
+    leads
     breaks
 ask_when_returned scope grammar command reply from levels at word other next breaks leads = breaks
 
@@ -218,10 +227,12 @@ ask_when_replied : (scope : Scope) → Grammar scope
 ask_when_replied scope grammar command reply from levels at word rule.Order next breaks leads =
     in_order NEW_BLOCK_GAP_MIN from (Word at Controller word) (omega arith) breaks
     (opens_comes scope (Replied command reply) from (Word at Controller word) word next leads)
-ask_when_replied scope grammar command reply from levels at word rule.Early next (inl breaks) leads =
+ask_when_replied scope grammar command reply from levels at word rule.Early next (inl breaks)
+    leads =
     not_early NEW_BLOCK_GAP_MIN from (Word at Controller word) breaks.1
     (opens_comes scope (Replied command reply) from (Word at Controller word) word next leads)
-ask_when_replied scope grammar command reply from levels at word rule.Early next (inr breaks) leads =
+ask_when_replied scope grammar command reply from levels at word rule.Early next (inr breaks)
+    leads =
     absurd (omega (
       arith,
       breaks.0,
@@ -240,12 +251,14 @@ ask_when_replied scope grammar command reply from levels at word rule.Answer nex
       opens_marked scope (Replied command reply) from (Word at Controller word) word next leads,
     ))
 ask_when_replied scope grammar command reply from levels at word rule.Profile next breaks leads =
-    opens_inside scope grammar (Replied command reply) from (Word at Controller word) word next leads
+    opens_inside scope grammar (Replied command reply) from (Word at Controller word) word next
+    leads
     breaks
 ask_when_replied scope grammar command reply from levels at word other next breaks leads = breaks
 
 -- a controller's answer comes in its time
-vmc_answers : (scope : Scope) (command : Command) (reply : Reply) (from : Option Event) (levels : Levels)
+vmc_answers : (scope : Scope) (command : Command) (reply : Reply) (from : Option Event)
+    (levels : Levels)
     (at word : ℕ)
     (answer : Answer) (broken : Rule)
     → Broken scope (Replied command reply) from levels (Word at Controller word) broken
@@ -266,31 +279,40 @@ vmc_answers scope command reply from levels at word answer rule.Profile breaks l
 vmc_answers scope command reply from levels at word answer other breaks low is near = breaks
 
 -- an answer to a reply, or a block after it
-when_replied : (scope : Scope) → Grammar scope → (command : Command) (reply : Reply) (from : Option Event) (levels : Levels)
+when_replied : (scope : Scope) → Grammar scope
+    → (command : Command) (reply : Reply) (from : Option Event) (levels : Levels)
     (at word : ℕ)
     (broken : Rule) (next : Step)
     → Broken scope (Replied command reply) from levels (Word at Controller word) broken
     → AnswersReply scope command reply from (Word at Controller word) word next → ⊥
 when_replied scope grammar command reply from levels at word broken step.VmcAck breaks leads =
-    vmc_answers scope command reply from levels at word answers.Ack broken breaks (omega (arith, leads.0))
+    vmc_answers scope command reply from levels at word answers.Ack broken breaks
+    (omega (arith, leads.0))
     leads.0 leads.1
 when_replied scope grammar command reply from levels at word broken step.VmcNak breaks leads =
-    vmc_answers scope command reply from levels at word answers.Nak broken breaks (omega (arith, leads.0))
+    vmc_answers scope command reply from levels at word answers.Nak broken breaks
+    (omega (arith, leads.0))
     leads.0 leads.1
 when_replied scope grammar command reply from levels at word broken step.VmcRet breaks leads =
-    vmc_answers scope command reply from levels at word answers.Ret broken breaks (omega (arith, leads.0))
+    vmc_answers scope command reply from levels at word answers.Ret broken breaks
+    (omega (arith, leads.0))
     leads.0 leads.1
-when_replied scope grammar command reply from levels at word broken (step.AskByte byte) breaks leads =
-    ask_when_replied scope grammar command reply from levels at word broken (step.AskByte byte) breaks
+when_replied scope grammar command reply from levels at word broken (step.AskByte byte) breaks
+    leads =
+    ask_when_replied scope grammar command reply from levels at word broken (step.AskByte byte)
+    breaks
     leads
 when_replied scope grammar command reply from levels at word broken step.Foreign breaks leads =
-    ask_when_replied scope grammar command reply from levels at word broken step.Foreign breaks leads
+    ask_when_replied scope grammar command reply from levels at word broken step.Foreign breaks
+    leads
 when_replied scope grammar command reply from levels at word broken next breaks leads = leads
 
 -- a foreign word comes in its time
-foreign_goes_on : (scope : Scope) (line : Line) (from : Option Event) (levels : Levels) (at word : ℕ)
+foreign_goes_on : (scope : Scope) (line : Line) (from : Option Event) (levels : Levels)
+    (at word : ℕ)
     (broken : Rule) (next : Step)
-    → Broken scope InForeign from levels (Word at line word) broken → IsForeignWord (Word at line word)
+    → Broken scope InForeign from levels (Word at line word) broken
+    → IsForeignWord (Word at line word)
     → GoesOnForeign from (Word at line word) next → ⊥
 foreign_goes_on scope Controller from levels at word rule.Order step.Foreign breaks low comes =
     in_order WORD_GAP_MIN from (Word at Controller word) (omega arith) breaks comes
@@ -307,7 +329,8 @@ foreign_goes_on scope Peripheral from levels at word other step.Foreign breaks l
 foreign_goes_on scope line from levels at word broken next breaks low comes = comes
 
 -- a block after foreign traffic
-ask_in_foreign : (scope : Scope) → Grammar scope → (from : Option Event) (levels : Levels) (at word : ℕ) (broken : Rule)
+ask_in_foreign : (scope : Scope) → Grammar scope
+    → (from : Option Event) (levels : Levels) (at word : ℕ) (broken : Rule)
     (next : Step)
     → Broken scope InForeign from levels (Word at Controller word) broken
     → Opens scope InForeign from (Word at Controller word) word next → ⊥
@@ -322,7 +345,8 @@ ask_in_foreign scope grammar from levels at word rule.Profile next breaks leads 
 ask_in_foreign scope grammar from levels at word other next breaks leads = breaks
 
 -- foreign traffic, or a block after it
-in_foreign : (scope : Scope) → Grammar scope → (from : Option Event) (levels : Levels) (at word : ℕ) (broken : Rule)
+in_foreign : (scope : Scope) → Grammar scope
+    → (from : Option Event) (levels : Levels) (at word : ℕ) (broken : Rule)
     (next : Step)
     → Broken scope InForeign from levels (Word at Controller word) broken
     → WordLeads scope InForeign from levels (Word at Controller word) Controller word next → ⊥
@@ -332,7 +356,8 @@ in_foreign scope grammar from levels at word broken next breaks (inr leads) =
     foreign_goes_on scope Controller from levels at word broken next breaks leads.0 leads.1
 
 -- a further byte of an ask
-ask_goes_on : (scope : Scope) → Grammar scope → (bytes : List ℕ) (from : Option Event) (levels : Levels) (at word byte : ℕ)
+ask_goes_on : (scope : Scope) → Grammar scope
+    → (bytes : List ℕ) (from : Option Event) (levels : Levels) (at word byte : ℕ)
     (broken : Rule)
     → bytes ≢ [] → Broken scope (InAsk bytes) from levels (Word at Controller word) broken
     → word ≡ byte → word < 256 → IsAskFront scope (bytes ++ byte ∷ [])
@@ -343,17 +368,21 @@ ask_goes_on scope grammar bytes from levels at word byte rule.Mode some breaks i
     absurd (omega (arith, breaks, low))
 ask_goes_on scope grammar bytes from levels at word byte rule.Early some breaks is low front near =
     not_early WORD_GAP_MIN from (Word at Controller word) breaks near.0
-ask_goes_on scope grammar bytes from levels at word byte rule.Spacing some breaks is low front near =
+ask_goes_on scope grammar bytes from levels at word byte rule.Spacing some breaks is low front
+    near =
     not_late BLOCK_GAP_MAX from (Word at Controller word) breaks near.1
 ask_goes_on scope grammar bytes from levels at word byte rule.Sum some breaks is low front near =
     front_open scope grammar bytes byte some front breaks.0
-ask_goes_on scope grammar bytes from levels at word byte rule.Profile some breaks is low front near =
+ask_goes_on scope grammar bytes from levels at word byte rule.Profile some breaks is low front
+    near =
     let P : ℕ → Type 0 = λ b. needed_in scope (bytes ++ b ∷ []) ≡ need.Outside in
     front_inside scope grammar (bytes ++ byte ∷ []) front (subst P is breaks.1)
-ask_goes_on scope grammar bytes from levels at word byte other some breaks is low front near = breaks
+ask_goes_on scope grammar bytes from levels at word byte other some breaks is low front near =
+    breaks
 
 -- the last byte of a command's block is its sum
-last_is_sum : (scope : Scope) (bytes : List ℕ) (word : ℕ) (command : Command) → Asks scope command (bytes ++ word ∷ [])
+last_is_sum : (scope : Scope) (bytes : List ℕ) (word : ℕ) (command : Command)
+    → Asks scope command (bytes ++ word ∷ [])
     → word ≡ sum bytes % 256
 last_is_sum scope bytes word command spelled =
     let content = command_bytes command in
@@ -361,7 +390,8 @@ last_is_sum scope bytes word command spelled =
     same.1 ∙ ap (λ bs. sum bs % 256) (sym same.0)
 
 -- the last word of an ask
-ask_ends : (scope : Scope) → Grammar scope → (bytes : List ℕ) (from : Option Event) (levels : Levels) (at word : ℕ)
+ask_ends : (scope : Scope) → Grammar scope
+    → (bytes : List ℕ) (from : Option Event) (levels : Levels) (at word : ℕ)
     (command : Command)
     (broken : Rule)
     → Broken scope (InAsk bytes) from levels (Word at Controller word) broken
@@ -384,7 +414,8 @@ ask_ends scope grammar bytes from levels at word command rule.Profile breaks low
 ask_ends scope grammar bytes from levels at word command other breaks low spelled near = breaks
 
 -- a foreign opening of two bytes comes where the first leaves it to the second
-foreign_opening : (scope : Scope) (bytes : List ℕ) (word : ℕ) → bytes ≢ [] → IsForeignOpening scope (bytes ++ word ∷ [])
+foreign_opening : (scope : Scope) (bytes : List ℕ) (word : ℕ) → bytes ≢ []
+    → IsForeignOpening scope (bytes ++ word ∷ [])
     → (needed_in scope bytes ≡ need.More) × (needed_in scope (bytes ++ word ∷ []) ≡ need.Foreign)
 foreign_opening scope [] word some opening = absurd (some refl)
 foreign_opening scope (first ∷ []) word some opening = (opening.0, opening.1)
@@ -392,7 +423,8 @@ foreign_opening scope (first ∷ second ∷ []) word some opening = absurd openi
 foreign_opening scope (first ∷ second ∷ third ∷ bytes) word some opening = absurd opening
 
 -- the second word of a foreign opening
-foreign_begins : (scope : Scope) (bytes : List ℕ) (from : Option Event) (levels : Levels) (at word : ℕ)
+foreign_begins : (scope : Scope) (bytes : List ℕ) (from : Option Event) (levels : Levels)
+    (at word : ℕ)
     (broken : Rule)
     → bytes ≢ [] → Broken scope (InAsk bytes) from levels (Word at Controller word) broken
     → word < 256 → IsForeignOpening scope (bytes ++ word ∷ [])
@@ -416,12 +448,14 @@ foreign_begins scope bytes from levels at word rule.Profile some breaks low open
 foreign_begins scope bytes from levels at word other some breaks low opening near = breaks
 
 -- a word inside an ask
-in_ask : (scope : Scope) → Grammar scope → (bytes : List ℕ) (from : Option Event) (levels : Levels) (at word : ℕ)
+in_ask : (scope : Scope) → Grammar scope
+    → (bytes : List ℕ) (from : Option Event) (levels : Levels) (at word : ℕ)
     (broken : Rule) (next : Step)
     → bytes ≢ [] → Broken scope (InAsk bytes) from levels (Word at Controller word) broken
     → GoesOnAsking scope bytes from (Word at Controller word) word next → ⊥
 in_ask scope grammar bytes from levels at word broken (step.AskByte byte) some breaks leads =
-    ask_goes_on scope grammar bytes from levels at word byte broken some breaks leads.0 leads.1 leads.2
+    ask_goes_on scope grammar bytes from levels at word byte broken some breaks leads.0 leads.1
+    leads.2
     leads.3
 in_ask scope grammar bytes from levels at word broken (step.Ask command) some breaks leads =
     ask_ends scope grammar bytes from levels at word command broken breaks leads.0 leads.1 leads.2
@@ -430,7 +464,8 @@ in_ask scope grammar bytes from levels at word broken step.Foreign some breaks l
 in_ask scope grammar bytes from levels at word broken next some breaks leads = leads
 
 -- a peripheral's ACK or NAK
-ack_comes : (scope : Scope) (command : Command) (from : Option Event) (levels : Levels) (at word : ℕ)
+ack_comes : (scope : Scope) (command : Command) (from : Option Event) (levels : Levels)
+    (at word : ℕ)
     (broken : Rule)
     → Broken scope (Asked command) from levels (Word at Peripheral word) broken
     → (word ≡ answer_word Peripheral answers.Ack) ⊎ (word ≡ answer_word Peripheral answers.Nak)
@@ -450,7 +485,8 @@ ack_comes scope command from levels at word rule.Answer (inr breaks) (inr is) ne
 ack_comes scope command from levels at word other breaks is near = breaks
 
 -- the first word of a reply
-reply_begins : (scope : Scope) (command : Command) (from : Option Event) (levels : Levels) (at word : ℕ)
+reply_begins : (scope : Scope) (command : Command) (from : Option Event) (levels : Levels)
+    (at word : ℕ)
     (broken : Rule)
     → Broken scope (Asked command) from levels (Word at Peripheral word) broken
     → word < 256 → MayHaveData command
@@ -467,7 +503,8 @@ reply_begins scope command from levels at word rule.Answer (inr breaks) low may 
 reply_begins scope command from levels at word other breaks low may near = breaks
 
 -- a word that answers a command
-when_asked : (scope : Scope) (command : Command) (from : Option Event) (levels : Levels) (at word : ℕ)
+when_asked : (scope : Scope) (command : Command) (from : Option Event) (levels : Levels)
+    (at word : ℕ)
     (broken : Rule) (next : Step)
     → Broken scope (Asked command) from levels (Word at Peripheral word) broken
     → Answers command from (Word at Peripheral word) word next → ⊥
@@ -480,7 +517,8 @@ when_asked scope command from levels at word broken (step.ReplyByte byte) breaks
 when_asked scope command from levels at word broken next breaks leads = leads
 
 -- a further word of a reply
-reply_goes_on : (scope : Scope) (command : Command) (bytes : List ℕ) (from : Option Event) (levels : Levels)
+reply_goes_on : (scope : Scope) (command : Command) (bytes : List ℕ) (from : Option Event)
+    (levels : Levels)
     (at word : ℕ)
     (broken : Rule)
     → Broken scope (InReply command bytes) from levels (Word at Peripheral word) broken
@@ -507,21 +545,24 @@ reply_goes_on scope command bytes from levels at word rule.Profile breaks low sh
 reply_goes_on scope command bytes from levels at word other breaks low short near = breaks
 
 -- a reply has no fault
-pub none_bad : (scope : Scope) → Grammar scope → (command : Command) (bytes : List ℕ) (reply : Reply) (fault : MsgFault)
+pub none_bad : (scope : Scope) → Grammar scope
+    → (command : Command) (bytes : List ℕ) (reply : Reply) (fault : MsgFault)
     → IsReply command reply → bytes ≡ reply_bytes reply → IsReadFault command bytes fault → ⊥
 none_bad scope grammar command bytes reply fault good same bad =
     let P : List ℕ → Type 0 = λ bs. IsReadFault command bs fault in
     grammar.no_fault command reply fault good.answers (subst P same bad)
 
 -- a reply has a number of bytes that the command allows
-pub right_count : (scope : Scope) → Grammar scope → (command : Command) (bytes : List ℕ) (reply : Reply)
+pub right_count : (scope : Scope) → Grammar scope
+    → (command : Command) (bytes : List ℕ) (reply : Reply)
     → IsReply command reply → bytes ≡ reply_bytes reply → HasDataAnswer command (length bytes)
 right_count scope grammar command bytes reply good same =
     let P : List ℕ → Type 0 = λ bs. HasDataAnswer command (length bs) in
     subst P (sym same) (grammar.counted command reply good.answers)
 
 -- bytes are at most one reply
-pub same_reply : (scope : Scope) → Grammar scope → (command : Command) (bytes : List ℕ) (one other : Reply)
+pub same_reply : (scope : Scope) → Grammar scope
+    → (command : Command) (bytes : List ℕ) (one other : Reply)
     → IsReply command one
     → bytes ≡ reply_bytes one
     → IsReply command other → bytes ≡ reply_bytes other → one ≡ other
@@ -529,55 +570,67 @@ same_reply scope grammar command bytes one other first is second same =
     grammar.one_reply command one other first.answers second.answers (sym is ∙ same)
 
 -- a reply of the right level isn't left out
-not_left_out : (scope : Scope) → Grammar scope → (command : Command) (bytes : List ℕ) (reply : Reply) (levels : Levels)
+not_left_out : (scope : Scope) → Grammar scope
+    → (command : Command) (bytes : List ℕ) (reply : Reply) (levels : Levels)
     → IsReply command reply → bytes ≡ reply_bytes reply
     → (tells_high reply ≡ true → IsLow (level_for command levels))
     → IsReadFault command bytes reading.Profile ⊎ HasHighLevels command bytes levels → ⊥
 not_left_out scope grammar command bytes reply levels good same low (inl bad) =
     none_bad scope grammar command bytes reply reading.Profile good same bad
 not_left_out scope grammar command bytes reply levels good same low (inr high) =
-    let one : high.0 ≡ reply = same_reply scope grammar command bytes high.0 reply high.1 high.2 good
-    same in
+    let one : high.0 ≡ reply =
+    same_reply scope grammar command bytes high.0 reply high.1 high.2 good same in
     let P : Reply → Type 0 = λ r. tells_high r ≡ true in
     high.4 (low (subst P one high.3))
 
 -- the marked word of a reply
-reply_ends : (scope : Scope) → Grammar scope → (command : Command) (bytes : List ℕ) (from : Option Event) (levels : Levels)
+reply_ends : (scope : Scope) → Grammar scope
+    → (command : Command) (bytes : List ℕ) (from : Option Event) (levels : Levels)
     (at word : ℕ)
     (reply : Reply) (broken : Rule)
     → Broken scope (InReply command bytes) from levels (Word at Peripheral word) broken
     → word ≡ 256 + sum bytes % 256 → IsReply command reply → bytes ≡ reply_bytes reply
     → (tells_high reply ≡ true → IsLow (level_for command levels))
     → Within WORD_GAP_MIN BLOCK_GAP_MAX from (Word at Peripheral word) → ⊥
-reply_ends scope grammar command bytes from levels at word reply rule.Order breaks is good same low near =
+reply_ends scope grammar command bytes from levels at word reply rule.Order breaks is good same low
+    near =
     in_order WORD_GAP_MIN from (Word at Peripheral word) (omega arith) breaks near.0
-reply_ends scope grammar command bytes from levels at word reply rule.Early breaks is good same low near =
+reply_ends scope grammar command bytes from levels at word reply rule.Early breaks is good same low
+    near =
     not_early WORD_GAP_MIN from (Word at Peripheral word) breaks near.0
-reply_ends scope grammar command bytes from levels at word reply rule.Spacing breaks is good same low
+reply_ends scope grammar command bytes from levels at word reply rule.Spacing breaks is good same
+    low
     near =
     not_late BLOCK_GAP_MAX from (Word at Peripheral word) breaks near.1
-reply_ends scope grammar command bytes from levels at word reply rule.Length (inl breaks) is good same low
+reply_ends scope grammar command bytes from levels at word reply rule.Length (inl breaks) is good
+    same low
     near =
     absurd (omega (arith, breaks.0, is))
-reply_ends scope grammar command bytes from levels at word reply rule.Length (inr breaks) is good same low
+reply_ends scope grammar command bytes from levels at word reply rule.Length (inr breaks) is good
+    same low
     near =
     breaks.1 (right_count scope grammar command bytes reply good same)
-reply_ends scope grammar command bytes from levels at word reply rule.Sum breaks is good same low near =
+reply_ends scope grammar command bytes from levels at word reply rule.Sum breaks is good same low
+    near =
     breaks.1 is
 reply_ends scope grammar command bytes from levels at word reply rule.Answer breaks is good same low
     near =
     none_bad scope grammar command bytes reply reading.Answer good same breaks.1
-reply_ends scope grammar command bytes from levels at word reply rule.Message breaks is good same low
+reply_ends scope grammar command bytes from levels at word reply rule.Message breaks is good same
+    low
     near =
     none_bad scope grammar command bytes reply reading.Message good same breaks.1
-reply_ends scope grammar command bytes from levels at word reply rule.Profile breaks is good same low
+reply_ends scope grammar command bytes from levels at word reply rule.Profile breaks is good same
+    low
     near =
     not_left_out scope grammar command bytes reply levels good same low breaks.1
-reply_ends scope grammar command bytes from levels at word reply other breaks is good same low near =
+reply_ends scope grammar command bytes from levels at word reply other breaks is good same low
+    near =
     breaks
 
 -- a word inside a reply
-in_reply : (scope : Scope) → Grammar scope → (command : Command) (bytes : List ℕ) (from : Option Event) (levels : Levels)
+in_reply : (scope : Scope) → Grammar scope
+    → (command : Command) (bytes : List ℕ) (from : Option Event) (levels : Levels)
     (at word : ℕ)
     (broken : Rule) (next : Step)
     → Broken scope (InReply command bytes) from levels (Word at Peripheral word) broken
@@ -585,12 +638,14 @@ in_reply : (scope : Scope) → Grammar scope → (command : Command) (bytes : Li
 in_reply scope grammar command bytes from levels at word broken (step.ReplyByte byte) breaks leads =
     reply_goes_on scope command bytes from levels at word broken breaks leads.1 leads.2 leads.3
 in_reply scope grammar command bytes from levels at word broken (step.Reply reply) breaks leads =
-    reply_ends scope grammar command bytes from levels at word reply broken breaks leads.0 leads.1 leads.2
+    reply_ends scope grammar command bytes from levels at word reply broken breaks leads.0 leads.1
+    leads.2
     leads.3 leads.4
 in_reply scope grammar command bytes from levels at word broken next breaks leads = leads
 
 -- the first word of a repeat
-repeat_begins : (scope : Scope) (command : Command) (reply : Reply) (from : Option Event) (levels : Levels)
+repeat_begins : (scope : Scope) (command : Command) (reply : Reply) (from : Option Event)
+    (levels : Levels)
     (at word : ℕ)
     (broken : Rule)
     → Broken scope (Returned command reply) from levels (Word at Peripheral word) broken
@@ -607,7 +662,8 @@ repeat_begins scope command reply from levels at word rule.Same breaks front nea
 repeat_begins scope command reply from levels at word other breaks front near = breaks
 
 -- a word that begins a repeat
-when_returned : (scope : Scope) (command : Command) (reply : Reply) (from : Option Event) (levels : Levels)
+when_returned : (scope : Scope) (command : Command) (reply : Reply) (from : Option Event)
+    (levels : Levels)
     (at word : ℕ)
     (broken : Rule) (next : Step)
     → Broken scope (Returned command reply) from levels (Word at Peripheral word) broken
@@ -617,7 +673,8 @@ when_returned scope command reply from levels at word broken (step.RepeatWord sa
 when_returned scope command reply from levels at word broken next breaks leads = leads
 
 -- a further word of a repeat
-repeat_goes_on : (scope : Scope) (command : Command) (reply : Reply) (words : List ℕ) (from : Option Event)
+repeat_goes_on : (scope : Scope) (command : Command) (reply : Reply) (words : List ℕ)
+    (from : Option Event)
     (levels : Levels)
     (at word : ℕ) (broken : Rule)
     → Broken scope (InRepeat command reply words) from levels (Word at Peripheral word) broken
@@ -630,11 +687,13 @@ repeat_goes_on scope command reply words from levels at word rule.Early breaks n
     not_early WORD_GAP_MIN from (Word at Peripheral word) breaks near.0
 repeat_goes_on scope command reply words from levels at word rule.Spacing breaks next near =
     not_late BLOCK_GAP_MAX from (Word at Peripheral word) breaks near.1
-repeat_goes_on scope command reply words from levels at word rule.Same breaks next near = breaks next
+repeat_goes_on scope command reply words from levels at word rule.Same breaks next near =
+    breaks next
 repeat_goes_on scope command reply words from levels at word other breaks next near = breaks
 
 -- a word inside a repeat
-in_repeat : (scope : Scope) (command : Command) (reply : Reply) (words : List ℕ) (from : Option Event)
+in_repeat : (scope : Scope) (command : Command) (reply : Reply) (words : List ℕ)
+    (from : Option Event)
     (levels : Levels) (at word : ℕ)
     (broken : Rule) (next : Step)
     → Broken scope (InRepeat command reply words) from levels (Word at Peripheral word) broken
@@ -647,7 +706,8 @@ in_repeat scope command reply words from levels at word broken step.Repeat break
 in_repeat scope command reply words from levels at word broken next breaks leads = leads
 
 -- a word that breaks a rule leads nowhere
-word_stops : (scope : Scope) → Grammar scope → (position : Position) (from : Option Event) (levels : Levels) (at : ℕ)
+word_stops : (scope : Scope) → Grammar scope
+    → (position : Position) (from : Option Event) (levels : Levels) (at : ℕ)
     (line : Line) (word : ℕ)
     (broken : Rule) (next : Step)
     → IsSound scope position → Broken scope position from levels (Word at line word) broken
@@ -655,33 +715,45 @@ word_stops : (scope : Scope) → Grammar scope → (position : Position) (from :
 word_stops scope grammar Quiet from levels at Controller word broken next sound breaks leads =
     when_quiet scope grammar from levels at word broken next breaks leads
 word_stops scope grammar Quiet from levels at Peripheral word broken next sound breaks leads = leads
-word_stops scope grammar (InAsk bytes) from levels at Controller word broken next sound breaks leads =
+word_stops scope grammar (InAsk bytes) from levels at Controller word broken next sound breaks
+    leads =
     in_ask scope grammar bytes from levels at word broken next sound.some breaks leads
-word_stops scope grammar (InAsk bytes) from levels at Peripheral word broken next sound breaks leads =
+word_stops scope grammar (InAsk bytes) from levels at Peripheral word broken next sound breaks
+    leads =
     leads
-word_stops scope grammar (Asked command) from levels at Controller word broken next sound breaks leads =
+word_stops scope grammar (Asked command) from levels at Controller word broken next sound breaks
+    leads =
     ask_when_asked scope grammar command from levels at word broken next breaks leads
-word_stops scope grammar (Asked command) from levels at Peripheral word broken next sound breaks leads =
+word_stops scope grammar (Asked command) from levels at Peripheral word broken next sound breaks
+    leads =
     when_asked scope command from levels at word broken next breaks leads
-word_stops scope grammar (InReply command bytes) from levels at Controller word broken next sound breaks
+word_stops scope grammar (InReply command bytes) from levels at Controller word broken next sound
+    breaks
     leads = leads
-word_stops scope grammar (InReply command bytes) from levels at Peripheral word broken next sound breaks
+word_stops scope grammar (InReply command bytes) from levels at Peripheral word broken next sound
+    breaks
     leads =
     in_reply scope grammar command bytes from levels at word broken next breaks leads
-word_stops scope grammar (Replied command reply) from levels at Controller word broken next sound breaks
+word_stops scope grammar (Replied command reply) from levels at Controller word broken next sound
+    breaks
     leads =
     when_replied scope grammar command reply from levels at word broken next breaks leads
-word_stops scope grammar (Replied command reply) from levels at Peripheral word broken next sound breaks
+word_stops scope grammar (Replied command reply) from levels at Peripheral word broken next sound
+    breaks
     leads = leads
-word_stops scope grammar (Returned command reply) from levels at Controller word broken next sound breaks
+word_stops scope grammar (Returned command reply) from levels at Controller word broken next sound
+    breaks
     leads =
     ask_when_returned scope grammar command reply from levels at word broken next breaks leads
-word_stops scope grammar (Returned command reply) from levels at Peripheral word broken next sound breaks
+word_stops scope grammar (Returned command reply) from levels at Peripheral word broken next sound
+    breaks
     leads =
     when_returned scope command reply from levels at word broken next breaks leads
-word_stops scope grammar (InRepeat command reply words) from levels at Controller word broken next sound
+word_stops scope grammar (InRepeat command reply words) from levels at Controller word broken next
+    sound
     breaks leads = leads
-word_stops scope grammar (InRepeat command reply words) from levels at Peripheral word broken next sound
+word_stops scope grammar (InRepeat command reply words) from levels at Peripheral word broken next
+    sound
     breaks leads =
     in_repeat scope command reply words from levels at word broken next breaks leads
 word_stops scope grammar InForeign from levels at Controller word broken next sound breaks leads =
@@ -700,7 +772,8 @@ break_in_order (Some (Break start length)) at lasted long out comes =
     absurd (omega (arith, out, comes, long))
 
 -- a break that breaks a rule leads nowhere
-break_stops : (scope : Scope) (position : Position) (from : Option Event) (levels : Levels) (at length : ℕ)
+break_stops : (scope : Scope) (position : Position) (from : Option Event) (levels : Levels)
+    (at length : ℕ)
     (broken : Rule)
     → LastIsLong from → Broken scope position from levels (Break at length) broken
     → BREAK_LENGTH_MIN ≤ length → NotBefore (rest_before_break from) from (Break at length) → ⊥
@@ -713,10 +786,14 @@ break_stops scope position from levels at length rule.Break long breaks enough c
 break_stops scope Quiet from levels at length other long breaks enough comes = breaks
 break_stops scope (InAsk bytes) from levels at length other long breaks enough comes = breaks
 break_stops scope (Asked command) from levels at length other long breaks enough comes = breaks
-break_stops scope (InReply command bytes) from levels at length other long breaks enough comes = breaks
-break_stops scope (Replied command reply) from levels at length other long breaks enough comes = breaks
-break_stops scope (Returned command reply) from levels at length other long breaks enough comes = breaks
-break_stops scope (InRepeat command reply words) from levels at length other long breaks enough comes =
+break_stops scope (InReply command bytes) from levels at length other long breaks enough comes =
+    breaks
+break_stops scope (Replied command reply) from levels at length other long breaks enough comes =
+    breaks
+break_stops scope (Returned command reply) from levels at length other long breaks enough comes =
+    breaks
+break_stops scope (InRepeat command reply words) from levels at length other long breaks enough
+    comes =
     breaks
 break_stops scope InForeign from levels at length other long breaks enough comes = breaks
 
@@ -726,7 +803,8 @@ pub stops : (s : Situation) → Grammar s.scope → (row : Event) (broken : Rule
     → LastIsLong s.last
     → RowBreaks s row broken → Leads s row next → ⊥
 stops s grammar (Word at line word) broken next sound long breaks leads =
-    word_stops s.scope grammar s.position s.last s.levels at line word broken next sound breaks leads
+    word_stops s.scope grammar s.position s.last s.levels at line word broken next sound breaks
+    leads
 stops s grammar (Break at length) broken (step.Break lasted) sound long breaks leads =
     break_stops s.scope s.position s.last s.levels at length broken long breaks leads.1 leads.2
 stops s grammar (Break at length) broken next sound long breaks leads = leads

@@ -269,7 +269,8 @@ some_bytes [] wanting none = wanting
 some_bytes (byte ∷ bytes) wanting none = cc none
 
 -- an unmarked word inside a block of the controller, in its time
-pub going_on : (scope : Scope) (bytes : List ℕ) (from : Option Event) (at word : ℕ) (levels : Levels)
+pub going_on : (scope : Scope) (bytes : List ℕ) (from : Option Event) (at word : ℕ)
+    (levels : Levels)
     (result : Result Judged Rule)
     → (OutOfOrder from (Word at Controller word) → ⊥)
     → (IsBefore WORD_GAP_MIN from (Word at Controller word) → ⊥)
@@ -361,13 +362,15 @@ length_read command bytes has bad =
     bad.2 (subst P same has.2)
 
 -- a marked word that is no answer's
-pub no_answer : (scope : Scope) (command : Command) (from : Option Event) (at word byte : ℕ) (levels : Levels)
+pub no_answer : (scope : Scope) (command : Command) (from : Option Event) (at word byte : ℕ)
+    (levels : Levels)
     → (OutOfOrder from (Word at Peripheral word) → ⊥)
     → (IsBefore WORD_GAP_MIN from (Word at Peripheral word) → ⊥)
     → (IsAfter ANSWER_GAP_MAX from (Word at Peripheral word) → ⊥) → 256 ≤ word → word < 512
     → byte ≡ word % 256
     → ((answer : Answer) → answer_byte answer ≢ byte)
-    → IsFirstByPlace (record { scope = scope; position = Asked command; last = from; levels = levels })
+    → IsFirstByPlace
+    (record { scope = scope; position = Asked command; last = from; levels = levels })
     (Word at Peripheral word)
     rule.Answer
 no_answer scope command from at word byte levels order early late marked small low none = record {
@@ -380,7 +383,8 @@ no_answer scope command from at word byte levels order early late marked small l
 }
   where
     first : (other : Rule)
-        → RowBreaks (record { scope = scope; position = Asked command; last = from; levels = levels })
+        → RowBreaks
+        (record { scope = scope; position = Asked command; last = from; levels = levels })
         (Word at Peripheral word) other
         → place_of rule.Answer ≤ place_of other
     first rule.Order b = absurd (order b)
@@ -421,7 +425,8 @@ count_right command bytes reply is same =
 -- a peripheral's word inside a reply breaks a rule
 abbrev Breaks : (scope : Scope) → Command → List ℕ → Option Event → ℕ → ℕ → Levels → Rule → Type 0
 Breaks scope command bytes from at word levels broken =
-    RowBreaks (record { scope = scope; position = InReply command bytes; last = from; levels = levels })
+    RowBreaks
+    (record { scope = scope; position = InReply command bytes; last = from; levels = levels })
     (Word at Peripheral word)
     broken
 
@@ -434,18 +439,22 @@ reply_read : (scope : Scope) → BytesHaveOneFault → ReplyHasNoFault
     → (IsAfter BLOCK_GAP_MAX from (Word at Peripheral word) → ⊥)
     → 256 ≤ word → HasDataAnswer command (length bytes) → word ≡ 256 + sum bytes % 256
     → IsRead command bytes levels result
-    → IsSettled (record { scope = scope; position = InReply command bytes; last = from; levels = levels })
+    → IsSettled
+    (record { scope = scope; position = InReply command bytes; last = from; levels = levels })
     (Word at Peripheral word)
     result
-reply_read scope one none command bytes from at word levels (Ok reply) order early late marked has total
+reply_read scope one none command bytes from at word levels (Ok reply) order early late marked has
+    total
     h =
     let soon = in_time WORD_GAP_MIN from (Word at Peripheral word) early in
     let near = not_late BLOCK_GAP_MAX from (Word at Peripheral word) late in
     (total, h.0, h.1, h.2, (soon, near))
-reply_read scope one none command bytes from at word levels (Err rule.Length) order early late marked has
+reply_read scope one none command bytes from at word levels (Err rule.Length) order early late
+    marked has
     total h =
     absurd (length_read command bytes has h)
-reply_read scope one none command bytes from at word levels (Err rule.Answer) order early late marked has
+reply_read scope one none command bytes from at word levels (Err rule.Answer) order early late
+    marked has
     total h =
     record { breaks = (marked, h); first = first }
   where
@@ -457,7 +466,8 @@ reply_read scope one none command bytes from at word levels (Err rule.Answer) or
     first rule.Length b = absurd (length_right command bytes at word marked has b)
     first rule.Sum b = absurd (b.1 total)
     first other b = search rules
-reply_read scope one none command bytes from at word levels (Err rule.Message) order early late marked has
+reply_read scope one none command bytes from at word levels (Err rule.Message) order early late
+    marked has
     total h =
     record { breaks = (marked, h); first = first }
   where
@@ -473,7 +483,8 @@ reply_read scope one none command bytes from at word levels (Err rule.Message) o
         reading.Message b.1 h in
         absurd (cc)
     first other b = search rules
-reply_read scope one none command bytes from at word levels (Err rule.Profile) order early late marked has
+reply_read scope one none command bytes from at word levels (Err rule.Profile) order early late
+    marked has
     total (inl h) =
     record { breaks = (marked, inl h); first = first }
   where
@@ -493,7 +504,8 @@ reply_read scope one none command bytes from at word levels (Err rule.Profile) o
         reading.Profile b.1 h in
         absurd (cc)
     first other b = search rules
-reply_read scope one none command bytes from at word levels (Err rule.Profile) order early late marked has
+reply_read scope one none command bytes from at word levels (Err rule.Profile) order early late
+    marked has
     total (inr h) =
     record { breaks = (marked, inr h); first = first }
   where
@@ -512,7 +524,8 @@ reply_read scope one none command bytes from at word levels (Err rule.Profile) o
     first rule.Answer b = absurd (faultless reading.Answer b.1)
     first rule.Message b = absurd (faultless reading.Message b.1)
     first other b = search rules
-reply_read scope one none command bytes from at word levels (Err other) order early late marked has total
+reply_read scope one none command bytes from at word levels (Err other) order early late marked has
+    total
     h = absurd h
 
 -- the marked word of a reply, in its time
@@ -523,15 +536,18 @@ pub reply_ended : (scope : Scope) → BytesHaveOneFault → ReplyHasNoFault
     → (IsBefore WORD_GAP_MIN from (Word at Peripheral word) → ⊥)
     → (IsAfter BLOCK_GAP_MAX from (Word at Peripheral word) → ⊥)
     → 256 ≤ word → IsReplyEnd command bytes word result
-    → IsJudged (record { scope = scope; position = InReply command bytes; last = from; levels = levels })
+    → IsJudged
+    (record { scope = scope; position = InReply command bytes; last = from; levels = levels })
     (Word at Peripheral word)
     result
-reply_ended scope one none command bytes from at word levels (Ok judged.Reply) order early late marked h =
+reply_ended scope one none command bytes from at word levels (Ok judged.Reply) order early late
+    marked h =
     λ result is. reply_read scope one none command bytes from at word levels result order early late
     marked h.0 h.1 is
 reply_ended scope one none command bytes from at word levels (Ok other) order early late marked h =
     absurd h
-reply_ended scope one none command bytes from at word levels (Err rule.Length) order early late marked h =
+reply_ended scope one none command bytes from at word levels (Err rule.Length) order early late
+    marked h =
     record { breaks = inr (marked, h); first = first }
   where
     first : (other : Rule) → Breaks scope command bytes from at word levels other
@@ -540,7 +556,8 @@ reply_ended scope one none command bytes from at word levels (Err rule.Length) o
     first rule.Early b = absurd (early b)
     first rule.Spacing b = absurd (late b)
     first other b = search rules
-reply_ended scope one none command bytes from at word levels (Err rule.Sum) order early late marked h =
+reply_ended scope one none command bytes from at word levels (Err rule.Sum) order early late marked
+    h =
     record { breaks = (marked, h.1); first = first }
   where
     first : (other : Rule) → Breaks scope command bytes from at word levels other
@@ -624,7 +641,8 @@ word_after bytes content block i same sealed past =
     sym (slice_get_past (peripheral_words (block_of bytes)) i (omega arith))
 
 -- what is made of a row at a place that is another's
-pub judged_at : (scope : Scope) (place : Place) (other : Phase) (from : Option Event) (levels : Levels)
+pub judged_at : (scope : Scope) (place : Place) (other : Phase) (from : Option Event)
+    (levels : Levels)
     (row : Event)
     (result : Result Judged Rule) → place.phase ≡ other
     → IsJudged (record {
@@ -633,7 +651,9 @@ pub judged_at : (scope : Scope) (place : Place) (other : Phase) (from : Option E
       last = from;
       levels = levels;
     }) row result
-    → IsJudged (record { scope = scope; position = position_at place; last = from; levels = levels }) row result
+    → IsJudged
+    (record { scope = scope; position = position_at place; last = from; levels = levels }) row
+    result
 judged_at scope place other from levels row result is judged =
     let P : Phase → Type 0 =
     λ p. IsJudged (record {

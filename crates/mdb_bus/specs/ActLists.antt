@@ -89,7 +89,8 @@ abbrev pub IsSaid : Scope → Piece → Type 0
 IsSaid scope (Whole act events) = IsAct scope act events
 IsSaid scope (AskTail bytes events) =
     IsAskFront scope bytes × Say Controller (words_on Controller bytes) events
-IsSaid scope (ReplyTail command bytes events) = IsReplyFront command bytes × Say Peripheral bytes events
+IsSaid scope (ReplyTail command bytes events) =
+    IsReplyFront command bytes × Say Peripheral bytes events
 IsSaid scope (RepeatTail command reply words events) = IsRepeatFront reply words
     × Say Peripheral words events
 

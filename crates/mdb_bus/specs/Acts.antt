@@ -51,7 +51,8 @@ pub record IsReply (command : Command) (reply : Reply) : Type 0 where
 abbrev pub IsForeignOpening : Scope → List ℕ → Type 0
 IsForeignOpening scope (first ∷ []) = needed_in scope (first ∷ []) ≡ need.Foreign
 IsForeignOpening scope (first ∷ second ∷ []) =
-    (needed_in scope (first ∷ []) ≡ need.More) × (needed_in scope (first ∷ second ∷ []) ≡ need.Foreign)
+    (needed_in scope (first ∷ []) ≡ need.More)
+    × (needed_in scope (first ∷ second ∷ []) ≡ need.Foreign)
     × IsByte second
 IsForeignOpening scope _ = ⊥
 
@@ -70,7 +71,8 @@ IsForeignWord (Break at length) = ⊥
 -- a foreign act: the opening of a foreign block, or a word after one
 abbrev pub IsForeign : Scope → List Event → Type 0
 IsForeign scope events =
-    ((bytes : List ℕ) × IsForeignOpening scope bytes × Say Controller (words_on Controller bytes) events)
+    ((bytes : List ℕ) × IsForeignOpening scope bytes
+    × Say Controller (words_on Controller bytes) events)
     ⊎ ((event : Event) × (events ≡ event ∷ []) × IsForeignWord event)
 
 -- an act and its events, as a recording is taken; what an answer belongs to is settled by where it

@@ -70,21 +70,22 @@ pub fn acts_name_replies_of_their_commands()
 /// Each act list has a loss that fits, no matter which of its free acts were heard: nothing shows
 /// whether a free act was heard.
 pub fn free_acts_may_be_heard_or_not()
-    ensures { (scope : Scope) (pieces : List Piece) → ArePieces scope pieces → (wish : Wish) → (loss : Loss)
-        × LossFits loss pieces × HearsFreeAsWished loss wish nothing_told pieces }
+    ensures { (scope : Scope) (pieces : List Piece) → ArePieces scope pieces → (wish : Wish)
+        → (loss : Loss) × LossFits loss pieces × HearsFreeAsWished loss wish nothing_told pieces }
 {}
 
 /// Each act list has a loss that fits, no matter which of its ACKs were heard.
 pub fn acks_may_be_heard_or_not()
-    ensures { (scope : Scope) (pieces : List Piece) → ArePieces scope pieces → (wish : Wish) → (loss : Loss)
-        × LossFits loss pieces × HearsAsWished loss wish pieces }
+    ensures { (scope : Scope) (pieces : List Piece) → ArePieces scope pieces → (wish : Wish)
+        → (loss : Loss) × LossFits loss pieces × HearsAsWished loss wish pieces }
 {
     free_acts_may_be_heard_or_not();
 }
 
 /// Each act list has a loss that fits.
 pub fn act_lists_have_a_fitting_loss()
-    ensures { (scope : Scope) (pieces : List Piece) → ArePieces scope pieces → (loss : Loss) × LossFits loss pieces }
+    ensures { (scope : Scope) (pieces : List Piece) → ArePieces scope pieces
+        → (loss : Loss) × LossFits loss pieces }
 {
     free_acts_may_be_heard_or_not();
 }

@@ -19,25 +19,33 @@ asks_so Changer = refl
 asks_so Bill = refl
 asks_so (Reader unit) = (0, 0, 0, 0, refl)
 
-pub spells_so : (device : Device) (asked : Command) (answer : Reply) (bytes : List ℕ) → IsSetup device asked → SpellsReply asked answer bytes → SpellsReply (setup_of device) answer bytes
+pub spells_so : (device : Device) (asked : Command) (answer : Reply) (bytes : List ℕ)
+    → IsSetup device asked → SpellsReply asked answer bytes
+    → SpellsReply (setup_of device) answer bytes
 spells_so Changer asked answer bytes is spells = subst (λ c. SpellsReply c answer bytes) is spells
 spells_so Bill asked answer bytes is spells = subst (λ c. SpellsReply c answer bytes) is spells
 spells_so (Reader unit) asked answer bytes (level, columns, rows, display, is) spells =
     let so = subst (λ c. SpellsReply c answer bytes) is spells in
     record {
       answers = record {
-        answer = record { form = so.answers.answer.form; count = so.answers.answer.count; fields = so.answers.answer.fields };
+        answer = record {
+          form = so.answers.answer.form;
+          count = so.answers.answer.count;
+          fields = so.answers.answer.fields;
+        };
         kept = so.answers.kept;
       };
       bytes = so.bytes;
     }
 
 -- one thing is known with it
-pub one_setup : (device : Device) (bytes : List ℕ) (before a b : Setups) → IsSetupOf device bytes before a → IsSetupOf device bytes before b → a ≡ b
+pub one_setup : (device : Device) (bytes : List ℕ) (before a b : Setups)
+    → IsSetupOf device bytes before a → IsSetupOf device bytes before b → a ≡ b
 one_setup device bytes before a b is_a is_b =
     let spells_a = spells_so device is_a.asked is_a.answer bytes is_a.asks is_a.spells in
     let spells_b = spells_so device is_b.asked is_b.answer bytes is_b.asks is_b.spells in
-    let answer : is_a.answer ≡ is_b.answer = one_reply (setup_of device) bytes is_a.answer is_b.answer spells_a spells_b in
+    let answer : is_a.answer ≡ is_b.answer =
+    one_reply (setup_of device) bytes is_a.answer is_b.answer spells_a spells_b in
     let some : Some a ≡ Some b = sym is_a.told ∙ ap (known_with before device) answer ∙ is_b.told in
     ap (λ o. unwrap_or o a) some
 
@@ -49,25 +57,34 @@ answer_or other (Err fault) = other
 no_setup : (after : Setups) → ◌≡◌ {A = Option Setups} None (Some after) → ⊥
 no_setup after is = cc is
 
-no_answer : (fault : MsgFault) (answer : Reply) → ◌≡◌ {A = Result Reply MsgFault} (Err fault) (Ok answer) → ⊥
+no_answer : (fault : MsgFault) (answer : Reply)
+    → ◌≡◌ {A = Result Reply MsgFault} (Err fault) (Ok answer) → ⊥
 no_answer fault answer is = cc is
 
-module _ (device : Device) (bytes : List ℕ) (before : Setups) (asked : Command) (asks : asked ≡ setup_of device)
-    (read : Result Reply MsgFault) (only : (answer : Reply) → SpellsReply asked answer bytes → read ≡ Ok answer) where
+module _ (device : Device) (bytes : List ℕ) (before : Setups) (asked : Command)
+    (asks : asked ≡ setup_of device)
+    (read : Result Reply MsgFault)
+    (only : (answer : Reply) → SpellsReply asked answer bytes → read ≡ Ok answer) where
   reads : (after : Setups) (is : IsSetupOf device bytes before after) → read ≡ Ok is.answer
-  reads after is = only is.answer (subst (λ c. SpellsReply c is.answer bytes) (sym asks) (spells_so device is.asked is.answer bytes is.asks is.spells))
+  reads after is =
+      only is.answer (subst (λ c. SpellsReply c is.answer bytes) (sym asks)
+      (spells_so device is.asked is.answer bytes is.asks is.spells))
 
-  adds : (reply : Reply) → read ≡ Ok reply → (after : Setups) → IsSetupOf device bytes before after → known_with before device reply ≡ Some after
+  adds : (reply : Reply) → read ≡ Ok reply → (after : Setups) → IsSetupOf device bytes before after
+      → known_with before device reply ≡ Some after
   adds reply found after is =
       let same : reply ≡ is.answer = ap (answer_or reply) (sym found ∙ reads after is) in
       ap (known_with before device) same ∙ is.told
 
-  pub learns : (reply : Reply) → read ≡ Ok reply → (added : Bool) → (added ≡ false → known_with before device reply ≡ None)
+  pub learns : (reply : Reply) → read ≡ Ok reply → (added : Bool)
+      → (added ≡ false → known_with before device reply ≡ None)
       → (after : Setups) → IsSetupOf device bytes before after → added ≡ true
   learns reply found true untold after is = refl
-  learns reply found false untold after is = absurd (no_setup after (sym (untold refl) ∙ adds reply found after is))
+  learns reply found false untold after is =
+      absurd (no_setup after (sym (untold refl) ∙ adds reply found after is))
 
-  pub learns_none : (fault : MsgFault) → read ≡ Err fault → (after : Setups) → IsSetupOf device bytes before after → false ≡ true
+  pub learns_none : (fault : MsgFault) → read ≡ Err fault → (after : Setups)
+      → IsSetupOf device bytes before after → false ≡ true
   learns_none fault found after is = absurd (no_answer fault is.answer (sym found ∙ reads after is))
 
 -- one message more
@@ -79,7 +96,9 @@ both : (a b c : Option ReaderConfig) → or_else a (or_else b c) ≡ or_else (or
 both None b c = refl
 both (Some config) b c = refl
 
-pub last_more : (before : List ReaderMsg) (message : ReaderMsg) → last_config (before ++ message ∷ []) ≡ or_else (config_in message) (last_config before)
+pub last_more : (before : List ReaderMsg) (message : ReaderMsg)
+    → last_config (before ++ message ∷ []) ≡ or_else (config_in message) (last_config before)
 last_more [] message = sym (or_none (config_in message))
 last_more (first ∷ before) message =
-    ap (λ last. or_else last (config_in first)) (last_more before message) ∙ sym (both (config_in message) (last_config before) (config_in first))
+    ap (λ last. or_else last (config_in first)) (last_more before message)
+    ∙ sym (both (config_in message) (last_config before) (config_in first))

@@ -258,7 +258,8 @@ Decided command bytes = ((reply : Reply) × IsReplyTo command reply × (bytes �
     ⊎ ((fault : MsgFault) × IsReadFault command bytes fault)
 
 by_keeping : (command : Command) (bytes : List ℕ) (found : Reply) → IsAnswerTo command found
-    → bytes ≡ reply_bytes found → ((tells_of_sales found ≡ true) × (may_tell_of_sales command ≡ false))
+    → bytes ≡ reply_bytes found
+    → ((tells_of_sales found ≡ true) × (may_tell_of_sales command ≡ false))
     ⊎ (may_tell_of_sales command ≡ false → tells_of_sales found ≡ false) → Decided command bytes
 by_keeping command bytes found answer spelled (inl kept) =
     inr (Answer, inr (found, answer, spelled, kept.0, kept.1))

@@ -116,4 +116,5 @@ IsWriteFault command reply faults.Message =
 IsWriteFault command reply faults.Profile = ⊥
 IsWriteFault command reply faults.Answer =
     (form_of command ≡ None)
-    ⊎ (IsAnswerTo command reply × (tells_of_sales reply ≡ true) × (may_tell_of_sales command ≡ false))
+    ⊎ (IsAnswerTo command reply × (tells_of_sales reply ≡ true)
+    × (may_tell_of_sales command ≡ false))

@@ -15,12 +15,14 @@ use Rattle.mdb_bus.specs.Scopes.{Asks, needed_in}
 
 -- open bytes are the front of some command's block
 abbrev pub OpenIsAFront : Scope → Type 0
-OpenIsAFront scope = (bytes : List ℕ) → All IsByte bytes → IsShort (needed_in scope bytes) (length bytes)
+OpenIsAFront scope =
+    (bytes : List ℕ) → All IsByte bytes → IsShort (needed_in scope bytes) (length bytes)
     → (command : Command) × (rest : List ℕ) × (rest ≢ []) × Asks scope command (bytes ++ rest)
 
 pub record Grammar (scope : Scope) : Type 0 where
   -- a block has at most one command
-  pub one_command : (block : List ℕ) (one other : Command) → Asks scope one block → Asks scope other block
+  pub one_command : (block : List ℕ) (one other : Command) → Asks scope one block
+      → Asks scope other block
       → one ≡ other
   -- the first two bytes of a command's block tell its length
   pub needs : (block : List ℕ) (command : Command) → Asks scope command block

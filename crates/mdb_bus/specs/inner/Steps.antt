@@ -48,7 +48,8 @@ abbrev pub Opens : Scope → Position → Option Event → Event → ℕ → Ste
 Opens scope position from to word (step.AskByte byte) =
     (word ≡ 256 + byte) × IsAskFront scope (byte ∷ []) × BlockMayCome position from to
 Opens scope position from to word step.Foreign =
-    (byte : ℕ) × (word ≡ 256 + byte) × IsForeignOpening scope (byte ∷ []) × BlockMayCome position from to
+    (byte : ℕ) × (word ≡ 256 + byte) × IsForeignOpening scope (byte ∷ [])
+    × BlockMayCome position from to
 Opens scope position from to word _ = ⊥
 
 -- a word goes on with a block of the controller, or ends it
@@ -92,7 +93,8 @@ AnswersReply scope command reply from to word step.VmcNak =
     (word ≡ answer_word Controller answers.Nak) × Within WORD_GAP_MIN ANSWER_GAP_MAX from to
 AnswersReply scope command reply from to word step.VmcRet =
     (word ≡ answer_word Controller answers.Ret) × Within WORD_GAP_MIN ANSWER_GAP_MAX from to
-AnswersReply scope command reply from to word next = Opens scope (Replied command reply) from to word next
+AnswersReply scope command reply from to word next =
+    Opens scope (Replied command reply) from to word next
 
 -- a word begins a repeat
 abbrev pub BeginsRepeat : Reply → Option Event → Event → ℕ → Step → Type 0
@@ -118,11 +120,13 @@ GoesOnForeign from to _ = ⊥
 abbrev pub WordLeads : Scope → Position → Option Event → Levels → Event → Line → ℕ → Step → Type 0
 WordLeads scope Quiet from levels to Controller word next = Opens scope Quiet from to word next
 WordLeads scope Quiet from levels to Peripheral word next = ⊥
-WordLeads scope (InAsk bytes) from levels to Controller word next = GoesOnAsking scope bytes from to word next
+WordLeads scope (InAsk bytes) from levels to Controller word next =
+    GoesOnAsking scope bytes from to word next
 WordLeads scope (InAsk bytes) from levels to Peripheral word next = ⊥
 WordLeads scope (Asked command) from levels to Controller word next =
     Opens scope (Asked command) from to word next
-WordLeads scope (Asked command) from levels to Peripheral word next = Answers command from to word next
+WordLeads scope (Asked command) from levels to Peripheral word next =
+    Answers command from to word next
 WordLeads scope (InReply command bytes) from levels to Controller word next = ⊥
 WordLeads scope (InReply command bytes) from levels to Peripheral word next =
     GoesOnReplying command bytes from levels to word next
@@ -197,7 +201,8 @@ IsOpened scope least from to word (Ok judged.Foreign) =
 IsOpened scope least from to word (Ok _) = ⊥
 IsOpened scope least from to word (Err rule.Mode) = word < 256
 IsOpened scope least from to word (Err rule.Early) = (256 ≤ word) × IsBefore least from to
-IsOpened scope least from to word (Err rule.Profile) = IsOutside scope word × NotBefore least from to
+IsOpened scope least from to word (Err rule.Profile) =
+    IsOutside scope word × NotBefore least from to
 IsOpened scope least from to word (Err _) = ⊥
 
 -- bytes that begin a command's block, whoever it is to, and don't end it

@@ -30,7 +30,8 @@ pub(crate) fn begin_block(
     least: u64,
 ) -> Result<Judged, Rule>
     requires { least < 2 ^ 32 }
-    ensures opened { IsOpened scope.now least last.now (Event.Word at Line.Controller word) word result }
+    ensures opened { IsOpened scope.now least last.now (Event.Word at Line.Controller word) word
+        result }
     ensures belongs { (here : Phase) (bytes : List ℕ) → (here ≡ Phase.InAsk → ⊥)
         → IfOk result (Belongs here bytes (Event.Word at Line.Controller word)) }
 {

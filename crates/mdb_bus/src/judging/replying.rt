@@ -77,7 +77,8 @@ pub(crate) fn cut_in(last: &Option<Event>, at: Time, word: Word) -> Result<Judge
           levels = levels;
         })
         (Event.Word at Line.Controller word) result }
-    ensures repeat { (scope : Scope) (levels : Levels) (command : Command) (reply : Reply) (words : List ℕ)
+    ensures repeat { (scope : Scope) (levels : Levels) (command : Command) (reply : Reply)
+        (words : List ℕ)
         → IsJudged (record {
           scope = scope;
           position = lists.InRepeat command reply words;

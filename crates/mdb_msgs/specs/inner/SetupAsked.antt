@@ -1,4 +1,5 @@
--- The command that setup data are an answer to, as they are read. This file serves a private function.
+-- The command that setup data are an answer to, as they are read. This file serves a private
+-- function.
 use Rattle.mdb_msgs.specs.declared.command.BillCommand.TheVariants as bill
 use Rattle.mdb_msgs.specs.declared.command.ChangerCommand.TheVariants as changer
 use Rattle.mdb_msgs.specs.declared.command.Command.{Command}

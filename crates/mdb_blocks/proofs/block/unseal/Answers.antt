@@ -3,7 +3,14 @@ use Rattle.mdb_blocks.proofs.Blocks.{block_from_sum}
 use Rattle.mdb_blocks.proofs.block.unseal.Goals as goal
 
 pub invariant_of-result : goal.invariant_of-result
-invariant_of-result c = rw c.listed.ensures (block_from_sum c.args.bytes.now c.in_default.len_at_least c.if-bytes-gt-BLOCK_MAX.false c.type_inv.bytes (sym c.sum_of.ensures ∙ c.if-sum_of-sum.true))
+invariant_of-result c =
+    rw c.listed.ensures (block_from_sum c.args.bytes.now c.in_default.len_at_least
+    c.if-bytes-gt-BLOCK_MAX.false c.type_inv.bytes
+    (sym c.sum_of.ensures ∙ c.if-sum_of-sum.true))
 
 pub returns-in-len1-up-clause-exactly : goal.returns-in-len1-up-clause-exactly
-returns-in-len1-up-clause-exactly c = (λ _. block_from_sum c.args.bytes.now c.in_default.len_at_least c.if-bytes-gt-BLOCK_MAX.false c.type_inv.bytes (sym c.sum_of.ensures ∙ c.if-sum_of-sum.true), λ _. refl)
+returns-in-len1-up-clause-exactly c = (
+  λ _. block_from_sum c.args.bytes.now c.in_default.len_at_least c.if-bytes-gt-BLOCK_MAX.false
+      c.type_inv.bytes (sym c.sum_of.ensures ∙ c.if-sum_of-sum.true),
+  λ _. refl,
+)

@@ -7,16 +7,24 @@ use Rattle.mdb_bus.proofs.judging.judge.Goals as goal
 
 pub returns-in-Break-clause-judged : goal.returns-in-Break-clause-judged
 returns-in-Break-clause-judged c =
-    λ levels sound. judged_row (record
-    { scope = c.args.scope.now; position = position_at c.args.place.now; last = c.args.last.now; levels = levels })
+    λ levels sound. judged_row (record {
+      scope = c.args.scope.now;
+      position = position_at c.args.place.now;
+      last = c.args.last.now;
+      levels = levels;
+    })
     c.args.row.now _
     c.judge_break.result c.in-Break.is
     (c.judge_break.ensures.judged c.args.scope.now (position_at c.args.place.now) levels)
 
 pub returns-in-Controller-clause-judged : goal.returns-in-Controller-clause-judged
 returns-in-Controller-clause-judged c =
-    λ levels sound. judged_row (record
-    { scope = c.args.scope.now; position = position_at c.args.place.now; last = c.args.last.now; levels = levels })
+    λ levels sound. judged_row (record {
+      scope = c.args.scope.now;
+      position = position_at c.args.place.now;
+      last = c.args.last.now;
+      levels = levels;
+    })
     c.args.row.now _
     c.judge_controller.result
     (c.in-Word.is ∙ ap (λ (line : Line). Word c.in-Word.at line c.in-Word.word) c.in-Controller.is)
@@ -24,8 +32,12 @@ returns-in-Controller-clause-judged c =
 
 pub returns-in-Peripheral-clause-judged : goal.returns-in-Peripheral-clause-judged
 returns-in-Peripheral-clause-judged c =
-    λ levels sound. judged_row (record
-    { scope = c.args.scope.now; position = position_at c.args.place.now; last = c.args.last.now; levels = levels })
+    λ levels sound. judged_row (record {
+      scope = c.args.scope.now;
+      position = position_at c.args.place.now;
+      last = c.args.last.now;
+      levels = levels;
+    })
     c.args.row.now _
     c.judge_peripheral.result
     (c.in-Word.is ∙ ap (λ (line : Line). Word c.in-Word.at line c.in-Word.word) c.in-Peripheral.is)

@@ -17,8 +17,8 @@ pub returns-in-InReply-clause-judged : goal.returns-in-InReply-clause-judged
 returns-in-InReply-clause-judged c =
     λ levels sound. judged_at c.args.scope.now c.args.place.now _ c.args.last.now levels
     (Word c.args.at Controller c.args.word)
-    c.cut_in.result c.in-InReply.is (c.cut_in.ensures.reply c.args.scope.now levels c.args.place.now.command
-    c.args.place.now.bytes)
+    c.cut_in.result c.in-InReply.is (c.cut_in.ensures.reply c.args.scope.now levels
+    c.args.place.now.command c.args.place.now.bytes)
 
 pub returns-in-InRepeat-clause-judged : goal.returns-in-InRepeat-clause-judged
 returns-in-InRepeat-clause-judged c =
@@ -33,13 +33,15 @@ returns-in-Replied-2-clause-judged c =
     λ levels sound. judged_at c.args.scope.now c.args.place.now _ c.args.last.now levels
     (Word c.args.at Controller c.args.word)
     c.answer_reply.result c.in-Replied-2.is
-    (c.answer_reply.ensures.judged c.args.scope.now levels c.args.place.now.command c.args.place.now.last_reply.reply)
+    (c.answer_reply.ensures.judged c.args.scope.now levels c.args.place.now.command
+    c.args.place.now.last_reply.reply)
 
 pub returns-in-InForeign-2-clause-judged : goal.returns-in-InForeign-2-clause-judged
 returns-in-InForeign-2-clause-judged c =
     λ levels sound. judged_at c.args.scope.now c.args.place.now _ c.args.last.now levels
     (Word c.args.at Controller c.args.word)
-    c.go_on_foreign.result c.in-InForeign-2.is (c.go_on_foreign.ensures.judged c.args.scope.now levels)
+    c.go_on_foreign.result c.in-InForeign-2.is
+    (c.go_on_foreign.ensures.judged c.args.scope.now levels)
 
 pub returns-in-InAsk-clause-belongs : goal.returns-in-InAsk-clause-belongs
 returns-in-InAsk-clause-belongs c =

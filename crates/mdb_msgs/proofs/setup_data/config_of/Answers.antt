@@ -9,6 +9,11 @@ loop-message-preserved c =
     record {
       next = tt;
       finite = tt;
-      all = c.loop-message.invariant.all ∙ (ap (λ ms. before ++ ms) c.in-Some.ensures.steps ∙ sym (append_assoc before (c.in-Some.message ∷ []) c.next.new.self));
-      said = c.or-last.ensures ∙ ap₂ or_else c.config_in.ensures c.loop-message.invariant.said ∙ sym (last_more before c.in-Some.message);
+      all =
+          c.loop-message.invariant.all
+          ∙ (ap (λ ms. before ++ ms) c.in-Some.ensures.steps
+          ∙ sym (append_assoc before (c.in-Some.message ∷ []) c.next.new.self));
+      said =
+          c.or-last.ensures ∙ ap₂ or_else c.config_in.ensures c.loop-message.invariant.said
+          ∙ sym (last_more before c.in-Some.message);
     }

@@ -4,21 +4,31 @@ use Rattle.mdb_words.proofs.digits.+push_decimal.Goals as goal
 use Rattle.mdb_words.proofs.digits.+push_decimal.Goals.{then-number-ge10, else-number-ge10}
 
 pub push_decimal-requires : goal.push_decimal-requires
-push_decimal-requires t c =
-    (omega arith, omega (arith, decimal_longer c.args.number c.if-number-ge10.true c.ranges.number.fits))
+push_decimal-requires t c = (
+  omega arith,
+  omega (arith, decimal_longer c.args.number c.if-number-ge10.true c.ranges.number.fits),
+)
 
 pub push_digit-requires-clause-room : goal.push_digit-requires-clause-room
 push_digit-requires-clause-room t c =
     let old = c.args.text.now.bytes in
     elim c.if-number-ge10.branch [
-      | then-number-ge10 w ↦ decimal_append_room old _ c.args.number w.if-number-ge10.true c.ranges.number.fits (ap (λ text. text.bytes) w.text-is ∙ w.push_decimal.ensures) c.requires
-      | else-number-ge10 w ↦ decimal_append_digit_room old _ c.args.number w.if-number-ge10.false (ap (λ text. text.bytes) w.text-is) c.requires
+      | then-number-ge10 w ↦
+          decimal_append_room old _ c.args.number w.if-number-ge10.true c.ranges.number.fits
+          (ap (λ text. text.bytes) w.text-is ∙ w.push_decimal.ensures) c.requires
+      | else-number-ge10 w ↦
+          decimal_append_digit_room old _ c.args.number w.if-number-ge10.false
+          (ap (λ text. text.bytes) w.text-is) c.requires
     ]
 
 pub returns : goal.returns
 returns t c =
     let old = c.args.text.now.bytes in
     elim c.if-number-ge10.branch [
-      | then-number-ge10 w ↦ decimal_append old _ _ c.args.number w.if-number-ge10.true c.ranges.number.fits (ap (λ text. text.bytes) w.text-is ∙ w.push_decimal.ensures) c.push_digit.ensures
-      | else-number-ge10 w ↦ decimal_append_digit old _ _ c.args.number w.if-number-ge10.false (ap (λ text. text.bytes) w.text-is) c.push_digit.ensures
+      | then-number-ge10 w ↦
+          decimal_append old _ _ c.args.number w.if-number-ge10.true c.ranges.number.fits
+          (ap (λ text. text.bytes) w.text-is ∙ w.push_decimal.ensures) c.push_digit.ensures
+      | else-number-ge10 w ↦
+          decimal_append_digit old _ _ c.args.number w.if-number-ge10.false
+          (ap (λ text. text.bytes) w.text-is) c.push_digit.ensures
     ]

@@ -3,7 +3,9 @@ use Rattle.mdb_words.proofs.Entries.{hex_at, hex_most}
 use Rattle.mdb_words.proofs.digits.hexadecimal.Goals as goal
 
 pub returns-clause-count : goal.returns-clause-count
-returns-clause-count c = hex_at c.args.place c.from.result c.args.byte c.requires c.from.ensures (omega arith)
+returns-clause-count c =
+    hex_at c.args.place c.from.result c.args.byte c.requires c.from.ensures (omega arith)
 
 pub returns-clause-bound : goal.returns-clause-bound
-returns-clause-bound c = hex_most c.args.place c.from.result c.args.byte c.requires c.from.ensures (omega arith)
+returns-clause-bound c =
+    hex_most c.args.place c.from.result c.args.byte c.requires c.from.ensures (omega arith)

@@ -30,20 +30,25 @@ pub returns-in_default-clause-goes_on : goal.returns-in_default-clause-goes_on
 returns-in_default-clause-goes_on c pieces stands =
     stands_on c.args.self.now c.go.new.self pieces c.args.event c.in-Ok.judged
     (ended_act c.go.result c.go.new.act) stands
-    c.in_default.not-Reply (c.in-Ok.ensures.judged c.args.self.now.levels (sound_at c.args.self.now pieces stands)) c.go.ensures.gone
+    c.in_default.not-Reply
+    (c.in-Ok.ensures.judged c.args.self.now.levels (sound_at c.args.self.now pieces stands))
+    c.go.ensures.gone
 
 pub returns-in-Err-clause-faults : goal.returns-in-Err-clause-faults
 returns-in-Err-clause-faults c pieces stands =
     fault_of c.args.self.now pieces c.args.event c.in-Err.rule c.fault.result.rule
     c.fault.result.blame stands
-    (c.in-Err.ensures.judged c.args.self.now.levels (sound_at c.args.self.now pieces stands)) c.fault.ensures.rule c.fault.ensures.blame
+    (c.in-Err.ensures.judged c.args.self.now.levels (sound_at c.args.self.now pieces stands))
+    c.fault.ensures.rule c.fault.ensures.blame
 
 pub returns-in-Err-clause-impossible : goal.returns-in-Err-clause-impossible
 returns-in-Err-clause-impossible c pieces stands has =
     let faulty = fault_of c.args.self.now pieces c.args.event c.in-Err.rule c.fault.result.rule
     c.fault.result.blame
-    stands (c.in-Err.ensures.judged c.args.self.now.levels (sound_at c.args.self.now pieces stands)) c.fault.ensures.rule
+    stands (c.in-Err.ensures.judged c.args.self.now.levels (sound_at c.args.self.now pieces stands))
+    c.fault.ensures.rule
     c.fault.ensures.blame in
-    c.rows_that_break_a_rule_end_the_act_list.ensures c.args.self.now.scope pieces c.args.event c.fault.result.rule
+    c.rows_that_break_a_rule_end_the_act_list.ensures c.args.self.now.scope pieces c.args.event
+    c.fault.result.rule
     stands.in_order
     faulty.rule.breaks has

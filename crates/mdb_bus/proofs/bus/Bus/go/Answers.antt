@@ -7,7 +7,8 @@ pub returns-in-Ask-clause-gone : goal.returns-in-Ask-clause-gone
 returns-in-Ask-clause-gone c =
     gone_ask c.args.self.now c.note_ask.new.self c.advance-ended.new.self c.args.event c.args.judged
     c.advance-ended.result
-    c.advance-ended.new.act c.in-Ask.is c.note_ask.ensures.place c.note_ask.ensures.scope c.note_ask.ensures.last
+    c.advance-ended.new.act c.in-Ask.is c.note_ask.ensures.place c.note_ask.ensures.scope
+    c.note_ask.ensures.last
     c.note_ask.ensures.levels
     c.note_ask.ensures.asked c.advance-ended.ensures.advanced
 

@@ -3,10 +3,12 @@ use Rattle.mdb_msgs.proofs.setups.Setups.learn.Goals as goal
 
 pub returns-in-Ok-clause-only : goal.returns-in-Ok-clause-only
 returns-in-Ok-clause-only c =
-    learns c.args.device c.args.answer.now c.args.self.now c.setup_of.result c.setup_of.ensures c.read_reply.result c.read_reply.ensures.only
+    learns c.args.device c.args.answer.now c.args.self.now c.setup_of.result c.setup_of.ensures
+    c.read_reply.result c.read_reply.ensures.only
     c.in-Ok.reply c.in-Ok.is c.learn_reply.result c.learn_reply.ensures.untold
 
 pub returns-in-Err-clause-only : goal.returns-in-Err-clause-only
 returns-in-Err-clause-only c =
-    learns_none c.args.device c.args.answer.now c.args.self.now c.setup_of.result c.setup_of.ensures c.read_reply.result c.read_reply.ensures.only
+    learns_none c.args.device c.args.answer.now c.args.self.now c.setup_of.result c.setup_of.ensures
+    c.read_reply.result c.read_reply.ensures.only
     c.in-Err.field-0 c.in-Err.is

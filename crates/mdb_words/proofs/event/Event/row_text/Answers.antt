@@ -9,11 +9,16 @@ use Rattle.mdb_words.proofs.event.Event.row_text.Goals.{in-Controller, in-Periph
 
 pub push_decimal-requires : goal.push_decimal-requires
 push_decimal-requires c =
-    omega (arith, ap length c.new-text.ensures, length-decimal-le 15 c.value.result (omega arith) (omega arith) (omega arith))
+    omega (
+      arith,
+      ap length c.new-text.ensures,
+      length-decimal-le 15 c.value.result (omega arith) (omega arith) (omega arith),
+    )
 
 pub push_str-requires : goal.push_str-requires
 push_str-requires c =
-    let start = length_start c.value.result _ _ c.new-text.ensures c.push_decimal.ensures (omega arith) in
+    let start =
+    length_start c.value.result _ _ c.new-text.ensures c.push_decimal.ensures (omega arith) in
     let letter : length c.match-line.push_str.now ≡ 3 = elim c.match-line.branch [
       | in-Controller w ↦ ap (λ s. length s.now) w.push_str-is
       | in-Peripheral w ↦ ap (λ s. length s.now) w.push_str-is
@@ -22,7 +27,8 @@ push_str-requires c =
 
 pub push_hex_word-requires-clause-room : goal.push_hex_word-requires-clause-room
 push_hex_word-requires-clause-room c =
-    let start = length_start c.value.result _ _ c.new-text.ensures c.push_decimal.ensures (omega arith) in
+    let start =
+    length_start c.value.result _ _ c.new-text.ensures c.push_decimal.ensures (omega arith) in
     let letter : length c.match-line.push_str.now ≡ 3 = elim c.match-line.branch [
       | in-Controller w ↦ ap (λ s. length s.now) w.push_str-is
       | in-Peripheral w ↦ ap (λ s. length s.now) w.push_str-is
@@ -31,41 +37,62 @@ push_hex_word-requires-clause-room c =
 
 pub returns-after-line-clause-row : goal.returns-after-line-clause-row
 returns-after-line-clause-row c =
-    (word_written c.args.self.now c.start.result c.in-Word.at c.in-Word.line c.in-Word.word c.in-Word.is c.start.ensures c.value.ensures.range c.value-in-Word.ensures.range).0
+    (word_written c.args.self.now c.start.result c.in-Word.at c.in-Word.line c.in-Word.word
+    c.in-Word.is c.start.ensures c.value.ensures.range c.value-in-Word.ensures.range).0
 
 pub returns-after-line-clause-apart : goal.returns-after-line-clause-apart
 returns-after-line-clause-apart c =
-    (word_written c.args.self.now c.start.result c.in-Word.at c.in-Word.line c.in-Word.word c.in-Word.is c.start.ensures c.value.ensures.range c.value-in-Word.ensures.range).1
+    (word_written c.args.self.now c.start.result c.in-Word.at c.in-Word.line c.in-Word.word
+    c.in-Word.is c.start.ensures c.value.ensures.range c.value-in-Word.ensures.range).1
 
 pub returns-after-line-clause-short : goal.returns-after-line-clause-short
 returns-after-line-clause-short c =
-    let start = length_start c.value.result _ _ c.new-text.ensures c.push_decimal.ensures (omega arith) in
+    let start =
+    length_start c.value.result _ _ c.new-text.ensures c.push_decimal.ensures (omega arith) in
     let letter : length c.match-line.push_str.now ≡ 3 = elim c.match-line.branch [
       | in-Controller w ↦ ap (λ s. length s.now) w.push_str-is
       | in-Peripheral w ↦ ap (λ s. length s.now) w.push_str-is
     ] in
-    omega (arith, ap length c.push_hex_word.ensures, length-append c.push_str.new.self.bytes (hex_word c.value-in-Word.result))
+    omega (
+      arith,
+      ap length c.push_hex_word.ensures,
+      length-append c.push_str.new.self.bytes (hex_word c.value-in-Word.result),
+    )
 
 pub push_str-requires-in-Break : goal.push_str-requires-in-Break
 push_str-requires-in-Break c =
-    let start = length_start c.value.result _ _ c.new-text.ensures c.push_decimal.ensures (omega arith) in
+    let start =
+    length_start c.value.result _ _ c.new-text.ensures c.push_decimal.ensures (omega arith) in
     (omega arith, omega arith)
 
 pub push_decimal-requires-in-Break : goal.push_decimal-requires-in-Break
 push_decimal-requires-in-Break c =
-    let start = length_start c.value.result _ _ c.new-text.ensures c.push_decimal.ensures (omega arith) in
-    omega (arith, length-decimal-le 9 c.value-in-Break.result (omega arith) (omega arith) (omega arith))
+    let start =
+    length_start c.value.result _ _ c.new-text.ensures c.push_decimal.ensures (omega arith) in
+    omega (
+      arith,
+      length-decimal-le 9 c.value-in-Break.result (omega arith) (omega arith) (omega arith),
+    )
 
 pub returns-in-Break-clause-row : goal.returns-in-Break-clause-row
 returns-in-Break-clause-row c =
-    (break_written c.args.self.now c.start.result c.in-Break.at c.in-Break.length c.in-Break.is c.start.ensures c.value.ensures.range c.value-in-Break.ensures.range).0
+    (break_written c.args.self.now c.start.result c.in-Break.at c.in-Break.length c.in-Break.is
+    c.start.ensures c.value.ensures.range c.value-in-Break.ensures.range).0
 
 pub returns-in-Break-clause-apart : goal.returns-in-Break-clause-apart
 returns-in-Break-clause-apart c =
-    (break_written c.args.self.now c.start.result c.in-Break.at c.in-Break.length c.in-Break.is c.start.ensures c.value.ensures.range c.value-in-Break.ensures.range).1
+    (break_written c.args.self.now c.start.result c.in-Break.at c.in-Break.length c.in-Break.is
+    c.start.ensures c.value.ensures.range c.value-in-Break.ensures.range).1
 
 pub returns-in-Break-clause-short : goal.returns-in-Break-clause-short
 returns-in-Break-clause-short c =
-    let start = length_start c.value.result _ _ c.new-text.ensures c.push_decimal.ensures (omega arith) in
-    let end = length-decimal-le 9 c.value-in-Break.result (omega arith) (omega arith) (omega arith) in
-    omega (arith, end, ap length c.push_decimal-in-Break.ensures, length-append c.push_str-in-Break.new.self.bytes (decimal c.value-in-Break.result))
+    let start =
+    length_start c.value.result _ _ c.new-text.ensures c.push_decimal.ensures (omega arith) in
+    let end =
+    length-decimal-le 9 c.value-in-Break.result (omega arith) (omega arith) (omega arith) in
+    omega (
+      arith,
+      end,
+      ap length c.push_decimal-in-Break.ensures,
+      length-append c.push_str-in-Break.new.self.bytes (decimal c.value-in-Break.result),
+    )

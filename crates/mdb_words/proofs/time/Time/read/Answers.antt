@@ -2,4 +2,5 @@ use Rattle.mdb_words.proofs.Numerals.{IsDecimal-lt}
 use Rattle.mdb_words.proofs.time.Time.read.Goals as goal
 
 pub invariant_of-result : goal.invariant_of-result
-invariant_of-result c = IsDecimal-lt 15 c.args.field.now c.in_ok-micros.micros c.in_ok-micros.ensures.some
+invariant_of-result c =
+    IsDecimal-lt 15 c.args.field.now c.in_ok-micros.micros c.in_ok-micros.ensures.some
