@@ -19,10 +19,12 @@ use Rattle.mdb_machine.proofs.MidSession.{any_asked, some_told}
 
 -- what a DISPENSE adds, by whether it is owed and the last one again
 abbrev adds : Bool → Bool → ℕ → Gains
-adds owed again value = if owed && again then no_gains else controller_gains (in_slots (0 ∷ value ∷ []))
+adds owed again value =
+    if owed && again then no_gains else controller_gains (in_slots (0 ∷ value ∷ []))
 
 one_of_two : (owed again : Bool) (value : ℕ) (gains : Gains) → owed ≡ true
-    → gains ≡ adds owed again value → (gains ≡ no_gains) ⊎ (gains ≡ controller_gains (in_slots (0 ∷ value ∷ [])))
+    → gains ≡ adds owed again value
+    → (gains ≡ no_gains) ⊎ (gains ≡ controller_gains (in_slots (0 ∷ value ∷ [])))
 one_of_two true true value gains is gained = inl gained
 one_of_two true false value gains is gained = inr gained
 one_of_two false again value gains is gained = absurd cc
@@ -47,7 +49,8 @@ owed_ways setups so_far coins choice before after gains none owed = (forth, back
 
     forth : (machine (Joined setups)).Step so_far (acts.Ask (Changer (changer.Dispense coins)))
         choice before after gains
-        → (after ≡ before) × ((gains ≡ no_gains) ⊎ (gains ≡ controller_gains (in_slots (0 ∷ value ∷ []))))
+        → (after ≡ before)
+        × ((gains ≡ no_gains) ⊎ (gains ≡ controller_gains (in_slots (0 ∷ value ∷ []))))
     forth step = (
       step.step.0 ∙ still_owed before owed,
       one_of_two before.dispense_owed (is_last step.facts.last_asked coins) value gains owed
@@ -74,7 +77,8 @@ owed_ways setups so_far coins choice before after gains none owed = (forth, back
           );
         }
 
-    back : (after ≡ before) × ((gains ≡ no_gains) ⊎ (gains ≡ controller_gains (in_slots (0 ∷ value ∷ []))))
+    back : (after ≡ before)
+        × ((gains ≡ no_gains) ⊎ (gains ≡ controller_gains (in_slots (0 ∷ value ∷ []))))
         → (machine (Joined setups)).Step so_far (acts.Ask (Changer (changer.Dispense coins)))
         choice before after gains
     back (same, inl gained) = by (Some coins) same
@@ -111,7 +115,8 @@ free_way setups so_far coins choice before after gains free =
             step = (
               way.0,
               way.1
-                  ∙ sym (none_again before.dispense_owed (is_last some.0.last_asked coins) value free)
+                  ∙ sym
+                  (none_again before.dispense_owed (is_last some.0.last_asked coins) value free)
                   ∙ ap (λ s. adds before.dispense_owed (is_last some.0.last_asked coins)
                   (dispensed_value s coins)) (sym some.2),
             );

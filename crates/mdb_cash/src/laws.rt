@@ -70,7 +70,8 @@ pub fn the_validators_facts_are_of_its_own_acts()
 /// Where the changer has a part in no acts but breaks, its setup table is that of no act, and no
 /// amount is told of it.
 pub fn breaks_tell_nothing_of_the_changer()
-    ensures setup { (begins : Beginning) (acts : List Act) → All IsBreak (own_acts devices.Changer acts)
+    ensures setup { (begins : Beginning) (acts : List Act)
+        → All IsBreak (own_acts devices.Changer acts)
         → (changer.known_of begins acts).setup ≡ (changer.known_of begins []).setup }
     ensures unvalued { (begins : Beginning) (acts : List Act)
         → All IsBreak (own_acts devices.Changer acts) → changer_machine.unvalued begins acts ≡ 0 }
@@ -79,7 +80,8 @@ pub fn breaks_tell_nothing_of_the_changer()
 /// Where the validator has a part in no acts but breaks, its setup table is that of no act, and no
 /// amount is told of it.
 pub fn breaks_tell_nothing_of_the_validator()
-    ensures setup { (begins : Beginning) (acts : List Act) → All IsBreak (own_acts devices.Bill acts)
+    ensures setup { (begins : Beginning) (acts : List Act)
+        → All IsBreak (own_acts devices.Bill acts)
         → (bill.known_of begins acts).setup ≡ (bill.known_of begins []).setup }
     ensures unvalued { (begins : Beginning) (acts : List Act)
         → All IsBreak (own_acts devices.Bill acts) → bill_machine.unvalued begins acts ≡ 0 }

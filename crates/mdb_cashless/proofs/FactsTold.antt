@@ -29,11 +29,16 @@ answered unit command refused messages old =
     record {
       config = or_else (last_said config_in (own_messages unit command messages)) old.config;
       asked = old.asked;
-      taken = if resets (effect_taken (effect_of unit) (if refused then None else Some command)) || begin_session (own_messages unit command messages)
+      taken =
+          if resets (effect_taken (effect_of unit) (if refused then None else Some command))
+          || begin_session (own_messages unit command messages)
           then None
-          else or_else (own_transaction (own_of unit (if refused then None else Some command))) old.taken;
+          else or_else (own_transaction (own_of unit (if refused then None else Some command)))
+          old.taken;
       amount = or_else (last_said amount_in (own_messages unit command messages)) old.amount;
-      past = past_after (resets (effect_taken (effect_of unit) (if refused then None else Some command)))
+      past =
+          past_after
+          (resets (effect_taken (effect_of unit) (if refused then None else Some command)))
           (effect_taken (effect_of unit) (if refused then None else Some command))
           (map part_of (own_messages unit command messages)) old.past;
     }
@@ -46,18 +51,27 @@ answered_own found refused messages old =
     record {
       config = or_else (last_said config_in own_ones) old.config;
       asked = old.asked;
-      taken = if resets (effect_of_own took) || begin_session own_ones then None else or_else (own_transaction took) old.taken;
+      taken =
+          if resets (effect_of_own took) || begin_session own_ones then None
+          else or_else (own_transaction took) old.taken;
       amount = or_else (last_said amount_in own_ones) old.amount;
-      past = past_after (resets (effect_of_own took)) (effect_of_own took) (map part_of own_ones) old.past;
+      past =
+          past_after (resets (effect_of_own took)) (effect_of_own took) (map part_of own_ones)
+          old.past;
     }
 
-same_answer : (unit : ReaderUnit) (command : Command) (refused : Bool) (messages : List ReaderMsg) (old : ToldFacts) → answered unit command refused messages old ≡ answered_own (own unit command) refused messages old
+same_answer : (unit : ReaderUnit) (command : Command) (refused : Bool) (messages : List ReaderMsg)
+    (old : ToldFacts)
+    → answered unit command refused messages old
+    ≡ answered_own (own unit command) refused messages old
 same_answer unit command true messages old = refl
 same_answer unit command false messages old = refl
 
 -- the last transaction after a command that is taken by an answer
 last_is : (command : ReaderCommand) (begins : Bool) (last : Option Transaction)
-    → (if resets (effect_of_own (Some command)) || begins then None else or_else (transaction_of command) last) ≡ (if begins then None else last_after command last)
+    → (if resets (effect_of_own (Some command)) || begins then None
+    else or_else (transaction_of command) last)
+    ≡ (if begins then None else last_after command last)
 last_is reader.Reset true last = refl
 last_is reader.Reset false last = refl
 last_is (reader.SetupConfig level columns rows display) begins last = refl
@@ -74,15 +88,21 @@ last_is reader.Enable begins last = refl
 last_is reader.Cancel begins last = refl
 last_is (reader.RequestId identity) begins last = refl
 
-own_answer : (its : ReaderCommand) (refused : Bool) (messages : List ReaderMsg) (old : ToldFacts) → answered_own (Some its) refused messages old ≡ told messages (taken (if refused then None else Some its) old)
+own_answer : (its : ReaderCommand) (refused : Bool) (messages : List ReaderMsg) (old : ToldFacts)
+    → answered_own (Some its) refused messages old
+    ≡ told messages (taken (if refused then None else Some its) old)
 own_answer its true messages old = refl
-own_answer its false messages old = same_fields refl refl (last_is its (begin_session messages) old.taken) refl refl
+own_answer its false messages old =
+    same_fields refl refl (last_is its (begin_session messages) old.taken) refl refl
 
 -- the facts after a reply of this reader: it has taken its command or not, and has told messages
-pub replied : (unit : ReaderUnit) (command : Command) (its : ReaderCommand) (reply : Reply) (old mid new : ToldFacts) → own unit command ≡ Some its
-    → mid ≡ taken (if tells_out_of_sequence reply then None else Some its) old → new ≡ told (messages_of reply) mid → new ≡ told_with unit (acts.Reply command reply) old
+pub replied : (unit : ReaderUnit) (command : Command) (its : ReaderCommand) (reply : Reply)
+    (old mid new : ToldFacts) → own unit command ≡ Some its
+    → mid ≡ taken (if tells_out_of_sequence reply then None else Some its) old
+    → new ≡ told (messages_of reply) mid → new ≡ told_with unit (acts.Reply command reply) old
 replied unit command its reply old mid new found mid_is new_is =
     let refused = tells_out_of_sequence reply in
     let messages = messages_of reply in
     new_is ∙ (ap (told messages) mid_is ∙ (sym (own_answer its refused messages old)
-    ∙ (sym (ap (λ f. answered_own f refused messages old) found) ∙ sym (same_answer unit command refused messages old))))
+    ∙ (sym (ap (λ f. answered_own f refused messages old) found)
+    ∙ sym (same_answer unit command refused messages old))))

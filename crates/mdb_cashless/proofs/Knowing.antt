@@ -227,7 +227,8 @@ replies_some known command reply choice before after gains unknown = (forth, bac
             last,
             some.1.past.last_kept,
             reply_with base some.0.asked base.asked
-                some.0.taken (Some (again its)) last last command reply choice before after gains meets
+                some.0.taken (Some (again its)) last last command reply choice before after gains
+                meets
                 step step.has_news.new,
           )
         ]
@@ -252,7 +253,8 @@ replies_known known command reply choice before after gains knows =
             some.1.past.last_kept,
             reply_with base some.0.asked base.asked some.0.taken
                 base.taken last last command reply choice before after gains
-                (meets_itself (own_transaction (taken command reply)) some.0.taken base.taken (sym same))
+                (meets_itself (own_transaction (taken command reply)) some.0.taken base.taken
+                (sym same))
                 step step.has_news.new,
           ),
     )
@@ -463,7 +465,8 @@ settled_from unit known act choice before after gains is step =
     record {
       facts = guessing base base.asked base.taken kept;
       allowed = allowed known before.holds base.asked base.taken kept asked taken some;
-      step = step_same unit base base.asked base.asked base.taken base.taken base.past.last_kept kept
+      step =
+          step_same unit base base.asked base.asked base.taken base.taken base.past.last_kept kept
           act choice before after gains
           (settled_same unit known act before.holds base.asked base.taken kept is asked taken some)
           step;

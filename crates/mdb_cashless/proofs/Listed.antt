@@ -60,7 +60,8 @@ pub small_one : (old new : List (ReaderState × Gains)) (found : Option (ReaderS
 small_one old new found were small adds = λ after gains among.
     elim ((adds after gains).0 among) [
       | inl was ↦ were after gains was
-      | inr e ↦ subst (λ (f : Option (ReaderState × Gains)). IfSome f (λ step. IsSmall step.1)) e small
+      | inr e ↦
+          subst (λ (f : Option (ReaderState × Gains)). IfSome f (λ step. IsSmall step.1)) e small
     ]
 
 -- nothing is among none
@@ -111,7 +112,8 @@ pub adds_as : (old new : List (ReaderState × Gains)) (Step Other : ReaderState 
 adds_as old new Step Other adds is after gains =
     let has = adds after gains in (
       λ among. elim (has.0 among) [ inl was ↦ inl was | inr step ↦ inr ((is after gains).0 step) ],
-      λ either. has.1 (elim either [ inl was ↦ inl was | inr other ↦ inr ((is after gains).1 other) ]),
+      λ either.
+          has.1 (elim either [ inl was ↦ inl was | inr other ↦ inr ((is after gains).1 other) ]),
     )
 
 -- no front is the last kept list, and one more is
@@ -149,11 +151,12 @@ one_front old mid new facts kept last command reply choice before first second =
         → OfFront facts kept (last + 1) command reply choice before after gains
         → OfFront facts kept last command reply choice before after gains
         ⊎ ReplyStep (keeping facts (take (last + 1) kept)) command reply choice before after gains
-    back after gains front = elim (eq-or-lt_of_le {n = front.0} {m = last} (omega (arith, front.1))) [
-      | inl same ↦ inr (subst (λ n. ReplyStep (keeping facts (take (n + 1) kept)) command reply
-          choice before after gains) same front.2)
-      | inr few ↦ inl (front.0, few, front.2)
-    ]
+    back after gains front =
+        elim (eq-or-lt_of_le {n = front.0} {m = last} (omega (arith, front.1))) [
+          | inl same ↦ inr (subst (λ n. ReplyStep (keeping facts (take (n + 1) kept)) command reply
+              choice before after gains) same front.2)
+          | inr few ↦ inl (front.0, few, front.2)
+        ]
 
 -- all fronts were found, and a list that is none of them
 pub fronts_found : (old first final : List (ReaderState × Gains)) (facts : Facts)

@@ -77,7 +77,8 @@ taken_both false (Some t) none = absurd cc
 taken_both false None none = (refl, refl)
 
 abbrev TellsNoTaken : ReaderUnit → Act → Type 0
-TellsNoTaken unit act = (ends_transactions unit act ≡ false) × (transaction_taken_by unit act ≡ None)
+TellsNoTaken unit act =
+    (ends_transactions unit act ≡ false) × (transaction_taken_by unit act ≡ None)
 
 none_taken : (unit : ReaderUnit) (so_far : List Act) → TakesNone unit so_far
     → last_told (taken_told unit) so_far ≡ None
@@ -202,7 +203,8 @@ pub sent_way : (unit : ReaderUnit) (setups : Setups) (so_far : List Act) (comman
     (before after : ReaderState) (gains : Gains) → SendsNone unit so_far
     → ((facts : Facts) × AllowsFacts (known_of (Joined setups) unit so_far) before.holds facts
     × AskStep facts command before after gains)
-    ↔ AskStep (record (facts_recorded unit setups so_far) { asked = transaction_of command }) command
+    ↔ AskStep (record (facts_recorded unit setups so_far) { asked = transaction_of command })
+    command
     before after gains
 sent_way unit setups so_far command before after gains none =
     let base = facts_recorded unit setups so_far in
@@ -229,7 +231,8 @@ pub sent : (unit : ReaderUnit) (setups : Setups) (so_far : List Act) (command : 
     (choice : Choice) (before after : ReaderState) (gains : Gains) → SendsNone unit so_far
     → (machine unit (Joined setups)).Step so_far (acts.Ask (commands.Reader unit command)) choice
     before after gains
-    ↔ AskStep (record (facts_recorded unit setups so_far) { asked = transaction_of command }) command
+    ↔ AskStep (record (facts_recorded unit setups so_far) { asked = transaction_of command })
+    command
     before after gains
 sent First setups so_far command choice before after gains none =
     let way = sent_way First setups so_far command before after gains none in (
@@ -290,7 +293,8 @@ repeated fields t its holds is held =
 -- the state after a command is taken, and its sale, by whether it is repeated
 taken_again : (facts : Facts) (command : ReaderCommand) (before : ReaderState)
     → is_repeated facts command before.holds ≡ true
-    → (take_any facts (Some command) before ≡ before) × (sold_any facts (Some command) before ≡ no_end)
+    → (take_any facts (Some command) before ≡ before)
+    × (sold_any facts (Some command) before ≡ no_end)
 taken_again facts command before is = (
   ap (λ (r : Bool). if r then before else record {
     device = effect command before.device;
@@ -364,7 +368,8 @@ takes_to fields unit setups so_far facts holds allowed (Some command) before =
 
 -- and each way is one after some guess of the last transaction, which may be; where no transaction
 -- is taken, any that may be does
-abbrev TakesAfter : ReaderUnit → Setups → List Act → Option ReaderCommand → ReaderState → ReaderState
+abbrev TakesAfter : ReaderUnit → Setups → List Act → Option ReaderCommand → ReaderState
+    → ReaderState
     → Ended → Option Transaction → Option Transaction → Type 0
 TakesAfter unit setups so_far its before after sold guess t =
     Allows (known_of (Joined setups) unit so_far).taken t
@@ -428,7 +433,8 @@ takes_from fields unit setups so_far (Some command) before after sold guess may 
 takes_from fields unit setups so_far None before after sold guess may (inr another) =
     (guess, (may, refl, λ a k. (sym another.1, sym another.2)))
 takes_from fields unit setups so_far (Some command) before after sold guess may (inr another) =
-    let one = another_guess fields unit setups so_far (transaction_of command) before.holds guess may
+    let one =
+    another_guess fields unit setups so_far (transaction_of command) before.holds guess may
     another.0 in (
       one.0,
       (
@@ -495,7 +501,8 @@ held_to unit so_far poll true (x ∷ last) kept news some known (inl order) =
         inl (
           omega arith,
           omega (arith, lengths),
-          λ told. ap (take (length (x ∷ last))) order ∙ take-append_seam (x ∷ last) news ∙ known told,
+          λ told.
+              ap (take (length (x ∷ last))) order ∙ take-append_seam (x ∷ last) news ∙ known told,
         ),
         sym (ap (drop (length (x ∷ last))) order ∙ drop-append_seam (x ∷ last) news),
       ),
@@ -581,7 +588,8 @@ reply_ways fields unit setups so_far command reply choice before after gains = (
           view = step.view;
           holds = step.holds;
           gained = step.gained
-              ∙ ap (λ n. device_gains (in_slots (amounts (all_approved (config facts.config) n) sold)))
+              ∙ ap (λ n.
+              device_gains (in_slots (amounts (all_approved (config facts.config) n) sold)))
               is.1.1
               ∙ ap (λ c. device_gains (in_slots
               (amounts (all_approved (config c) (drop is.0 kept)) sold))) allowed.config;

@@ -68,7 +68,8 @@ power_on_known unit acts holds facts =
     let kept = kept_known (last_list (parts_by unit) acts) holds in (
       λ is. same_facts (is.config ∙ config) ((asked facts.asked).0 is.asked)
           ((taken facts.taken).0 is.taken ∙ sym (last_taken_is unit acts)) is.amount
-          (same_past (λ kind. ap (λ e. e kind) is.past.enabled ∙ no_more (past.enabled kind) (ltb kind 16))
+          (same_past
+          (λ kind. ap (λ e. e kind) is.past.enabled ∙ no_more (past.enabled kind) (ltb kind 16))
           (is.past.reset_owed ∙ owed_so past.reset_owed)
           ((kept facts.past.last_kept).0 is.past.last_kept)),
       λ same. record {

@@ -21,14 +21,19 @@ pub or_none : {X : Type 0} (one : Option X) → or_else one None ≡ one
 or_none None = refl
 or_none (Some x) = refl
 
-or_assoc : {X : Type 0} (one other third : Option X) → or_else (or_else one other) third ≡ or_else one (or_else other third)
+or_assoc : {X : Type 0} (one other third : Option X)
+    → or_else (or_else one other) third ≡ or_else one (or_else other third)
 or_assoc None other third = refl
 or_assoc (Some x) other third = refl
 
 -- what the last of messages says, with one message more
-last_said-more : {X : Type 0} (says : ReaderMsg → Option X) (messages : List ReaderMsg) (m : ReaderMsg) → last_said says (messages ++ m ∷ []) ≡ or_else (says m) (last_said says messages)
+last_said-more : {X : Type 0} (says : ReaderMsg → Option X) (messages : List ReaderMsg)
+    (m : ReaderMsg)
+    → last_said says (messages ++ m ∷ []) ≡ or_else (says m) (last_said says messages)
 last_said-more says [] m = sym (or_none (says m))
-last_said-more says (message ∷ messages) m = ap (λ o. or_else o (says message)) (last_said-more says messages m) ∙ or_assoc (says m) (last_said says messages) (says message)
+last_said-more says (message ∷ messages) m =
+    ap (λ o. or_else o (says message)) (last_said-more says messages m)
+    ∙ or_assoc (says m) (last_said says messages) (says message)
 
 or_last : (a b : Bool) → (a || (b || false)) ≡ (b || a)
 or_last true true = refl
@@ -36,20 +41,41 @@ or_last true false = refl
 or_last false true = refl
 or_last false false = refl
 
-any_last : (f : ReaderMsg → Bool) (messages : List ReaderMsg) (m : ReaderMsg) → list_any f (messages ++ m ∷ []) ≡ (f m || list_any f messages)
+any_last : (f : ReaderMsg → Bool) (messages : List ReaderMsg) (m : ReaderMsg)
+    → list_any f (messages ++ m ∷ []) ≡ (f m || list_any f messages)
 any_last f messages m = list_any-append f messages (m ∷ []) ∙ or_last (list_any f messages) (f m)
 
 -- what messages say with one message more
 pub said_more : (old new : Said) (messages : List ReaderMsg) (m : ReaderMsg) → IsSaid old messages
-    → ((parts : List (Part ReaderActivity)) → IsSummary old.summary.kept.items old.summary.reset old.summary.early parts → IsSummary new.summary.kept.items new.summary.reset new.summary.early (parts ++ part_of m ∷ []))
+    → ((parts : List (Part ReaderActivity))
+    → IsSummary old.summary.kept.items old.summary.reset old.summary.early parts
+    → IsSummary new.summary.kept.items new.summary.reset new.summary.early
+    (parts ++ part_of m ∷ []))
     → new.config ≡ or_else (config_in m) old.config → new.amount ≡ or_else (amount_in m) old.amount
-    → new.begins ≡ (begins_session m || old.begins) → new.refused ≡ (is_out_of_sequence m || old.refused)
+    → new.begins ≡ (begins_session m || old.begins)
+    → new.refused ≡ (is_out_of_sequence m || old.refused)
     → IsSaid new (messages ++ m ∷ [])
 said_more old new messages m said summary config amount begins refused =
     record {
-      summary_is = subst (λ (parts : List (Part ReaderActivity)). IsSummary new.summary.kept.items new.summary.reset new.summary.early parts) (sym (map-append part_of messages (m ∷ []))) (summary (map part_of messages) said.summary_is);
-      config_is = config ∙ (ap (or_else (config_in m)) said.config_is ∙ sym (last_said-more config_in messages m));
-      amount_is = amount ∙ (ap (or_else (amount_in m)) said.amount_is ∙ sym (last_said-more amount_in messages m));
-      begins_is = begins ∙ (ap (λ b. begins_session m || b) said.begins_is ∙ sym (any_last begins_session messages m));
-      refused_is = refused ∙ (ap (λ b. is_out_of_sequence m || b) said.refused_is ∙ sym (any_last is_out_of_sequence messages m));
+      summary_is =
+          subst (λ (parts : List (Part ReaderActivity)).
+          IsSummary new.summary.kept.items new.summary.reset new.summary.early parts)
+          (sym (map-append part_of messages (m ∷ [])))
+          (summary (map part_of messages) said.summary_is);
+      config_is =
+          config
+          ∙ (ap (or_else (config_in m)) said.config_is
+          ∙ sym (last_said-more config_in messages m));
+      amount_is =
+          amount
+          ∙ (ap (or_else (amount_in m)) said.amount_is
+          ∙ sym (last_said-more amount_in messages m));
+      begins_is =
+          begins
+          ∙ (ap (λ b. begins_session m || b) said.begins_is
+          ∙ sym (any_last begins_session messages m));
+      refused_is =
+          refused
+          ∙ (ap (λ b. is_out_of_sequence m || b) said.refused_is
+          ∙ sym (any_last is_out_of_sequence messages m));
     }

@@ -1,4 +1,4 @@
-use Rattle.std.proofs.Common.{◌≡◌, ◌∙◌, ◌↔◌, Bool, true, false, not, List, [], ◌∷◌, Option, Some, None, refl, ap, sym, subst}
+use Rattle.std.proofs.Common.{◌≡◌, ◌∙◌, ◌↔◌, Bool, true, false, not, List, Option, Some, None, refl, ap, sym, subst}
 use Rattle.std.specs.Bool.{OnFalse, OnTrue}
 use Rattle.mdb_msgs.specs.declared.command.Command.{Command}
 use Rattle.mdb_msgs.specs.declared.command.ReaderCommand.{ReaderCommand}
@@ -26,38 +26,66 @@ use Rattle.mdb_cashless.specs.inner.Guesses.{OfSome}
 use Rattle.mdb_cashless.specs.inner.KnowingReader.{stays}
 
 -- states with the same parts
-pub same_state : {one other : ReaderState} → one.device ≡ other.device → one.view ≡ other.view → one.holds ≡ other.holds → one ≡ other
+pub same_state : {one other : ReaderState} → one.device ≡ other.device → one.view ≡ other.view
+    → one.holds ≡ other.holds → one ≡ other
 same_state {one} {other} device view holds =
-    let same : record one { holds = one.holds } ≡ record other { holds = other.holds } = cc (device, view, holds) in
+    let same : record one { holds = one.holds } ≡ record other { holds = other.holds } =
+    cc (device, view, holds) in
     same
 
 -- the outcome of a command to this reader
-for_own : (Step : ReaderCommand → ReaderState → ReaderState → Gains → Type 0) (before : ReaderState) (result : Option (ReaderState × Gains)) (found : Option ReaderCommand) (command : ReaderCommand)
-    → found ≡ Some command → IsOnlyStep (Step command before) result → IsOnlyStep (ForOwn found Step before) result
+for_own : (Step : ReaderCommand → ReaderState → ReaderState → Gains → Type 0) (before : ReaderState)
+    (result : Option (ReaderState × Gains)) (found : Option ReaderCommand) (command : ReaderCommand)
+    → found ≡ Some command → IsOnlyStep (Step command before) result
+    → IsOnlyStep (ForOwn found Step before) result
 for_own Step before result None command is outcome = absurd cc
-for_own Step before result (Some other) command is outcome = let same : command ≡ other = cc in subst (λ (c : ReaderCommand). IsOnlyStep (Step c before) result) same outcome
+for_own Step before result (Some other) command is outcome =
+    let same : command ≡ other = cc in
+    subst (λ (c : ReaderCommand). IsOnlyStep (Step c before) result) same outcome
 
-pub asks : (facts : Facts) (before : ReaderState) (result : Option (ReaderState × Gains)) (unit : ReaderUnit) (act : Act) (command : Command) (its : ReaderCommand) (choice : Choice)
-    → act ≡ acts.Ask command → own unit command ≡ Some its → IsOnlyStep (AskStep facts its before) result → IsOnlyStep (ReaderStep unit facts act choice before) result
-asks facts before result unit act command its choice is found outcome = subst (λ (a : Act). IsOnlyStep (ReaderStep unit facts a choice before) result) (sym is) (for_own _ before result (own unit command) its found outcome)
+pub asks : (facts : Facts) (before : ReaderState) (result : Option (ReaderState × Gains))
+    (unit : ReaderUnit) (act : Act) (command : Command) (its : ReaderCommand) (choice : Choice)
+    → act ≡ acts.Ask command → own unit command ≡ Some its
+    → IsOnlyStep (AskStep facts its before) result
+    → IsOnlyStep (ReaderStep unit facts act choice before) result
+asks facts before result unit act command its choice is found outcome =
+    subst (λ (a : Act). IsOnlyStep (ReaderStep unit facts a choice before) result) (sym is)
+    (for_own _ before result (own unit command) its found outcome)
 
-pub acks : (facts : Facts) (before : ReaderState) (result : Option (ReaderState × Gains)) (unit : ReaderUnit) (act : Act) (command : Command) (its : ReaderCommand) (choice : Choice)
-    → act ≡ acts.Ack command → own unit command ≡ Some its → IsOnlyStep (AckStep facts its choice before) result → IsOnlyStep (ReaderStep unit facts act choice before) result
-acks facts before result unit act command its choice is found outcome = subst (λ (a : Act). IsOnlyStep (ReaderStep unit facts a choice before) result) (sym is) (for_own _ before result (own unit command) its found outcome)
+pub acks : (facts : Facts) (before : ReaderState) (result : Option (ReaderState × Gains))
+    (unit : ReaderUnit) (act : Act) (command : Command) (its : ReaderCommand) (choice : Choice)
+    → act ≡ acts.Ack command → own unit command ≡ Some its
+    → IsOnlyStep (AckStep facts its choice before) result
+    → IsOnlyStep (ReaderStep unit facts act choice before) result
+acks facts before result unit act command its choice is found outcome =
+    subst (λ (a : Act). IsOnlyStep (ReaderStep unit facts a choice before) result) (sym is)
+    (for_own _ before result (own unit command) its found outcome)
 
-pub replies : (facts : Facts) (before : ReaderState) (result : Option (ReaderState × Gains)) (unit : ReaderUnit) (act : Act) (command : Command) (reply : Reply) (its : ReaderCommand) (choice : Choice)
-    → act ≡ acts.Reply command reply → own unit command ≡ Some its → IsOnlyStep (ReplyStep facts its reply choice before) result → IsOnlyStep (ReaderStep unit facts act choice before) result
-replies facts before result unit act command reply its choice is found outcome = subst (λ (a : Act). IsOnlyStep (ReaderStep unit facts a choice before) result) (sym is) (for_own _ before result (own unit command) its found outcome)
+pub replies : (facts : Facts) (before : ReaderState) (result : Option (ReaderState × Gains))
+    (unit : ReaderUnit) (act : Act) (command : Command) (reply : Reply) (its : ReaderCommand)
+    (choice : Choice)
+    → act ≡ acts.Reply command reply → own unit command ≡ Some its
+    → IsOnlyStep (ReplyStep facts its reply choice before) result
+    → IsOnlyStep (ReaderStep unit facts act choice before) result
+replies facts before result unit act command reply its choice is found outcome =
+    subst (λ (a : Act). IsOnlyStep (ReaderStep unit facts a choice before) result) (sym is)
+    (for_own _ before result (own unit command) its found outcome)
 
 -- the controller's ACK has one outcome
-pub vmc_acks : (facts : Facts) (before after : ReaderState) (gains : Gains) (unit : ReaderUnit) (act : Act) (command : Command) (reply : Reply) (its : ReaderCommand) (choice : Choice)
-    → act ≡ acts.VmcAck command reply → own unit command ≡ Some its → VmcAckStep facts its reply choice before after gains → IsOnlyStep (ReaderStep unit facts act choice before) (Some (after, gains))
+pub vmc_acks : (facts : Facts) (before after : ReaderState) (gains : Gains) (unit : ReaderUnit)
+    (act : Act) (command : Command) (reply : Reply) (its : ReaderCommand) (choice : Choice)
+    → act ≡ acts.VmcAck command reply → own unit command ≡ Some its
+    → VmcAckStep facts its reply choice before after gains
+    → IsOnlyStep (ReaderStep unit facts act choice before) (Some (after, gains))
 vmc_acks facts before after gains unit act command reply its choice is found step =
-    subst (λ (a : Act). IsOnlyStep (ReaderStep unit facts a choice before) (Some (after, gains))) (sym is)
-    (for_own (λ c. VmcAckStep facts c reply choice) before (Some (after, gains)) (own unit command) its found (step, λ other more one. (one.to ∙ sym step.to, one.gained ∙ sym step.gained)))
+    subst (λ (a : Act). IsOnlyStep (ReaderStep unit facts a choice before) (Some (after, gains)))
+    (sym is)
+    (for_own (λ c. VmcAckStep facts c reply choice) before (Some (after, gains)) (own unit command)
+    its found (step, λ other more one. (one.to ∙ sym step.to, one.gained ∙ sym step.gained)))
 
 -- a command that leaves the view
-leaves : (facts : Facts) (command : ReaderCommand) (view : View) → changes_view command ≡ false → (asked facts command view ≡ Some view) × (sold_to facts command view ≡ no_end)
+leaves : (facts : Facts) (command : ReaderCommand) (view : View) → changes_view command ≡ false
+    → (asked facts command view ≡ Some view) × (sold_to facts command view ≡ no_end)
 leaves facts reader.Reset view still = absurd cc
 leaves facts (reader.SetupConfig level columns rows display) view still = (refl, refl)
 leaves facts (reader.SetupPrices maximum minimum) view still = (refl, refl)
@@ -74,7 +102,9 @@ leaves facts reader.Cancel view still = (refl, refl)
 leaves facts (reader.RequestId identity) view still = (refl, refl)
 
 -- asking it changes nothing
-ask_stays : (facts : Facts) (command : ReaderCommand) (before after : ReaderState) (gains : Gains) → changes_view command ≡ false → AskStep facts command before after gains ↔ (after ≡ before) × (gains ≡ no_gains)
+ask_stays : (facts : Facts) (command : ReaderCommand) (before after : ReaderState) (gains : Gains)
+    → changes_view command ≡ false
+    → AskStep facts command before after gains ↔ (after ≡ before) × (gains ≡ no_gains)
 ask_stays facts command before after gains still =
     let left = leaves facts command before.view still in (
       λ step.
@@ -92,15 +122,22 @@ ask_stays facts command before after gains still =
           },
     )
 
-own_stays : (found : Option ReaderCommand) (its : ReaderCommand) (facts : Facts) (before after : ReaderState) (gains : Gains) → found ≡ Some its → changes_view its ≡ false
+own_stays : (found : Option ReaderCommand) (its : ReaderCommand) (facts : Facts)
+    (before after : ReaderState) (gains : Gains) → found ≡ Some its → changes_view its ≡ false
     → ForOwn found (AskStep facts) before after gains ↔ (after ≡ before) × (gains ≡ no_gains)
 own_stays None its facts before after gains is still = absurd cc
-own_stays (Some command) its facts before after gains is still = let same : command ≡ its = cc in ask_stays facts command before after gains (ap changes_view same ∙ still)
+own_stays (Some command) its facts before after gains is still =
+    let same : command ≡ its = cc in
+    ask_stays facts command before after gains (ap changes_view same ∙ still)
 
-pub asks_stay : (unit : ReaderUnit) (act : Act) (command : Command) (its : ReaderCommand) → act ≡ acts.Ask command → own unit command ≡ Some its → changes_view its ≡ false
-    → (facts : Facts) (choice : Choice) (before after : ReaderState) (gains : Gains) → ReaderStep unit facts act choice before after gains ↔ (after ≡ before) × (gains ≡ no_gains)
+pub asks_stay : (unit : ReaderUnit) (act : Act) (command : Command) (its : ReaderCommand)
+    → act ≡ acts.Ask command → own unit command ≡ Some its → changes_view its ≡ false
+    → (facts : Facts) (choice : Choice) (before after : ReaderState) (gains : Gains)
+    → ReaderStep unit facts act choice before after gains ↔ (after ≡ before) × (gains ≡ no_gains)
 asks_stay unit act command its is found still facts choice before after gains =
-    subst (λ (a : Act). ReaderStep unit facts a choice before after gains ↔ (after ≡ before) × (gains ≡ no_gains)) (sym is) (own_stays (own unit command) its facts before after gains found still)
+    subst (λ (a : Act).
+    ReaderStep unit facts a choice before after gains ↔ (after ≡ before) × (gains ≡ no_gains))
+    (sym is) (own_stays (own unit command) its facts before after gains found still)
 
 -- what holds where a test denies
 pub denied : {P : Type 0} (is : Bool) → (is ≡ false → P) → OnFalse is P
@@ -123,7 +160,8 @@ none_gained facts device view = refl
 
 rests_apart : (facts : Facts) (choice : Choice) (device : DeviceState) (view : View)
     (after : ReaderState) (gains : Gains)
-    → AckStep facts reader.Poll choice (record { device = device; view = view; holds = false }) after gains
+    → AckStep facts reader.Poll choice (record { device = device; view = view; holds = false })
+    after gains
     ↔ (after ≡ record { device = device; view = view; holds = false }) × (gains ≡ no_gains)
 rests_apart facts choice device view after gains = (
   (λ step. (
@@ -160,8 +198,10 @@ where_not false p = p refl
 
 -- what changes nothing after any facts changes nothing where not all is known
 pub known_stays : (concerns : Bool) (act : Act) {one unit : ReaderUnit} → one ≡ unit
-    → OnFalse concerns ((facts : Facts) (choice : Choice) (before after : ReaderState) (gains : Gains)
-    → ReaderStep one facts act choice before after gains ↔ (after ≡ before) × (gains ≡ no_gains))
+    → OnFalse concerns ((facts : Facts) (choice : Choice) (before after : ReaderState)
+    (gains : Gains)
+    → ReaderStep one facts act choice before after gains ↔ (after ≡ before)
+    × (gains ≡ no_gains))
     → OnFalse concerns ((begins : Beginning) (acts : List Act) (choice : Choice)
     (before after : ReaderState) (gains : Gains)
     → StepKnowing unit (known_of begins unit acts) act choice before after gains
@@ -172,7 +212,8 @@ known_stays false act {one} {unit} same each = λ begins acts choice before afte
     (λ facts. subst (λ (u : ReaderUnit). ReaderStep u facts act choice before after gains
     ↔ Stays before after gains) same (each facts choice before after gains))
 
-pub known_rests : (rests : Bool) (act : Act) (state : ReaderState) {one unit : ReaderUnit} → one ≡ unit
+pub known_rests : (rests : Bool) (act : Act) (state : ReaderState) {one unit : ReaderUnit}
+    → one ≡ unit
     → OnTrue rests ((facts : Facts) (choice : Choice) (after : ReaderState) (gains : Gains)
     → ReaderStep one facts act choice state after gains ↔ (after ≡ state) × (gains ≡ no_gains))
     → OnTrue rests ((begins : Beginning) (acts : List Act) (choice : Choice) (after : ReaderState)

@@ -1,7 +1,7 @@
 -- What a recording that begins in mid-session leaves open of a reader (this profile): the ways that
 -- an act may go where something isn't known, listed one by one. A law says that these ways are
 -- there, and no other. Acts so far stand newest first.
-use Rattle.std.specs.Prelude.{◌≡◌, ◌≢◌, ◌⊎◌, ℕ, ◌≤◌, Bool, true, false, ◌&&◌, List, [], ◌∷◌, Option, Some, None, drop, length, take, if◌then◌else◌}
+use Rattle.std.specs.Prelude.{◌≡◌, ◌≢◌, ◌⊎◌, ℕ, ◌≤◌, Bool, true, false, ◌&&◌, List, [], Option, Some, None, drop, length, take, if◌then◌else◌}
 use Rattle.std.specs.List.{All}
 use Rattle.mdb_msgs.specs.Setups.{config_known}
 use Rattle.mdb_msgs.specs.declared.command.ReaderCommand.{ReaderCommand}

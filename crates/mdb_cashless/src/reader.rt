@@ -38,8 +38,8 @@ use unit::unit_of;
 use unvalued::unvalued_by;
 
 /// A cashless reader and the controller's dealings with it (MDB/ICP 4.3, cashless device). `UNIT` 0
-/// is the reader at 10H, and any other number that at 60H. Its accounts are what was approved
-/// and what sales ended in.
+/// is the reader at 10H, and any other number that at 60H. Its accounts are what was approved,
+/// and what was sold.
 pub struct Reader<const UNIT: usize>;
 
 impl HasCode for ReaderState {

@@ -148,7 +148,8 @@ may_settled : {Own Setup Asked M State : Type 0} (tables : Tables Own Setup Aske
     → (knows_asked ≡ true → asked ≡ facts.last_asked)
     → (knows_kept ≡ true → kept ≡ facts.past.last_kept)
     → MayGuess tables conduct facts asked kept act choice before
-may_settled tables conduct facts asked kept (acts.Ask c) choice before knows_asked knows_kept settles
+may_settled tables conduct facts asked kept (acts.Ask c) choice before knows_asked knows_kept
+    settles
     same_asked same_kept =
     ask_settled tables.asked_of (tables.own c) knows_asked asked facts.last_asked settles same_asked
 may_settled tables conduct facts asked kept (acts.Reply c r) choice before knows_asked knows_kept
@@ -159,9 +160,11 @@ may_settled tables conduct facts asked kept (acts.Reply c r) choice before knows
     (λ knows. subst (λ k. IsNew (tables.is_poll its)
     (held (holds_read choice (conduct.holds before)) k) (kept_of (tables.parts_of r)) news)
     (sym (same_kept knows)) new) its is
-may_settled tables conduct facts asked kept (acts.Ack c) choice before knows_asked knows_kept settles
+may_settled tables conduct facts asked kept (acts.Ack c) choice before knows_asked knows_kept
+    settles
     same_asked same_kept = tt
-may_settled tables conduct facts asked kept (acts.Nak c) choice before knows_asked knows_kept settles
+may_settled tables conduct facts asked kept (acts.Nak c) choice before knows_asked knows_kept
+    settles
     same_asked same_kept = tt
 may_settled tables conduct facts asked kept (acts.VmcAck c r) choice before knows_asked knows_kept
     settles same_asked same_kept = tt
@@ -171,7 +174,8 @@ may_settled tables conduct facts asked kept (acts.VmcRet c r) choice before know
     settles same_asked same_kept = tt
 may_settled tables conduct facts asked kept (acts.Repeat c r) choice before knows_asked knows_kept
     settles same_asked same_kept = tt
-may_settled tables conduct facts asked kept acts.Foreign choice before knows_asked knows_kept settles
+may_settled tables conduct facts asked kept acts.Foreign choice before knows_asked knows_kept
+    settles
     same_asked same_kept = tt
 may_settled tables conduct facts asked kept (acts.Break n) choice before knows_asked knows_kept
     settles same_asked same_kept = tt
@@ -233,7 +237,8 @@ settled_from : {K Own Setup Asked M Message State : Type 0} → M
     → StepKnowing tables conduct (known_in value) act choice before after gains
 settled_from some tables conduct overlooks value act choice before after gains settles step =
     let v = facts_in value.facts in
-    let chosen = pick some value.knows_kept (conduct.holds before) value.facts.past.last_kept.items in
+    let chosen =
+    pick some value.knows_kept (conduct.holds before) value.facts.past.last_kept.items in
     record {
       facts = guessed value v.last_asked chosen.0;
       allowed = guess_allowed value (conduct.holds before) v.last_asked chosen.0
@@ -298,8 +303,10 @@ pub asking_from : {K Own Setup Asked M Message State : Type 0} → M
     → KeeperStep tables conduct (guessed value asked value.facts.past.last_kept.items)
     (acts.Ask command) choice before after gains
     → StepKnowing tables conduct (known_in value) (acts.Ask command) choice before after gains
-asking_from some tables conduct overlooks value command choice asked before after gains unknown step =
-    let chosen = pick some value.knows_kept (conduct.holds before) value.facts.past.last_kept.items in
+asking_from some tables conduct overlooks value command choice asked before after gains unknown
+    step =
+    let chosen =
+    pick some value.knows_kept (conduct.holds before) value.facts.past.last_kept.items in
     record {
       facts = guessed value asked chosen.0;
       allowed = guess_allowed value (conduct.holds before) asked chosen.0
@@ -347,9 +354,11 @@ pub known_at_first : {K Own Setup Asked M Message : Type 0} (tables : Tables Own
     → past_in value.facts.past ≡ first_past begins
     → value.knows_asked ≡ from_power_on begins → value.knows_kept ≡ from_power_on begins
     → known_in value ≡ known_of tables begins []
-known_at_first {Asked = Asked} {M = M} tables PowerOn value setup asked past knows_asked knows_kept =
+known_at_first {Asked = Asked} {M = M} tables PowerOn value setup asked past knows_asked
+    knows_kept =
     same_fields setup
-    (ap (λ k. if_known k value.facts.last_asked) knows_asked ∙ ap (λ (a : Option Asked). Is a) asked)
+    (ap (λ k. if_known k value.facts.last_asked) knows_asked
+    ∙ ap (λ (a : Option Asked). Is a) asked)
     (same_known_past (λ kind. ap (λ (p : PastFacts M). p.enabled kind) past)
     (ap (λ (p : PastFacts M). p.reset_owed) past)
     (ap (λ k. if_known k value.facts.past.last_kept.items) knows_kept
@@ -436,32 +445,40 @@ pub asking_steps : {K Own Setup Asked M Message State : Type 0} → M
     → (after : State) (gains : Gains) → Contains both (after, gains)
     ↔ StepKnowing tables conduct (known_in value) (acts.Ask command) choice before after gains
 asking_steps {K} {Own} {Setup} {Asked} {M} {Message} {State} some tables conduct overlooks value
-    command choice before again first second none one both unknown is is_first is_second empty has_first
+    command choice before again first second none one both unknown is is_first is_second empty
+    has_first
     has_second after gains = (
       λ has. elim ((has_second (after, gains)).0 has) [
         | inl earlier ↦ elim ((has_first (after, gains)).0 earlier) [
           | inl never ↦ absurd (nothing (after, gains)
               (subst (λ (l : List (State × Gains)). Contains l (after, gains)) empty never))
-          | inr found ↦ asking_from some tables conduct overlooks value command choice None before after
+          | inr found ↦
+              asking_from some tables conduct overlooks value command choice None before after
               gains unknown ((found_is (KeeperStep tables conduct
-              (guessed value None value.facts.past.last_kept.items) (acts.Ask command) choice before)
+              (guessed value None value.facts.past.last_kept.items) (acts.Ask command) choice
+              before)
               first is_first after gains).0 found)
         ]
-        | inr found ↦ asking_from some tables conduct overlooks value command choice again before after
+        | inr found ↦
+            asking_from some tables conduct overlooks value command choice again before after
             gains unknown ((found_is (KeeperStep tables conduct
             (guessed value again value.facts.past.last_kept.items) (acts.Ask command) choice before)
             second is_second after gains).0 found)
       ],
-      λ step. (has_second (after, gains)).1 (elim (asking_to tables conduct overlooks value command choice
+      λ step. (has_second (after, gains)).1
+          (elim (asking_to tables conduct overlooks value command choice
           before after gains step) [
-            | inl other ↦ inl ((has_first (after, gains)).1 (inr ((found_is (KeeperStep tables conduct
-                (guessed value None value.facts.past.last_kept.items) (acts.Ask command) choice before)
-                first is_first after gains).1 other)))
+            | inl other ↦
+                inl ((has_first (after, gains)).1 (inr ((found_is (KeeperStep tables conduct
+                (guessed value None value.facts.past.last_kept.items) (acts.Ask command) choice
+                before) first is_first after gains).1 other)))
             | inr same ↦ inr ((found_is (KeeperStep tables conduct
-                (guessed value again value.facts.past.last_kept.items) (acts.Ask command) choice before)
+                (guessed value again value.facts.past.last_kept.items) (acts.Ask command) choice
+                before)
                 second is_second after gains).1
                 (subst (λ a. KeeperStep tables conduct
-                (guessed value a value.facts.past.last_kept.items) (acts.Ask command) choice before after
+                (guessed value a value.facts.past.last_kept.items) (acts.Ask command) choice before
+                after
                 gains) (sym is) same))
           ]),
     )
@@ -535,7 +552,8 @@ holds_before Lost holds is = is
 holds_before Restart holds is = absurd cc
 
 held_alike : {M : Type 0} (holds : Bool) (poll : Bool) (last other kept news : List M)
-    → holds ≡ false → IsNew poll (held holds last) kept news → IsNew poll (held holds other) kept news
+    → holds ≡ false → IsNew poll (held holds last) kept news
+    → IsNew poll (held holds other) kept news
 held_alike true poll last other kept news is new = absurd cc
 held_alike false poll last other kept news is new = new
 
@@ -617,11 +635,13 @@ replying_by tables conduct value facts command reply choice before after gains s
       zero,
       omega arith,
       λ other are news new. held_alike (holds_read choice (conduct.holds before))
-          (tables.is_poll other) facts.past.last_kept (some ∷ []) (kept_of (tables.parts_of reply)) news
+          (tables.is_poll other) facts.past.last_kept (some ∷ []) (kept_of (tables.parts_of reply))
+          news
           free new,
     )
 replying_by tables conduct value facts command reply choice before after gains some None true its
-    holds some_last step = (zero, omega arith, λ other are news new. absurd (none_own (sym are ∙ its)))
+    holds some_last step =
+    (zero, omega arith, λ other are news new. absurd (none_own (sym are ∙ its)))
   where
     none_own : {X : Type 0} {x : X} → Some x ≡ None → ⊥
     none_own is = cc
@@ -637,12 +657,14 @@ replying_to : {K Own Setup Asked M Message State : Type 0} (tables : Tables Own 
     → (value : KeeperKnown K Own Setup Asked M Message) (command : Command) (reply : Reply)
     (choice : Choice) (before after : State) (gains : Gains) (some : M)
     → value.knows_kept ≡ false
-    → StepKnowing tables conduct (known_in value) (acts.Reply command reply) choice before after gains
+    → StepKnowing tables conduct (known_in value) (acts.Reply command reply) choice before after
+    gains
     → (k : ℕ) × (k ≤ length (kept_of (tables.parts_of reply)))
     × KeeperStep tables conduct (guessed value value.facts.last_asked
     (candidate some (kept_of (tables.parts_of reply)) k)) (acts.Reply command reply) choice before
     after gains
-replying_to tables conduct overlooks value command reply choice before after gains some unknown step =
+replying_to tables conduct overlooks value command reply choice before after gains some unknown
+    step =
     let facts = step.facts in
     let keeps = subst (λ k. AllowsKept (if_known k value.facts.past.last_kept.items)
     (conduct.holds before) facts.past.last_kept) unknown step.allowed.past.last_kept in
@@ -659,7 +681,8 @@ replying_to tables conduct overlooks value command reply choice before after gai
           (acts.Reply command reply) choice before after gains by.2 step.step),
     )
 
-pub replying_steps : {K Own Setup Asked M Message State : Type 0} (tables : Tables Own Setup Asked M)
+pub replying_steps : {K Own Setup Asked M Message State : Type 0}
+    (tables : Tables Own Setup Asked M)
     (conduct : Conduct Own Setup Asked M State) → Overlooks tables conduct
     → (value : KeeperKnown K Own Setup Asked M Message) (command : Command) (reply : Reply)
     (act : Act) (choice : Choice) (before : State) (some : M) (kept : List M) (count : ℕ)
@@ -668,16 +691,19 @@ pub replying_steps : {K Own Setup Asked M Message State : Type 0} (tables : Tabl
     → TriedTo tables conduct value act choice before some kept count steps
     → (after : State) (gains : Gains) → Contains steps (after, gains)
     ↔ StepKnowing tables conduct (known_in value) act choice before after gains
-replying_steps tables conduct overlooks value command reply act choice before some kept count steps is
+replying_steps tables conduct overlooks value command reply act choice before some kept count steps
+    is
     unknown kept_is all tried after gains = (
       λ has.
           let one = (tried (after, gains)).0 has in
           replying_from tables conduct value act choice before after gains some kept one.0 unknown
           (omega (arith, one.1, all)) one.2,
       λ step.
-          let one = replying_to tables conduct overlooks value command reply choice before after gains
-          some unknown (subst (λ a. StepKnowing tables conduct (known_in value) a choice before after
-          gains) is step) in
+          let one =
+          replying_to tables conduct overlooks value command reply choice before after gains
+          some unknown (subst
+          (λ a. StepKnowing tables conduct (known_in value) a choice before after gains)
+          is step) in
           let few : one.0 ≤ length kept = subst (λ l. one.0 ≤ length l) (sym kept_is) one.1 in
           (tried (after, gains)).1 (
             one.0,
@@ -703,8 +729,9 @@ pub tried_first : {K Own Setup Asked M Message State : Type 0} (tables : Tables 
 tried_first {State = State} tables conduct value act choice before some kept found none one empty is
     has step = (
       λ among. elim ((has step).0 among) [
-        | inl never ↦ absurd (nothing step (subst (λ (l : List (State × Gains)). Contains l step) empty
-            never))
+        | inl never ↦
+            absurd
+            (nothing step (subst (λ (l : List (State × Gains)). Contains l step) empty never))
         | inr found_it ↦ (
           zero,
           omega arith,
@@ -719,7 +746,8 @@ tried_first {State = State} tables conduct value act choice before some kept fou
     )
   where
     first : (k : ℕ) → k ≤ 0 → KeeperStep tables conduct
-        (guessed value value.facts.last_asked (candidate some kept k)) act choice before step.0 step.1
+        (guessed value value.facts.last_asked (candidate some kept k)) act choice before step.0
+        step.1
         → KeeperStep tables conduct (guessed value value.facts.last_asked (some ∷ [])) act choice
         before step.0 step.1
     first zero small made = made
@@ -781,7 +809,8 @@ pub asked_steps : {K Own Setup Asked M Message State : Type 0} → M
     → ((step : State × Gains) → Contains both step ↔ Contains one step ⊎ (second ≡ Some step))
     → (after : State) (gains : Gains) → Contains both (after, gains)
     ↔ StepKnowing tables conduct (known_in value) act choice before after gains
-asked_steps some tables conduct overlooks value command act choice before again other same first second
+asked_steps some tables conduct overlooks value command act choice before again other same first
+    second
     none one both is unknown again_is other_is same_is is_first is_second empty has_first has_second
     after gains =
     subst (λ a. Contains both (after, gains)
@@ -790,7 +819,8 @@ asked_steps some tables conduct overlooks value command act choice before again 
     one both unknown again_is
     (subst (λ a. IsOnlyStep (KeeperStep tables conduct
     (guessed value None value.facts.past.last_kept.items) a choice before) first) is
-    (subst (λ f. IsOnlyStep (KeeperStep tables conduct f act choice before) first) other_is is_first))
+    (subst (λ f. IsOnlyStep (KeeperStep tables conduct f act choice before) first) other_is
+    is_first))
     (subst (λ a. IsOnlyStep (KeeperStep tables conduct
     (guessed value again value.facts.past.last_kept.items) a choice before) second) is
     (subst (λ f. IsOnlyStep (KeeperStep tables conduct f act choice before) second) same_is

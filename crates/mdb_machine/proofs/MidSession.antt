@@ -137,9 +137,11 @@ settled_steps some tables conduct overlooks setups so_far act choice before afte
           let facts = step.facts in
           subst (λ f. KeeperStep tables conduct f act choice before after gains)
           (sym (and_back told facts (as_guess tables setups so_far holds facts step.allowed)))
-          (step_guessing tables conduct overlooks facts told.last_asked told.past.last_kept act choice
+          (step_guessing tables conduct overlooks facts told.last_asked told.past.last_kept act
+          choice
           before after gains
-          (may_guess tables conduct so_far facts told.last_asked told.past.last_kept act choice before
+          (may_guess tables conduct so_far facts told.last_asked told.past.last_kept act choice
+          before
           is
           (λ known. sym (asked_so setups asked facts.last_asked step.allowed.last_asked
           (λ none. known (asked_by_none tables so_far none))))
@@ -150,7 +152,8 @@ settled_steps some tables conduct overlooks setups so_far act choice before afte
         facts = guessing told told.last_asked chosen.0;
         allowed = guess_allowed tables setups so_far holds told.last_asked chosen.0
             (allows_told setups asked) chosen.1;
-        step = step_guessing tables conduct overlooks told told.last_asked chosen.0 act choice before
+        step =
+            step_guessing tables conduct overlooks told told.last_asked chosen.0 act choice before
             after gains
             (may_guess tables conduct so_far told told.last_asked chosen.0 act choice before is
             (λ known. refl)
@@ -164,7 +167,8 @@ settled_steps some tables conduct overlooks setups so_far act choice before afte
 abbrev pub RepliesKnowing : {Own Setup Asked M State : Type 0} → Tables Own Setup Asked M
     → Conduct Own Setup Asked M State → Setups → List Act → Bool → List (Part M) → State → State
     → Gains → Type 0
-RepliesKnowing {Setup = Setup} {Asked = Asked} {M = M} tables conduct setups so_far poll parts before after gains =
+RepliesKnowing {Setup = Setup} {Asked = Asked} {M = M} tables conduct setups so_far poll parts
+    before after gains =
     (facts : Facts Setup Asked M)
     × AllowsFacts (known_of tables (Joined setups) so_far) (conduct.holds before) facts
     × ReplyStep conduct facts poll parts Plain before after gains
@@ -206,7 +210,8 @@ nothing_left poll true (x ∷ last) kept news holds some empty (inl order) =
 
 still_holds : {Own Setup Asked M State : Type 0} (conduct : Conduct Own Setup Asked M State)
     (kept : List M) (before : State) → conduct.holds before ≡ true
-    → conduct.with_holds (holds_after kept (holds_read Plain (conduct.holds before))) before ≡ before
+    → conduct.with_holds (holds_after kept (holds_read Plain (conduct.holds before))) before
+    ≡ before
 still_holds conduct kept before holds =
     ap (λ h. conduct.with_holds h before) (either kept (conduct.holds before) holds)
     ∙ conduct.same_as_set before
@@ -338,12 +343,13 @@ silent_way {Setup = Setup} {Asked = Asked} {M = M} some tables conduct setups so
           let step = knowing.2 in
           let last = facts.past.last_kept in
           let left = nothing_left false (conduct.holds before) last (kept_of parts) step.news holds
-          ((unknown tables setups so_far (conduct.holds before) last none).0 knowing.1.past.last_kept
-          holds) empty step.has_news.new in
+          ((unknown tables setups so_far (conduct.holds before) last none).0
+          knowing.1.past.last_kept holds) empty step.has_news.new in
           let same = still_holds conduct (kept_of parts) before holds in (
             (quiet facts).0 (subst (λ b. conduct.TellsNews facts Plain [] b after) same
                 (subst (λ n. conduct.TellsNews facts Plain n (conduct.with_holds
-                (holds_after (kept_of parts) (holds_read Plain (conduct.holds before))) before) after)
+                (holds_after (kept_of parts) (holds_read Plain (conduct.holds before))) before)
+                after)
                 left.1 step.tells_news)),
             step.gained ∙ ap (λ n. device_gains (worth conduct facts n)) left.1,
           ),

@@ -14,8 +14,12 @@ up-le (suc k) e =
     omega (arith, less)
 
 -- where each rounding adds no more than what it rounds to
-bounded : (up : ℕ → ℕ → ℕ) → ((k e : ℕ) → up k e ≤ e + k) → (size align : ℕ) → size ≤ 65536 → align ≤ 65536
-    → up (max (max (max align 1) 8) 1) (up 1 (up 1 (up (max (max align 1) 8) 0 + up (max (max align 1) 8) (up 1 (up 8 (up (max align 1) 0 + up (max align 1) (up align 0 + 16 * size)) + 8) + 0)) + 1) + 1) < 9223372036854775808
+bounded : (up : ℕ → ℕ → ℕ) → ((k e : ℕ) → up k e ≤ e + k) → (size align : ℕ) → size ≤ 65536
+    → align ≤ 65536
+    → up (max (max (max align 1) 8) 1) (up 1 (up 1 (up (max (max align 1) 8) 0
+    + up (max (max align 1) 8)
+    (up 1 (up 8 (up (max align 1) 0 + up (max align 1) (up align 0 + 16 * size)) + 8) + 0))
+    + 1) + 1) < 9223372036854775808
 bounded up le size align few small =
     let a = up align 0 in
     let b = up (max align 1) (a + 16 * size) in
@@ -26,9 +30,26 @@ bounded up le size align few small =
     let h = up (max (max align 1) 8) 0 in
     let i = up 1 (h + f) in
     let j = up 1 (i + 1) in
-    omega (arith, few, small, le align 0, le (max align 1) (a + 16 * size), le (max align 1) 0, le 8 (c + b), le 1 (d + 8), le (max (max align 1) 8) (e + 0), le (max (max align 1) 8) 0, le 1 (h + f), le 1 (i + 1), le (max (max (max align 1) 8) 1) (j + 1))
+    omega (
+      arith,
+      few,
+      small,
+      le align 0,
+      le (max align 1) (a + 16 * size),
+      le (max align 1) 0,
+      le 8 (c + b),
+      le 1 (d + 8),
+      le (max (max align 1) 8) (e + 0),
+      le (max (max align 1) 8) 0,
+      le 1 (h + f),
+      le 1 (i + 1),
+      le (max (max (max align 1) 8) 1) (j + 1),
+    )
 
 pub summary_fits : (R : RattleType) → TakesFewBytes R
     → let size = type_size R in let align = type_align R in
-    up (max (max (max align 1) 8) 1) (up 1 (up 1 (up (max (max align 1) 8) 0 + up (max (max align 1) 8) (up 1 (up 8 (up (max align 1) 0 + up (max align 1) (up align 0 + 16 * size)) + 8) + 0)) + 1) + 1) < 9223372036854775808
+    up (max (max (max align 1) 8) 1) (up 1 (up 1 (up (max (max align 1) 8) 0
+    + up (max (max align 1) 8)
+    (up 1 (up 8 (up (max align 1) 0 + up (max align 1) (up align 0 + 16 * size)) + 8) + 0))
+    + 1) + 1) < 9223372036854775808
 summary_fits R few = bounded up up-le (type_size R) (type_align R) few.0 few.1

@@ -90,14 +90,17 @@ both_moves device act code_of Step code plain other items plain_is other_is list
 )
 
 -- each move is small
-pub small_moves : (Small : ℕ → Gains → Type 0) (one other : Option (ℕ × Gains)) (items : List (ℕ × Gains))
+pub small_moves : (Small : ℕ → Gains → Type 0) (one other : Option (ℕ × Gains))
+    (items : List (ℕ × Gains))
     → IfSome one (λ move. Small move.0 move.1) → IfSome other (λ move. Small move.0 move.1)
     → ((move : ℕ × Gains) → Contains items move ↔ ((one ≡ Some move) ⊎ (other ≡ Some move)))
     → (next : ℕ) (gains : Gains) → Contains items (next, gains) → Small next gains
 small_moves Small one other items one_small other_small lists next gains among =
     elim ((lists (next, gains)).0 among) [
-      | inl e ↦ subst (λ (o : Option (ℕ × Gains)). IfSome o (λ move. Small move.0 move.1)) e one_small
-      | inr e ↦ subst (λ (o : Option (ℕ × Gains)). IfSome o (λ move. Small move.0 move.1)) e other_small
+      | inl e ↦
+          subst (λ (o : Option (ℕ × Gains)). IfSome o (λ move. Small move.0 move.1)) e one_small
+      | inr e ↦
+          subst (λ (o : Option (ℕ × Gains)). IfSome o (λ move. Small move.0 move.1)) e other_small
     ]
 
 -- the one step from the state of a code, with the code after it

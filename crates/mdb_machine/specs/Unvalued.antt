@@ -1,5 +1,5 @@
--- Amounts without a value: the device tells them, or the controller asks for them, where nothing has
--- told yet how the device is set up (this profile). Lists of acts are written newest first.
+-- Amounts without a value: the device tells them, or the controller asks for them, where nothing
+-- has told yet how the device is set up (this profile). Lists of acts are written newest first.
 use Rattle.std.specs.Prelude.{ℕ, ◌+◌, Bool, List, [], ◌∷◌, Option, Some, None, if◌then◌else◌, sum_by}
 use Rattle.std.specs.Option.{option_map_or}
 use Rattle.mdb_bus.specs.declared.act.Act.{Act}
@@ -13,8 +13,8 @@ use Rattle.mdb_machine.specs.Kept.{kept_of}
 abbrev pub one_if : Bool → ℕ
 one_if is = if is then 1 else 0
 
--- How many amounts an act tells: the kept messages of a reply that tell of money, told again or not,
--- and an ask for money. A repeat is no further reply.
+-- How many amounts an act tells: the kept messages of a reply that tell of money, told again or
+-- not, and an ask for money. A repeat is no further reply.
 abbrev pub amounts_in : {Own Setup Asked M State : Type 0} → Tables Own Setup Asked M
     → Conduct Own Setup Asked M State → Act → ℕ
 amounts_in tables conduct (acts.Ask command) =

@@ -129,7 +129,8 @@ impl<K: Keeper> KeeperFacts<K> {
 
     /// The same facts, with another guess of what was asked last.
     pub(crate) fn asking(&self, asked: Option<K::Asked>) -> Self
-        ensures { facts_in result ≡ guessing (facts_in self.now) asked self.now.past.last_kept.items }
+        ensures { facts_in result
+            ≡ guessing (facts_in self.now) asked self.now.past.last_kept.items }
     {
         KeeperFacts {
             setup: self.setup.as_ref().map(|setup| K::setup_copy(setup)),

@@ -50,7 +50,8 @@ looks_away = record {
 }
 
 -- what the validator does of its own overlooks what it isn't known that it holds
-moves_one : (facts : Facts) (asked : Option Infallible) (kept : List BillActivity) (message : BillActivity)
+moves_one : (facts : Facts) (asked : Option Infallible) (kept : List BillActivity)
+    (message : BillActivity)
     (before after : Escrow) → MovesBill facts message before after
     → MovesBill (guessing facts asked kept) message before after
 moves_one facts asked kept (activity.Stacked number) before after moves = moves
@@ -110,9 +111,11 @@ pub settled_from_power_on : (known : Value) (so_far : List Act) (act : Act)
     → known_in known ≡ known_of PowerOn so_far
     → settled tables known.knows_asked known.knows_kept act ≡ true
 settled_from_power_on known so_far act is = known_settles known act
-    (knows known.knows_asked known.facts.last_asked _ (ap (λ k. k.last_asked) is) (all_known None (option_map (λ (a : Infallible). Some a)
-    (last_told (asked_by tables) so_far))))
-    (knows known.knows_kept known.facts.past.last_kept.items _ (ap (λ k. k.past.last_kept) is) (all_known [] (last_list (parts_by tables) so_far)))
+    (knows known.knows_asked known.facts.last_asked _ (ap (λ k. k.last_asked) is)
+    (all_known None
+    (option_map (λ (a : Infallible). Some a) (last_told (asked_by tables) so_far))))
+    (knows known.knows_kept known.facts.past.last_kept.items _ (ap (λ k. k.past.last_kept) is)
+    (all_known [] (last_list (parts_by tables) so_far)))
 
 pub untold : (begins : Beginning) (so_far : List Act) (act : Act)
     → (IsActOf devices.Bill act → ⊥) → unvalued begins (act ∷ so_far) ≡ unvalued begins so_far

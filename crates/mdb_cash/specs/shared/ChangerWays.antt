@@ -57,8 +57,8 @@ looks_away = record {
   tells_news = λ facts news before after step. step;
 }
 
--- what the changer does of its own overlooks what it isn't known that it holds, and an ask for coins
--- is the last one again or another
+-- what the changer does of its own overlooks what it isn't known that it holds, and an ask for
+-- coins is the last one again or another
 asks_other : (facts : Facts) (kept : List ChangerActivity) (command : ChangerCommand)
     (before after : ChangerState) (gains : Gains) → AskStep facts command before after gains
     → AskStep (guessing facts facts.last_asked kept) command before after gains
@@ -74,8 +74,10 @@ asks_nothing facts asked (changer.Dispense coins) before after gains none step =
 asks_nothing facts asked changer.Reset before after gains none step = step
 asks_nothing facts asked _ before after gains none step = step
 
-again_or_not : (facts : Facts) (coins : ℕ) (before after : ChangerState) (gains : Gains) (again : Bool)
-    → is_last facts.last_asked coins ≡ again → AskStep facts (changer.Dispense coins) before after gains
+again_or_not : (facts : Facts) (coins : ℕ) (before after : ChangerState) (gains : Gains)
+    (again : Bool)
+    → is_last facts.last_asked coins ≡ again
+    → AskStep facts (changer.Dispense coins) before after gains
     → AskStep (guessing facts None facts.past.last_kept) (changer.Dispense coins) before after gains
     ⊎ AskStep (guessing facts (Some coins) facts.past.last_kept) (changer.Dispense coins) before
     after gains
@@ -93,7 +95,8 @@ again_or_not facts coins before after gains false is step = inl (
       else controller_gains (in_slots (0 ∷ dispensed_value facts.setup coins ∷ []))) is,
 )
 
-asks_again : (facts : Facts) (command : ChangerCommand) (before after : ChangerState) (gains : Gains)
+asks_again : (facts : Facts) (command : ChangerCommand) (before after : ChangerState)
+    (gains : Gains)
     → AskStep facts command before after gains
     → AskStep (guessing facts None facts.past.last_kept) command before after gains
     ⊎ AskStep (guessing facts (asked_of command) facts.past.last_kept) command before after gains
@@ -111,7 +114,8 @@ acks_other facts asked kept (changer.Dispense coins) choice before after gains s
 acks_other facts asked kept _ choice before after gains step = step
 
 may_all : (facts : Facts) (asked : Option ℕ) (kept news : List ChangerActivity)
-    → AllByRecursion (MayBeNew facts) news → AllByRecursion (MayBeNew (guessing facts asked kept)) news
+    → AllByRecursion (MayBeNew facts) news
+    → AllByRecursion (MayBeNew (guessing facts asked kept)) news
 may_all facts asked kept [] all = tt
 may_all facts asked kept (CashBox coin ∷ news) all = (all.0, may_all facts asked kept news all.1)
 may_all facts asked kept (Tube coin ∷ news) all = (all.0, may_all facts asked kept news all.1)
@@ -159,9 +163,10 @@ pub settled_from_power_on : (known : Value) (so_far : List Act) (act : Act)
     → known_in known ≡ known_of PowerOn so_far
     → settled tables known.knows_asked known.knows_kept act ≡ true
 settled_from_power_on known so_far act is = known_settles known act
-    (knows known.knows_asked known.facts.last_asked _ (ap (λ k. k.last_asked) is) (all_known None (option_map (λ (a : ℕ). Some a)
-    (last_told (asked_by tables) so_far))))
-    (knows known.knows_kept known.facts.past.last_kept.items _ (ap (λ k. k.past.last_kept) is) (all_known [] (last_list (parts_by tables) so_far)))
+    (knows known.knows_asked known.facts.last_asked _ (ap (λ k. k.last_asked) is)
+    (all_known None (option_map (λ (a : ℕ). Some a) (last_told (asked_by tables) so_far))))
+    (knows known.knows_kept known.facts.past.last_kept.items _ (ap (λ k. k.past.last_kept) is)
+    (all_known [] (last_list (parts_by tables) so_far)))
 
 pub untold : (begins : Beginning) (so_far : List Act) (act : Act)
     → (IsActOf devices.Changer act → ⊥) → unvalued begins (act ∷ so_far) ≡ unvalued begins so_far
@@ -184,7 +189,8 @@ pub same_unvalued : (begins : Beginning) (so_far other : List Act)
 same_unvalued = keeper_ways.same_unvalued tables conduct is_own
 
 -- after breaks alone its setup table is that of no act, and no amount was told
-pub no_setup : (begins : Beginning) (so_far : List Act) → All IsBreak (own_acts devices.Changer so_far)
+pub no_setup : (begins : Beginning) (so_far : List Act)
+    → All IsBreak (own_acts devices.Changer so_far)
     → (known_of begins so_far).setup ≡ (known_of begins []).setup
 no_setup = keeper_ways.no_setup tables is_own
 

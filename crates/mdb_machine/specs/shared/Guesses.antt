@@ -55,7 +55,8 @@ abbrev pub MayGuess : {Own Setup Asked M State : Type 0} → Tables Own Setup As
 MayGuess {Own = Own} tables conduct facts asked kept (acts.Ask command) choice before =
     (own : Own) → tables.own command ≡ Some own
     → (asked ≡ facts.last_asked) ⊎ (tables.asked_of own ≡ None)
-MayGuess {Own = Own} {M = M} tables conduct facts asked kept (acts.Reply command reply) choice before =
+MayGuess {Own = Own} {M = M} tables conduct facts asked kept (acts.Reply command reply) choice
+    before =
     (own : Own) → tables.own command ≡ Some own → (news : List M)
     → IsNew (tables.is_poll own) (held (holds_read choice (conduct.holds before))
     facts.past.last_kept) (kept_of (tables.parts_of reply)) news
@@ -93,7 +94,8 @@ ack_guessing : {Own Setup Asked M State : Type 0} (tables : Tables Own Setup Ask
     → AckStep conduct (guessing facts asked kept) poll command choice before after gains
 ack_guessing tables conduct overlooks facts asked kept true command choice before after gains step =
     step
-ack_guessing tables conduct overlooks facts asked kept false command choice before after gains step =
+ack_guessing tables conduct overlooks facts asked kept false command choice before after gains
+    step =
     overlooks.acks facts asked kept command choice before after gains step
 
 reply_guessing : {Own Setup Asked M State : Type 0} (tables : Tables Own Setup Asked M)
@@ -150,8 +152,8 @@ step_guessing tables conduct overlooks facts asked kept (acts.Ask c) choice befo
     (may own is)) step
 step_guessing tables conduct overlooks facts asked kept (acts.Ack c) choice before after gains may
     step = by_its_own (tables.own c) _ _ before after gains
-    (λ own is. ack_guessing tables conduct overlooks facts asked kept (tables.is_poll own) own choice
-    before after gains) step
+    (λ own is. ack_guessing tables conduct overlooks facts asked kept (tables.is_poll own) own
+    choice before after gains) step
 step_guessing tables conduct overlooks facts asked kept (acts.Reply c r) choice before after gains
     may step = by_its_own (tables.own c) _ _ before after gains
     (λ own is. reply_guessing tables conduct overlooks facts asked kept (tables.is_poll own)

@@ -125,7 +125,8 @@ own_steps tables conduct own begins so_far other act choice before after gains s
 -- what is known with the amounts that have no value, which goes on act by act
 abbrev pub counted : {Own Setup Asked M State : Type 0} → Tables Own Setup Asked M
     → Conduct Own Setup Asked M State → Beginning → List Act → KnownFacts Setup Asked M × ℕ
-counted tables conduct begins acts = (known_of tables begins acts, unvalued tables conduct begins acts)
+counted tables conduct begins acts =
+    (known_of tables begins acts, unvalued tables conduct begins acts)
 
 no_amount : {Own Setup Asked M State : Type 0} {device : Device} (tables : Tables Own Setup Asked M)
     (conduct : Conduct Own Setup Asked M State) → IsOwnOf device tables.own → (act : Act)

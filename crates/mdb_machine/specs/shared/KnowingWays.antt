@@ -1,5 +1,5 @@
--- Steps where not all is known, from steps after facts: there are facts that may be, and what holds of
--- the steps after any holds of these. This proves laws of the trait `Pair` and of machines.
+-- Steps where not all is known, from steps after facts: there are facts that may be, and what holds
+-- of the steps after any holds of these. This proves laws of the trait `Pair` and of machines.
 use Rattle.std.specs.Prelude.{◌≡◌, ◌↔◌, Bool, true, false, List, [], ◌∷◌, Option, Some, None, refl}
 use Rattle.std.proofs.Common.{◌∙◌}
 use Rattle.mdb_bus.specs.declared.act.Act.{Act}

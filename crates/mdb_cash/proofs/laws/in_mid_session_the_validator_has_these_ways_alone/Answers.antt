@@ -42,8 +42,12 @@ replies setups so_far poll reply before after gains =
 
 pub returns-clause-silent : goal.returns-clause-silent
 returns-clause-silent c setups so_far command reply before after gains none holds other empty =
-    let way = silent_way (Stacked 0) tables conduct setups so_far (parts_of reply) before after gains
-    (λ facts. (λ told. same_state told.0 told.1, λ same. (ap (λ s. s.escrow) same, ap (λ s. s.holds) same))) none holds empty in (
+    let way =
+    silent_way (Stacked 0) tables conduct setups so_far (parts_of reply) before after gains
+    (λ facts. (
+      λ told. same_state told.0 told.1,
+      λ same. (ap (λ s. s.escrow) same, ap (λ s. s.holds) same),
+    )) none holds empty in (
       λ step. way.0 (subst (λ p. replies setups so_far p reply before after gains) other
           (step.facts, step.allowed, step.step)),
       λ same.

@@ -3,4 +3,5 @@ use Rattle.mdb_machine.proofs.conduct.add_step.Goals as goal
 
 pub returns-in-Some-clause-items : goal.returns-in-Some-clause-items
 returns-in-Some-clause-items g c one =
-    rw c.in-Some.is (with_one c.args.steps.now.items c.push.new.self.items c.in-Some.step c.push.ensures.items one)
+    rw c.in-Some.is (with_one c.args.steps.now.items c.push.new.self.items c.in-Some.step
+    c.push.ensures.items one)

@@ -5,6 +5,8 @@ use Rattle.mdb_machine.proofs.conduct.amounts_told.Given as goal
 abbrev pub invariant-loop-message : goal.invariant-loop-message
 invariant-loop-message g l =
     record {
-      count : l.count ≡ sum_by (λ message. one_if (g.K.Conduct.conduct.tells_amount message)) (take l.message-index l.kept);
+      count : l.count
+          ≡ sum_by (λ message. one_if (g.K.Conduct.conduct.tells_amount message))
+          (take l.message-index l.kept);
       small : l.count ≤ l.message-index;
     }

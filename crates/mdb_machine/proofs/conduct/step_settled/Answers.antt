@@ -3,5 +3,6 @@ use Rattle.mdb_machine.proofs.conduct.step_settled.Goals as goal
 
 pub returns-clause-step : goal.returns-clause-step
 returns-clause-step g c =
-    settled_only g.met.K.Conduct.some_kept g.K.Keeper.tables g.K.Conduct.conduct g.met.K.Conduct.overlooks c.args.known.now
+    settled_only g.met.K.Conduct.some_kept g.K.Keeper.tables g.K.Conduct.conduct
+    g.met.K.Conduct.overlooks c.args.known.now
     c.args.act.now c.args.choice c.args.before c.step.result c.requires c.step.ensures.step

@@ -10,6 +10,8 @@ abbrev pub invariant-loop-count : goal.invariant-loop-count
 invariant-loop-count g l =
     record {
       room : array_vec_len l.steps ≤ l.count + 1;
-      tried : TriedTo g.K.Keeper.tables g.K.Conduct.conduct l.known l.act l.choice l.before l.fn.some l.kept.items l.count l.steps.items;
-      small : (after : g.row.K-State.Denot) (gains : Gains) → Contains l.steps.items (after, gains) → IsSmall gains;
+      tried : TriedTo g.K.Keeper.tables g.K.Conduct.conduct l.known l.act l.choice l.before
+          l.fn.some l.kept.items l.count l.steps.items;
+      small : (after : g.row.K-State.Denot) (gains : Gains) → Contains l.steps.items (after, gains)
+          → IsSmall gains;
     }

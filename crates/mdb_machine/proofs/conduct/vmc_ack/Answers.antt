@@ -8,5 +8,7 @@ summary_of-summary-requires g c = summary_fits g.row.K-Kept g.met.K.Keeper.few_b
 
 pub returns-then-not-is_poll-clause-step : goal.returns-then-not-is_poll-clause-step
 returns-then-not-is_poll-clause-step g c =
-    acknowledged (sym c.if-not-is_poll.true ∙ c.is_poll.ensures) c.summary_of-summary.ensures.reset_is (c.as_slice-kept.ensures.value ∙ c.summary_of-summary.ensures.kept_is)
+    acknowledged (sym c.if-not-is_poll.true ∙ c.is_poll.ensures)
+    c.summary_of-summary.ensures.reset_is
+    (c.as_slice-kept.ensures.value ∙ c.summary_of-summary.ensures.kept_is)
     c.holds.ensures c.holds_acked.ensures c.with_holds-released.ensures refl c.none.ensures

@@ -8,5 +8,6 @@ invariant-loop-message l =
     record {
       next : (goal.iterator-loop-message).can_next l.message-iterator;
       finite : (goal.iterator-loop-message).is_finite l.message-iterator;
-      same : list_any is_out_of_sequence l.list.messages ≡ list_any is_out_of_sequence l.message-iterator;
+      same : list_any is_out_of_sequence l.list.messages
+          ≡ list_any is_out_of_sequence l.message-iterator;
     }

@@ -6,4 +6,5 @@ use Rattle.mdb_cash.proofs.bill.BillPair.rests.Goals as goal
 
 pub returns : goal.returns
 returns c =
-    rests_knowing (Stacked 0) tables conduct c.args.act.now c.args.state c.rests.result c.rests.ensures
+    rests_knowing (Stacked 0) tables conduct c.args.act.now c.args.state c.rests.result
+    c.rests.ensures

@@ -4,4 +4,5 @@ use Rattle.mdb_cash.proofs.Escrows.{Leaves}
 use Rattle.mdb_cash.proofs.bill.conduct.move_bills.Given as goal
 
 abbrev pub invariant-loop-message : goal.invariant-loop-message
-invariant-loop-message l = Leaves (facts_in l.facts) l.messages (drop l.message-index l.messages) l.initial.escrow l.escrow
+invariant-loop-message l =
+    Leaves (facts_in l.facts) l.messages (drop l.message-index l.messages) l.initial.escrow l.escrow

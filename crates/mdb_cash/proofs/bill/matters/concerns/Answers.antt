@@ -13,4 +13,5 @@ returns-in-VmcAck-Bill-default-clause-still c =
     let reply = c.in-VmcAck-Bill-default.reply in
     let act : c.args.act.now ≡ acts.VmcAck (commands.Bill command) reply = search rules in
     idle tables conduct part_of c.messages_in.result.now
-    c.args.act.now (commands.Bill command) command reply c.is_empty.result act refl c.messages_in.ensures.parts c.is_empty.ensures
+    c.args.act.now (commands.Bill command) command reply c.is_empty.result act refl
+    c.messages_in.ensures.parts c.is_empty.ensures

@@ -12,8 +12,10 @@ returns-in-Reply-Bill-default c =
     let command = c.in-Reply-Bill-default.field-0-0 in
     let reply = c.in-Reply-Bill-default.reply in
     let act : c.args.act.now ≡ acts.Reply (commands.Bill command) reply = search rules in
-    unread tables conduct part_of c.messages_in.result.now c.args.act.now (commands.Bill command) command reply
-    c.args.state c.may_all_be_read.result act refl c.messages_in.ensures.parts c.may_all_be_read.ensures
+    unread tables conduct part_of c.messages_in.result.now c.args.act.now (commands.Bill command)
+    command reply
+    c.args.state c.may_all_be_read.result act refl c.messages_in.ensures.parts
+    c.may_all_be_read.ensures
 
 pub returns-in-VmcAck-Bill-default : goal.returns-in-VmcAck-Bill-default
 returns-in-VmcAck-Bill-default c =

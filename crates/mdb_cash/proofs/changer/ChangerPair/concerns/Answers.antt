@@ -6,4 +6,5 @@ use Rattle.mdb_cash.proofs.changer.ChangerPair.concerns.Goals as goal
 
 pub returns-clause-still : goal.returns-clause-still
 returns-clause-still c =
-    still_knowing (CashBox 0) tables conduct c.args.act.now c.concerns.result c.concerns.ensures.still
+    still_knowing (CashBox 0) tables conduct c.args.act.now c.concerns.result
+    c.concerns.ensures.still

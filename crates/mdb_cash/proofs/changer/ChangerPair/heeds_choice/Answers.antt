@@ -5,4 +5,5 @@ use Rattle.mdb_cash.proofs.changer.ChangerPair.heeds_choice.Goals as goal
 
 pub returns : goal.returns
 returns c =
-    unheeded_knowing tables conduct c.args.act.now c.args.state c.heeds_choice.result c.heeds_choice.ensures
+    unheeded_knowing tables conduct c.args.act.now c.args.state c.heeds_choice.result
+    c.heeds_choice.ensures

@@ -6,4 +6,5 @@ use Rattle.mdb_cash.proofs.changer.ChangerPair.rests.Goals as goal
 
 pub returns : goal.returns
 returns c =
-    rests_knowing (CashBox 0) tables conduct c.args.act.now c.args.state c.rests.result c.rests.ensures
+    rests_knowing (CashBox 0) tables conduct c.args.act.now c.args.state c.rests.result
+    c.rests.ensures

@@ -19,16 +19,20 @@ as_known : {one other : KnownFacts} {act : Act} {choice : Choice} {before : Chan
     → (after : ChangerState) (gains : Gains) → Contains steps (after, gains)
     ↔ StepKnowing tables conduct other act choice before after gains
 as_known {act = act} {choice = choice} {before = before} steps same each =
-    subst (λ (known : KnownFacts). (after : ChangerState) (gains : Gains) → Contains steps (after, gains)
-    ↔ StepKnowing tables conduct known act choice before after gains) same each
+    subst (λ (known : KnownFacts). (after : ChangerState) (gains : Gains)
+    → Contains steps (after, gains) ↔ StepKnowing tables conduct known act choice before after
+    gains) same each
 
 pub returns-clause-steps : goal.returns-clause-steps
 returns-clause-steps c begins acts stands =
-    steps_coded code_of ((machine begins).Step acts c.args.act.now c.args.choice) apart c.at.result c.args.code
+    steps_coded code_of ((machine begins).Step acts c.args.act.now c.args.choice) apart c.at.result
+    c.args.code
     c.steps-steps.result.items c.coded.result.items c.at.ensures
     (as_known c.steps-steps.result.items stands c.steps-steps.ensures.steps)
     (subst (λ l. AreCoded code_of l c.coded.result.items) c.as_slice.ensures.value c.coded.ensures)
 
 pub returns-clause-below : goal.returns-clause-below
 returns-clause-below c =
-    coded_below code_of 4 below c.steps-steps.result.items c.coded.result.items (subst (λ l. AreCoded code_of l c.coded.result.items) c.as_slice.ensures.value c.coded.ensures) c.steps-steps.ensures.small
+    coded_below code_of 4 below c.steps-steps.result.items c.coded.result.items
+    (subst (λ l. AreCoded code_of l c.coded.result.items) c.as_slice.ensures.value
+    c.coded.ensures) c.steps-steps.ensures.small

@@ -7,10 +7,12 @@ use Rattle.mdb_cash.specs.ChangerMessages.{part_of}
 use Rattle.mdb_machine.proofs.KeeperSteps.{idle}
 use Rattle.mdb_cash.proofs.changer.matters.concerns.Goals as goal
 
-pub returns-in-VmcAck-Changer-default-clause-still : goal.returns-in-VmcAck-Changer-default-clause-still
+pub returns-in-VmcAck-Changer-default-clause-still :
+    goal.returns-in-VmcAck-Changer-default-clause-still
 returns-in-VmcAck-Changer-default-clause-still c =
     let command = c.in-VmcAck-Changer-default.field-0-0 in
     let reply = c.in-VmcAck-Changer-default.reply in
     let act : c.args.act.now ≡ acts.VmcAck (commands.Changer command) reply = search rules in
     idle tables conduct part_of c.messages_in.result.now
-    c.args.act.now (commands.Changer command) command reply c.is_empty.result act refl c.messages_in.ensures.parts c.is_empty.ensures
+    c.args.act.now (commands.Changer command) command reply c.is_empty.result act refl
+    c.messages_in.ensures.parts c.is_empty.ensures

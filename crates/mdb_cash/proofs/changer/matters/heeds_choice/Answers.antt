@@ -12,8 +12,10 @@ returns-in-Reply-Changer-default c =
     let command = c.in-Reply-Changer-default.field-0-0 in
     let reply = c.in-Reply-Changer-default.reply in
     let act : c.args.act.now ≡ acts.Reply (commands.Changer command) reply = search rules in
-    unread tables conduct part_of c.messages_in.result.now c.args.act.now (commands.Changer command) command reply
-    c.args.state c.may_all_be_read.result act refl c.messages_in.ensures.parts c.may_all_be_read.ensures
+    unread tables conduct part_of c.messages_in.result.now c.args.act.now (commands.Changer command)
+    command reply
+    c.args.state c.may_all_be_read.result act refl c.messages_in.ensures.parts
+    c.may_all_be_read.ensures
 
 pub returns-in-VmcAck-Changer-default : goal.returns-in-VmcAck-Changer-default
 returns-in-VmcAck-Changer-default c =

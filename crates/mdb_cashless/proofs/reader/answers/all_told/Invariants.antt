@@ -3,4 +3,5 @@ use Rattle.mdb_cashless.specs.ReaderDevice.{all_told}
 use Rattle.mdb_cashless.proofs.reader.answers.all_told.Given as goal
 
 abbrev pub invariant-loop-message : goal.invariant-loop-message
-invariant-loop-message l = all_told l.last (drop l.message-index l.news) l.device ≡ all_told l.last l.news l.fn.before
+invariant-loop-message l =
+    all_told l.last (drop l.message-index l.news) l.device ≡ all_told l.last l.news l.fn.before

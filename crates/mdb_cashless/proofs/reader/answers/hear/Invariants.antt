@@ -12,7 +12,8 @@ invariant-loop-message l =
       finite : (goal.iterator-loop-message).is_finite l.message-iterator;
       all : l.fn.messages ≡ l.yielded ++ l.message-iterator;
       view : all_heard l.message-iterator l.view ≡ all_heard l.fn.messages l.fn.before;
-      approved : l.approved + all_approved_to l.config l.view l.message-iterator ≡ all_approved_to l.config l.fn.before l.fn.messages;
+      approved : l.approved + all_approved_to l.config l.view l.message-iterator
+          ≡ all_approved_to l.config l.fn.before l.fn.messages;
       small : l.approved ≤ 16711425 * length l.yielded;
       keeps : list_any is_kept l.fn.messages ≡ (list_any is_kept l.message-iterator || l.keeps);
     }

@@ -3,4 +3,6 @@ use Rattle.mdb_cashless.proofs.Resets.{no_restart}
 use Rattle.mdb_cashless.proofs.reader.answers.may_be_read.Goals as goal
 
 pub returns-in-Restart : goal.returns-in-Restart
-returns-in-Restart c = rw c.in-Restart.is (no_restart c.tells_of_reset.result part_of (messages_of c.args.reply.now) c.tells_of_reset.ensures)
+returns-in-Restart c =
+    rw c.in-Restart.is (no_restart c.tells_of_reset.result part_of (messages_of c.args.reply.now)
+    c.tells_of_reset.ensures)

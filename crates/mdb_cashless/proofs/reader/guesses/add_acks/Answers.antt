@@ -19,10 +19,12 @@ returns-clause-steps c =
     let One = spec.AckStep other command c.args.choice c.args.before in
     let Two = spec.AckStep same command c.args.choice c.args.before in
     let first : IsOnlyStep One c.ack.result =
-    subst (λ (f : Facts). IsOnlyStep (spec.AckStep f command c.args.choice c.args.before) c.ack.result)
+    subst (λ (f : Facts).
+    IsOnlyStep (spec.AckStep f command c.args.choice c.args.before) c.ack.result)
     c.taking-another.ensures c.ack.ensures.step in
     let second : IsOnlyStep Two c.ack-2.result =
-    subst (λ (f : Facts). IsOnlyStep (spec.AckStep f command c.args.choice c.args.before) c.ack-2.result)
+    subst (λ (f : Facts).
+    IsOnlyStep (spec.AckStep f command c.args.choice c.args.before) c.ack-2.result)
     (c.taking-same.ensures ∙ ap (λ t. record base { taken = Some t })
     (c.again.ensures ∙ ap guesses.again c.transaction_of.ensures)) c.ack-2.ensures.step in
     adds_first c.args.steps.now.items c.add_step-2.new.steps.items
@@ -34,11 +36,13 @@ returns-clause-steps c =
     c.add_step.ensures.items)
     (adds_one c.add_step.new.steps.items c.add_step-2.new.steps.items Two c.ack-2.result second
     c.add_step-2.ensures.items))
-    (λ after gains. acks_some known command c.args.choice c.args.before after gains c.requires.unknown)
+    (λ after gains.
+    acks_some known command c.args.choice c.args.before after gains c.requires.unknown)
 
 pub returns-clause-small : goal.returns-clause-small
 returns-clause-small c =
     small_one c.add_step.new.steps.items c.add_step-2.new.steps.items c.ack-2.result
     (small_one c.args.steps.now.items c.add_step.new.steps.items c.ack.result
-    (none_small c.args.steps.now.items c.requires.room) c.ack.ensures.small c.add_step.ensures.items)
+    (none_small c.args.steps.now.items c.requires.room) c.ack.ensures.small
+    c.add_step.ensures.items)
     c.ack-2.ensures.small c.add_step-2.ensures.items

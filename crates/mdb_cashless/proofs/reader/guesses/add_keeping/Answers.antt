@@ -15,8 +15,8 @@ returns-then-knows_kept-clause-items c =
     adds_as old new Step (IsReplyKeeping facts (if_known c.args.knows_kept facts.past.last_kept)
     c.args.command c.args.reply.now c.args.choice c.args.before)
     (adds_one old new Step c.answer.result c.answer.ensures.step c.add_step.ensures.items)
-    (λ after gains. keeps_known facts c.args.knows_kept c.args.command c.args.reply.now c.args.choice
-    c.args.before after gains c.if-knows_kept.true)
+    (λ after gains. keeps_known facts c.args.knows_kept c.args.command c.args.reply.now
+    c.args.choice c.args.before after gains c.if-knows_kept.true)
 
 pub returns-then-knows_kept-clause-small : goal.returns-then-knows_kept-clause-small
 returns-then-knows_kept-clause-small c = λ small.

@@ -41,7 +41,8 @@ returns-clause-steps c =
     (λ after gains. guesses.OfSome (known_in known) c.args.before.holds (λ f. spec.ReplyStep f
     c.args.command c.args.reply.now c.args.choice c.args.before after gains)) c.requires
     (adds_two old mid new (Keeps other) (Keeps same)
-    (subst (λ (f : Facts). Adds old mid (Keeps f)) c.taking-other.ensures c.add_keeping-2.ensures.items)
+    (subst (λ (f : Facts). Adds old mid (Keeps f)) c.taking-other.ensures
+    c.add_keeping-2.ensures.items)
     (subst (λ (f : Facts). Adds mid new (Keeps f))
     (c.taking-same.ensures ∙ ap (λ t. record base { taken = Some t })
     (c.again.ensures ∙ ap guesses.again c.taken_by.ensures)) c.add_keeping-3.ensures.items))

@@ -11,7 +11,8 @@ pub returns-then-settles-clause-steps : goal.returns-then-settles-clause-steps
 returns-then-settles-clause-steps c =
     let Step = spec.StepKnowing c.args.unit (known_in c.args.known.now) c.args.act.now c.args.choice
     c.args.before in
-    adds_first c.new-steps.result.items c.add_step.new.steps.items Step Step (ap length c.new-steps.ensures)
+    adds_first c.new-steps.result.items c.add_step.new.steps.items Step Step
+    (ap length c.new-steps.ensures)
     (adds_one c.new-steps.result.items c.add_step.new.steps.items Step c.step_settled.result
     c.step_settled.ensures.step c.add_step.ensures.items)
     (λ after gains. (λ step. step, λ step. step))
@@ -19,7 +20,8 @@ returns-then-settles-clause-steps c =
 pub returns-then-settles-clause-small : goal.returns-then-settles-clause-small
 returns-then-settles-clause-small c =
     small_one c.new-steps.result.items c.add_step.new.steps.items c.step_settled.result
-    (none_small c.new-steps.result.items (ap length c.new-steps.ensures)) c.step_settled.ensures.small
+    (none_small c.new-steps.result.items (ap length c.new-steps.ensures))
+    c.step_settled.ensures.small
     c.add_step.ensures.items
 
 pub returns-in-Some-clause-steps : goal.returns-in-Some-clause-steps

@@ -5,5 +5,6 @@ use Rattle.mdb_cashless.proofs.reader.known.tells_taken.Goals as goal
 pub returns-in-Some-own : goal.returns-in-Some-own
 returns-in-Some-own c =
     c.answer_tells_taken.ensures
-    ∙ answered_told c.args.unit c.args.act.now c.in-Reply.command c.in-Some-own.command c.in-Reply.reply
+    ∙ answered_told c.args.unit c.args.act.now c.in-Reply.command c.in-Some-own.command
+    c.in-Reply.reply
     c.in-Reply.is (sym c.own-in-Reply.ensures ∙ c.in-Some-own.is)

@@ -9,5 +9,6 @@ invariant-loop-message l =
     record {
       next : (goal.iterator-loop-message).can_next l.message-iterator;
       finite : (goal.iterator-loop-message).is_finite l.message-iterator;
-      same : list_any (λ message. is_reset (part_of message)) (messages_of l.reply) ≡ list_any (λ message. is_reset (part_of message)) l.message-iterator;
+      same : list_any (λ message. is_reset (part_of message)) (messages_of l.reply)
+          ≡ list_any (λ message. is_reset (part_of message)) l.message-iterator;
     }

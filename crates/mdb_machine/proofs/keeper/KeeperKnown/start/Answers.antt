@@ -4,6 +4,10 @@ use Rattle.mdb_machine.proofs.keeper.KeeperKnown.start.Goals as goal
 pub returns : goal.returns
 returns g c =
     known_at_first g.K.Keeper.tables c.args.begins.now
-    (record { facts = c.start.result; knows_asked = c.is_power_on-knows.result; knows_kept = c.is_power_on-knows.result })
+    (record {
+      facts = c.start.result;
+      knows_asked = c.is_power_on-knows.result;
+      knows_kept = c.is_power_on-knows.result;
+    })
     c.start.ensures.setup c.start.ensures.asked c.start.ensures.past c.is_power_on-knows.ensures
     c.is_power_on-knows.ensures

@@ -6,5 +6,11 @@ returns-clause-summary g c = λ parts summary.
     record {
       kept_is = rw (kept_of-more parts c.args.part, c.put.ensures.kept, summary.kept_is);
       reset_is = rw (has_reset-more parts c.args.part, c.put.ensures.reset, summary.reset_is);
-      early_is = rw (keeps_early-more parts c.args.part, c.put.ensures.early, summary.early_is, summary.reset_is);
+      early_is =
+          rw (
+            keeps_early-more parts c.args.part,
+            c.put.ensures.early,
+            summary.early_is,
+            summary.reset_is,
+          );
     }

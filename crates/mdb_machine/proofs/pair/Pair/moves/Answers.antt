@@ -7,7 +7,8 @@ pub returns-clause-steps : goal.returns-clause-steps
 returns-clause-steps g c begins acts stands =
     let p = g.Self.Pair in
     let act = c.args.act.now in
-    both_moves p.device act p.code_of ((p.machine begins).Step acts act) c.args.code c.step-plain.result
+    both_moves p.device act p.code_of ((p.machine begins).Step acts act) c.args.code
+    c.step-plain.result
     c.other_step-other.result c.both.result.items (c.step-plain.ensures.steps begins acts stands)
     (c.other_step-other.ensures.steps begins acts stands) c.both.ensures
 

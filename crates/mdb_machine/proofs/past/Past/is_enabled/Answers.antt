@@ -8,5 +8,6 @@ pub returns-else-kind-lt16 : goal.returns-else-kind-lt16
 returns-else-kind-lt16 g c =
     let past : 16 ≤ c.args.kind = c.if-kind-lt16.false in
     let small : c.args.self.now.enabled < 65536 = omega arith in
-    let none : (bit_at c.args.self.now.enabled c.args.kind == 1) ≡ false = ap (λ n. n == 1) (past_mask c.args.self.now.enabled c.args.kind small past) in
+    let none : (bit_at c.args.self.now.enabled c.args.kind == 1) ≡ false =
+    ap (λ n. n == 1) (past_mask c.args.self.now.enabled c.args.kind small past) in
     le-ltb c.args.kind 16 past ∙ sym none

@@ -9,7 +9,13 @@ loop-message-preserved c =
     record {
       next = tt;
       finite = tt;
-      all = c.loop-message.invariant.all ∙ (ap (λ ms. before ++ ms) c.in-Some.ensures.steps ∙ sym (append_assoc before (c.in-Some.message ∷ []) c.next.new.self));
-      said = said_more c.loop-message.self c.add.new.self before c.in-Some.message c.loop-message.invariant.said c.add.ensures.summary c.add.ensures.config c.add.ensures.amount c.add.ensures.begins c.add.ensures.refused;
+      all =
+          c.loop-message.invariant.all
+          ∙ (ap (λ ms. before ++ ms) c.in-Some.ensures.steps
+          ∙ sym (append_assoc before (c.in-Some.message ∷ []) c.next.new.self));
+      said =
+          said_more c.loop-message.self c.add.new.self before c.in-Some.message
+          c.loop-message.invariant.said c.add.ensures.summary c.add.ensures.config
+          c.add.ensures.amount c.add.ensures.begins c.add.ensures.refused;
       room = omega (arith, more, c.add.ensures.room, c.loop-message.invariant.room);
     }
