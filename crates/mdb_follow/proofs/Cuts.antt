@@ -44,7 +44,8 @@ not_empty [] row rest same = absurd (cc same)
 not_empty (x ∷ front) row rest same = absurd (cc same)
 
 -- the offence of a slice is one of it and more
-with-more : (scope : Scope) (earlier slice more : List Event) (o : Offence) → HasOffence scope earlier slice o
+with-more : (scope : Scope) (earlier slice more : List Event) (o : Offence)
+    → HasOffence scope earlier slice o
     → HasOffence scope earlier (slice ++ more) o
 with-more scope earlier slice more o p = record {
   front = p.front;
@@ -55,7 +56,8 @@ with-more scope earlier slice more o p = record {
 }
 
 -- and so is that of what comes after the slice
-with-slice : (scope : Scope) (earlier slice more : List Event) (o : Offence) → HasOffence scope (earlier ++ slice) more o
+with-slice : (scope : Scope) (earlier slice more : List Event) (o : Offence)
+    → HasOffence scope (earlier ++ slice) more o
     → HasOffence scope earlier (slice ++ more) o
 with-slice scope earlier slice more o p = record {
   front = slice ++ p.front;
@@ -66,7 +68,8 @@ with-slice scope earlier slice more o p = record {
 }
 
 -- there is no other
-either : (scope : Scope) (earlier slice more : List Event) (o : Offence) → HasOffence scope earlier (slice ++ more) o
+either : (scope : Scope) (earlier slice more : List Event) (o : Offence)
+    → HasOffence scope earlier (slice ++ more) o
     → HasOffence scope earlier slice o ⊎ HasOffence scope (earlier ++ slice) more o
 either scope earlier slice more o p =
     elim (parted slice more p.front p.row p.rest p.parts) [
@@ -89,7 +92,8 @@ either scope earlier slice more o p =
     ]
 
 -- what is told of slices is told of the whole
-pub whole : (scope : Scope) (earlier : List Event) (slices : List (List Event)) (answer : Result Report Offence)
+pub whole : (scope : Scope) (earlier : List Event) (slices : List (List Event))
+    (answer : Result Report Offence)
     → AnswersInSlices scope earlier slices answer → AnswersRows scope earlier (joined slices) answer
 whole scope earlier [] (Ok report) told =
     subst (λ rows. IsReport scope rows report) (sym (append-nil earlier)) told

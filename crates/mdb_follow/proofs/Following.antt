@@ -35,7 +35,7 @@ use Rattle.mdb_follow.specs.declared.silence.Silence.{Silence}
 use Rattle.mdb_follow.specs.AccountNames.{account_device, account_in, account_slot}
 use Rattle.mdb_follow.specs.Cells.{account_by}
 use Rattle.mdb_follow.specs.EndedActs.{IsEndedAct}
-use Rattle.mdb_follow.specs.Feeding.{HasTaken}
+use Rattle.mdb_follow.specs.Feeding.{HasTakenRows}
 use Rattle.mdb_follow.specs.Follower.{HasAccepted, StandsFor, rows_of, scope_of}
 use Rattle.mdb_follow.specs.Sales.{SalesFollowApprovals}
 use Rattle.mdb_follow.specs.inner.FollowerSteps.{HasFollowedAct, HasStopped}
@@ -166,7 +166,8 @@ one-ended-act scope one events row a b first second =
     heads-alike newest other earlier more same = cc same
 
 -- each device's way of a run leads through the acts of an act list of its rows
-arrived : (scope : Scope) → OneActList scope → (rows : List Event) (pieces : List Piece) (sums : AllSums)
+arrived : (scope : Scope) → OneActList scope
+    → (rows : List Event) (pieces : List Piece) (sums : AllSums)
     → IsActList scope pieces rows → (run : Run scope rows sums)
     → EachArrives scope.begins (acts_of pieces) run.states sums
 arrived scope one rows pieces sums list run =
@@ -210,7 +211,8 @@ stuck begins rule act before stops states sums ways =
     (states stops.device) way.gains way.step
 
 -- and rows with such acts aren't reached
-unreached : (scope : Scope) → OneActList scope → (rows : List Event) (pieces : List Piece) → IsActList scope pieces rows
+unreached : (scope : Scope) → OneActList scope → (rows : List Event) (pieces : List Piece)
+    → IsActList scope pieces rows
     → ((states : States) (sums : AllSums) → EachArrives scope.begins (acts_of pieces) states sums
     → ⊥) → IsReached scope rows → ⊥
 unreached scope one rows pieces list none reached =
@@ -343,11 +345,13 @@ stands-on old mid new events row act on goes old_scope same_sides same_silences 
     }
 
 -- a row breaks a rule of the link
-pub link-offence : ((scope : Scope) → Joins scope) → (old : Follower) (events : List Event) (row : Event)
+pub link-offence : ((scope : Scope) → Joins scope)
+    → (old : Follower) (events : List Event) (row : Event)
     (on : StandsFor old events) (fault : LinkFault) (offence : Offence)
     → IsLinkFault (scope_of old) on.pieces row fault.rule fault.blame
     → (HasActList (scope_of old) (events_of on.pieces ++ row ∷ []) → ⊥) → offence.row ≡ old.rows + 1
-    → offence.rule ≡ fault.rule → offence.blame ≡ fault.blame → IsOffence (scope_of old) events row offence
+    → offence.rule ≡ fault.rule → offence.blame ≡ fault.blame
+    → IsOffence (scope_of old) events row offence
 link-offence joins old events row on fault offence is impossible number rule blame = record {
   reached = reached-by joins old events on;
   not_reached = λ reached. impossible (
@@ -458,7 +462,8 @@ account-of-runs Runs Kind of are account ranges is = record {
 }
 
 -- A way of one device is one of all, beside some way of each other device.
-device-is : (scope : Scope) → OneActList scope → Joins scope → (rows : List Event) (pieces : List Piece)
+device-is : (scope : Scope) → OneActList scope → Joins scope
+    → (rows : List Event) (pieces : List Piece)
     → IsActList scope pieces rows → SomeArrive scope.begins (acts_of pieces) → (device : Device)
     → AreOf (Run scope rows)
     (ArrivesAnywhere (Arrives (machine_of scope.begins device) (acts_of pieces)))
@@ -540,7 +545,7 @@ pub taken-by : ((scope : Scope) → Joins scope)
     → (old new : Follower) (rows : List Event) → scope_of new ≡ scope_of old
     → rows_of new ≡ rows_of old + length rows
     → ((events : List Event) → StandsFor old events → StandsFor new (events ++ rows))
-    → HasTaken old new rows
+    → HasTakenRows old new rows
 taken-by joins sales old new rows same counted stands = record {
   stands = stands;
   reached = λ events on. subst (λ s. IsReached s (events ++ rows)) same
@@ -552,7 +557,7 @@ taken-by joins sales old new rows same counted stands = record {
 -- so has one that differs in the room for an act alone
 pub taken-beside : (old mid new : Follower) (rows : List Event) → new.bus ≡ mid.bus
     → new.sides ≡ mid.sides → new.silences ≡ mid.silences → new.rows ≡ mid.rows
-    → new.offence ≡ mid.offence → HasTaken old mid rows → HasTaken old new rows
+    → new.offence ≡ mid.offence → HasTakenRows old mid rows → HasTakenRows old new rows
 taken-beside old mid new rows same_bus same_sides same_silences same_rows same has = record {
   stands = λ events on. stands-beside mid new (events ++ rows) same_bus same_sides same_silences
       same_rows same (has.stands events on);

@@ -46,12 +46,13 @@ all-go-on further which old new one device =
     elim (same_or_not device which) [
       | inl same ↦ subst If
           (sym (eq-eqb (device_place device) (device_place which) (ap device_place same)))
-          (subst (λ d. SilenceGoesOn (further d) (silence_in old d) (silence_in new d)) (sym same) one.own)
+          (subst (λ d. SilenceGoesOn (further d) (silence_in old d) (silence_in new d)) (sym same)
+          one.own)
       | inr apart ↦ subst If
           (sym (ne_eqb (device_place device) (device_place which)
           (λ same. apart (one_place device which same))))
-          (subst (SilenceGoesOn (λ lists. lists) (silence_in old device)) (sym (one.others device apart))
-          (stays (silence_in old device)))
+          (subst (SilenceGoesOn (λ lists. lists) (silence_in old device))
+          (sym (one.others device apart)) (stays (silence_in old device)))
     ]
   where
     If : Bool → Type 0

@@ -37,7 +37,8 @@ pub record WithoutLaws : Type 0 where
 -- no device is both followed and left out
 pub not_both : (scope : Scope) (device : Device) → IsFollowed scope device → IsLeftOut scope device
     → ⊥
-not_both scope device followed left_out = let clash : false ≡ true = sym followed ∙ left_out in cc clash
+not_both scope device followed left_out =
+    let clash : false ≡ true = sym followed ∙ left_out in cc clash
 
 -- a way of a device, whose sums are those of another way where it is followed, and nothing where it
 -- is left out

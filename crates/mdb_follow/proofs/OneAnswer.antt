@@ -80,8 +80,10 @@ pub named : (begins : Beginning) (rows : ℕ) (pieces : List Piece) (accounts : 
     → account_of account (report_of begins rows pieces accounts) ≡ accounts account
 named begins rows pieces accounts account = listed accounts account
 
-pub named-account : (scope : Scope) (rows : List Event) (report : Report) → IsReport scope rows report
-    → (account : AccountName) → IsAccount (Run scope rows) (sums_of account) (account_of account report)
+pub named-account : (scope : Scope) (rows : List Event) (report : Report)
+    → IsReport scope rows report
+    → (account : AccountName)
+    → IsAccount (Run scope rows) (sums_of account) (account_of account report)
 named-account scope rows report is account =
     subst (IsAccount (Run scope rows) (sums_of account))
     (sym (ap (account_of account) is.telling
@@ -90,7 +92,8 @@ named-account scope rows report is account =
 abbrev pub with_accounts : Report → List Account → Report
 with_accounts report accounts = record report { accounts = accounts }
 
-pub one-report : (scope : Scope) → OneActList scope → (rows : List Event) (a b : Report) → IsReport scope rows a
+pub one-report : (scope : Scope) → OneActList scope → (rows : List Event) (a b : Report)
+    → IsReport scope rows a
     → IsReport scope rows b → a ≡ b
 one-report scope one rows a b p q =
     p.telling
@@ -118,7 +121,8 @@ cut begins (Some last) acts act before same some =
     let rest : acts ≡ before = cc same in
     subst (SomeArrive begins) rest some
 
-some-before-act : (scope : Scope) → BusLaws scope → (events : List Event) (row : Event) → IsReached scope events
+some-before-act : (scope : Scope) → BusLaws scope → (events : List Event) (row : Event)
+    → IsReached scope events
     → (pieces : List Piece) → IsActList scope pieces (events ++ row ∷ []) → (act : Act)
     (before : List Act) → acts_of pieces ≡ act ∷ before → SomeArrive scope.begins before
 some-before-act scope laws events row reached pieces list act before ends =
@@ -144,7 +148,8 @@ abbrev broken-list : (scope : Scope) (events : List Event) (row : Event) (r : Ru
 broken-list scope events row r a p = Whole p.act (p.begun ++ row ∷ []) ∷ p.earlier
 
 -- a row that breaks a rule of the link ends no act
-link-or-machine : (scope : Scope) → BusLaws scope → (events : List Event) (row : Event) (r s : Rule) (a b : Blame)
+link-or-machine : (scope : Scope) → BusLaws scope
+    → (events : List Event) (row : Event) (r s : Rule) (a b : Blame)
     → BreaksLink scope events row r a → BreaksMachine scope events row s b → ⊥
 link-or-machine scope laws events row r s a b p q =
     laws.ends p.pieces row r p.act_list.in_order p.fault.rule.breaks (
@@ -153,7 +158,8 @@ link-or-machine scope laws events row r s a b p q =
           (sym p.act_list.whole) q.act_list,
     )
 
-one-why : (scope : Scope) → BusLaws scope → (events : List Event) (row : Event) → IsReached scope events → (r s : Rule)
+one-why : (scope : Scope) → BusLaws scope → (events : List Event) (row : Event)
+    → IsReached scope events → (r s : Rule)
     (a b : Blame) → BreaksLink scope events row r a ⊎ BreaksMachine scope events row r a
     → BreaksLink scope events row s b ⊎ BreaksMachine scope events row s b → (r ≡ s) × (a ≡ b)
 one-why scope laws events row reached r s a b (inl p) (inl q) =
@@ -175,12 +181,14 @@ one-why scope laws events row reached r s a b (inr p) (inr q) =
     (some-before-act scope laws events row reached one p.act_list p.act (acts_of p.earlier) refl) in
     let by-q : rule_of (whose q.act) ≡ s = whose_rule scope.begins s q.act
     (acts_of q.earlier) q.no_step
-    (some-before-act scope laws events row reached other q.act_list q.act (acts_of q.earlier) refl) in (
+    (some-before-act scope laws events row reached other q.act_list q.act (acts_of q.earlier)
+    refl) in (
       sym by-p ∙ (ap (λ x. rule_of (whose x)) act ∙ by-q),
       p.blame ∙ (ap sender_of act ∙ sym q.blame),
     )
 
-pub one-offence : (scope : Scope) → BusLaws scope → (events : List Event) (row : Event) (a b : Offence)
+pub one-offence : (scope : Scope) → BusLaws scope
+    → (events : List Event) (row : Event) (a b : Offence)
     → IsOffence scope events row a → IsOffence scope events row b → a ≡ b
 one-offence scope laws events row a b p q =
     let why = one-why scope laws events row p.reached a.rule b.rule a.blame b.blame p.why q.why in
@@ -190,7 +198,9 @@ one-offence scope laws events row a b p q =
     ∙ (ap (λ r. made b.row r a.blame) why.0 ∙ ap (λ w. made b.row b.rule w) why.1)
 
 -- any first rows of reached ones are reached
-pub fronts : (scope : Scope) → ((rows : List Event) (row : Event) → IsReached scope (rows ++ row ∷ []) → IsReached scope rows)
+pub fronts : (scope : Scope)
+    → ((rows : List Event) (row : Event) → IsReached scope (rows ++ row ∷ [])
+    → IsReached scope rows)
     → (rows more : List Event) → IsReached scope (rows ++ more) → IsReached scope rows
 fronts scope shorter rows [] reached = subst (IsReached scope) (append-nil rows) reached
 fronts scope shorter rows (row ∷ more) reached =

@@ -56,7 +56,8 @@ to_own laws device machine is (act ∷ so_far) state sums way = elim (of_or_not 
         adds = way.adds;
       })
   | inr apart ↦
-      let stays = (is.elsewhere so_far act way.choice way.before state way.gains apart).0 way.step in
+      let stays =
+      (is.elsewhere so_far act way.choice way.before state way.gains apart).0 way.step in
       let same : way.sums_before ≡ sums =
       no-gains way.sums_before ∙ ap (added way.sums_before) (sym stays.1) ∙ sym way.adds in
       subst (λ l. Arrives machine l state sums) (sym (laws.other device act so_far apart))

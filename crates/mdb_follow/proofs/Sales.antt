@@ -56,7 +56,8 @@ first_closed command reply (Joined setups) (inl e) = cc
 first_closed command reply (Joined setups) (inr e) = cc
 
 -- pieces where a reply is open end in it
-pub ends_in : (scope : Scope) (command : Command) (reply : Reply) (pieces : List Piece) → ArePieces scope pieces
+pub ends_in : (scope : Scope) (command : Command) (reply : Reply) (pieces : List Piece)
+    → ArePieces scope pieces
     → IsOpen command reply (position_of scope pieces) → EndsInReply command reply (acts_of pieces)
 ends_in scope command reply [] are here = absurd (first_closed command reply scope.begins here)
 ends_in scope command reply (Whole (acts.Reply c r) events ∷ pieces) are (inl e) = record {

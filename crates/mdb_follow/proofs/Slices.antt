@@ -38,8 +38,10 @@ abbrev pub Fronts : (scope : Scope) → Type 0
 Fronts scope = (rows more : List Event) → IsReached scope (rows ++ more) → IsReached scope rows
 
 -- rows after a row that isn't reached aren't either
-pub later : (scope : Scope) → Fronts scope → (earlier front other : List Event) (row : Event) → Longer front row other
-    → (IsReached scope ((earlier ++ front) ++ row ∷ []) → ⊥) → IsReached scope (earlier ++ other) → ⊥
+pub later : (scope : Scope) → Fronts scope → (earlier front other : List Event) (row : Event)
+    → Longer front row other
+    → (IsReached scope ((earlier ++ front) ++ row ∷ []) → ⊥) → IsReached scope (earlier ++ other)
+    → ⊥
 later scope fronts earlier front other row longer not_reached reached =
     not_reached (fronts ((earlier ++ front) ++ row ∷ []) longer.more
     (subst (IsReached scope)

@@ -108,16 +108,17 @@ pub either-moves : {State : Type 0} (device : Device) (act : Act) (code_of : Sta
     → AreMoves moves plain other
     → (next : ℕ) (gains : Gains) → Contains moves (next, gains)
     ↔ IsMove act code_of Step code next gains
-either-moves device act code_of Step code plain other moves plain_is sound whole lists next gains = (
-  λ among. elim ((lists (next, gains)).0 among) [
-    | inl is ↦ (Plain, tt, ((plain_is next gains).0 is).1)
-    | inr is ↦ sound next gains is
-  ],
-  λ move. (lists (next, gains)).1 (elim (whole next gains move) [
-    | inl is ↦ inr is
-    | inr step ↦ inl ((plain_is next gains).1 (inl tt, step))
-  ]),
-)
+either-moves device act code_of Step code plain other moves plain_is sound whole lists next
+    gains = (
+      λ among. elim ((lists (next, gains)).0 among) [
+        | inl is ↦ (Plain, tt, ((plain_is next gains).0 is).1)
+        | inr is ↦ sound next gains is
+      ],
+      λ move. (lists (next, gains)).1 (elim (whole next gains move) [
+        | inl is ↦ inr is
+        | inr step ↦ inl ((plain_is next gains).1 (inl tt, step))
+      ]),
+    )
 
 -- a move is the step by the other choice, or a plain one
 pub other-or-plain : {State : Type 0} (act : Act) (code_of : State → ℕ)

@@ -6,8 +6,8 @@ use Rattle.mdb_bus.specs.declared.scope.Scope.{Scope}
 use Rattle.mdb_bus.specs.ActLists.{IsActList, Piece, act_in, acts_of, piece_events, with_act}
 
 -- The act that ends with a row after these events, if one does. The row is the last of the newest
--- piece of their act list: the act that this piece is, or none where it is a tail. It comes after the
--- acts of the events.
+-- piece of their act list: the act that this piece is, or none where it is a tail. It comes after
+-- the acts of the events.
 pub record IsEndedAct (scope : Scope) (events : List Event) (row : Event)
     (act : Option Act) : Type 0 where
   pub newest : Piece

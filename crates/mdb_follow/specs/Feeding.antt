@@ -10,7 +10,7 @@ use Rattle.mdb_follow.specs.Sales.{SalesFollowApprovals}
 
 -- A follower has taken rows. Where it stood for events, it stands for these and the rows after
 -- them. Some run reaches them all, and in each of their runs each sale follows its approval.
-pub record HasTaken (old new : Follower) (rows : List Event) : Type 0 where
+pub record HasTakenRows (old new : Follower) (rows : List Event) : Type 0 where
   pub stands : (events : List Event) → StandsFor old events → StandsFor new (events ++ rows)
   pub reached : (events : List Event) → StandsFor old events
       → IsReached (scope_of old) (events ++ rows)

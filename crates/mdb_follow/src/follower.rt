@@ -47,7 +47,7 @@ impl Follower {
     ghost use Rattle.mdb_bus.specs.Bus.{ended_act};
     ghost use Rattle.mdb_follow.specs.EndedActs.{IsEndedAct};
     ghost use Rattle.mdb_bus.specs.Scopes.{all_joined, power_on};
-    ghost use Rattle.mdb_follow.specs.Feeding.{HasRefused, HasTaken};
+    ghost use Rattle.mdb_follow.specs.Feeding.{HasRefused, HasTakenRows};
     ghost use Rattle.mdb_follow.specs.Follower.{HasAccepted, StandsFor};
     ghost use Rattle.mdb_follow.specs.Follower.{act_of, offence_of, rows_of, scope_of};
     ghost use Rattle.mdb_follow.specs.inner.FollowerSteps.{HasFollowedAct, HasStopped};
@@ -108,7 +108,7 @@ impl Follower {
     #[inline(always)]
     pub fn feed(&mut self, event: Event) -> Result<(), Offence>
         requires { rows_of self.old < ROWS_MAX }
-        ensures taken { IfOk result (λ _. HasTaken self.old self.new (event ∷ [])) }
+        ensures taken { IfOk result (λ _. HasTakenRows self.old self.new (event ∷ [])) }
         ensures refused { IfErr result (HasRefused self.old self.new event) }
         ensures repeats { IfSome (offence_of self.old) (λ offence.
             (result ≡ Err offence) × (self.new ≡ self.old)) }
@@ -131,7 +131,7 @@ impl Follower {
     #[inline(always)]
     pub fn feed_ending(&mut self, event: Event) -> Option<bool>
         requires { rows_of self.old < ROWS_MAX }
-        ensures taken { OnSome result (HasTaken self.old self.new (event ∷ [])) }
+        ensures taken { OnSome result (HasTakenRows self.old self.new (event ∷ [])) }
         ensures act { IfSome result (λ ended. (events : List Event) → StandsFor self.old events
             → IsEndedAct (scope_of self.old) events event (ended_act ended (act_of self.new))) }
         ensures refused { IfNone result
@@ -175,7 +175,7 @@ impl Follower {
     /// Those of `feed`.
     pub fn feed_act(&mut self, event: Event) -> Result<Option<Act>, Offence>
         requires { rows_of self.old < ROWS_MAX }
-        ensures taken { IfOk result (λ _. HasTaken self.old self.new (event ∷ [])) }
+        ensures taken { IfOk result (λ _. HasTakenRows self.old self.new (event ∷ [])) }
         ensures act { (events : List Event) → StandsFor self.old events
             → IfOk result (IsEndedAct (scope_of self.old) events event) }
         ensures refused { IfErr result (HasRefused self.old self.new event) }
@@ -201,7 +201,7 @@ impl Follower {
     /// before.
     pub fn feed_all(&mut self, events: &[Event]) -> Result<(), Offence>
         requires { rows_of self.old + length events.now ≤ ROWS_MAX }
-        ensures taken { IfOk result (λ _. HasTaken self.old self.new events.now) }
+        ensures taken { IfOk result (λ _. HasTakenRows self.old self.new events.now) }
         ensures offence { (before : List Event) → StandsFor self.old before
             → IfErr result (HasOffence (scope_of self.old) before events.now) }
         ensures accepted { (before : List Event) → StandsFor self.old before
@@ -235,7 +235,7 @@ impl Follower {
     fn take(&mut self, event: Event) -> Option<bool>
         requires room { rows_of self.old < ROWS_MAX }
         requires going { offence_of self.old ≡ None }
-        ensures taken { OnSome result (HasTaken self.old self.new (event ∷ [])) }
+        ensures taken { OnSome result (HasTakenRows self.old self.new (event ∷ [])) }
         ensures act { IfSome result (λ ended. (events : List Event) → StandsFor self.old events
             → IsEndedAct (scope_of self.old) events event (ended_act ended self.new.act)) }
         ensures going { OnSome result (offence_of self.new ≡ None) }

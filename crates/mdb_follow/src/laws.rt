@@ -11,8 +11,8 @@ ghost use Rattle.mdb_bus.specs.declared.scope.Beginning.{Beginning};
 ghost use Rattle.mdb_bus.specs.declared.scope.Scope.{Scope};
 ghost use Rattle.mdb_bus.specs.LeavingOut.{LeavesOutMore};
 ghost use Rattle.mdb_bus.specs.LinkFaults.{blame_on};
-ghost use Rattle.mdb_bus.specs.Scopes.{IsFollowed, IsLeftOut};
 ghost use Rattle.mdb_bus.specs.Loss.{Loss, LossFits};
+ghost use Rattle.mdb_bus.specs.Scopes.{IsFollowed, IsLeftOut};
 ghost use Rattle.mdb_machine.specs.Pair.{IsBreak, own_acts};
 ghost use Rattle.mdb_follow.specs.AccountNames.{account_of, sums_of};
 ghost use Rattle.mdb_follow.specs.Arrivals.{EachArrives};
@@ -38,8 +38,8 @@ ghost use Rattle.mdb_follow.specs.Report.{unvalued_of};
 ghost use Rattle.mdb_follow.specs.Runs.{AllSums, HearSameAcks, IsReached, IsWay, Run, States};
 ghost use Rattle.mdb_follow.specs.Sales.{SalesFollowApprovals};
 ghost use Rattle.mdb_follow.specs.Silences.{silences};
-ghost use Rattle.mdb_follow.specs.Sums.{no_sums};
 ghost use Rattle.mdb_follow.specs.Slices.{AnswersRows, AnswersInSlices, joined};
+ghost use Rattle.mdb_follow.specs.Sums.{no_sums};
 
 use mdb_bus::laws;
 use mdb_cash::laws as cash_laws;
@@ -237,7 +237,7 @@ pub fn what_is_known_of_a_device_is_of_its_own_acts()
     cashless_laws::a_readers_facts_are_of_its_own_acts();
 }
 
-/// Breaks tell nothing of a device. Where its own acts are breaks alone, it has no decimal places
+/// Breaks report nothing of a device. Where its own acts are breaks alone, it has no decimal places
 /// but those that are known from elsewhere, and no amount of it lacks a value.
 pub fn breaks_tell_nothing_of_a_device()
     ensures decimals { (begins : Beginning) (device : Device) (acts : List Act)

@@ -23,12 +23,14 @@ no_end [] is = let bad : [] ≡ 13 ∷ [] = is in absurd (cc bad)
 no_end (byte ∷ bytes) is = let bad : [] ≡ byte ∷ (bytes ++ 13 ∷ []) = is in absurd (cc bad)
 
 -- no CR ends a line without bytes
-pub no_end_of_none : (line : List ℕ) → length line ≡ 0 → (bare : List ℕ) → line ≡ bare ++ 13 ∷ [] → ⊥
+pub no_end_of_none : (line : List ℕ) → length line ≡ 0 → (bare : List ℕ) → line ≡ bare ++ 13 ∷ []
+    → ⊥
 no_end_of_none [] none bare is = no_end bare is
 no_end_of_none (byte ∷ bytes) none bare is = omega (arith, none)
 
 -- what is told where no value is
-pub none_told : {X N : Type 0} (S : X → Type 0) (found : Option X) → MatchOption found N S → found ≡ None → N
+pub none_told : {X N : Type 0} (S : X → Type 0) (found : Option X) → MatchOption found N S
+    → found ≡ None → N
 none_told S None told is = told
 none_told S (Some x) told is = let wrong : Some x ≡ None = is in absurd (cc wrong)
 

@@ -30,7 +30,8 @@ pub alone : (line : List ℕ) → All (λ byte. byte ≢ 44) line → AreAllFiel
 alone line none = record { whole = refl; parted = all_from Field line [] none (none_of Field) }
 
 -- the fields of a line, by those behind its first comma
-pub more : (line front rest : List ℕ) (fields : List (List ℕ)) → IsCut 44 line front rest → 0 < length fields
+pub more : (line front rest : List ℕ) (fields : List (List ℕ)) → IsCut 44 line front rest
+    → 0 < length fields
     → AreAllFields rest fields → AreAllFields line (front ∷ fields)
 more line front rest [] cut some all = absurd (omega (arith, some))
 more line front rest (field ∷ fields) cut some all = record {
@@ -50,14 +51,22 @@ longer byte bytes [] other some all = absurd (omega (arith, some))
 longer byte bytes (field ∷ []) other some all = record {
   fields = (byte ∷ field) ∷ [];
   some = omega arith;
-  all = record { whole = ap (λ l. byte ∷ l) all.whole; parted = all_from Field (byte ∷ field) [] (all_from Other byte field other (first_of_all Field field [] all.parted)) (none_of Field) };
+  all = record {
+    whole = ap (λ l. byte ∷ l) all.whole;
+    parted =
+        all_from Field (byte ∷ field) []
+        (all_from Other byte field other (first_of_all Field field [] all.parted))
+        (none_of Field);
+  };
 }
 longer byte bytes (field ∷ next ∷ fields) other some all = record {
   fields = (byte ∷ field) ∷ next ∷ fields;
   some = omega arith;
   all = record {
     whole = ap (λ l. byte ∷ l) all.whole;
-    parted = all_from Field (byte ∷ field) (next ∷ fields) (all_from Other byte field other (first_of_all Field field (next ∷ fields) all.parted))
+    parted =
+        all_from Field (byte ∷ field) (next ∷ fields)
+        (all_from Other byte field other (first_of_all Field field (next ∷ fields) all.parted))
         (all_after Field field (next ∷ fields) all.parted);
   };
 }
@@ -73,13 +82,21 @@ fields_of (byte ∷ bytes) =
       | inl same ↦ record {
         fields = [] ∷ rest.fields;
         some = omega arith;
-        all = more (byte ∷ bytes) [] bytes rest.fields (record { whole = ap (λ b. b ∷ bytes) (eqb-true byte 44 same); first = none_of Other }) rest.some rest.all;
+        all =
+            more (byte ∷ bytes) [] bytes rest.fields (record {
+              whole = ap (λ b. b ∷ bytes) (eqb-true byte 44 same);
+              first = none_of Other;
+            }) rest.some rest.all;
       }
-      | inr other ↦ longer byte bytes rest.fields (λ same. let wrong : true ≡ false = sym (is_it byte 44 same) ∙ other in absurd (cc wrong)) rest.some rest.all
+      | inr other ↦
+          longer byte bytes rest.fields (λ same.
+          let wrong : true ≡ false = sym (is_it byte 44 same) ∙ other in absurd (cc wrong))
+          rest.some rest.all
     ]
 
 -- what is told of a value that is there
-pub some_told : {X : Type 0} {P : X → Type 0} (found : Option X) → IfSome found P → is_some found ≡ true → (x : X) × P x
+pub some_told : {X : Type 0} {P : X → Type 0} (found : Option X) → IfSome found P
+    → is_some found ≡ true → (x : X) × P x
 some_told None told is = let wrong : false ≡ true = is in absurd (cc wrong)
 some_told (Some x) told is = (x, told)
 
@@ -91,6 +108,7 @@ too_many line time behind letter value front rest one two three =
     record {
       fields = time ∷ letter ∷ front ∷ last.fields;
       all = more line time behind (letter ∷ front ∷ last.fields) one (omega arith)
-          (more behind letter value (front ∷ last.fields) two (omega arith) (more value front rest last.fields three last.some last.all));
+          (more behind letter value (front ∷ last.fields) two (omega arith)
+          (more value front rest last.fields three last.some last.all));
       is = λ few. omega (arith, few, last.some);
     }

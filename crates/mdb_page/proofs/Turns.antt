@@ -9,7 +9,7 @@ use Rattle.mdb_bus.specs.declared.scope.Scope.{Scope}
 use Rattle.mdb_bus.specs.ActLists.{Piece, Whole, AskTail, ReplyTail, RepeatTail, Position, InAsk, InReply, InRepeat, ArePieces, BlockMayCome, IsPiece, IsSaid, IsTail, MayCome, MayStand, act_in, events_of, piece_events}
 use Rattle.mdb_bus.specs.Bus.{Grown}
 use Rattle.mdb_page.specs.Acts.{closed_pieces}
-use Rattle.mdb_page.specs.inner.Listing.{AreOf, HasAdded, HasBegun, HasListed, HasTakenRows, Lengthens, open_events}
+use Rattle.mdb_page.specs.inner.Listing.{AreOf, HasAdded, HasBegun, HasListed, HasTakenPieces, Lengthens, open_events}
 use Rattle.mdb_page.specs.declared.acts.ActListing.{ActListing}
 use Rattle.mdb_page.specs.declared.acts.PageAct.{PageAct}
 use Rattle.mdb_page.specs.declared.rows.Rows.{Rows}
@@ -265,8 +265,8 @@ are_of stay before after pieces begun row listing rows has = has.are (no_more be
 -- a row that ends no act
 pub row_taken : (stay : ℕ) (before after : List PageAct) (pieces longer : List Piece)
     (listing : ActListing) (rows new : Rows) (at : ℕ)
-    → HasTakenRows stay before pieces listing after rows → Lengthens pieces at None longer
-    → HasAdded rows at new → HasTakenRows stay before longer listing after new
+    → HasTakenPieces stay before pieces listing after rows → Lengthens pieces at None longer
+    → HasAdded rows at new → HasTakenPieces stay before longer listing after new
 row_taken stay before after pieces longer listing rows new at has turn added =
     let grown = turn.grown in
     let on = stands_on turn.scope pieces longer turn.row None grown turn.in_order (λ is. is) in
@@ -289,7 +289,7 @@ row_taken stay before after pieces longer listing rows new at has turn added =
 -- where the next act is no break, it goes on with the tail
 pub begun_by : (stay : ℕ) (before after : List PageAct) (pieces longer : List Piece)
     (listing : ActListing) (rows : Rows) (at : ℕ) (act : Option Act)
-    → HasTakenRows stay before pieces listing after rows
+    → HasTakenPieces stay before pieces listing after rows
     → (turn : Lengthens pieces at act longer) → (IsBreak act → ⊥)
     → HasBegun stay before turn.grown.earlier turn.grown.begun listing after rows
 begun_by stay before after pieces longer listing rows at act has turn not =
@@ -301,7 +301,7 @@ begun_by stay before after pieces longer listing rows at act has turn not =
 -- the number of the last row
 pub last_row : (stay : ℕ) (before after : List PageAct) (pieces : List Piece)
     (listing : ActListing) (rows : Rows)
-    → HasTakenRows stay before pieces listing after rows → rows.last ≡ length (events_of pieces)
+    → HasTakenPieces stay before pieces listing after rows → rows.last ≡ length (events_of pieces)
 last_row stay before after pieces listing rows has =
     has.begun.to ∙ sym (ap length (all_rows pieces)
     ∙ length-append (events_of (closed_pieces pieces)) (open_events pieces))
@@ -309,7 +309,7 @@ last_row stay before after pieces listing rows has =
 -- where it is one, the tail is cut
 pub begun_at_break : (stay : ℕ) (before was after : List PageAct) (pieces longer : List Piece)
     (listing next : ActListing) (rows new : Rows) (at : ℕ) (act : Act) → IsBreak (Some act)
-    → HasTakenRows stay before pieces listing was rows
+    → HasTakenPieces stay before pieces listing was rows
     → (turn : Lengthens pieces at (Some act) longer)
     → HasListed stay before pieces next after → new.first ≡ rows.last + 1
     → new.last ≡ rows.last
@@ -336,7 +336,7 @@ pub act_taken : (stay : ℕ) (before after : List PageAct) (pieces longer : List
     → HasListed stay before
     (Whole act (turn.grown.begun ++ turn.row ∷ []) ∷ turn.grown.earlier) listing after
     → new.first ≡ rows.last + 1 → new.last ≡ rows.last
-    → HasTakenRows stay before longer listing after new
+    → HasTakenPieces stay before longer listing after new
 act_taken stay before after pieces longer listing rows new at act turn are listed first last =
     let grown = turn.grown in
     let events = grown.begun ++ turn.row ∷ [] in
@@ -346,7 +346,7 @@ act_taken stay before after pieces longer listing rows new at act turn are liste
     let counted : length (events_of (Whole act events ∷ grown.earlier))
     ≡ length (events_of grown.earlier) + length events =
     length-append (events_of grown.earlier) events in
-    subst (λ l. HasTakenRows stay before l listing after new) (sym is) (record {
+    subst (λ l. HasTakenPieces stay before l listing after new) (sym is) (record {
       scope = turn.scope;
       in_order = subst (ArePieces turn.scope) is turn.in_order;
       begun = record {
@@ -395,7 +395,7 @@ tail_in stay before after tail pieces listing rows is scope order begun = record
 -- there is an open tail where the rows aren't all of acts
 pub tail_of : (stay : ℕ) (before after : List PageAct) (pieces : List Piece)
     (listing : ActListing) (rows : Rows)
-    → HasTakenRows stay before pieces listing after rows → rows.first ≤ rows.last
+    → HasTakenPieces stay before pieces listing after rows → rows.first ≤ rows.last
     → HasTail stay before pieces listing after rows
 tail_of stay before after [] listing rows has some =
     absurd (omega (arith, has.begun.from, has.begun.to, some))
@@ -423,7 +423,7 @@ no_rows stay before after tail pieces listing rows scope order begun none =
 -- and none where they are
 pub no_tail : (stay : ℕ) (before after : List PageAct) (pieces : List Piece)
     (listing : ActListing) (rows : Rows)
-    → HasTakenRows stay before pieces listing after rows → rows.last < rows.first
+    → HasTakenPieces stay before pieces listing after rows → rows.last < rows.first
     → HasListed stay before pieces listing after
 no_tail stay before after [] listing rows has none = has.begun.listed
 no_tail stay before after (Whole act events ∷ pieces) listing rows has none = has.begun.listed

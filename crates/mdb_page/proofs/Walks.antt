@@ -17,7 +17,7 @@ use Rattle.mdb_follow.specs.declared.follower.TheConstants.{ROWS_MAX}
 use Rattle.mdb_page.specs.Acts.{EndsSo, IsNext, broken, closed_pieces, no_row, too_long, unread, whole}
 use Rattle.mdb_page.specs.Answers.{number_of}
 use Rattle.mdb_page.specs.Lines.{HasRead, IsBare, IsFirstLine, IsLine, IsUnread, TellsNoRow, TellsRow, blank, row, start}
-use Rattle.mdb_page.specs.inner.Listing.{HasListed, HasTakenRows, HasWalked, Lengthens}
+use Rattle.mdb_page.specs.inner.Listing.{HasListed, HasTakenPieces, HasWalked, Lengthens}
 use Rattle.mdb_page.specs.declared.acts.ActListing.{ActListing}
 use Rattle.mdb_page.specs.declared.acts.PageAct.{PageAct}
 use Rattle.mdb_page.specs.declared.answer.PageTold.{PageTold}
@@ -35,7 +35,7 @@ pub record Walks (scope : Scope) (lines rest : List ℕ) (bus : Bus) (stay : ℕ
   pub stands : StandsFor bus pieces
   pub in_scope : scope_of bus ≡ scope
   pub are : events_of pieces ≡ rows
-  pub has : HasTakenRows stay before pieces listing after taken
+  pub has : HasTakenPieces stay before pieces listing after taken
 
 -- the first line of a text, by its parts
 pub line_of : {text line bare rest : List ℕ} → IsFirstLine text line rest → IsBare line bare
@@ -92,8 +92,8 @@ Feeds bus next event ended act = (pieces : List Piece) → StandsFor bus pieces
 abbrev pub Takes : List PageAct → List PageAct → ActListing → ActListing → Rows → Rows → ℕ
     → Option Act → Type 0
 Takes now later listing next taken new at act = (stay : ℕ) (before : List PageAct)
-    (pieces longer : List Piece) → HasTakenRows stay before pieces listing now taken
-    → Lengthens pieces at act longer → HasTakenRows stay before longer next later new
+    (pieces longer : List Piece) → HasTakenPieces stay before pieces listing now taken
+    → Lengthens pieces at act longer → HasTakenPieces stay before longer next later new
 
 -- a row
 pub goes_on_row : (scope : Scope) (lines rest bare after : List ℕ) (bus next : Bus) (stay : ℕ)
@@ -164,7 +164,7 @@ walked scope lines rest bus stay before now later listing next taken told answer
 -- what `cut` says
 abbrev pub Cuts : List PageAct → List PageAct → ActListing → ActListing → Rows → Type 0
 Cuts now later listing next taken = (stay : ℕ) (before : List PageAct) (pieces : List Piece)
-    → HasTakenRows stay before pieces listing now taken → taken.last ≤ ROWS_MAX
+    → HasTakenPieces stay before pieces listing now taken → taken.last ≤ ROWS_MAX
     → HasListed stay before pieces next later
 
 -- all lines were read

@@ -9,7 +9,7 @@ ghost use Rattle.mdb_follow.specs.declared.follower.TheConstants.{ROWS_MAX};
 ghost use Rattle.mdb_page.specs.Acts.{IsListing};
 ghost use Rattle.mdb_page.specs.Options.{IsTakenSo};
 ghost use Rattle.mdb_page.specs.declared.acts.PageAct.{PageAct};
-ghost use Rattle.mdb_page.specs.inner.Listing.{HasBegun, HasListed, HasTakenRows, HasWalked, Lengthens};
+ghost use Rattle.mdb_page.specs.inner.Listing.{HasBegun, HasListed, HasTakenPieces, HasWalked, Lengthens};
 
 use crate::acts::{ActListing, PageAct};
 use crate::answer::{BAD_OPTIONS, NO, PageTold, TOO_LONG, YES, line_answer};
@@ -146,9 +146,9 @@ impl Lists {
         requires names { ended ≡ true → NamesAReply act.now }
         ensures last { rows.new.last ≡ rows.old.last + 1 }
         ensures taken { (first : ℕ) (before : List PageAct) (pieces longer : List Piece)
-            → HasTakenRows first before pieces self.old.acts acts.old rows.old
+            → HasTakenPieces first before pieces self.old.acts acts.old rows.old
             → Lengthens pieces at (ended_act ended act.now) longer
-            → HasTakenRows first before longer self.new.acts acts.new rows.new }
+            → HasTakenPieces first before longer self.new.acts acts.new rows.new }
     {
         if ended {
             self.end(acts, news, rows, at, act);
@@ -171,9 +171,9 @@ impl Lists {
         requires names { NamesAReply act.now }
         ensures last { rows.new.last ≡ rows.old.last + 1 }
         ensures taken { (first : ℕ) (before : List PageAct) (pieces longer : List Piece)
-            → HasTakenRows first before pieces self.old.acts acts.old rows.old
+            → HasTakenPieces first before pieces self.old.acts acts.old rows.old
             → Lengthens pieces at (Some act.now) longer
-            → HasTakenRows first before longer self.new.acts acts.new rows.new }
+            → HasTakenPieces first before longer self.new.acts acts.new rows.new }
     {
         self.cut_before(acts, rows, act);
         rows.add(at);
@@ -188,7 +188,7 @@ impl Lists {
         requires { rows.old.last < ROWS_MAX }
         ensures last { rows.new.last ≡ rows.old.last }
         ensures begun { (first : ℕ) (before : List PageAct) (pieces longer : List Piece) (at : ℕ)
-            → HasTakenRows first before pieces self.old.acts acts.old rows.old
+            → HasTakenPieces first before pieces self.old.acts acts.old rows.old
             → (turn : Lengthens pieces at (Some act.now) longer)
             → HasBegun first before turn.grown.earlier turn.grown.begun self.new.acts acts.new
             rows.new }
@@ -202,7 +202,7 @@ impl Lists {
     /// Takes the rows that no act has, if there are some.
     fn cut(&mut self, acts: &mut [PageAct], rows: &Rows)
         ensures { (first : ℕ) (before : List PageAct) (pieces : List Piece)
-            → HasTakenRows first before pieces self.old.acts acts.old rows.now
+            → HasTakenPieces first before pieces self.old.acts acts.old rows.now
             → rows.now.last ≤ ROWS_MAX
             → HasListed first before pieces self.new.acts acts.new }
     {

@@ -7,7 +7,7 @@ use Rattle.mdb_words.specs.declared.event.Event.{Event}
 use Rattle.mdb_words.specs.Row.{IsRefusal, IsRow}
 use Rattle.mdb_follow.specs.declared.follower.Follower.{Follower}
 use Rattle.mdb_follow.specs.declared.offence.Offence.{Offence}
-use Rattle.mdb_follow.specs.Feeding.{HasTaken}
+use Rattle.mdb_follow.specs.Feeding.{HasTakenRows}
 use Rattle.mdb_follow.specs.Follower.{StandsFor, scope_of}
 use Rattle.mdb_follow.specs.Offences.{HasOffence}
 use Rattle.mdb_follow.specs.Runs.{IsReached}
@@ -24,12 +24,14 @@ use Rattle.mdb_bus.specs.declared.scope.Scope.{Scope}
 
 -- what a follower stands for is reached
 abbrev pub Reaches : Type 0
-Reaches = (follower : Follower) (rows : List Event) → StandsFor follower rows → IsReached (scope_of follower) rows
+Reaches =
+    (follower : Follower) (rows : List Event) → StandsFor follower rows
+    → IsReached (scope_of follower) rows
 
 -- The follower has taken rows, or stops at one of them.
 pub followed : (scope : Scope) (old new : Follower) (rows : List Event)
     (answer : Result Unit Offence) (stop : Option Offence) → stop ≡ result_err answer
-    → IfOk answer (λ _. HasTaken old new rows)
+    → IfOk answer (λ _. HasTakenRows old new rows)
     → ((before : List Event) → StandsFor old before → IfErr answer (HasOffence scope before rows))
     → scope_of new ≡ scope_of old → (earlier : List Event) → HasFollowedRows scope old earlier
     → HasTakenOrStopped (HasFollowedRows scope new) (HasOffence scope) earlier rows stop
@@ -47,17 +49,25 @@ followed scope old new rows (Err offence) stop is taken offends kept earlier has
     subst P (sym is) (offends earlier has.stands)
 
 -- the text ends
-pub whole : (scope : Scope) → ((rows : List Event) → SalesFollowApprovals scope rows) → (limit : ℕ) (all : List (List (List ℕ))) (follower : Follower) → IsTakenWhole IsRow (HasFollowedRows scope follower) limit all
-    → (outcome : Outcome) → ((rows : List Event) → StandsFor follower rows → IsYes scope rows outcome) → IsAnswer scope limit all (Ok outcome)
-whole scope sales limit all follower ended outcome tells_yes = told outcome (tells_yes ended.rows ended.has.stands)
+pub whole : (scope : Scope) → ((rows : List Event) → SalesFollowApprovals scope rows)
+    → (limit : ℕ) (all : List (List (List ℕ))) (follower : Follower)
+    → IsTakenWhole IsRow (HasFollowedRows scope follower) limit all
+    → (outcome : Outcome)
+    → ((rows : List Event) → StandsFor follower rows → IsYes scope rows outcome)
+    → IsAnswer scope limit all (Ok outcome)
+whole scope sales limit all follower ended outcome tells_yes =
+    told outcome (tells_yes ended.rows ended.has.stands)
   where
     Told : List (List (List ℕ)) → Type 0
     Told l = AreRows l ended.rows
 
-    told : (outcome : Outcome) → IsYes scope ended.rows outcome → IsAnswer scope limit all (Ok outcome)
+    told : (outcome : Outcome) → IsYes scope ended.rows outcome
+        → IsAnswer scope limit all (Ok outcome)
     told (Yes report) is_report = record {
       rows = ended.rows;
-      told = subst Told (sym (append-nil ended.read.done) ∙ sym ended.read.split) (are_rows ended.read.done ended.rows ended.read.told);
+      told =
+          subst Told (sym (append-nil ended.read.done) ∙ sym ended.read.split)
+          (are_rows ended.read.done ended.rows ended.read.told);
       few = ended.few;
       is = is_report;
       sales = sales ended.rows;
@@ -65,31 +75,55 @@ whole scope sales limit all follower ended outcome tells_yes = told outcome (tel
     told (No offence) never = absurd never
 
 -- a row cannot be
-pub impossible : (scope : Scope) (limit : ℕ) (all : List (List (List ℕ))) (offence : Offence) → IsStopped IsRow (λ earlier rows. HasOffence scope earlier rows offence) limit all → IsImpossible scope limit all offence
+pub impossible : (scope : Scope) (limit : ℕ) (all : List (List (List ℕ))) (offence : Offence)
+    → IsStopped IsRow (λ earlier rows. HasOffence scope earlier rows offence) limit all
+    → IsImpossible scope limit all offence
 impossible scope limit all offence ended =
     let has : HasOffence scope ended.earlier ended.later offence = ended.stops in
     let parts : ended.earlier ++ ended.later ≡ (ended.earlier ++ has.front) ++ has.row ∷ has.rest =
-    ap (λ l. ended.earlier ++ l) has.parts ∙ sym (append_assoc ended.earlier has.front (has.row ∷ has.rest)) in
+    ap (λ l. ended.earlier ++ l) has.parts
+    ∙ sym (append_assoc ended.earlier has.front (has.row ∷ has.rest)) in
     let Read : List Event → Type 0 = λ l. AreRead IsRow all l ended.rest in
-    let up_to : IsReadUpTo IsRow all (ended.earlier ++ has.front) has.row = read_up_to IsRow all (ended.earlier ++ has.front) has.row has.rest ended.rest (subst Read parts ended.read) in
-    let counted : length (ended.earlier ++ ended.later) ≡ length (ended.earlier ++ has.front) + length (has.row ∷ has.rest) = ap length parts ∙ length-append (ended.earlier ++ has.front) (has.row ∷ has.rest) in
+    let up_to : IsReadUpTo IsRow all (ended.earlier ++ has.front) has.row =
+    read_up_to IsRow all (ended.earlier ++ has.front) has.row has.rest ended.rest
+    (subst Read parts ended.read) in
+    let counted : length (ended.earlier ++ ended.later)
+    ≡ length (ended.earlier ++ has.front) + length (has.row ∷ has.rest) =
+    ap length parts ∙ length-append (ended.earlier ++ has.front) (has.row ∷ has.rest) in
     record {
       rows = ended.earlier ++ has.front;
       row = has.row;
       fields = up_to.fields;
-      stops = record { done = up_to.read.done; rest = up_to.rest; split = up_to.read.split; told = are_rows up_to.read.done (ended.earlier ++ has.front) up_to.read.told; possible = has.is.reached };
+      stops = record {
+        done = up_to.read.done;
+        rest = up_to.rest;
+        split = up_to.read.split;
+        told = are_rows up_to.read.done (ended.earlier ++ has.front) up_to.read.told;
+        possible = has.is.reached;
+      };
       told = up_to.told;
       few = omega (arith, counted, ended.few);
       is = has.is;
     }
 
 -- a record isn't taken, or can't be read
-refused_by : (scope : Scope) {Stop : Type 0} → Reaches → (limit : ℕ) (all : List (List (List ℕ))) (follower : Follower) (Stops : List Event → List Event → Stop → Type 0) (fault : RunFault)
-    → HasEnded IsRow IsRefusal (HasFollowedRows scope follower) Stops limit all (Err fault) → IsAnswer scope limit all (Err fault)
+refused_by : (scope : Scope) {Stop : Type 0} → Reaches
+    → (limit : ℕ) (all : List (List (List ℕ))) (follower : Follower)
+    (Stops : List Event → List Event → Stop → Type 0) (fault : RunFault)
+    → HasEnded IsRow IsRefusal (HasFollowedRows scope follower) Stops limit all (Err fault)
+    → IsAnswer scope limit all (Err fault)
 refused_by scope reaches limit all follower Stops (BadRow row fault) ended = record {
   rows = ended.rows;
   fields = ended.fields;
-  stops = record { done = ended.read.done; rest = ended.rest; split = ended.read.split; told = are_rows ended.read.done ended.rows ended.read.told; possible = subst (λ s. IsReached s ended.rows) ended.has.in_scope (reaches follower ended.rows ended.has.stands) };
+  stops = record {
+    done = ended.read.done;
+    rest = ended.rest;
+    split = ended.read.split;
+    told = are_rows ended.read.done ended.rows ended.read.told;
+    possible =
+        subst (λ s. IsReached s ended.rows) ended.has.in_scope
+        (reaches follower ended.rows ended.has.stands);
+  };
   few = ended.few;
   number = ended.number;
   refused = ended.refused;
@@ -97,15 +131,27 @@ refused_by scope reaches limit all follower Stops (BadRow row fault) ended = rec
 refused_by scope reaches limit all follower Stops TooLong ended = record {
   rows = ended.rows;
   fields = ended.fields;
-  stops = record { done = ended.read.done; rest = ended.rest; split = ended.read.split; told = are_rows ended.read.done ended.rows ended.read.told; possible = subst (λ s. IsReached s ended.rows) ended.has.in_scope (reaches follower ended.rows ended.has.stands) };
+  stops = record {
+    done = ended.read.done;
+    rest = ended.rest;
+    split = ended.read.split;
+    told = are_rows ended.read.done ended.rows ended.read.told;
+    possible =
+        subst (λ s. IsReached s ended.rows) ended.has.in_scope
+        (reaches follower ended.rows ended.has.stands);
+  };
   full = ended.full;
 }
 refused_by scope reaches limit all follower Stops Read ended = tt
 refused_by scope reaches limit all follower Stops Write ended = tt
 refused_by scope reaches limit all follower Stops Memory ended = tt
 
-pub refused : (scope : Scope) {Stop : Type 0} → Reaches → (limit : ℕ) (all : List (List (List ℕ))) (follower : Follower) (Stops : List Event → List Event → Stop → Type 0) (fault : RunFault)
-    → HasEnded IsRow IsRefusal (HasFollowedRows scope follower) Stops limit all (Err fault) → (answer : Result Outcome RunFault) → IsErrAnd answer (λ other. other ≡ fault) → IsAnswer scope limit all answer
+pub refused : (scope : Scope) {Stop : Type 0} → Reaches
+    → (limit : ℕ) (all : List (List (List ℕ))) (follower : Follower)
+    (Stops : List Event → List Event → Stop → Type 0) (fault : RunFault)
+    → HasEnded IsRow IsRefusal (HasFollowedRows scope follower) Stops limit all (Err fault)
+    → (answer : Result Outcome RunFault) → IsErrAnd answer (λ other. other ≡ fault)
+    → IsAnswer scope limit all answer
 refused scope reaches limit all follower Stops fault ended (Ok outcome) handed = absurd handed
 refused scope reaches limit all follower Stops fault ended (Err other) handed =
     let P : RunFault → Type 0 = λ f. IsAnswer scope limit all (Err f) in

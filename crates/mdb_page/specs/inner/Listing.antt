@@ -70,7 +70,7 @@ open_events (ReplyTail command bytes events ∷ pieces) = events
 open_events (RepeatTail command reply words events ∷ pieces) = events
 
 -- A listing has taken the rows of pieces: those of the closed ones are listed.
-pub record HasTakenRows (first : ℕ) (before : List PageAct) (pieces : List Piece)
+pub record HasTakenPieces (first : ℕ) (before : List PageAct) (pieces : List Piece)
     (listing : ActListing) (after : List PageAct) (rows : Rows) : Type 0 where
   pub scope : Scope
   pub in_order : ArePieces scope pieces

@@ -12,6 +12,7 @@ returns-clause-whole c scope earlier slices answer = (
 pub returns-clause-alike : goal.returns-clause-alike
 returns-clause-alike c scope earlier one other a b same p q =
     one-answer scope (c.fronts_of_reached_rows_are_reached.ensures scope)
-    (c.rows_have_one_report.ensures scope) (c.lists_have_one_offence.ensures scope) earlier (joined other) a b
+    (c.rows_have_one_report.ensures scope) (c.lists_have_one_offence.ensures scope) earlier
+    (joined other) a b
     (subst (λ rows. AnswersRows scope earlier rows a) same (whole scope earlier one a p))
     (whole scope earlier other b q)

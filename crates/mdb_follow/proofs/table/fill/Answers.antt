@@ -30,7 +30,8 @@ add_steps-requires g c = (
       (
         step-below _ _ c.step-plain.result c.requires.size c.step-plain.ensures.below,
         (
-          step-below _ _ c.second_step-second.result c.requires.size c.second_step-second.ensures.below,
+          step-below _ _ c.second_step-second.result c.requires.size
+              c.second_step-second.ensures.below,
           (c.loop-code.invariant.keyed, c.loop-code.invariant.placed),
         ),
       ),

@@ -42,9 +42,15 @@ returns-in-Err-feed-clause-offence c = λ offence same.
       rows,
       event,
       c.first_line.result.1.now,
-      row event before.read.1 (record { line = c.first_line.result.0.now; first = c.first_line.ensures.line; is = c.without_return-line.ensures }) c.in-Ok.ensures.row,
-      subst (λ (told : Offence). IsOffence (scope_of c.args.follower.now) rows event told) (ap (λ end. offence_of end c.in-Err-feed.offence) same)
-          (subst (λ (scope : Scope). IsOffence scope rows event c.in-Err-feed.offence) before.scope (c.in-Err-feed.ensures.refused.offence rows before.read.2)),
+      row event before.read.1 (record {
+        line = c.first_line.result.0.now;
+        first = c.first_line.ensures.line;
+        is = c.without_return-line.ensures;
+      }) c.in-Ok.ensures.row,
+      subst (λ (told : Offence). IsOffence (scope_of c.args.follower.now) rows event told)
+          (ap (λ end. offence_of end c.in-Err-feed.offence) same)
+          (subst (λ (scope : Scope). IsOffence scope rows event c.in-Err-feed.offence) before.scope
+          (c.in-Err-feed.ensures.refused.offence rows before.read.2)),
     )
 
 pub returns-in-Err-clause-line : goal.returns-in-Err-clause-line
@@ -57,8 +63,14 @@ returns-in-Err-clause-line c = λ why same.
       record {
         bare = c.without_return-line.result.now;
         after = c.first_line.result.1.now;
-        line = record { line = c.first_line.result.0.now; first = c.first_line.ensures.line; is = c.without_return-line.ensures };
-        some = λ empty. true≢false (sym (eq-eqb (length c.without_return-line.result.now) 0 (ap length empty)) ∙ sym c.if-not-is_empty.ensures);
+        line = record {
+          line = c.first_line.result.0.now;
+          first = c.first_line.ensures.line;
+          is = c.without_return-line.ensures;
+        };
+        some = λ empty.
+            true≢false (sym (eq-eqb (length c.without_return-line.result.now) 0 (ap length empty))
+            ∙ sym c.if-not-is_empty.ensures);
         is = c.in-Err.ensures.none why (ap (λ end. fault_of end c.in-Err.fault) same);
       },
     )
@@ -68,14 +80,19 @@ loop-line-preserved-in_default c =
     let before = c.loop-line.invariant in
     let rows = before.read.0 in
     let event = c.in-Ok.event in
-    let less : length c.first_line.result.1.now < length c.loop-line.rest.now = c.first_line.ensures.shorter in
+    let less : length c.first_line.result.1.now < length c.loop-line.rest.now =
+    c.first_line.ensures.shorter in
     let few : length c.loop-line.rest.now ≤ length c.args.rest.now.now = before.left in
     record {
       left = omega arith;
       scope = c.in_default.ensures.scope ∙ before.scope;
       read = (
         rows ++ event ∷ [],
-        row event before.read.1 (record { line = c.first_line.result.0.now; first = c.first_line.ensures.line; is = c.without_return-line.ensures }) c.in-Ok.ensures.row,
+        row event before.read.1 (record {
+          line = c.first_line.result.0.now;
+          first = c.first_line.ensures.line;
+          is = c.without_return-line.ensures;
+        }) c.in-Ok.ensures.row,
         c.in_default.ensures.taken.stands rows before.read.2,
       );
     }
@@ -84,15 +101,23 @@ pub loop-line-preserved : goal.loop-line-preserved
 loop-line-preserved c =
     let before = c.loop-line.invariant in
     let bare = c.without_return-line.result.now in
-    let less : length c.first_line.result.1.now < length c.loop-line.rest.now = c.first_line.ensures.shorter in
+    let less : length c.first_line.result.1.now < length c.loop-line.rest.now =
+    c.first_line.ensures.shorter in
     let few : length c.loop-line.rest.now ≤ length c.args.rest.now.now = before.left in
-    let empty : bare ≡ [] = nil_from_length bare (eqb-true (length bare) 0 (sym c.if-not-is_empty.ensures)) in
+    let empty : bare ≡ [] =
+    nil_from_length bare (eqb-true (length bare) 0 (sym c.if-not-is_empty.ensures)) in
     record {
       left = omega arith;
       scope = before.scope;
       read = (
         before.read.0,
-        blank before.read.1 (record { line = c.first_line.result.0.now; first = c.first_line.ensures.line; is = subst (λ (line : List ℕ). IsBare c.first_line.result.0.now line) empty c.without_return-line.ensures }),
+        blank before.read.1 (record {
+          line = c.first_line.result.0.now;
+          first = c.first_line.ensures.line;
+          is =
+              subst (λ (line : List ℕ). IsBare c.first_line.result.0.now line) empty
+              c.without_return-line.ensures;
+        }),
         before.read.2,
       );
     }

@@ -9,7 +9,8 @@ abbrev pub invariant-loop-line : goal.invariant-loop-line
 invariant-loop-line l = record {
   left : length l.rest.now ≤ length l.initial.rest.now;
   scope : scope_of l.follower ≡ scope_of l.initial.follower;
-  read : (rows : List Event) × HasRead l.initial.rest.now rows l.rest.now × StandsFor l.follower rows;
+  read : (rows : List Event) × HasRead l.initial.rest.now rows l.rest.now
+      × StandsFor l.follower rows;
 }
 
 abbrev pub decreases-loop-line : goal.decreases-loop-line

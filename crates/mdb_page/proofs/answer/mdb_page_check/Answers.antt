@@ -17,7 +17,10 @@ returns-in-Ok-clause-yes c = λ zero.
         rows = read.0;
         read = read.1;
         report = c.in-Ok.report;
-        is = subst (λ (scope : Scope). IsReport scope read.0 c.in-Ok.report) (c.follow-end.ensures.scope ∙ c.scoped-follower.ensures.scope) (c.in-Ok.ensures.report read.0 read.2);
+        is =
+            subst (λ (scope : Scope). IsReport scope read.0 c.in-Ok.report)
+            (c.follow-end.ensures.scope ∙ c.scoped-follower.ensures.scope)
+            (c.in-Ok.ensures.report read.0 read.2);
         told = (c.write_as.ensures other).1;
       },
     )
@@ -34,11 +37,21 @@ returns-in-Line-clause-bad_row c = λ two.
         rows = read.0;
         rest = c.follow-end.new.rest.now;
         read = read.1;
-        reached = subst (λ (scope : Scope). IsReached scope read.0) (c.follow-end.ensures.scope ∙ c.scoped-follower.ensures.scope) (c.followers_stand_for_reached_rows.ensures c.follow-end.new.follower read.0 read.2);
+        reached =
+            subst (λ (scope : Scope). IsReached scope read.0)
+            (c.follow-end.ensures.scope ∙ c.scoped-follower.ensures.scope)
+            (c.followers_stand_for_reached_rows.ensures c.follow-end.new.follower read.0
+            read.2);
         why = told.0;
         is = read.3;
         fault = told.2;
         row = c.line_answer.ensures.row ∙ ap (λ n. n + 1) (c.rows.ensures ∙ read.2.rows);
-        offset = omega (arith, c.line_answer.ensures.offset, c.follow-end.ensures.left, c.without_mark-rest.ensures.shorter);
+        offset =
+            omega (
+              arith,
+              c.line_answer.ensures.offset,
+              c.follow-end.ensures.left,
+              c.without_mark-rest.ensures.shorter,
+            );
       },
     )

@@ -38,7 +38,8 @@ pub loop-event-preserved : goal.loop-event-preserved
 loop-event-preserved c =
     fed-more c.args.self.now c.loop-event.self c.take.new.self c.args.events.now
     c.loop-event.event-index c.event-item.result c.loop-event-test.true c.loop-event.invariant
-    (omega (arith, c.in-Some-take.ensures.taken.counted)) c.in-Some-take.ensures.going c.take.ensures.scope
+    (omega (arith, c.in-Some-take.ensures.taken.counted)) c.in-Some-take.ensures.going
+    c.take.ensures.scope
     (λ earlier on. subst (λ e. StandsFor c.take.new.self (earlier ++ e ∷ [])) c.event-item.is
     (c.in-Some-take.ensures.taken.stands earlier on))
 

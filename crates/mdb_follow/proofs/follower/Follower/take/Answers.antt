@@ -20,7 +20,8 @@ returns-then-follow-clause-taken c =
     c.follow.new.self (c.args.event ∷ []) (c.follow.ensures.scope ∙ c.feed_into.ensures.scope)
     (omega (arith, c.if-follow.ensures.followed.rows)) (λ events on.
     let goes : GoesOn c.feed_into.new.self on.pieces c.args.event (Some c.feed_into.new.act) =
-    subst (λ b. GoesOn c.feed_into.new.self on.pieces c.args.event (ended_act b c.feed_into.new.act))
+    subst
+    (λ b. GoesOn c.feed_into.new.self on.pieces c.args.event (ended_act b c.feed_into.new.act))
     c.in-Ok-true.field-0-test (c.in-Ok-true.ensures.goes_on on.pieces on.on_bus) in
     stands-on c.args.self.now _ c.follow.new.self events c.args.event c.feed_into.new.act on
     goes c.feed_into.ensures.scope refl refl refl refl c.start.result c.start.ensures
@@ -29,7 +30,8 @@ returns-then-follow-clause-taken c =
 pub returns-then-follow-clause-act : goal.returns-then-follow-clause-act
 returns-then-follow-clause-act c events on =
     let goes : GoesOn c.feed_into.new.self on.pieces c.args.event (Some c.feed_into.new.act) =
-    subst (λ b. GoesOn c.feed_into.new.self on.pieces c.args.event (ended_act b c.feed_into.new.act))
+    subst
+    (λ b. GoesOn c.feed_into.new.self on.pieces c.args.event (ended_act b c.feed_into.new.act))
     c.in-Ok-true.field-0-test (c.in-Ok-true.ensures.goes_on on.pieces on.on_bus) in
     subst (λ act. IsEndedAct (scope_of c.args.self.now) events c.args.event (Some act))
     (sym c.follow.ensures.act)
@@ -62,7 +64,8 @@ returns-in-Ok-false-clause-taken c =
     taken-by c.ways_join.ensures c.sales_follow_their_approvals.ensures c.args.self.now
     _ (c.args.event ∷ []) c.feed_into.ensures.scope (omega arith) (λ events on.
     let goes : GoesOn c.feed_into.new.self on.pieces c.args.event None =
-    subst (λ b. GoesOn c.feed_into.new.self on.pieces c.args.event (ended_act b c.feed_into.new.act))
+    subst
+    (λ b. GoesOn c.feed_into.new.self on.pieces c.args.event (ended_act b c.feed_into.new.act))
     c.in-Ok-false.field-0-test (c.in-Ok-false.ensures.goes_on on.pieces on.on_bus) in
     stands-still c.args.self.now _ c.feed_into.new.self events c.args.event on goes refl
     c.feed_into.ensures.scope refl refl refl refl)
@@ -70,7 +73,8 @@ returns-in-Ok-false-clause-taken c =
 pub returns-in-Ok-false-clause-act : goal.returns-in-Ok-false-clause-act
 returns-in-Ok-false-clause-act c events on =
     let goes : GoesOn c.feed_into.new.self on.pieces c.args.event None =
-    subst (λ b. GoesOn c.feed_into.new.self on.pieces c.args.event (ended_act b c.feed_into.new.act))
+    subst
+    (λ b. GoesOn c.feed_into.new.self on.pieces c.args.event (ended_act b c.feed_into.new.act))
     c.in-Ok-false.field-0-test (c.in-Ok-false.ensures.goes_on on.pieces on.on_bus) in
     ended-by c.feed_into.new.self (scope_of c.args.self.now) events c.args.event on.pieces None
     on.on_bus.in_order on.whole goes c.feed_into.ensures.scope

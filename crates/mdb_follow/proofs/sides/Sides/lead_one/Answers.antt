@@ -69,7 +69,8 @@ returns-in-Second-clause-stopped c =
 
 pub returns-in-Second-clause-same : goal.returns-in-Second-clause-same
 returns-in-Second-clause-same c =
-    one-stays c.lead-in-Second.result (devices.Reader Second) c.args.self.now c.lead-in-Second.new.side
+    one-stays c.lead-in-Second.result (devices.Reader Second) c.args.self.now
+    c.lead-in-Second.new.side
     c.lead-in-Second.ensures.same
 
 pub lead-requires : goal.lead-requires
