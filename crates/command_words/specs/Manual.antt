@@ -5,7 +5,8 @@ use Rattle.std.specs.Str.{bytes_eq}
 use Rattle.command_words.specs.declared.table.CommandRow.{CommandRow}
 use Rattle.command_words.specs.declared.table.Program.{Program}
 
--- The texts of a manual: what the program is, the part on each command, after its name, and the rest.
+-- The texts of a manual: what the program is, the part on each command, after its name, and the
+-- rest.
 pub record Manual : Type 0 where
   pub about : List ℕ
   pub parts : List (List ℕ × List ℕ)

@@ -2,9 +2,9 @@
 //!
 //! A [`Program`] has a [`CommandRow`] for each command: its name, and what its words may be.
 //! [`read`] returns what the words of a command line name, or the error of `clap` that refuses
-//! them. [`line_on_refused`] is the [`Line`] that says why. What the values mean is the program's
-//! business, and so is the line on one that it refuses. [`write_manual`] writes the program's
-//! manual.
+//! them. [`line_on_refused`] returns the [`Line`] that says why. What the values mean is the
+//! program's business, and so is the line on one that it refuses. [`write_manual`] writes the
+//! program's manual.
 #![tactic(auto)]
 
 mod build;

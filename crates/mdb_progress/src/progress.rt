@@ -85,9 +85,9 @@ impl<S: Clock + Files, T: Write + IsTerminal + Copy> Progress<S, T> {
         }
     }
 
-    /// The same writer, which is standard output. The first that is written to it ends the line, but
-    /// not where it is a file. What goes into a pipe counts as written to the terminal, since the
-    /// program at its other end may write there what it is given.
+    /// The same writer, which is standard output. The first that is written to it ends the line,
+    /// but not where it is a file. What goes into a pipe counts as written to the terminal, since
+    /// the program at its other end may write there what it is given.
     pub fn output<W: Write + IsTerminal>(&self, inner: W) -> Clearing<'_, W, S, T>
         ensures { result ≡ inner }
     {

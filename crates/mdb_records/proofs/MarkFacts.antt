@@ -12,42 +12,54 @@ marked-nil zero = refl
 marked-nil (suc left) = refl
 
 -- bytes before the limit
-marked-append : (bs rest : List ℕ) (left after : ℕ) → left ≡ length bs + after → marked left (bs ++ rest) ≡ bs ++ marked after rest
+marked-append : (bs rest : List ℕ) (left after : ℕ) → left ≡ length bs + after
+    → marked left (bs ++ rest) ≡ bs ++ marked after rest
 unfolding marked
-marked-append [] rest left after e = let same : left ≡ after = omega arith in ap (λ n. marked n rest) same
+marked-append [] rest left after e =
+    let same : left ≡ after = omega arith in ap (λ n. marked n rest) same
 marked-append (b ∷ bs) rest zero after e = absurd (omega arith)
-marked-append (b ∷ bs) rest (suc left) after e = ap (λ r. b ∷ r) (marked-append bs rest left after (omega arith))
+marked-append (b ∷ bs) rest (suc left) after e =
+    ap (λ r. b ∷ r) (marked-append bs rest left after (omega arith))
 
 -- bytes before the limit, where the bytes are known
-consumes-marked : (old new : Option (List ℕ)) (bs : List ℕ) (left after : ℕ) (held : Option ℕ) → is_some held ≡ false → left ≡ length bs + after
+consumes-marked : (old new : Option (List ℕ)) (bs : List ℕ) (left after : ℕ) (held : Option ℕ)
+    → is_some held ≡ false → left ≡ length bs + after
     → Consumes old new bs → Consumes (given_of old left held) (given_of new after held) bs
 consumes-marked old new bs left after (Some b) unheld e h = cc
 consumes-marked None new bs left after None unheld e h = tt
 consumes-marked (Some xs) None bs left after None unheld e h = h
-consumes-marked (Some xs) (Some ys) bs left after None unheld e h = ap (marked left) h ∙ marked-append bs ys left after e
+consumes-marked (Some xs) (Some ys) bs left after None unheld e h =
+    ap (marked left) h ∙ marked-append bs ys left after e
 
 -- the end, where the bytes are known
-end-marked : (new : Option (List ℕ)) (left : ℕ) (held : Option ℕ) → is_some held ≡ false → IsAtEnd new → IsAtEnd (given_of new left held)
+end-marked : (new : Option (List ℕ)) (left : ℕ) (held : Option ℕ) → is_some held ≡ false
+    → IsAtEnd new → IsAtEnd (given_of new left held)
 end-marked new left (Some b) unheld h = cc
 end-marked None left None unheld h = tt
 end-marked (Some xs) left None unheld h = ap (marked left) h ∙ marked-nil left
 
 -- a read under the limit
-pub under-limit : (old new : Option (List ℕ)) (left given : ℕ) (held : Option ℕ) (part tail : List ℕ) → is_some held ≡ false → given ≤ length part → given ≤ left
-    → 0 < length part → Consumes old new (take given part) × (given ≡ 0 → 0 < length part → IsAtEnd new)
-    → Consumes (given_of old left held) (given_of new (left - given) held) (take given (part ++ tail))
+pub under-limit : (old new : Option (List ℕ)) (left given : ℕ) (held : Option ℕ)
+    (part tail : List ℕ) → is_some held ≡ false → given ≤ length part → given ≤ left
+    → 0 < length part
+    → Consumes old new (take given part) × (given ≡ 0 → 0 < length part → IsAtEnd new)
+    → Consumes (given_of old left held) (given_of new (left - given) held)
+    (take given (part ++ tail))
     × (given ≡ 0 → 0 < length (part ++ tail) → IsAtEnd (given_of new (left - given) held))
 under-limit old new left given held part tail unheld fits low some h =
     let first : take given (part ++ tail) ≡ take given part = take-append-le given part tail fits in
     let size = length-take given part in (
-      rw first (consumes-marked old new (take given part) left (left - given) held unheld (omega arith) h.0),
+      rw first (consumes-marked old new (take given part) left (left - given) held unheld
+          (omega arith) h.0),
       λ none _. end-marked new (left - given) held unheld (h.1 none some),
     )
 
 -- the end of the text at the limit
-pub end-at-limit : (old new : Option (List ℕ)) (left given size : ℕ) (held : Option ℕ) (part : List ℕ) → is_some held ≡ false → given ≡ 0 → 0 < length part
+pub end-at-limit : (old new : Option (List ℕ)) (left given size : ℕ) (held : Option ℕ)
+    (part : List ℕ) → is_some held ≡ false → given ≡ 0 → 0 < length part
     → Consumes old new (take given part) × (given ≡ 0 → 0 < length part → IsAtEnd new)
-    → Consumes (given_of old left held) (given_of new left held) [] × (◌≡◌ {A = ℕ} 0 0 → 0 < size → IsAtEnd (given_of new left held))
+    → Consumes (given_of old left held) (given_of new left held) []
+    × (◌≡◌ {A = ℕ} 0 0 → 0 < size → IsAtEnd (given_of new left held))
 end-at-limit old new left given size held part unheld none some h =
     let none_taken : take given part ≡ [] = rw none refl in (
       consumes-marked old new [] left left held unheld (omega arith) (rw none_taken at h.0),
@@ -55,29 +67,35 @@ end-at-limit old new left given size held part unheld none some h =
     )
 
 -- the mark stands before the first byte past the limit
-marked-at-limit : (b : ℕ) (rest : List ℕ) (left : ℕ) → left ≡ 0 → marked left (b ∷ rest) ≡ mark ∷ b ∷ rest
+marked-at-limit : (b : ℕ) (rest : List ℕ) (left : ℕ) → left ≡ 0
+    → marked left (b ∷ rest) ≡ mark ∷ b ∷ rest
 unfolding marked
 marked-at-limit b rest zero e = refl
 marked-at-limit b rest (suc left) e = absurd (omega arith)
 
 -- the byte that is held is put back after the mark
-keeps-held : (old new : Option (List ℕ)) (left : ℕ) (held : Option ℕ) (b : ℕ) → is_some held ≡ false → left ≡ 0
+keeps-held : (old new : Option (List ℕ)) (left : ℕ) (held : Option ℕ) (b : ℕ) → is_some held ≡ false
+    → left ≡ 0
     → Consumes old new (b ∷ []) → Keeps (given_of old left held) (prepend_known (mark ∷ b ∷ []) new)
 keeps-held old new left (Some c) b unheld e h = cc
 keeps-held None new left None b unheld e h = tt
 keeps-held (Some xs) None left None b unheld e h = h
-keeps-held (Some xs) (Some ys) left None b unheld e h = sym (ap (marked left) h ∙ marked-at-limit b ys left e)
+keeps-held (Some xs) (Some ys) left None b unheld e h =
+    sym (ap (marked left) h ∙ marked-at-limit b ys left e)
 
 -- a read of one byte
-one-taken : (given : ℕ) (part : List ℕ) → (given ≡ 0 → ⊥) → given ≤ length part → length part ≡ 1 → take given part ≡ get_or part 0 0 ∷ []
+one-taken : (given : ℕ) (part : List ℕ) → (given ≡ 0 → ⊥) → given ≤ length part → length part ≡ 1
+    → take given part ≡ get_or part 0 0 ∷ []
 one-taken given [] some fits one = absurd (omega arith)
 one-taken given (b ∷ c ∷ rest) some fits one = absurd (omega arith)
 one-taken given (b ∷ []) some fits one = let single : given ≡ 1 = omega arith in rw single refl
 
 -- a byte past the limit is held
-pub past-limit : (old new : Option (List ℕ)) (left given : ℕ) (held : Option ℕ) (part : List ℕ) → is_some held ≡ false → left ≡ 0
+pub past-limit : (old new : Option (List ℕ)) (left given : ℕ) (held : Option ℕ) (part : List ℕ)
+    → is_some held ≡ false → left ≡ 0
     → (given ≡ 0 → ⊥) → given ≤ length part → length part ≡ 1
     → Consumes old new (take given part) × (given ≡ 0 → 0 < length part → IsAtEnd new)
     → Keeps (given_of old left held) (prepend_known (mark ∷ get_or part 0 0 ∷ []) new)
 past-limit old new left given held part unheld e some fits one h =
-    keeps-held old new left held (get_or part 0 0) unheld e (rw (one-taken given part some fits one) at h.0)
+    keeps-held old new left held (get_or part 0 0) unheld e
+    (rw (one-taken given part some fits one) at h.0)

@@ -7,12 +7,14 @@ use Rattle.mdb_records.specs.Mark.{mark, marked}
 use Rattle.mdb_records.specs.ToCome.{Gives, HasMark}
 
 -- one more byte before the mark
-pub gives-cons : (b : ℕ) (text given : List ℕ) → (given ≡ text) ⊎ HasMark text given → ((b ∷ given) ≡ (b ∷ text)) ⊎ HasMark (b ∷ text) (b ∷ given)
+pub gives-cons : (b : ℕ) (text given : List ℕ) → (given ≡ text) ⊎ HasMark text given
+    → ((b ∷ given) ≡ (b ∷ text)) ⊎ HasMark (b ∷ text) (b ∷ given)
 gives-cons b text given (inl e) = inl (ap (λ r. b ∷ r) e)
 gives-cons b text given (inr m) = inr (b ∷ m.0, m.1, ap (λ r. b ∷ r) m.2, ap (λ r. b ∷ r) m.3)
 
 -- the mark is put in or not
-marked-gives : (left : ℕ) (text : List ℕ) → (marked left text ≡ text) ⊎ HasMark text (marked left text)
+marked-gives : (left : ℕ) (text : List ℕ)
+    → (marked left text ≡ text) ⊎ HasMark text (marked left text)
 unfolding marked
 marked-gives zero [] = inl refl
 marked-gives (suc left) [] = inl refl
@@ -49,18 +51,23 @@ bom-high a b c e =
     (omega arith, omega arith)
 
 -- a text that the limit leaves as it is up to its fourth byte
-past-bom : (a b c left : ℕ) (rest : List ℕ) → (bom : Bool) → Gives (if bom then rest else a ∷ b ∷ c ∷ rest) (if bom then marked left rest else a ∷ b ∷ c ∷ marked left rest)
+past-bom : (a b c left : ℕ) (rest : List ℕ) → (bom : Bool)
+    → Gives (if bom then rest else a ∷ b ∷ c ∷ rest)
+    (if bom then marked left rest else a ∷ b ∷ c ∷ marked left rest)
 past-bom a b c left rest true = whole _ _ (marked-gives left rest)
-past-bom a b c left rest false = whole _ _ (gives-cons a _ _ (gives-cons b _ _ (gives-cons c _ _ (marked-gives left rest))))
+past-bom a b c left rest false =
+    whole _ _ (gives-cons a _ _ (gives-cons b _ _ (gives-cons c _ _ (marked-gives left rest))))
 
 -- a text that the limit cuts before its fourth byte
-at-bom : (before after rest given : List ℕ) → (bom : Bool) → (bom ≡ true → All (λ b. 128 ≤ b) before) → given ≡ before ++ mark ∷ after
+at-bom : (before after rest given : List ℕ) → (bom : Bool)
+    → (bom ≡ true → All (λ b. 128 ≤ b) before) → given ≡ before ++ mark ∷ after
     → Gives (if bom then rest else before ++ after) given
 at-bom before after rest given true high e = inr (inr (before, after, high refl, e))
 at-bom before after rest given false high e = inr (inl (before, after, refl, e))
 
 -- what is given of a text with no byte order mark
-pub gives-stripped : (limit : ℕ) (text : List ℕ) → Gives (strip_bom text) (strip_bom (marked limit text))
+pub gives-stripped : (limit : ℕ) (text : List ℕ)
+    → Gives (strip_bom text) (strip_bom (marked limit text))
 unfolding strip_bom marked
 gives-stripped zero [] = inl refl
 gives-stripped (suc limit) [] = inl refl
@@ -71,12 +78,17 @@ gives-stripped zero (a ∷ b ∷ []) = inr (inl ([], a ∷ b ∷ [], refl, refl)
 gives-stripped (suc zero) (a ∷ b ∷ []) = inr (inl (a ∷ [], b ∷ [], refl, rw neither refl))
 gives-stripped (suc (suc zero)) (a ∷ b ∷ []) = inl refl
 gives-stripped (suc (suc (suc limit))) (a ∷ b ∷ []) = inl refl
-gives-stripped zero (a ∷ b ∷ c ∷ rest) = at-bom [] (a ∷ b ∷ c ∷ rest) rest _ (is_bom a b c) (λ _. All-nil (λ b. 128 ≤ b)) refl
+gives-stripped zero (a ∷ b ∷ c ∷ rest) =
+    at-bom [] (a ∷ b ∷ c ∷ rest) rest _ (is_bom a b c) (λ _. All-nil (λ b. 128 ≤ b)) refl
 gives-stripped (suc zero) (a ∷ b ∷ c ∷ rest) =
-    at-bom (a ∷ []) (b ∷ c ∷ rest) rest _ (is_bom a b c) (λ e. All-cons (λ b. 128 ≤ b) a [] (bom-high a b c e).0 (All-nil (λ b. 128 ≤ b))) (rw neither refl)
+    at-bom (a ∷ []) (b ∷ c ∷ rest) rest _ (is_bom a b c)
+    (λ e. All-cons (λ b. 128 ≤ b) a [] (bom-high a b c e).0 (All-nil (λ b. 128 ≤ b)))
+    (rw neither refl)
 gives-stripped (suc (suc zero)) (a ∷ b ∷ c ∷ rest) =
     at-bom (a ∷ b ∷ []) (c ∷ rest) rest _ (is_bom a b c)
-    (λ e. All-cons (λ b. 128 ≤ b) a (b ∷ []) (bom-high a b c e).0 (All-cons (λ b. 128 ≤ b) b [] (bom-high a b c e).1 (All-nil (λ b. 128 ≤ b)))) (rw never refl)
+    (λ e. All-cons (λ b. 128 ≤ b) a (b ∷ []) (bom-high a b c e).0
+    (All-cons (λ b. 128 ≤ b) b [] (bom-high a b c e).1 (All-nil (λ b. 128 ≤ b))))
+    (rw never refl)
 gives-stripped (suc (suc (suc limit))) (a ∷ b ∷ c ∷ rest) = past-bom a b c limit rest (is_bom a b c)
 
 -- no mark is put into a text within the limit
@@ -88,20 +100,26 @@ marked-within zero (b ∷ text) h = absurd (omega arith)
 marked-within (suc limit) (b ∷ text) h = ap (λ r. b ∷ r) (marked-within limit text (omega arith))
 
 -- the mark is put into a text that is longer than the limit
-marked-over : (limit : ℕ) (text : List ℕ) → limit < length text → (before after : List ℕ) × (marked limit text ≡ before ++ mark ∷ after)
+marked-over : (limit : ℕ) (text : List ℕ) → limit < length text
+    → (before after : List ℕ) × (marked limit text ≡ before ++ mark ∷ after)
 unfolding marked
 marked-over limit [] h = absurd (omega arith)
 marked-over zero (b ∷ text) h = ([], b ∷ text, refl)
-marked-over (suc limit) (b ∷ text) h = let m = marked-over limit text (omega arith) in (b ∷ m.0, m.1, ap (λ r. b ∷ r) m.2)
+marked-over (suc limit) (b ∷ text) h =
+    let m = marked-over limit text (omega arith) in (b ∷ m.0, m.1, ap (λ r. b ∷ r) m.2)
 
 -- the mark after the third byte
 over-bom : (a b c limit : ℕ) (rest : List ℕ) → limit < length rest → (bom : Bool)
-    → (before after : List ℕ) × ((if bom then marked limit rest else a ∷ b ∷ c ∷ marked limit rest) ≡ before ++ mark ∷ after)
+    → (before after : List ℕ)
+    × ((if bom then marked limit rest else a ∷ b ∷ c ∷ marked limit rest)
+    ≡ before ++ mark ∷ after)
 over-bom a b c limit rest h true = marked-over limit rest h
-over-bom a b c limit rest h false = let m = marked-over limit rest h in (a ∷ b ∷ c ∷ m.0, m.1, ap (λ r. a ∷ b ∷ c ∷ r) m.2)
+over-bom a b c limit rest h false =
+    let m = marked-over limit rest h in (a ∷ b ∷ c ∷ m.0, m.1, ap (λ r. a ∷ b ∷ c ∷ r) m.2)
 
 -- and it stays where a byte order mark is taken off
-pub stripped-over : (limit : ℕ) (text : List ℕ) → limit < length text → (before after : List ℕ) × (strip_bom (marked limit text) ≡ before ++ mark ∷ after)
+pub stripped-over : (limit : ℕ) (text : List ℕ) → limit < length text
+    → (before after : List ℕ) × (strip_bom (marked limit text) ≡ before ++ mark ∷ after)
 unfolding strip_bom marked
 stripped-over limit [] h = absurd (omega arith)
 stripped-over zero (a ∷ []) h = ([], a ∷ [], refl)
@@ -112,4 +130,5 @@ stripped-over (suc (suc limit)) (a ∷ b ∷ []) h = absurd (omega arith)
 stripped-over zero (a ∷ b ∷ c ∷ rest) h = ([], a ∷ b ∷ c ∷ rest, refl)
 stripped-over (suc zero) (a ∷ b ∷ c ∷ rest) h = (a ∷ [], b ∷ c ∷ rest, rw neither refl)
 stripped-over (suc (suc zero)) (a ∷ b ∷ c ∷ rest) h = (a ∷ b ∷ [], c ∷ rest, rw never refl)
-stripped-over (suc (suc (suc limit))) (a ∷ b ∷ c ∷ rest) h = over-bom a b c limit rest (omega arith) (is_bom a b c)
+stripped-over (suc (suc (suc limit))) (a ∷ b ∷ c ∷ rest) h =
+    over-bom a b c limit rest (omega arith) (is_bom a b c)

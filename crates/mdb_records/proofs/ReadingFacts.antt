@@ -31,7 +31,8 @@ use Rattle.mdb_records.proofs.StepFacts.{plain-between}
 IsBytes-from_All : (bytes : List ℕ) → All (λ b. b < 256) bytes → IsBytes bytes
 unfolding IsBytes
 IsBytes-from_All [] h = tt
-IsBytes-from_All (b ∷ bytes) h = (All-head (λ b. b < 256) b bytes h, IsBytes-from_All bytes (All-tail (λ b. b < 256) b bytes h))
+IsBytes-from_All (b ∷ bytes) h =
+    (All-head (λ b. b < 256) b bytes h, IsBytes-from_All bytes (All-tail (λ b. b < 256) b bytes h))
 
 -- its first ones
 IsBytes-take : (n : ℕ) (bytes : List ℕ) → IsBytes bytes → IsBytes (take n bytes)
@@ -48,30 +49,41 @@ IsBytes-drop (suc n) [] h = tt
 IsBytes-drop (suc n) (b ∷ bytes) h = IsBytes-drop n bytes h.1
 
 -- the fields of a record are cut from its bytes
-AreBytes-cut_from : (start : ℕ) (ends bytes : List ℕ) → IsBytes bytes → AreBytes (cut_from start ends bytes)
+AreBytes-cut_from : (start : ℕ) (ends bytes : List ℕ) → IsBytes bytes
+    → AreBytes (cut_from start ends bytes)
 unfolding AreBytes cut_from
 AreBytes-cut_from start [] bytes h = tt
-AreBytes-cut_from start (end ∷ ends) bytes h =
-    (IsBytes-take (end - start) (drop start bytes) (IsBytes-drop start bytes h), AreBytes-cut_from end ends bytes h)
+AreBytes-cut_from start (end ∷ ends) bytes h = (
+  IsBytes-take (end - start) (drop start bytes) (IsBytes-drop start bytes h),
+  AreBytes-cut_from end ends bytes h,
+)
 
 -- so are the parts of a line
-AreBytes-parted : (start : ℕ) (ends bytes : List ℕ) → IsBytes bytes → AreBytes (parted start ends bytes)
+AreBytes-parted : (start : ℕ) (ends bytes : List ℕ) → IsBytes bytes
+    → AreBytes (parted start ends bytes)
 unfolding AreBytes parted
 AreBytes-parted start [] bytes h = tt
-AreBytes-parted start (end ∷ ends) bytes h =
-    (IsBytes-take (end - start) (drop start bytes) (IsBytes-drop start bytes h), AreBytes-parted (end + 1) ends bytes h)
+AreBytes-parted start (end ∷ ends) bytes h = (
+  IsBytes-take (end - start) (drop start bytes) (IsBytes-drop start bytes h),
+  AreBytes-parted (end + 1) ends bytes h,
+)
 
 -- of a line whose bytes were seen
-AreBytes-line : (ends line bytes : List ℕ) → bytes ≡ line → All (λ b. b < 256) bytes → AreBytes (parted 0 ends line)
+AreBytes-line : (ends line bytes : List ℕ) → bytes ≡ line → All (λ b. b < 256) bytes
+    → AreBytes (parted 0 ends line)
 AreBytes-line ends line bytes e h = AreBytes-parted 0 ends line (rw e at (IsBytes-from_All bytes h))
 
 -- the fields of a record whose bytes were seen
-pub AreBytes-fields : (row : Row) (bytes : List ℕ) → bytes ≡ text_of row → All (λ b. b < 256) bytes → AreBytes (fields_of row)
-AreBytes-fields row bytes e h = AreBytes-cut_from 0 row.ends row.bytes (rw e at (IsBytes-from_All bytes h))
+pub AreBytes-fields : (row : Row) (bytes : List ℕ) → bytes ≡ text_of row → All (λ b. b < 256) bytes
+    → AreBytes (fields_of row)
+AreBytes-fields row bytes e h =
+    AreBytes-cut_from 0 row.ends row.bytes (rw e at (IsBytes-from_All bytes h))
 
 -- the records of the whole text are to come from a new reader
-pub new-to-come : {R : Type 0} (remaining : R → Option (List ℕ)) (value : Records R) (lines : Lines R) (limit : ℕ) (known : Option (List ℕ))
-    → value.fault ≡ None → value.stage ≡ stage.Lines lines → lines_given remaining lines ≡ option_map strip_bom (given_of known limit None)
+pub new-to-come : {R : Type 0} (remaining : R → Option (List ℕ)) (value : Records R)
+    (lines : Lines R) (limit : ℕ) (known : Option (List ℕ))
+    → value.fault ≡ None → value.stage ≡ stage.Lines lines
+    → lines_given remaining lines ≡ option_map strip_bom (given_of known limit None)
     → IfSome known (λ text. ToCome remaining value (records default_config (strip_bom text)))
 new-to-come remaining value lines limit None going first source = tt
 new-to-come remaining value lines limit (Some text) going first source = record {
@@ -86,8 +98,10 @@ new-to-come remaining value lines limit (Some text) going first source = record 
 }
 
 -- a new reader of a text that is longer than the limit
-pub new-over : {R : Type 0} (remaining : R → Option (List ℕ)) (value : Records R) (lines : Lines R) (limit : ℕ) (known : Option (List ℕ))
-    → value.fault ≡ None → value.stage ≡ stage.Lines lines → lines_given remaining lines ≡ option_map strip_bom (given_of known limit None)
+pub new-over : {R : Type 0} (remaining : R → Option (List ℕ)) (value : Records R) (lines : Lines R)
+    (limit : ℕ) (known : Option (List ℕ))
+    → value.fault ≡ None → value.stage ≡ stage.Lines lines
+    → lines_given remaining lines ≡ option_map strip_bom (given_of known limit None)
     → IfSome known (λ text. limit < length text → IsOverLimit remaining value)
 new-over remaining value lines limit None going first source = tt
 new-over remaining value lines limit (Some text) going first source = λ long.
@@ -101,8 +115,10 @@ new-over remaining value lines limit (Some text) going first source = λ long.
     }
 
 -- a new reader of a text within the limit
-pub new-within : {R : Type 0} (remaining : R → Option (List ℕ)) (value : Records R) (lines : Lines R) (limit : ℕ) (known : Option (List ℕ))
-    → value.stage ≡ stage.Lines lines → lines_given remaining lines ≡ option_map strip_bom (given_of known limit None)
+pub new-within : {R : Type 0} (remaining : R → Option (List ℕ)) (value : Records R)
+    (lines : Lines R) (limit : ℕ) (known : Option (List ℕ))
+    → value.stage ≡ stage.Lines lines
+    → lines_given remaining lines ≡ option_map strip_bom (given_of known limit None)
     → IfSome known (λ text. length text ≤ limit → IsUncut remaining value (strip_bom text))
 new-within remaining value lines limit None first source = tt
 new-within remaining value lines limit (Some text) first source = λ fits. record {
@@ -111,17 +127,22 @@ new-within remaining value lines limit (Some text) first source = λ fits. recor
 }
 
 -- one record that was reached is the next one
-only-record : (s : State) (given : List ℕ) (fields : List (List ℕ)) (after : State) (left : List ℕ) → Reached default_config s given (fields ∷ []) after left
+only-record : (s : State) (given : List ℕ) (fields : List (List ℕ)) (after : State) (left : List ℕ)
+    → Reached default_config s given (fields ∷ []) after left
     → next_record default_config s [] [] given ≡ Some (fields, after, left)
 unfolding Reached
 only-record s given fields after left h = rw (h.2, ← h.3.0, ← h.3.1) h.1
 
 -- what csv reads of a record is the record that comes next
-pub csv-reads : {R : Type 0} (remaining : R → Option (List ℕ)) (old new : Reader (Lines R)) (before : ℕ) (found : Bool) (fields : List (List ℕ))
-    → ReadRecord (lines_remaining remaining) old new found fields → ReadsNext remaining (stage.Csv old before) (stage.Csv new before) found fields
+pub csv-reads : {R : Type 0} (remaining : R → Option (List ℕ)) (old new : Reader (Lines R))
+    (before : ℕ) (found : Bool) (fields : List (List ℕ))
+    → ReadRecord (lines_remaining remaining) old new found fields
+    → ReadsNext remaining (stage.Csv old before) (stage.Csv new before) found fields
 unfolding Reached
 csv-reads remaining old new before true fields read = λ state given stands.
-    let more = rows-more (lines_remaining remaining) old new fields default_config (reader_state old) given given []
+    let more =
+    rows-more (lines_remaining remaining) old new fields default_config (reader_state old) given
+    given []
     stands.0 stands.2 (refl, refl) read in (
       reader_state new,
       more.0,
@@ -129,11 +150,15 @@ csv-reads remaining old new before true fields read = λ state given stands.
       inl (read.2 ∙ stands.0, refl, more.1),
     )
 csv-reads remaining old new before false fields read = λ state given stands.
-    rw stands.1 (rows-end (lines_remaining remaining) old new fields default_config given stands.0 stands.2 read)
+    rw stands.1 (rows-end (lines_remaining remaining) old new fields default_config given stands.0
+    stands.2 read)
 
 -- a line that was taken of what is known
-line-taken : (before after : Option (List ℕ)) (given : List ℕ) (fields : List (List ℕ)) → before ≡ Some given → TakesLine before after fields
-    → (rest : List ℕ) × (after ≡ Some (10 ∷ rest)) × (next_record default_config st.StartRecord [] [] given ≡ Some (fields, st.StartRecord, rest))
+line-taken : (before after : Option (List ℕ)) (given : List ℕ) (fields : List (List ℕ))
+    → before ≡ Some given → TakesLine before after fields
+    → (rest : List ℕ) × (after ≡ Some (10 ∷ rest))
+    × (next_record default_config st.StartRecord [] [] given
+    ≡ Some (fields, st.StartRecord, rest))
 line-taken None after given fields e h = cc
 line-taken (Some x) None given fields e h = absurd h
 line-taken (Some x) (Some y) given fields e h =
@@ -142,21 +167,29 @@ line-taken (Some x) (Some y) given fields e h =
 
 -- of what is known nothing comes
 none-known : (before : Option (List ℕ)) (given : List ℕ) → before ≡ Some given
-    → IfSome before (λ text. next_record default_config st.StartRecord [] [] text ≡ None) → next_record default_config st.StartRecord [] [] given ≡ None
+    → IfSome before (λ text. next_record default_config st.StartRecord [] [] text ≡ None)
+    → next_record default_config st.StartRecord [] [] given ≡ None
 none-known None given e h = cc
 none-known (Some x) given e h = let same : x ≡ given = cc in rw same at h
 
 -- what a reader of lines tells is what comes next
-line-reads : {R : Type 0} (remaining : R → Option (List ℕ)) (old new : Lines R) (found : Bool) (fields : List (List ℕ))
-    → Tells (Some found) (lines_given remaining old) (lines_given remaining new) fields → ReadsNext remaining (stage.Lines old) (stage.Lines new) found fields
+line-reads : {R : Type 0} (remaining : R → Option (List ℕ)) (old new : Lines R) (found : Bool)
+    (fields : List (List ℕ))
+    → Tells (Some found) (lines_given remaining old) (lines_given remaining new) fields
+    → ReadsNext remaining (stage.Lines old) (stage.Lines new) found fields
 line-reads remaining old new true fields h = λ state given stands.
-    let taken = line-taken (lines_given remaining old) (lines_given remaining new) given fields stands.1 h in
+    let taken =
+    line-taken (lines_given remaining old) (lines_given remaining new) given fields stands.1
+    h in
     (st.StartRecord, taken.0, rw stands.0 taken.2, inr (refl, (refl, taken.1)))
-line-reads remaining old new false fields h = λ state given stands. rw stands.0 (none-known (lines_given remaining old) given stands.1 h)
+line-reads remaining old new false fields h =
+    λ state given stands. rw stands.0 (none-known (lines_given remaining old) given stands.1 h)
 
 -- the records to come after one
-to-come-after : {R : Type 0} (remaining : R → Option (List ℕ)) (new : Records R) (after : State) (text left : List ℕ) (rows : List (List (List ℕ)))
-    → new.fault ≡ None → ends_at_end after ≡ false → (left ≡ text) ⊎ HasMark text left → AreRecords default_config after text rows
+to-come-after : {R : Type 0} (remaining : R → Option (List ℕ)) (new : Records R) (after : State)
+    (text left : List ℕ) (rows : List (List (List ℕ)))
+    → new.fault ≡ None → ends_at_end after ≡ false → (left ≡ text) ⊎ HasMark text left
+    → AreRecords default_config after text rows
     → StandsAfter remaining new.stage after left → ToCome remaining new rows
 to-come-after remaining new after text left rows going between gives all (inl stands) = record {
   text = text;
@@ -180,30 +213,40 @@ to-come-after remaining new after text left rows going between gives all (inr h)
 }
 
 -- a read goes on along the records to come
-pub goes-on : {R : Type 0} (remaining : R → Option (List ℕ)) (old new : Records R) (found : Bool) (rows : List (List (List ℕ)))
-    → ReadsNext remaining old.stage new.stage found (current_fields new) → new.fault ≡ None → AreBytes (current_fields new)
+pub goes-on : {R : Type 0} (remaining : R → Option (List ℕ)) (old new : Records R) (found : Bool)
+    (rows : List (List (List ℕ)))
+    → ReadsNext remaining old.stage new.stage found (current_fields new) → new.fault ≡ None
+    → AreBytes (current_fields new)
     → ToCome remaining old rows → Advances remaining new found rows
 goes-on remaining old new true rows reads going bytes h =
     let read = reads h.state h.given h.stands in
-    let step = gives-some h.state h.text h.given (current_fields new, read.0, read.1) rows h.gives h.between bytes read.2 h.all in (
+    let step =
+    gives-some h.state h.text h.given (current_fields new, read.0, read.1) rows h.gives
+    h.between bytes read.2 h.all in (
       step.rest,
       step.first,
-      to-come-after remaining new read.0 step.left read.1 step.rest going step.between step.gives step.all read.3,
+      to-come-after remaining new read.0 step.left read.1 step.rest going step.between step.gives
+          step.all read.3,
     )
 goes-on remaining old new false rows reads going bytes h =
     gives-none h.state h.text h.given rows h.gives h.between (reads h.state h.given h.stands) h.all
 
 -- and so does what a reader of lines tells
-pub line-goes-on : {R : Type 0} (remaining : R → Option (List ℕ)) (old new : Records R) (before after : Lines R) (found : Bool) (rows : List (List (List ℕ)))
+pub line-goes-on : {R : Type 0} (remaining : R → Option (List ℕ)) (old new : Records R)
+    (before after : Lines R) (found : Bool) (rows : List (List (List ℕ)))
     → old.stage ≡ stage.Lines before → new.stage ≡ stage.Lines after → new.fault ≡ None
-    → Tells (Some found) (lines_given remaining before) (lines_given remaining after) (parted 0 new.ends.items (line after)) → All (λ b. b < 256) (line after)
+    → Tells (Some found) (lines_given remaining before) (lines_given remaining after)
+    (parted 0 new.ends.items (line after))
+    → All (λ b. b < 256) (line after)
     → ToCome remaining old rows → Advances remaining new found rows
 line-goes-on remaining old new before after found rows first last going told bytes h =
-    goes-on remaining old new found rows (rw (first, last) (line-reads remaining before after found (parted 0 new.ends.items (line after)) told)) going
+    goes-on remaining old new found rows (rw (first, last)
+    (line-reads remaining before after found (parted 0 new.ends.items (line after)) told)) going
     (rw last (AreBytes-line new.ends.items (line after) (line after) refl bytes)) h
 
 -- the text that goes on past the limit, after a record
-over-after : {R : Type 0} (remaining : R → Option (List ℕ)) (new : Records R) (state : State) (before after left : List ℕ)
+over-after : {R : Type 0} (remaining : R → Option (List ℕ)) (new : Records R) (state : State)
+    (before after left : List ℕ)
     → new.fault ≡ None → ends_at_end state ≡ false → left ≡ before ++ mark ∷ after
     → StandsAfter remaining new.stage state left → IsOverLimit remaining new
 over-after remaining new state before after left going between e (inl stands) = record {
@@ -224,56 +267,74 @@ over-after remaining new state before after left going between e (inr h) = recor
 }
 
 -- a read of a text that goes on past the limit finds a record before it
-pub over-goes-on : {R : Type 0} (remaining : R → Option (List ℕ)) (old new : Records R) (found : Bool)
-    → ReadsNext remaining old.stage new.stage found (current_fields new) → new.fault ≡ None → AreBytes (current_fields new)
+pub over-goes-on : {R : Type 0} (remaining : R → Option (List ℕ)) (old new : Records R)
+    (found : Bool)
+    → ReadsNext remaining old.stage new.stage found (current_fields new) → new.fault ≡ None
+    → AreBytes (current_fields new)
     → IsOverLimit remaining old → (found ≡ true) × IsOverLimit remaining new
 over-goes-on remaining old new true reads going bytes h =
     let given = h.before ++ mark ∷ h.after in
     let plain = plain-between h.state h.between in
     let read = reads h.state given h.stands in
-    let next : next_record default_config h.state [] [] given ≡ Some (current_fields new, read.0, read.1) = read.2 in
-    let left = marked-some h.state [] [] h.before h.after (current_fields new, read.0, read.1) plain next bytes in (
+    let next : next_record default_config h.state [] [] given
+    ≡ Some (current_fields new, read.0, read.1) =
+    read.2 in
+    let left =
+    marked-some h.state [] [] h.before h.after (current_fields new, read.0, read.1) plain next
+    bytes in (
       refl,
       over-after remaining new read.0 left.0 h.after read.1 going
-          (between-after h.state [] [] given (current_fields new, read.0, read.1) plain next) left.1 read.3,
+          (between-after h.state [] [] given (current_fields new, read.0, read.1) plain next) left.1
+          read.3,
     )
 over-goes-on remaining old new false reads going bytes h =
     absurd (marked-none h.state [] [] h.before h.after (plain-between h.state h.between)
     (reads h.state (h.before ++ mark ∷ h.after) h.stands))
 
 -- and a reader of lines tells of a record before it
-pub line-over : {R : Type 0} (remaining : R → Option (List ℕ)) (old new : Records R) (before after : Lines R) (found : Bool)
+pub line-over : {R : Type 0} (remaining : R → Option (List ℕ)) (old new : Records R)
+    (before after : Lines R) (found : Bool)
     → old.stage ≡ stage.Lines before → new.stage ≡ stage.Lines after → new.fault ≡ None
-    → Tells (Some found) (lines_given remaining before) (lines_given remaining after) (parted 0 new.ends.items (line after)) → All (λ b. b < 256) (line after)
+    → Tells (Some found) (lines_given remaining before) (lines_given remaining after)
+    (parted 0 new.ends.items (line after))
+    → All (λ b. b < 256) (line after)
     → IsOverLimit remaining old → (found ≡ true) × IsOverLimit remaining new
 line-over remaining old new before after found first last going told bytes h =
-    over-goes-on remaining old new found (rw (first, last) (line-reads remaining before after found (parted 0 new.ends.items (line after)) told)) going
+    over-goes-on remaining old new found (rw (first, last)
+    (line-reads remaining before after found (parted 0 new.ends.items (line after)) told)) going
     (rw last (AreBytes-line new.ends.items (line after) (line after) refl bytes)) h
 
 -- whoever reads but a reader of lines has csv's fields
-pub fields-by-csv : {R : Type 0} (value : Stage R) (ends : List ℕ) (row : Row) → ((lines : Lines R) → value ≡ stage.Lines lines → ⊥)
+pub fields-by-csv : {R : Type 0} (value : Stage R) (ends : List ℕ) (row : Row)
+    → ((lines : Lines R) → value ≡ stage.Lines lines → ⊥)
     → csv.fields_of row ≡ fields_at value ends row
 fields-by-csv (stage.Lines lines) ends row h = absurd (h lines refl)
 fields-by-csv (stage.Csv reader before) ends row h = refl
 fields-by-csv stage.Between ends row h = refl
 
 -- bytes that are kept are known as before
-kept-known : (before after : Option (List ℕ)) (given : List ℕ) → Keeps before after → before ≡ Some given → after ≡ Some given
+kept-known : (before after : Option (List ℕ)) (given : List ℕ) → Keeps before after
+    → before ≡ Some given → after ≡ Some given
 kept-known None after given h e = cc
 kept-known (Some x) None given h e = absurd h
 kept-known (Some x) (Some y) given h e = ap Some h ∙ e
 
 -- a reader of lines that took none stands where it stood
-pub lines-stand : {R : Type 0} (remaining : R → Option (List ℕ)) (old : Stage R) (before after : Lines R) (state : State) (given : List ℕ)
+pub lines-stand : {R : Type 0} (remaining : R → Option (List ℕ)) (old : Stage R)
+    (before after : Lines R) (state : State) (given : List ℕ)
     → old ≡ stage.Lines before → Keeps (lines_given remaining before) (lines_given remaining after)
     → StandsAt remaining old state given → StandsAt remaining (stage.Lines after) state given
 lines-stand remaining old before after state given first kept h =
-    let stands : StandsAt remaining (stage.Lines before) state given = rw first at h in
-    (stands.0, kept-known (lines_given remaining before) (lines_given remaining after) given kept stands.1)
+    let stands : StandsAt remaining (stage.Lines before) state given = rw first at h in (
+      stands.0,
+      kept-known (lines_given remaining before) (lines_given remaining after) given kept stands.1,
+    )
 
 -- where a stage stands as another did, the same records are to come
-pub same-to-come : {R : Type 0} (remaining : R → Option (List ℕ)) (old new : Records R) (rows : List (List (List ℕ)))
-    → ((state : State) (given : List ℕ) → StandsAt remaining old.stage state given → StandsAt remaining new.stage state given)
+pub same-to-come : {R : Type 0} (remaining : R → Option (List ℕ)) (old new : Records R)
+    (rows : List (List (List ℕ)))
+    → ((state : State) (given : List ℕ) → StandsAt remaining old.stage state given
+    → StandsAt remaining new.stage state given)
     → new.fault ≡ old.fault → ToCome remaining old rows → ToCome remaining new rows
 same-to-come remaining old new rows same fault h = record {
   text = h.text;
@@ -288,7 +349,8 @@ same-to-come remaining old new rows same fault h = record {
 
 -- and the text goes on past the limit as before
 pub same-over : {R : Type 0} (remaining : R → Option (List ℕ)) (old new : Records R)
-    → ((state : State) (given : List ℕ) → StandsAt remaining old.stage state given → StandsAt remaining new.stage state given)
+    → ((state : State) (given : List ℕ) → StandsAt remaining old.stage state given
+    → StandsAt remaining new.stage state given)
     → new.fault ≡ old.fault → IsOverLimit remaining old → IsOverLimit remaining new
 same-over remaining old new same fault h = record {
   before = h.before;
@@ -300,7 +362,8 @@ same-over remaining old new same fault h = record {
 }
 
 -- what a fact of an answer yields
-pub IfOk-map : {T E : Type 0} (result : Result T E) (P Q : T → Type 0) → ((x : T) → P x → Q x) → IfOk result P → IfOk result Q
+pub IfOk-map : {T E : Type 0} (result : Result T E) (P Q : T → Type 0) → ((x : T) → P x → Q x)
+    → IfOk result P → IfOk result Q
 IfOk-map (Ok x) P Q f h = f x h
 IfOk-map (Err e) P Q f h = tt
 

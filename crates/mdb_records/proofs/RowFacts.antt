@@ -9,7 +9,8 @@ use Rattle.mdb_records.proofs.MarkedRecords.{AreBytes, chosen, cut-some, marked-
 use Rattle.mdb_records.proofs.StepFacts.{plain-between, step-steps, is_plain}
 
 -- after a record no other has begun
-pub between-after : (s : State) (fields : List (List ℕ)) (field xs : List ℕ) (p : Read) → is_plain s ≡ true
+pub between-after : (s : State) (fields : List (List ℕ)) (field xs : List ℕ) (p : Read)
+    → is_plain s ≡ true
     → next_record default_config s fields field xs ≡ Some p → ends_at_end p.1 ≡ false
 unfolding next_record
 between-after s fields field [] p plain e =
@@ -20,7 +21,10 @@ between-after s fields field [] p plain e =
 between-after s fields field (c ∷ xs) p plain e =
     elim (chosen (is_end (step default_config s c).1) _ _ p e) [
       | inl q ↦ subst (λ (r : Read). ends_at_end r.1 ≡ false) q.1 ((step-steps s c plain).2 q.0)
-      | inr q ↦ between-after (step default_config s c).0 (fields_after (step default_config s c).1 fields field) (field_after (step default_config s c).1 c field) xs p (step-steps s c plain).0 q.1
+      | inr q ↦
+          between-after (step default_config s c).0
+          (fields_after (step default_config s c).1 fields field)
+          (field_after (step default_config s c).1 c field) xs p (step-steps s c plain).0 q.1
     ]
 
 -- a read takes no bytes back
@@ -36,44 +40,58 @@ read-shorter s fields field (c ∷ xs) p e =
     elim (chosen (is_end (step default_config s c).1) _ _ p e) [
       | inl q ↦ subst (λ (r : Read). length r.2 ≤ length (c ∷ xs)) q.1 (omega arith)
       | inr q ↦
-          let more = read-shorter (step default_config s c).0 (fields_after (step default_config s c).1 fields field) (field_after (step default_config s c).1 c field) xs p q.1 in
+          let more =
+          read-shorter (step default_config s c).0
+          (fields_after (step default_config s c).1 fields field)
+          (field_after (step default_config s c).1 c field) xs p q.1 in
           omega arith
     ]
 
 -- a record takes a byte at least
-record-shorter : (s : State) (xs : List ℕ) (p : Read) → ends_at_end s ≡ false → next_record default_config s [] [] xs ≡ Some p → length p.2 < length xs
+record-shorter : (s : State) (xs : List ℕ) (p : Read) → ends_at_end s ≡ false
+    → next_record default_config s [] [] xs ≡ Some p → length p.2 < length xs
 unfolding next_record
 record-shorter s [] p between e = cc
 record-shorter s (c ∷ xs) p between e =
     elim (chosen (is_end (step default_config s c).1) _ _ p e) [
       | inl q ↦ subst (λ (r : Read). length r.2 < length (c ∷ xs)) q.1 (omega arith)
       | inr q ↦
-          let more = read-shorter (step default_config s c).0 (fields_after (step default_config s c).1 [] []) (field_after (step default_config s c).1 c []) xs p q.1 in
+          let more =
+          read-shorter (step default_config s c).0
+          (fields_after (step default_config s c).1 [] [])
+          (field_after (step default_config s c).1 c []) xs p q.1 in
           omega arith
     ]
 
 -- the records of a text, found one after the other
-are-records_from : (n : ℕ) (s : State) (xs : List ℕ) → ends_at_end s ≡ false → length xs < n → AreRecords default_config s xs (records_from default_config n s xs)
+are-records_from : (n : ℕ) (s : State) (xs : List ℕ) → ends_at_end s ≡ false → length xs < n
+    → AreRecords default_config s xs (records_from default_config n s xs)
 unfolding records_from Reached
 are-records_from zero s xs between fits = absurd (omega arith)
-are-records_from (suc n) s xs between fits = by (next_record default_config s [] [] xs) refl (λ t ys. are-records_from n t ys)
+are-records_from (suc n) s xs between fits =
+    by (next_record default_config s [] [] xs) refl (λ t ys. are-records_from n t ys)
   where
     by : (o : Option Read) → next_record default_config s [] [] xs ≡ o
-        → ((t : State) (ys : List ℕ) → ends_at_end t ≡ false → length ys < n → AreRecords default_config t ys (records_from default_config n t ys))
+        → ((t : State) (ys : List ℕ) → ends_at_end t ≡ false → length ys < n
+        → AreRecords default_config t ys (records_from default_config n t ys))
         → AreRecords default_config s xs (records_next (records_from default_config n) o)
     by None e more = (s, xs, (refl, refl), e)
     by (Some p) e more =
         let shorter = record-shorter s xs p between e in
-        let rest = more p.1 p.2 (between-after s [] [] xs p (plain-between s between) e) (omega arith) in
+        let rest =
+        more p.1 p.2 (between-after s [] [] xs p (plain-between s between) e) (omega arith) in
         (rest.0, rest.1, (p, e, refl, rest.2), rest.3)
 
 -- `records` gives all the records of a text
-pub are-records : (text : List ℕ) → AreRecords default_config st.StartRecord text (records default_config text)
+pub are-records : (text : List ℕ)
+    → AreRecords default_config st.StartRecord text (records default_config text)
 are-records text = are-records_from (length text + 1) st.StartRecord text refl (omega arith)
 
 -- the first of the records of a text
-first-record : (s : State) (text : List ℕ) (p : Read) (rows : List (List (List ℕ))) → next_record default_config s [] [] text ≡ Some p
-    → AreRecords default_config s text rows → (rest : List (List (List ℕ))) × (rows ≡ p.0 ∷ rest) × AreRecords default_config p.1 p.2 rest
+first-record : (s : State) (text : List ℕ) (p : Read) (rows : List (List (List ℕ)))
+    → next_record default_config s [] [] text ≡ Some p
+    → AreRecords default_config s text rows
+    → (rest : List (List (List ℕ))) × (rows ≡ p.0 ∷ rest) × AreRecords default_config p.1 p.2 rest
 unfolding Reached
 first-record s text p [] e h =
     let last = h.3 in
@@ -87,27 +105,33 @@ first-record s text p (row ∷ rest) e h =
     )
 
 -- a text with no next record has none
-no-record : (s : State) (text : List ℕ) (rows : List (List (List ℕ))) → next_record default_config s [] [] text ≡ None
+no-record : (s : State) (text : List ℕ) (rows : List (List (List ℕ)))
+    → next_record default_config s [] [] text ≡ None
     → AreRecords default_config s text rows → rows ≡ []
 unfolding Reached
 no-record s text [] e h = refl
 no-record s text (row ∷ rest) e h = cc (h.2.1)
 
 -- the end of a line before a record is skipped
-pub after-line : (text : List ℕ) → next_record default_config st.StartRecord [] [] (10 ∷ text) ≡ next_record default_config st.StartRecord [] [] text
+pub after-line : (text : List ℕ)
+    → next_record default_config st.StartRecord [] [] (10 ∷ text)
+    ≡ next_record default_config st.StartRecord [] [] text
 unfolding next_record
 after-line text = refl
 
 -- so it adds no record to a text
-pub are-records-after_line : (text : List ℕ) (rows : List (List (List ℕ))) → AreRecords default_config st.StartRecord text rows
+pub are-records-after_line : (text : List ℕ) (rows : List (List (List ℕ)))
+    → AreRecords default_config st.StartRecord text rows
     → AreRecords default_config st.StartRecord (10 ∷ text) rows
 unfolding Reached
 are-records-after_line text [] h =
     (st.StartRecord, 10 ∷ text, (refl, refl), after-line text ∙ rw (h.2.0, h.2.1) h.3)
-are-records-after_line text (row ∷ rest) h = (h.0, h.1, (h.2.0, after-line text ∙ h.2.1, h.2.2, h.2.3), h.3)
+are-records-after_line text (row ∷ rest) h =
+    (h.0, h.1, (h.2.0, after-line text ∙ h.2.1, h.2.2, h.2.3), h.3)
 
 -- what the next record of a text leaves, where a part of the text was given
-pub record Follows (s : State) (text given : List ℕ) (p : Read) (rows : List (List (List ℕ))) : Type 0 where
+pub record Follows (s : State) (text given : List ℕ) (p : Read)
+    (rows : List (List (List ℕ))) : Type 0 where
   pub rest : List (List (List ℕ))
   pub left : List ℕ
   pub first : rows ≡ p.0 ∷ rest
@@ -116,25 +140,43 @@ pub record Follows (s : State) (text given : List ℕ) (p : Read) (rows : List (
   pub all : AreRecords default_config p.1 left rest
 
 -- a record of bytes that was read from what is given is the first of the records to come
-pub gives-some : (s : State) (text given : List ℕ) (p : Read) (rows : List (List (List ℕ))) → Gives text given → ends_at_end s ≡ false → AreBytes p.0
-    → next_record default_config s [] [] given ≡ Some p → AreRecords default_config s text rows → Follows s text given p rows
+pub gives-some : (s : State) (text given : List ℕ) (p : Read) (rows : List (List (List ℕ)))
+    → Gives text given → ends_at_end s ≡ false → AreBytes p.0
+    → next_record default_config s [] [] given ≡ Some p → AreRecords default_config s text rows
+    → Follows s text given p rows
 gives-some s text given p rows h between bytes e all =
     let plain = plain-between s between in
     let after = between-after s [] [] given p plain e in
     elim h [
       | inl same ↦
           let step = first-record s text p rows (rw same at e) all in
-          record { rest = step.0; left = p.2; first = step.1; gives = inl refl; between = after; all = step.2 }
+          record {
+            rest = step.0;
+            left = p.2;
+            first = step.1;
+            gives = inl refl;
+            between = after;
+            all = step.2;
+          }
       | inr (inl m) ↦
           let found = marked-some s [] [] m.0 m.1 p plain (rw m.3 at e) bytes in
           let step = first-record s text (p.0, p.1, found.0 ++ m.1) rows (rw m.2 found.2) all in
-          record { rest = step.0; left = found.0 ++ m.1; first = step.1; gives = inr (found.0, m.1, refl, found.1); between = after; all = step.2 }
+          record {
+            rest = step.0;
+            left = found.0 ++ m.1;
+            first = step.1;
+            gives = inr (found.0, m.1, refl, found.1);
+            between = after;
+            all = step.2;
+          }
       | inr (inr m) ↦ absurd (cut-some s [] [] m.0 m.1 p plain m.2 (rw m.3 at e) bytes)
     ]
 
 -- the end of what is given is the end of the records to come
-pub gives-none : (s : State) (text given : List ℕ) (rows : List (List (List ℕ))) → Gives text given → ends_at_end s ≡ false
-    → next_record default_config s [] [] given ≡ None → AreRecords default_config s text rows → rows ≡ []
+pub gives-none : (s : State) (text given : List ℕ) (rows : List (List (List ℕ))) → Gives text given
+    → ends_at_end s ≡ false
+    → next_record default_config s [] [] given ≡ None → AreRecords default_config s text rows
+    → rows ≡ []
 gives-none s text given rows h between e all =
     let plain = plain-between s between in
     elim h [

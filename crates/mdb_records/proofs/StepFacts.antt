@@ -92,7 +92,8 @@ apart : (c n : ℕ) → n < c → (c == n) ≡ false
 apart c n h = grind (arith, nat_tests)
 
 -- a byte that is no comma, no quote and no end of a line joins the field at hand
-pub step-other : (s : State) (c : ℕ) → (c == 44) ≡ false → (c == 34) ≡ false → (c == 13) ≡ false → (c == 10) ≡ false
+pub step-other : (s : State) (c : ℕ) → (c == 44) ≡ false → (c == 34) ≡ false → (c == 13) ≡ false
+    → (c == 10) ≡ false
     → is_plain s ≡ true → step default_config s c ≡ (after_copy s, act.Copy)
 step-other st.StartRecord c comma quote cr lf p = rw (cr, lf, quote, comma) refl
 step-other st.StartField c comma quote cr lf p = rw (quote, comma, cr, lf) refl
@@ -104,13 +105,18 @@ step-other st.InComment c comma quote cr lf p = cc
 step-other st.AfterCr c comma quote cr lf p = rw (lf, cr, quote, comma) refl
 
 -- bytes above ASCII, and the mark, join the field at hand
-pub step-copy : (s : State) (c : ℕ) → 128 ≤ c → is_plain s ≡ true → step default_config s c ≡ (after_copy s, act.Copy)
+pub step-copy : (s : State) (c : ℕ) → 128 ≤ c → is_plain s ≡ true
+    → step default_config s c ≡ (after_copy s, act.Copy)
 step-copy s c h e =
-    step-other s c (apart c 44 (omega arith)) (apart c 34 (omega arith)) (apart c 13 (omega arith)) (apart c 10 (omega arith)) e
+    step-other s c (apart c 44 (omega arith)) (apart c 34 (omega arith)) (apart c 13 (omega arith))
+    (apart c 10 (omega arith)) e
 
--- what a state and an action after one byte keep: the settings' states, a record that has begun, and its end
+-- what a state and an action after one byte keep: the settings' states, a record that has begun,
+-- and its end
 abbrev pub Steps : Bool → State → Action → Type 0
-Steps inside s a = (is_plain s ≡ true) × (is_end a ≡ false → inside ≡ true → is_inside s ≡ true) × (is_end a ≡ true → ends_at_end s ≡ false)
+Steps inside s a =
+    (is_plain s ≡ true) × (is_end a ≡ false → inside ≡ true → is_inside s ≡ true)
+    × (is_end a ≡ true → ends_at_end s ≡ false)
 
 -- after a line's end no record has begun
 after-end : (inside : Bool) (c : ℕ) → Steps inside (after_end term.CRLF c) act.EndRecord
@@ -132,13 +138,16 @@ StepsTo inside next = Steps inside next.0 next.1
 field-steps : (inside : Bool) (c : ℕ) → StepsTo inside (in_field default_config c)
 field-steps inside c = by (c == 44) ((c == 13) || (c == 10))
   where
-    by : (comma end : Bool) → StepsTo inside (either comma (st.StartField, act.EndField) (either end (after_end term.CRLF c, act.EndRecord) (st.InField, act.Copy)))
+    by : (comma end : Bool)
+        → StepsTo inside (either comma (st.StartField, act.EndField)
+        (either end (after_end term.CRLF c, act.EndRecord) (st.InField, act.Copy)))
     by true end = (refl, (λ _ _. refl), λ e. cc)
     by false true = after-end inside c
     by false false = (refl, (λ _ _. refl), λ e. cc)
 
 -- a step by a test
-either-steps : (inside test : Bool) (first other : State × Action) → StepsTo inside first → StepsTo inside other → StepsTo inside (either test first other)
+either-steps : (inside test : Bool) (first other : State × Action) → StepsTo inside first
+    → StepsTo inside other → StepsTo inside (either test first other)
 either-steps inside true first other f o = f
 either-steps inside false first other f o = o
 
@@ -147,22 +156,32 @@ skipped : (s : State) → is_plain s ≡ true → StepsTo false (s, act.Skip)
 skipped s p = (p, (λ _ e. cc), λ e. cc)
 
 -- a byte inside a record
-inner : (inside : Bool) (s : State) (a : Action) → is_plain s ≡ true → is_inside s ≡ true → is_end a ≡ false → StepsTo inside (s, a)
+inner : (inside : Bool) (s : State) (a : Action) → is_plain s ≡ true → is_inside s ≡ true
+    → is_end a ≡ false → StepsTo inside (s, a)
 inner inside s a p i e = (p, (λ _ _. i), λ f. cc)
 
 -- a byte before a record
 start-steps : (c : ℕ) → StepsTo false (step default_config st.StartRecord c)
 start-steps c =
     either-steps false ((c == 13) || (c == 10)) _ _ (skipped st.StartRecord refl)
-    (either-steps false (c == 34) _ _ (inner false st.InQuoted act.Skip refl refl refl) (field-steps false c))
+    (either-steps false (c == 34) _ _ (inner false st.InQuoted act.Skip refl refl refl)
+    (field-steps false c))
 
 -- each byte, in each state of these settings
-pub step-steps : (s : State) (c : ℕ) → is_plain s ≡ true → StepsTo (is_inside s) (step default_config s c)
+pub step-steps : (s : State) (c : ℕ) → is_plain s ≡ true
+    → StepsTo (is_inside s) (step default_config s c)
 step-steps st.StartRecord c e = start-steps c
-step-steps st.StartField c e = either-steps true (c == 34) _ _ (inner true st.InQuoted act.Skip refl refl refl) (field-steps true c)
+step-steps st.StartField c e =
+    either-steps true (c == 34) _ _ (inner true st.InQuoted act.Skip refl refl refl)
+    (field-steps true c)
 step-steps st.InField c e = field-steps true c
-step-steps st.InQuoted c e = either-steps true (c == 34) _ _ (inner true st.AfterQuote act.Skip refl refl refl) (inner true st.InQuoted act.Copy refl refl refl)
-step-steps st.AfterQuote c e = either-steps true (c == 34) _ _ (inner true st.InQuoted act.Copy refl refl refl) (field-steps true c)
+step-steps st.InQuoted c e =
+    either-steps true (c == 34) _ _ (inner true st.AfterQuote act.Skip refl refl refl)
+    (inner true st.InQuoted act.Copy refl refl refl)
+step-steps st.AfterQuote c e =
+    either-steps true (c == 34) _ _ (inner true st.InQuoted act.Copy refl refl refl)
+    (field-steps true c)
 step-steps st.InEscape c e = inner true st.InQuoted act.Copy refl refl refl
 step-steps st.InComment c e = cc
-step-steps st.AfterCr c e = either-steps false (c == 10) _ _ (skipped st.StartRecord refl) (start-steps c)
+step-steps st.AfterCr c e =
+    either-steps false (c == 10) _ _ (skipped st.StartRecord refl) (start-steps c)

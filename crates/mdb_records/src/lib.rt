@@ -4,8 +4,8 @@
 //! each record that [`Records`] returns is a record of the whole text, and the end is the end of
 //! the whole text.
 //!
-//! Records without quotes on lines that end in LF are cut at their commas, line by line. From the
-//! first other one on `csv` reads the text. What is read is the same: what `csv` reads of it.
+//! Records without quotes on lines that end in LF are cut at their commas, line by line. `csv`
+//! reads the text from the first other record on. Both ways give the same records.
 #![tactic(auto)]
 
 ghost use Rattle.std.specs.Prelude.{◌≡◌, ◌<◌, ◌≤◌, ◌+◌, ◌-◌, ◌^◌, ◌↔◌, ◌⊎◌, min, ℕ, All, List, [], None, length, true, IfErr, IfOk, OnOk, IfSome, IsSome, IsTrue, Some, Err, if◌then◌else◌};

@@ -52,8 +52,8 @@ impl Page {
     ///
     /// # Errors
     ///
-    /// The writer failed. It took a front of what waited and of the text. The page is as before. But
-    /// it is empty where what waited was written, and a text longer than a page wasn't.
+    /// The writer failed. It took a front of what waited and of the text. The page is as before.
+    /// But it is empty where what waited was written, and a text longer than a page wasn't.
     pub fn add<W: Write>(&mut self, writer: &mut W, text: &[u8]) -> Result<(), WriteFailed>
         ensures added { OnOk result (Puts (output (W.contents writer.old) self.old)
             (output (W.contents writer.new) self.new) text.now) }

@@ -5,36 +5,42 @@ use Rattle.mdb_records.proofs.ReadingFacts.{IfOk-map, line-goes-on, line-over, l
 
 pub returns-in-Ok-Some-clause-next : goal.returns-in-Ok-Some-clause-next
 returns-in-Ok-Some-clause-next g c = rw c.in-Ok-Some.found-is (λ rows h.
-    line-goes-on g.R.Read.remaining c.args.self.now _ c.in-Lines.lines c.advance.new.self c.in-Ok-Some.found rows c.in-Lines.is refl h.going
+    line-goes-on g.R.Read.remaining c.args.self.now _ c.in-Lines.lines c.advance.new.self
+    c.in-Ok-Some.found rows c.in-Lines.is refl h.going
     (rw c.in-Ok-Some.field-0-is at c.in-Ok-Some.ensures.told) c.in-Ok-Some.ensures.bytes h)
 
 pub returns-in-Ok-Some-clause-endless : goal.returns-in-Ok-Some-clause-endless
 returns-in-Ok-Some-clause-endless g c = rw c.in-Ok-Some.found-is (λ h.
-    line-over g.R.Read.remaining c.args.self.now _ c.in-Lines.lines c.advance.new.self c.in-Ok-Some.found c.in-Lines.is refl h.going
+    line-over g.R.Read.remaining c.args.self.now _ c.in-Lines.lines c.advance.new.self
+    c.in-Ok-Some.found c.in-Lines.is refl h.going
     (rw c.in-Ok-Some.field-0-is at c.in-Ok-Some.ensures.told) c.in-Ok-Some.ensures.bytes h)
 
 pub returns-clause-next : goal.returns-clause-next
 returns-clause-next g c = elim c.match-self-2.branch [
   | in-Lines+in-Ok-None w ↦
       let kept = rw w.in-Ok-None.field-0-is at w.in-Ok-None.ensures.told in
-      IfOk-map c.advance_by_csv.result _ _ (λ found f rows h. f rows (rw w.self-is (w.hand_over.ensures.next rows
-      (same-to-come g.R.Read.remaining c.args.self.now _ rows
-      (λ state given. lines-stand g.R.Read.remaining c.args.self.now.stage w.in-Lines.lines w.advance.new.self state given w.in-Lines.is kept) refl h))))
+      IfOk-map c.advance_by_csv.result _ _ (λ found f rows h. f rows (rw w.self-is
+      (w.hand_over.ensures.next rows (same-to-come g.R.Read.remaining c.args.self.now _ rows
+      (λ state given. lines-stand g.R.Read.remaining c.args.self.now.stage w.in-Lines.lines
+      w.advance.new.self state given w.in-Lines.is kept) refl h))))
       c.advance_by_csv.ensures.next
   | in_default-stage w ↦
       IfOk-map c.advance_by_csv.result _ _ (λ found f rows h. f rows (rw w.self-is
-      (same-to-come g.R.Read.remaining c.args.self.now _ rows (λ state given stands. stands) refl h))) c.advance_by_csv.ensures.next
+      (same-to-come g.R.Read.remaining c.args.self.now _ rows (λ state given stands. stands) refl
+      h))) c.advance_by_csv.ensures.next
 ]
 
 pub returns-clause-endless : goal.returns-clause-endless
 returns-clause-endless g c = elim c.match-self-2.branch [
   | in-Lines+in-Ok-None w ↦
       let kept = rw w.in-Ok-None.field-0-is at w.in-Ok-None.ensures.told in
-      IfOk-map c.advance_by_csv.result _ _ (λ found f h. f (rw w.self-is (w.hand_over.ensures.endless
-      (same-over g.R.Read.remaining c.args.self.now _
-      (λ state given. lines-stand g.R.Read.remaining c.args.self.now.stage w.in-Lines.lines w.advance.new.self state given w.in-Lines.is kept) refl h))))
+      IfOk-map c.advance_by_csv.result _ _ (λ found f h. f (rw w.self-is
+      (w.hand_over.ensures.endless (same-over g.R.Read.remaining c.args.self.now _
+      (λ state given. lines-stand g.R.Read.remaining c.args.self.now.stage w.in-Lines.lines
+      w.advance.new.self state given w.in-Lines.is kept) refl h))))
       c.advance_by_csv.ensures.endless
   | in_default-stage w ↦
       IfOk-map c.advance_by_csv.result _ _ (λ found f h. f (rw w.self-is
-      (same-over g.R.Read.remaining c.args.self.now _ (λ state given stands. stands) refl h))) c.advance_by_csv.ensures.endless
+      (same-over g.R.Read.remaining c.args.self.now _ (λ state given stands. stands) refl h)))
+      c.advance_by_csv.ensures.endless
 ]

@@ -2,6 +2,8 @@ use Rattle.mdb_records.proofs.Records.hand_over.Goals as goal
 
 pub invariant_of-self : goal.invariant_of-self
 invariant_of-self g c = record {
-  set_up = λ going. c.handed_over.ensures.set_up (rw c.replace-stage.ensures.value (c.args.self.now.set_up going));
+  set_up = λ going.
+      c.handed_over.ensures.set_up
+      (rw c.replace-stage.ensures.value (c.args.self.now.set_up going));
   there = c.handed_over.ensures.there (rw c.replace-stage.ensures.value c.args.self.now.there);
 }

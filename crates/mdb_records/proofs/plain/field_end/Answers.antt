@@ -7,5 +7,6 @@ bytes-preserved c =
     let inv = c.bytes.invariant in (
       omega (arith, inv.0),
       omega (arith, c.bytes-test.true),
-      own-more c.args.text.now c.args.from c.bytes.end inv.0 c.bytes-test.true (sym c.is_special_byte.ensures ∙ c.if-is_special_byte.false) inv.2,
+      own-more c.args.text.now c.args.from c.bytes.end inv.0 c.bytes-test.true
+          (sym c.is_special_byte.ensures ∙ c.if-is_special_byte.false) inv.2,
     )

@@ -14,22 +14,32 @@ returns-then-is_last c =
     let inv = c.fields.invariant in
     let bounds = c.field_end-end.ensures.bounds in
     let last = c.ends_record-is_last.ensures c.if-is_last.true in
-    let inside : c.field_end-end.result < length c.args.text.now = omega (arith, bounds.1, c.if-end-text.false) in (
+    let inside : c.field_end-end.result < length c.args.text.now =
+    omega (arith, bounds.1, c.if-end-text.false) in (
       omega arith,
-      λ later. rw (c.push_reserved.ensures.items, c.in_ok-reserve.ensures.items, parted-more 0 c.fields.ends.items c.field_end-end.result c.args.text.now, inv.0)
-          (reads-line c.args.text.now c.fields.start c.field_end-end.result _ bounds.0 inside last.1 last.0
-          c.field_end-end.ensures.plain inv.2 later),
+      λ later. rw (
+        c.push_reserved.ensures.items,
+        c.in_ok-reserve.ensures.items,
+        parted-more 0 c.fields.ends.items c.field_end-end.result c.args.text.now,
+        inv.0,
+      )
+          (reads-line c.args.text.now c.fields.start c.field_end-end.result _ bounds.0 inside last.1
+          last.0 c.field_end-end.ensures.plain inv.2 later),
     )
 
 pub fields-preserved : goal.fields-preserved
 fields-preserved c =
     let inv = c.fields.invariant in
     let bounds = c.field_end-end.ensures.bounds in
-    let comma : get_or c.args.text.now c.field_end-end.result 0 ≡ 44 = elim c.else-not-is_last.branch [
-      | else-not-is_last-via-then-not-is_last+else-text-end-ne44 w ↦ w.if-text-end-ne44.false
-      | else-not-is_last-via-else-not-is_last w ↦ cc (w.if-not-is_last.false, c.if-is_last.false)
+    let comma : get_or c.args.text.now c.field_end-end.result 0 ≡ 44 =
+    elim c.else-not-is_last.branch [
+      | else-not-is_last-via-then-not-is_last+else-text-end-ne44 w ↦
+          w.if-text-end-ne44.false
+      | else-not-is_last-via-else-not-is_last w ↦
+          cc (w.if-not-is_last.false, c.if-is_last.false)
     ] in
-    let inside : c.field_end-end.result < length c.args.text.now = omega (arith, bounds.1, c.if-end-text.false) in
+    let inside : c.field_end-end.result < length c.args.text.now =
+    omega (arith, bounds.1, c.if-end-text.false) in
     rw (
       c.push_reserved.ensures.items,
       c.in_ok-reserve.ensures.items,

@@ -4,4 +4,6 @@ use Rattle.mdb_writing.proofs.text.write_text.Given as goal
 
 -- what is no longer in the rest was taken
 abbrev pub invariant-loop : goal.invariant-loop
-invariant-loop g l = (done : List ℕ) × (l.initial.rest ≡ done ++ l.rest) × Appends (g.W.Write.contents l.initial.writer) (g.W.Write.contents l.writer) done
+invariant-loop g l =
+    (done : List ℕ) × (l.initial.rest ≡ done ++ l.rest)
+    × Appends (g.W.Write.contents l.initial.writer) (g.W.Write.contents l.writer) done

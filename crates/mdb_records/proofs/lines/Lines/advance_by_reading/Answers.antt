@@ -8,5 +8,6 @@ returns-then-is_end-clause-told g c =
     let lines = c.fill.new.self in
     let none : lines.filled - lines.at ≡ 0 = sym c.unread_count-is_end.ensures ∙ c.if-is_end.true in
     let kept = keeps-on _ _ _ c.reads.invariant c.in_ok-fill.ensures.keeps in
-    ends-text lines.begun _ (limited_remaining g.R.Read.remaining lines.source) (c.in_ok-fill.ensures.end c.if-branch-eq0.true)
+    ends-text lines.begun _ (limited_remaining g.R.Read.remaining lines.source)
+    (c.in_ok-fill.ensures.end c.if-branch-eq0.true)
     (rw none at kept)

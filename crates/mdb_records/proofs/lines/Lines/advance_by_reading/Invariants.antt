@@ -4,4 +4,5 @@ use Rattle.mdb_records.proofs.lines.Lines.advance_by_reading.Given as goal
 
 -- nothing was taken so far
 abbrev pub invariant-reads : goal.invariant-reads
-invariant-reads g l = Keeps (lines_given g.R.Read.remaining l.fn.self) (lines_given g.R.Read.remaining l.self)
+invariant-reads g l =
+    Keeps (lines_given g.R.Read.remaining l.fn.self) (lines_given g.R.Read.remaining l.self)
