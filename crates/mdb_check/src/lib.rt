@@ -1,8 +1,8 @@
 //! The checker, for programs that call it: everything that `mdbcheck` does, without a command line.
 //!
 //! - [`check`] returns the verdict: whether a recording is possible, and the bounds of the money.
-//! - [`survey`] goes on after an impossible row: it writes the report on each stretch of rows between,
-//!   and each fault. A [`Surveyor`] takes rows one by one or in slices.
+//! - [`survey`] goes on after an impossible row: it writes the report on each stretch of rows
+//!   between, and each fault. A [`Surveyor`] takes rows one by one or in slices.
 //! - [`show`] writes the acts line by line.
 //! - [`explain`] writes the marks that lead to a bound of a report, and the rows.
 //! - [`replay`] reads such marks and rows, and follows them.

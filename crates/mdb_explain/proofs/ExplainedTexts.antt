@@ -36,59 +36,126 @@ use Rattle.mdb_verdict.proofs.Verdicts.{Reaches}
 -- The reading of rows that are kept.
 
 -- rows that were kept were followed
-pub followed_whole : (scope : Scope) (limit : ℕ) (all : List (List (List ℕ))) (keeping : Keeping) → IsTakenWhole IsRow (HasKept scope keeping) limit all → IsTakenWhole IsRow (HasFollowedRows scope keeping.follower) limit all
-followed_whole scope limit all keeping ended = record { rows = ended.rows; read = ended.read; few = ended.few; has = ended.has.followed }
+pub followed_whole : (scope : Scope) (limit : ℕ) (all : List (List (List ℕ))) (keeping : Keeping)
+    → IsTakenWhole IsRow (HasKept scope keeping) limit all
+    → IsTakenWhole IsRow (HasFollowedRows scope keeping.follower) limit all
+followed_whole scope limit all keeping ended = record {
+  rows = ended.rows;
+  read = ended.read;
+  few = ended.few;
+  has = ended.has.followed;
+}
 
 -- the records are the rows that were kept
-pub rows_kept : (scope : Scope) (limit : ℕ) (all : List (List (List ℕ))) (keeping : Keeping) → IsTakenWhole IsRow (HasKept scope keeping) limit all → AreRows all keeping.rows.items
+pub rows_kept : (scope : Scope) (limit : ℕ) (all : List (List (List ℕ))) (keeping : Keeping)
+    → IsTakenWhole IsRow (HasKept scope keeping) limit all → AreRows all keeping.rows.items
 rows_kept scope limit all keeping ended =
     let Told : List (List (List ℕ)) → Type 0 = λ l. AreRows l ended.rows in
-    subst (AreRows all) (sym ended.has.kept) (subst Told (sym (append-nil ended.read.done) ∙ sym ended.read.split) (are_rows ended.read.done ended.rows ended.read.told))
+    subst (AreRows all) (sym ended.has.kept) (subst Told
+    (sym (append-nil ended.read.done) ∙ sym ended.read.split)
+    (are_rows ended.read.done ended.rows ended.read.told))
 
-followed_to : (scope : Scope) (limit : ℕ) (all : List (List (List ℕ))) (keeping : Keeping) (fault : RunFault) → HasEnded IsRow IsRefusal (HasKept scope keeping) (StopsKeeping scope) limit all (Err fault)
-    → HasEnded IsRow IsRefusal (HasFollowedRows scope keeping.follower) (StopsKeeping scope) limit all (Err fault)
+followed_to : (scope : Scope) (limit : ℕ) (all : List (List (List ℕ))) (keeping : Keeping)
+    (fault : RunFault)
+    → HasEnded IsRow IsRefusal (HasKept scope keeping) (StopsKeeping scope) limit all (Err fault)
+    → HasEnded IsRow IsRefusal (HasFollowedRows scope keeping.follower) (StopsKeeping scope) limit
+    all (Err fault)
 followed_to scope limit all keeping (BadRow row fault) ended =
-    record { rows = ended.rows; fields = ended.fields; rest = ended.rest; read = ended.read; few = ended.few; number = ended.number; refused = ended.refused; has = ended.has.followed }
-followed_to scope limit all keeping TooLong ended = record { rows = ended.rows; fields = ended.fields; rest = ended.rest; read = ended.read; full = ended.full; has = ended.has.followed }
-followed_to scope limit all keeping Read ended = record { rows = ended.rows; rest = ended.rest; read = ended.read; has = ended.has.followed }
+    record {
+      rows = ended.rows;
+      fields = ended.fields;
+      rest = ended.rest;
+      read = ended.read;
+      few = ended.few;
+      number = ended.number;
+      refused = ended.refused;
+      has = ended.has.followed;
+    }
+followed_to scope limit all keeping TooLong ended = record {
+  rows = ended.rows;
+  fields = ended.fields;
+  rest = ended.rest;
+  read = ended.read;
+  full = ended.full;
+  has = ended.has.followed;
+}
+followed_to scope limit all keeping Read ended = record {
+  rows = ended.rows;
+  rest = ended.rest;
+  read = ended.read;
+  has = ended.has.followed;
+}
 followed_to scope limit all keeping Write ended = absurd ended
-followed_to scope limit all keeping Memory ended = record { rows = ended.rows; rest = ended.rest; read = ended.read; has = ended.has.followed }
+followed_to scope limit all keeping Memory ended = record {
+  rows = ended.rows;
+  rest = ended.rest;
+  read = ended.read;
+  has = ended.has.followed;
+}
 
 -- a record isn't taken, or can't be read
-pub refused : (scope : Scope) → Reaches → (limit : ℕ) (all : List (List (List ℕ))) (keeping : Keeping) (fault : RunFault) → HasEnded IsRow IsRefusal (HasKept scope keeping) (StopsKeeping scope) limit all (Err fault)
-    → (answer : Result Outcome RunFault) → IsErrAnd answer (λ other. other ≡ fault) → IsAnswer scope limit all answer
-refused scope reaches limit all keeping fault ended answer handed = verdicts.refused scope reaches limit all keeping.follower (StopsKeeping scope) fault (followed_to scope limit all keeping fault ended) answer handed
+pub refused : (scope : Scope) → Reaches
+    → (limit : ℕ) (all : List (List (List ℕ))) (keeping : Keeping) (fault : RunFault)
+    → HasEnded IsRow IsRefusal (HasKept scope keeping) (StopsKeeping scope) limit all (Err fault)
+    → (answer : Result Outcome RunFault) → IsErrAnd answer (λ other. other ≡ fault)
+    → IsAnswer scope limit all answer
+refused scope reaches limit all keeping fault ended answer handed =
+    verdicts.refused scope reaches limit all keeping.follower (StopsKeeping scope) fault
+    (followed_to scope limit all keeping fault ended) answer handed
 
 -- What is told of an outcome.
 
 -- it is the answer
-pub answer_told : {W : Type 0} (contents : W → Option (List ℕ)) (before after : W) (IsText : Outcome → List ℕ → Type 0) (scope : Scope) (limit : ℕ) (all : List (List (List ℕ))) → ((outcome : Outcome) (text : List ℕ) → IsText outcome text → IsAnswer scope limit all (Ok outcome))
-    → (answer : Result Outcome RunFault) → IsTold contents before after IsText answer → IsAnswer scope limit all answer
-answer_told contents before after IsText scope limit all are (Ok outcome) told = are outcome told.0 told.1
-answer_told contents before after IsText scope limit all are (Err (BadRow row fault)) told = absurd told
+pub answer_told : {W : Type 0} (contents : W → Option (List ℕ)) (before after : W)
+    (IsText : Outcome → List ℕ → Type 0) (scope : Scope) (limit : ℕ) (all : List (List (List ℕ)))
+    → ((outcome : Outcome) (text : List ℕ) → IsText outcome text
+    → IsAnswer scope limit all (Ok outcome))
+    → (answer : Result Outcome RunFault) → IsTold contents before after IsText answer
+    → IsAnswer scope limit all answer
+answer_told contents before after IsText scope limit all are (Ok outcome) told =
+    are outcome told.0 told.1
+answer_told contents before after IsText scope limit all are (Err (BadRow row fault)) told =
+    absurd told
 answer_told contents before after IsText scope limit all are (Err TooLong) told = absurd told
 answer_told contents before after IsText scope limit all are (Err Read) told = tt
 answer_told contents before after IsText scope limit all are (Err Write) told = tt
 answer_told contents before after IsText scope limit all are (Err Memory) told = tt
 
 -- its text was written
-pub written_told : {W : Type 0} (contents : W → Option (List ℕ)) (before after : W) (IsText : Outcome → List ℕ → Type 0) (scope : Scope) (goal : Goal) (all : List (List (List ℕ))) → ((outcome : Outcome) (text : List ℕ) → IsText outcome text → IsExplainText scope goal all outcome text)
-    → (answer : Result Outcome RunFault) → IsTold contents before after IsText answer → IfOk answer (IsExplainedIn scope goal all (contents before) (contents after))
-written_told contents before after IsText scope goal all are (Ok outcome) told = (told.0, are outcome told.0 told.1, told.2)
+pub written_told : {W : Type 0} (contents : W → Option (List ℕ)) (before after : W)
+    (IsText : Outcome → List ℕ → Type 0) (scope : Scope) (goal : Goal) (all : List (List (List ℕ)))
+    → ((outcome : Outcome) (text : List ℕ) → IsText outcome text
+    → IsExplainText scope goal all outcome text)
+    → (answer : Result Outcome RunFault) → IsTold contents before after IsText answer
+    → IfOk answer (IsExplainedIn scope goal all (contents before) (contents after))
+written_told contents before after IsText scope goal all are (Ok outcome) told =
+    (told.0, are outcome told.0 told.1, told.2)
 written_told contents before after IsText scope goal all are (Err fault) told = tt
 
 -- of a no, the report of `check` was written
-pub no_told : {W : Type 0} (contents : W → Option (List ℕ)) (before after : W) (IsText : Outcome → List ℕ → Type 0) (scope : Scope) → ((offence : Offence) (text : List ℕ) → IsText (No offence) text → text ≡ report_text scope (No offence))
-    → (answer : Result Outcome RunFault) → IsTold contents before after IsText answer → IfOk answer (λ outcome. IfNo outcome (λ offence. Appends (contents before) (contents after) (report_text scope (No offence))))
+pub no_told : {W : Type 0} (contents : W → Option (List ℕ)) (before after : W)
+    (IsText : Outcome → List ℕ → Type 0) (scope : Scope)
+    → ((offence : Offence) (text : List ℕ) → IsText (No offence) text
+    → text ≡ report_text scope (No offence))
+    → (answer : Result Outcome RunFault) → IsTold contents before after IsText answer
+    → IfOk answer (λ outcome. IfNo outcome
+    (λ offence. Appends (contents before) (contents after) (report_text scope (No offence))))
 no_told contents before after IsText scope are (Ok (Yes report)) told = tt
 no_told contents before after IsText scope are (Ok (No offence)) told =
-    subst (λ (t : List ℕ). Appends (contents before) (contents after) t) (are offence told.0 told.1) told.2
+    subst (λ (t : List ℕ). Appends (contents before) (contents after) t) (are offence told.0 told.1)
+    told.2
 no_told contents before after IsText scope are (Err fault) told = tt
 
 -- the writer failed with a front of its text
-pub cut_told : {W : Type 0} (contents : W → Option (List ℕ)) (before after : W) (IsText : Outcome → List ℕ → Type 0) (scope : Scope) (limit : ℕ) (goal : Goal) (all : List (List (List ℕ)))
-    → ((outcome : Outcome) (text : List ℕ) → IsText outcome text → IsAnswer scope limit all (Ok outcome)) → ((outcome : Outcome) (text : List ℕ) → IsText outcome text → IsExplainText scope goal all outcome text)
-    → (answer : Result Outcome RunFault) → IsTold contents before after IsText answer → answer ≡ Err Write → IsCutExplanation scope limit goal all (contents before) (contents after)
+pub cut_told : {W : Type 0} (contents : W → Option (List ℕ)) (before after : W)
+    (IsText : Outcome → List ℕ → Type 0) (scope : Scope) (limit : ℕ) (goal : Goal)
+    (all : List (List (List ℕ)))
+    → ((outcome : Outcome) (text : List ℕ) → IsText outcome text
+    → IsAnswer scope limit all (Ok outcome))
+    → ((outcome : Outcome) (text : List ℕ) → IsText outcome text
+    → IsExplainText scope goal all outcome text)
+    → (answer : Result Outcome RunFault) → IsTold contents before after IsText answer
+    → answer ≡ Err Write → IsCutExplanation scope limit goal all (contents before) (contents after)
 cut_told contents before after IsText scope limit goal all answers texts answer told is =
     let P : Result Outcome RunFault → Type 0 = λ a. IsTold contents before after IsText a in
     let told_so : P (Err Write) = subst P is told in
@@ -102,15 +169,20 @@ cut_told contents before after IsText scope limit goal all answers texts answer 
 
 -- A no.
 
-pub no_answers : (scope : Scope) (limit : ℕ) (all : List (List (List ℕ))) (offence : Offence) → IsImpossible scope limit all offence → (outcome : Outcome) (text : List ℕ) → IsNoText scope offence outcome text → IsAnswer scope limit all (Ok outcome)
+pub no_answers : (scope : Scope) (limit : ℕ) (all : List (List (List ℕ))) (offence : Offence)
+    → IsImpossible scope limit all offence → (outcome : Outcome) (text : List ℕ)
+    → IsNoText scope offence outcome text → IsAnswer scope limit all (Ok outcome)
 no_answers scope limit all offence impossible outcome text is =
     let P : Outcome → Type 0 = λ o. IsAnswer scope limit all (Ok o) in
     subst P (sym is.0) impossible
 
-pub no_written : (scope : Scope) (offence other : Offence) (text : List ℕ) → IsNoText scope offence (No other) text → text ≡ report_text scope (No other)
+pub no_written : (scope : Scope) (offence other : Offence) (text : List ℕ)
+    → IsNoText scope offence (No other) text → text ≡ report_text scope (No other)
 no_written scope offence other text is = is.1 ∙ ap (report_text scope) (sym is.0)
 
-pub no_texts : (scope : Scope) (goal : Goal) (all : List (List (List ℕ))) (offence : Offence) (outcome : Outcome) (text : List ℕ) → IsNoText scope offence outcome text → IsExplainText scope goal all outcome text
+pub no_texts : (scope : Scope) (goal : Goal) (all : List (List (List ℕ))) (offence : Offence)
+    (outcome : Outcome) (text : List ℕ) → IsNoText scope offence outcome text
+    → IsExplainText scope goal all outcome text
 no_texts scope goal all offence outcome text is =
     let P : Outcome → Type 0 = λ o. IsExplainText scope goal all o text in
     subst P (sym is.0) is.1
@@ -165,7 +237,8 @@ reached_rows first scope kept rows outcome report same is are reached =
     (subst (λ o. IfYes o (λ report. IsReached first kept)) is reached))
 
 pub kept_reached : (scope : Scope) (keeping : Keeping)
-    → ((rows : List Event) → StandsFor keeping.follower rows → IsReached (scope_of keeping.follower) rows)
+    → ((rows : List Event) → StandsFor keeping.follower rows
+    → IsReached (scope_of keeping.follower) rows)
     → (rows : List Event) × HasKept (scope_of keeping.follower) keeping rows
     → scope_of keeping.follower ≡ scope → IsReached scope keeping.rows.items
 kept_reached scope keeping law (rows, has) same =
@@ -173,7 +246,9 @@ kept_reached scope keeping law (rows, has) same =
     (subst (IsReached (scope_of keeping.follower)) (sym has.kept) (law rows has.followed.stands))
 
 -- the verdict is a no
-pub known_no : (first scope : Scope) (all : List (List (List ℕ))) (outcome : Outcome) (offence : Offence) → first ≡ scope → outcome ≡ No offence → IsAnswer first ROWS_MAX all (Ok outcome) → IsImpossible scope ROWS_MAX all offence
+pub known_no : (first scope : Scope) (all : List (List (List ℕ))) (outcome : Outcome)
+    (offence : Offence) → first ≡ scope → outcome ≡ No offence
+    → IsAnswer first ROWS_MAX all (Ok outcome) → IsImpossible scope ROWS_MAX all offence
 known_no first scope all outcome offence same is answers =
     let Answers : Outcome → Type 0 = λ o. IsAnswer first ROWS_MAX all (Ok o) in
     subst (λ s. IsImpossible s ROWS_MAX all offence) same (subst Answers is answers)
@@ -199,9 +274,12 @@ rows_part [] = refl
 rows_part (row ∷ rows) = ap (λ l. row_line row ++ l) (rows_part rows)
 
 -- the text of an explanation is that of its marks, and then that of its rows
-pub explanation_parts : (marks : List (ℕ × Mark)) (rows : List Event) → explanation_text marks rows ≡ marks_text marks ++ rows_text rows
+pub explanation_parts : (marks : List (ℕ × Mark)) (rows : List Event)
+    → explanation_text marks rows ≡ marks_text marks ++ rows_text rows
 explanation_parts [] rows = rows_part rows
-explanation_parts (mark ∷ marks) rows = ap (λ l. mark_line mark ++ l) (explanation_parts marks rows) ∙ sym (append_assoc (mark_line mark) (marks_text marks) (rows_text rows))
+explanation_parts (mark ∷ marks) rows =
+    ap (λ l. mark_line mark ++ l) (explanation_parts marks rows)
+    ∙ sym (append_assoc (mark_line mark) (marks_text marks) (rows_text rows))
 
 -- Room was made for a text.
 pub put_room : (before now : Output) (waiting text : List ℕ) → Puts before now []
@@ -244,7 +322,10 @@ broken_at_rows before empty between later marks rows none first broken =
     (put_both (begun before) empty between [] (marks_text marks) none first) broken)
 
 -- a fault of the verdict is handed on
-pub handed_on : (scope : Scope) (limit : ℕ) (all : List (List (List ℕ))) (verdict : Result Outcome RunFault) (fault : RunFault) (answer : Result Outcome RunFault) → verdict ≡ Err fault → IsErrAnd answer (λ other. other ≡ fault) → IsAnswer scope limit all verdict
+pub handed_on : (scope : Scope) (limit : ℕ) (all : List (List (List ℕ)))
+    (verdict : Result Outcome RunFault) (fault : RunFault) (answer : Result Outcome RunFault)
+    → verdict ≡ Err fault → IsErrAnd answer (λ other. other ≡ fault)
+    → IsAnswer scope limit all verdict
     → IsAnswer scope limit all answer
 handed_on scope limit all verdict fault (Ok outcome) is handed answers = absurd handed
 handed_on scope limit all verdict fault (Err other) is handed answers =
@@ -257,7 +338,10 @@ if_yes (Yes report) P holds = holds
 if_yes (No offence) P holds = tt
 
 -- nothing is written where the answer is a fault, but where the writer failed
-pub nothing_told : {W : Type 0} (contents : W → Option (List ℕ)) (before after : W) (IsText : Outcome → List ℕ → Type 0) (answer : Result Outcome RunFault) → IsTold contents before after IsText answer → IfErr answer (λ fault. fault ≢ Write → after ≡ before)
+pub nothing_told : {W : Type 0} (contents : W → Option (List ℕ)) (before after : W)
+    (IsText : Outcome → List ℕ → Type 0) (answer : Result Outcome RunFault)
+    → IsTold contents before after IsText answer
+    → IfErr answer (λ fault. fault ≢ Write → after ≡ before)
 nothing_told contents before after IsText (Ok outcome) told = tt
 nothing_told contents before after IsText (Err (BadRow row fault)) told = absurd told
 nothing_told contents before after IsText (Err TooLong) told = absurd told
@@ -266,7 +350,10 @@ nothing_told contents before after IsText (Err Write) told = λ not. absurd (not
 nothing_told contents before after IsText (Err Memory) told = λ not. told
 
 -- a no is no yes
-pub no_yes_told : {W : Type 0} (contents : W → Option (List ℕ)) (before after : W) (scope : Scope) (offence : Offence) (answer : Result Outcome RunFault) → IsTold contents before after (IsNoText scope offence) answer → IsNoYes answer
-no_yes_told contents before after scope offence (Ok (Yes report)) told = let is = told.1.0 in absurd (cc is)
+pub no_yes_told : {W : Type 0} (contents : W → Option (List ℕ)) (before after : W) (scope : Scope)
+    (offence : Offence) (answer : Result Outcome RunFault)
+    → IsTold contents before after (IsNoText scope offence) answer → IsNoYes answer
+no_yes_told contents before after scope offence (Ok (Yes report)) told =
+    let is = told.1.0 in absurd (cc is)
 no_yes_told contents before after scope offence (Ok (No other)) told = tt
 no_yes_told contents before after scope offence (Err fault) told = tt

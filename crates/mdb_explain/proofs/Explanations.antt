@@ -18,7 +18,8 @@ use Rattle.mdb_words.proofs.Numerals.{IsDecimal-decimal}
 
 -- Rows.
 
-plain_rows : (records : List (List (List ℕ))) (rows : List Event) → AreRows records rows → ArePlain (map row_fields rows) × AreRows (map row_fields rows) rows
+plain_rows : (records : List (List (List ℕ))) (rows : List Event) → AreRows records rows
+    → ArePlain (map row_fields rows) × AreRows (map row_fields rows) rows
 plain_rows [] [] told = (tt, tt)
 plain_rows (fields ∷ records) (row ∷ rows) told =
     let written : IsWritten row = row_written fields row told.0 in
@@ -36,14 +37,18 @@ letter_plain Restart = (omega arith, omega arith)
 abbrev IsWithin : ℕ × Mark → Type 0
 IsWithin mark = mark.0 ≤ ROWS_MAX
 
-mark_written : (mark : ℕ × Mark) → IsWithin mark → IsPlain (mark_fields mark) × IsMarkRow (mark_fields mark) mark
+mark_written : (mark : ℕ × Mark) → IsWithin mark
+    → IsPlain (mark_fields mark) × IsMarkRow (mark_fields mark) mark
 mark_written mark within =
-    let number : IsDecimal 15 (decimal mark.0) mark.0 = IsDecimal-decimal 15 mark.0 (omega arith) (omega (arith, within)) (omega (arith, within)) in (
-      plain_of 15 mark.0 (mark_letter mark.1) dash number (letter_plain mark.1) (one_plain 45 (omega arith, omega arith)),
+    let number : IsDecimal 15 (decimal mark.0) mark.0 =
+    IsDecimal-decimal 15 mark.0 (omega arith) (omega (arith, within)) (omega (arith, within)) in (
+      plain_of 15 mark.0 (mark_letter mark.1) dash number (letter_plain mark.1)
+          (one_plain 45 (omega arith, omega arith)),
       record { number = decimal mark.0; are = refl; row = number },
     )
 
-plain_marks : (marks : List (ℕ × Mark)) → All IsWithin marks → ArePlain (map mark_fields marks) × AreMarkRows (map mark_fields marks) marks
+plain_marks : (marks : List (ℕ × Mark)) → All IsWithin marks
+    → ArePlain (map mark_fields marks) × AreMarkRows (map mark_fields marks) marks
 plain_marks [] within = (tt, tt)
 plain_marks (mark ∷ marks) within =
     let written = mark_written mark (All-head IsWithin mark marks within) in
@@ -51,9 +56,16 @@ plain_marks (mark ∷ marks) within =
     ((written.0, others.0), (written.1, others.1))
 
 -- so the text is read as these
-pub read_as_written : (records : List (List (List ℕ))) (rows : List Event) (marks : List (ℕ × Mark)) → AreRows records rows → All (λ mark. mark.0 ≤ ROWS_MAX) marks
-    → (read_records default_config (strip_bom (explanation_text marks rows)) ≡ explanation_records marks rows) × AreMarkRows (map mark_fields marks) marks × AreRows (map row_fields rows) rows
+pub read_as_written : (records : List (List (List ℕ))) (rows : List Event) (marks : List (ℕ × Mark))
+    → AreRows records rows → All (λ mark. mark.0 ≤ ROWS_MAX) marks
+    → (read_records default_config (strip_bom (explanation_text marks rows))
+    ≡ explanation_records marks rows) × AreMarkRows (map mark_fields marks) marks
+    × AreRows (map row_fields rows) rows
 read_as_written records rows marks told within =
     let first = plain_marks marks within in
-    let second = plain_rows records rows told in
-    (read_of_lines (explanation_records marks rows) (plain_append (map mark_fields marks) (map row_fields rows) first.0 second.0), first.1, second.1)
+    let second = plain_rows records rows told in (
+      read_of_lines (explanation_records marks rows)
+          (plain_append (map mark_fields marks) (map row_fields rows) first.0 second.0),
+      first.1,
+      second.1,
+    )

@@ -248,7 +248,8 @@ row_not_mark fields (Break at length) row own =
     break_apart own.mark (one_same break_letter (mark_letter own.mark) same.1)
 
 -- the fields of a mark row are taken for those of one
-abbrev for_mark : (fields : List (List ℕ)) (mark : ℕ × Mark) → IsMarkRow fields mark → IsForMark fields
+abbrev for_mark : (fields : List (List ℕ)) (mark : ℕ × Mark) → IsMarkRow fields mark
+    → IsForMark fields
 for_mark fields mark is =
     record { number = is.number; mark = mark.1; value = dash; are = is.are }
 
@@ -419,7 +420,8 @@ mark_next (first ∷ transcript) (row ∷ rows) rest fields after mark later eve
 mark_next [] (row ∷ rows) rest fields after mark later events told is same = absurd told
 mark_next (first ∷ transcript) [] rest fields after mark later events told is same = absurd told
 
-compared_all : (done transcript rest : List (List (List ℕ))) (others later left : List (List (List ℕ)))
+compared_all : (done transcript rest : List (List (List ℕ)))
+    (others later left : List (List (List ℕ)))
     (marks : List (ℕ × Mark)) (rows : List Event) (next : List (ℕ × Mark)) (events : List Event)
     → AreMarkRows done marks → AreRows transcript rows → AreMarkRows others next
     → AreRows later events → (done ++ transcript) ++ rest ≡ (others ++ later) ++ left
@@ -448,9 +450,11 @@ compared_all (fields ∷ done) transcript rest (first ∷ others) later left (ma
     lifted mark other marks next rows events rest left one
     (compared_all done transcript rest others later left marks rows next events are.1 told also.1
     heard (cc same))
-compared_all [] transcript rest others later left (mark ∷ marks) rows next events are told also heard
+compared_all [] transcript rest others later left (mark ∷ marks) rows next events are told also
+    heard
     same = absurd are
-compared_all (first ∷ done) transcript rest others later left [] rows next events are told also heard
+compared_all (first ∷ done) transcript rest others later left [] rows next events are told also
+    heard
     same = absurd are
 compared_all done transcript rest [] later left marks rows (mark ∷ next) events are told also heard
     same = absurd also
@@ -542,7 +546,8 @@ data Stop (scope : Scope) (limit : ℕ) (part : InputPart) (fields : List (List 
       → Stop scope limit part fields answer
   -- a record that is refused
   Refused : (fault : RowFault) → IsRefusedAfter limit part fields fault
-      → answer ≡ Err (marked.Run (run.BadRow (records_in part + 1) fault)) → Stop scope limit part fields answer
+      → answer ≡ Err (marked.Run (run.BadRow (records_in part + 1) fault))
+      → Stop scope limit part fields answer
   -- one that is one too many
   TooMany : IsOneTooMany limit part fields → answer ≡ Err (marked.Run run.TooLong)
       → Stop scope limit part fields answer
@@ -888,7 +893,8 @@ first_row row other mark next more rest same =
     ap (λ (m : ℕ × Mark). m.0) first
 
 -- where all records are taken, the answer is one
-one_finish : (scope : Scope) → ReplayLaws scope → (part : InputPart) (a b : Result Outcome MarkedFault)
+one_finish : (scope : Scope) → ReplayLaws scope
+    → (part : InputPart) (a b : Result Outcome MarkedFault)
     → IsFinish scope part a → IsFinish scope part b → a ≡ b
 one_finish scope laws part (Ok (Yes a)) (Ok (Yes b)) p q =
     ap (λ report. Ok (Yes report)) (laws.one_report part.rows part.passed a b p.1 q.1)

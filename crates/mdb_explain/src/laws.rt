@@ -27,9 +27,9 @@ ghost use Rattle.mdb_verdict.specs.Rows.{AreRows};
 use mdb_explained_runs::laws;
 use mdb_follow::laws as follow_laws;
 
-/// The records of an input of `replay` have at most one answer of their own: a yes with its report, a
-/// no with its row, rule and blame, the first record that is refused and why, too many, or the mark
-/// that may not stand where it does.
+/// The records of an input of `replay` have at most one answer of their own: a yes with its report,
+/// a no with its row, rule and blame, the first record that is refused and why, too many, or the
+/// mark that may not stand where it does.
 ///
 /// So where one of these is the answer, no other one would be right.
 pub fn inputs_of_replay_have_one_answer()

@@ -60,7 +60,8 @@ impl Replaying {
     /// Takes the next entries, or tells why it stops at one of them.
     fn take_each(&mut self, entries: &[Entry]) -> Option<Stop>
         ensures taken { (scope : Scope) (earlier : List Entry) → HasReplayed scope self.old earlier
-            → HasTakenOrStopped (HasReplayed scope self.new) (HasStopped scope) earlier entries.now result }
+            → HasTakenOrStopped (HasReplayed scope self.new) (HasStopped scope) earlier entries.now
+            result }
         ensures scope { scope_of self.new.replay ≡ scope_of self.old.replay }
     {
         for entry in entries {

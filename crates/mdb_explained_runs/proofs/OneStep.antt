@@ -1,5 +1,5 @@
--- From power-on a machine has one step at most by an act under a choice, from a state: so it has one
--- way through acts with given choices.
+-- From power-on a machine has one step at most by an act under a choice, from a state: so it has
+-- one way through acts with given choices.
 use Rattle.std.proofs.Common.{sym, ap, subst, ◌∙◌, ◌≡◌, inl, inr, Bool, true, false}
 use Rattle.std.proofs.Common.{List, [], ◌∷◌, ◌++◌, Option, Some, None}
 use Rattle.std.proofs.lemmas.List.{append_cancel_left}
@@ -134,7 +134,8 @@ record IsOneConduct {Own Setup Asked M State : Type 0} (conduct : Conduct Own Se
 
 acks_one : {Own Setup Asked M State : Type 0} (conduct : Conduct Own Setup Asked M State)
     → IsOneConduct conduct → (facts : Facts Setup Asked M) (poll : Bool) (command : Own)
-    (choice : Choice) (before : State) → IsOneStep (AckStep conduct facts poll command choice before)
+    (choice : Choice) (before : State)
+    → IsOneStep (AckStep conduct facts poll command choice before)
 acks_one conduct is facts true command choice before one other gains more p q =
     stays_one before one other gains more p.1 q.1
 acks_one conduct is facts false command choice before one other gains more p q =
@@ -280,7 +281,8 @@ abbrev reader_gains : reader_facts.Facts → ReaderCommand → Reply → Choice 
     → List ReaderActivity → Gains
 reader_gains facts command reply choice before news =
     device_gains (in_slots
-    (amounts (reader.all_approved (or_else (last_said config_in (messages_of reply)) facts.config) news)
+    (amounts
+    (reader.all_approved (or_else (last_said config_in (messages_of reply)) facts.config) news)
     (reader.sold_any facts (reader.taken command reply) (reader.read choice before))))
 
 reader_replies : (facts : reader_facts.Facts) (command : ReaderCommand) (reply : Reply)

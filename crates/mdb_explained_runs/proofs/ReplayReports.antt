@@ -54,7 +54,8 @@ side_is_range Kind account ranges sides.Controller is = is.controller
 side_is_range Kind account ranges sides.Difference is = is.difference
 
 -- what a replay reports of an account
-pub named_in_replay : (scope : Scope) (rows : List Event) (marks : List (ℕ × Mark)) (report : Report)
+pub named_in_replay : (scope : Scope) (rows : List Event) (marks : List (ℕ × Mark))
+    (report : Report)
     → IsReplayReport scope rows marks report → (account : AccountName)
     → IsAccount (MarkedRun scope rows marks) (sums_of account) (account_of account report)
 named_in_replay scope rows marks report is account =

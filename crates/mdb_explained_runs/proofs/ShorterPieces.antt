@@ -41,7 +41,8 @@ pub record TailOf (scope : Scope) (rest : List Piece) (front : List Event) : Typ
   pub stands : MayStand scope rest tail
 
 -- a tail that comes where a piece comes
-as_tail : (scope : Scope) (rest : List Piece) (piece tail : Piece) (front : List Event) (row : Event)
+as_tail : (scope : Scope) (rest : List Piece) (piece tail : Piece) (front : List Event)
+    (row : Event)
     → front ≢ [] → piece_events piece ≡ front ++ row ∷ [] → IsTail tail
     → piece_events tail ≡ front → IsSaid scope tail
     → ((to : Event) → MayCome piece (position_of scope rest) (last_of (events_of rest)) to

@@ -63,6 +63,7 @@ of_devices scope report =
 pub of_yes : (scope : Scope) (report : Report) → has_float (yes_data scope report) ≡ false
 of_yes scope report = rw (of_devices scope report) refl
 
-pub of_outcome : (scope : Scope) (outcome : Outcome) → has_float (outcome_data scope outcome) ≡ false
+pub of_outcome : (scope : Scope) (outcome : Outcome)
+    → has_float (outcome_data scope outcome) ≡ false
 of_outcome scope (Yes report) = of_yes scope report
 of_outcome scope (No offence) = refl

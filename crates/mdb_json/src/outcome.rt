@@ -13,8 +13,8 @@ use mdb_text::Outcome;
 use serde_json::{Value, json};
 use std::alloc::{AllocError, Global};
 
-/// The version of the form: it rises with any change of it, a new member too, as the schema in docs/
-/// takes no other.
+/// The version of the form: it rises with any change of it, a new member too, as the schema in
+/// docs/ takes no other.
 pub const VERSION: u64 = 1;
 
 /// The answer to a recording that is taken as `scope` says, as JSON on one line, without the line

@@ -26,8 +26,11 @@ use Rattle.mdb_show.proofs.ShowTexts.{all_shown}
 use Rattle.mdb_bus.specs.declared.scope.Scope.{Scope}
 
 -- before the first row
-pub begins : (form : LineForm) (scope : Scope) (lines : Lines) (page : List ℕ) → scope_of lines.bus ≡ scope → StandsFor lines.bus [] → lines.rows ≡ 0 → lines.shown ≡ 0 → page ≡ []
-    → (contents : Option (List ℕ)) → HasShown form scope lines (begun contents) (output contents page) []
+pub begins : (form : LineForm) (scope : Scope) (lines : Lines) (page : List ℕ)
+    → scope_of lines.bus ≡ scope → StandsFor lines.bus [] → lines.rows ≡ 0 → lines.shown ≡ 0
+    → page ≡ []
+    → (contents : Option (List ℕ))
+    → HasShown form scope lines (begun contents) (output contents page) []
 begins form scope lines page is stands no_rows none empty contents =
     record {
       in_scope = is;
@@ -41,38 +44,64 @@ begins form scope lines page is stands no_rows none empty contents =
     }
 
 -- The lines of rows are added, or they end at one of them.
-pub added : (form : LineForm) (scope : Scope) (lines : Lines) (before after : Output) (earlier rows : List Event) (answer : Result (Option LinkFault) RunFault) (stop : Option (Result LinkFault RunFault)) → stop ≡ result_transpose answer
-    → HasAdded form scope lines before after earlier rows answer → HasTakenOrStopped (HasShown form scope lines before after) (HasStopped form scope lines before after) earlier rows stop
+pub added : (form : LineForm) (scope : Scope) (lines : Lines) (before after : Output)
+    (earlier rows : List Event) (answer : Result (Option LinkFault) RunFault)
+    (stop : Option (Result LinkFault RunFault)) → stop ≡ result_transpose answer
+    → HasAdded form scope lines before after earlier rows answer
+    → HasTakenOrStopped (HasShown form scope lines before after)
+    (HasStopped form scope lines before after) earlier rows stop
 added form scope lines before after earlier rows (Ok None) stop is adds =
-    let P : Option (Result LinkFault RunFault) → Type 0 = λ s. HasTakenOrStopped (HasShown form scope lines before after) (HasStopped form scope lines before after) earlier rows s in
+    let P : Option (Result LinkFault RunFault) → Type 0 = λ s.
+    HasTakenOrStopped (HasShown form scope lines before after)
+    (HasStopped form scope lines before after) earlier rows s in
     subst P (sym is) adds
 added form scope lines before after earlier rows (Ok (Some fault)) stop is adds =
-    let P : Option (Result LinkFault RunFault) → Type 0 = λ s. HasTakenOrStopped (HasShown form scope lines before after) (HasStopped form scope lines before after) earlier rows s in
+    let P : Option (Result LinkFault RunFault) → Type 0 = λ s.
+    HasTakenOrStopped (HasShown form scope lines before after)
+    (HasStopped form scope lines before after) earlier rows s in
     subst P (sym is) adds
 added form scope lines before after earlier rows (Err fault) stop is adds =
-    let P : Option (Result LinkFault RunFault) → Type 0 = λ s. HasTakenOrStopped (HasShown form scope lines before after) (HasStopped form scope lines before after) earlier rows s in
+    let P : Option (Result LinkFault RunFault) → Type 0 = λ s.
+    HasTakenOrStopped (HasShown form scope lines before after)
+    (HasStopped form scope lines before after) earlier rows s in
     subst P (sym is) adds
 
 -- the pieces of the rows that were read
-shown_of : (form : LineForm) (scope : Scope) (all : List (List (List ℕ))) (rows : List Event) (rest : List (List (List ℕ))) (lines : Lines) (before now : Output) (has : HasShown form scope lines before now rows) → AreRead IsRow all rows rest
+shown_of : (form : LineForm) (scope : Scope) (all : List (List (List ℕ))) (rows : List Event)
+    (rest : List (List (List ℕ))) (lines : Lines) (before now : Output)
+    (has : HasShown form scope lines before now rows) → AreRead IsRow all rows rest
     → AreShown scope all has.pieces rest
 shown_of form scope all rows rest lines before now has read =
     let P : List Event → Type 0 = λ l. AreRows read.done l in
-    record { done = read.done; split = read.split; told = subst P (sym has.are) (are_rows read.done rows read.told); in_order = subst (λ s. ArePieces s has.pieces) has.in_scope has.stands.in_order }
+    record {
+      done = read.done;
+      split = read.split;
+      told = subst P (sym has.are) (are_rows read.done rows read.told);
+      in_order = subst (λ s. ArePieces s has.pieces) has.in_scope has.stands.in_order;
+    }
 
 -- so many rows
-count_of : (form : LineForm) (scope : Scope) (rows : List Event) (lines : Lines) (before now : Output) (has : HasShown form scope lines before now rows) → length (events_of has.pieces) ≡ length rows
+count_of : (form : LineForm) (scope : Scope) (rows : List Event) (lines : Lines)
+    (before now : Output) (has : HasShown form scope lines before now rows)
+    → length (events_of has.pieces) ≡ length rows
 count_of form scope rows lines before now has = ap length has.are
 
 -- all records are shown, with the line of a tail
-whole_showing : (form : LineForm) (scope : Scope) (all : List (List (List ℕ))) (lines : Lines) (before now : Output) (ended : IsTakenWhole IsRow (HasShown form scope lines before now) ROWS_MAX all)
-    → IsShownWholeIn form scope all (lines_of form (closed_pieces ended.has.pieces) ++ cut_text form lines.shown lines.rows)
+whole_showing : (form : LineForm) (scope : Scope) (all : List (List (List ℕ))) (lines : Lines)
+    (before now : Output)
+    (ended : IsTakenWhole IsRow (HasShown form scope lines before now) ROWS_MAX all)
+    → IsShownWholeIn form scope all
+    (lines_of form (closed_pieces ended.has.pieces) ++ cut_text form lines.shown lines.rows)
 whole_showing form scope all lines before now ended =
     let has : HasShown form scope lines before now ended.rows = ended.has in
     let counted : length (events_of has.pieces) ≡ lines.rows = ap length has.are ∙ has.counted in
-    let text : lines_of form has.pieces ≡ lines_of form (closed_pieces has.pieces) ++ cut_text form lines.shown lines.rows =
+    let text : lines_of form has.pieces
+    ≡ lines_of form (closed_pieces has.pieces) ++ cut_text form lines.shown lines.rows =
     all_shown form (scope_of lines.bus) has.pieces has.stands.in_order
-    ∙ (ap (λ n. lines_of form (closed_pieces has.pieces) ++ cut_text form n (length (events_of has.pieces))) has.closed ∙ ap (λ n. lines_of form (closed_pieces has.pieces) ++ cut_text form lines.shown n) counted) in
+    ∙ (ap (λ n. lines_of form (closed_pieces has.pieces)
+    ++ cut_text form n (length (events_of has.pieces))) has.closed
+    ∙ ap (λ n. lines_of form (closed_pieces has.pieces) ++ cut_text form lines.shown n)
+    counted) in
     record {
       pieces = has.pieces;
       shown = shown_of form scope all ended.rows [] lines before now has ended.read;
@@ -81,19 +110,26 @@ whole_showing form scope all lines before now ended =
     }
 
 -- the text ends
-pub whole : (form : LineForm) (scope : Scope) (all : List (List (List ℕ))) (lines : Lines) (before now later : Output) → IsTakenWhole IsRow (HasShown form scope lines before now) ROWS_MAX all → Puts now later (cut_text form lines.shown lines.rows)
+pub whole : (form : LineForm) (scope : Scope) (all : List (List (List ℕ))) (lines : Lines)
+    (before now later : Output)
+    → IsTakenWhole IsRow (HasShown form scope lines before now) ROWS_MAX all
+    → Puts now later (cut_text form lines.shown lines.rows)
     → PutsShowing form scope all before later (Ok None)
 whole form scope all lines before now later ended cut =
     let lines_text : List ℕ = lines_of form (closed_pieces ended.has.pieces) in
     inl (
       lines_text ++ cut_text form lines.shown lines.rows,
       whole_showing form scope all lines before now ended,
-      put_both before now later lines_text (cut_text form lines.shown lines.rows) ended.has.written cut,
+      put_both before now later lines_text (cut_text form lines.shown lines.rows) ended.has.written
+          cut,
     )
 
 -- the line of a tail isn't put there
-untaken : (form : LineForm) (scope : Scope) (all : List (List (List ℕ))) (lines : Lines) (before now later : Output) → IsTakenWhole IsRow (HasShown form scope lines before now) ROWS_MAX all
-    → (fault : RunFault) → IsNotTaken fault now later (cut_text form lines.shown lines.rows) → PutsShowing form scope all before later (Err fault)
+untaken : (form : LineForm) (scope : Scope) (all : List (List (List ℕ))) (lines : Lines)
+    (before now later : Output)
+    → IsTakenWhole IsRow (HasShown form scope lines before now) ROWS_MAX all
+    → (fault : RunFault) → IsNotTaken fault now later (cut_text form lines.shown lines.rows)
+    → PutsShowing form scope all before later (Err fault)
 untaken form scope all lines before now later ended (BadRow row fault) not_taken = absurd not_taken
 untaken form scope all lines before now later ended TooLong not_taken = absurd not_taken
 untaken form scope all lines before now later ended Read not_taken = absurd not_taken
@@ -105,35 +141,53 @@ untaken form scope all lines before now later ended Write not_taken =
         answer = Ok None;
         text = text ++ cut_text form lines.shown lines.rows;
         showing = whole_showing form scope all lines before now ended;
-        broken = break_both before now later text (cut_text form lines.shown lines.rows) ended.has.written not_taken;
+        broken =
+            break_both before now later text (cut_text form lines.shown lines.rows)
+            ended.has.written not_taken;
       },
     )
 untaken form scope all lines before now later ended Memory not_taken =
     let P : Output → Type 0 = λ bytes. PutsShowing form scope all before bytes (Err Memory) in
-    let shown : AreShown scope all ended.has.pieces [] = shown_of form scope all ended.rows [] lines before now ended.has ended.read in
+    let shown : AreShown scope all ended.has.pieces [] =
+    shown_of form scope all ended.rows [] lines before now ended.has ended.read in
     subst P (sym not_taken)
-    (inl (lines_of form (closed_pieces ended.has.pieces), record { pieces = ended.has.pieces; rest = []; shown = shown; lines = refl }, ended.has.written))
+    (inl (
+      lines_of form (closed_pieces ended.has.pieces),
+      record { pieces = ended.has.pieces; rest = []; shown = shown; lines = refl },
+      ended.has.written,
+    ))
 
-pub cut_refused : (form : LineForm) (scope : Scope) (all : List (List (List ℕ))) (lines : Lines) (before now later : Output) → IsTakenWhole IsRow (HasShown form scope lines before now) ROWS_MAX all
+pub cut_refused : (form : LineForm) (scope : Scope) (all : List (List (List ℕ))) (lines : Lines)
+    (before now later : Output)
+    → IsTakenWhole IsRow (HasShown form scope lines before now) ROWS_MAX all
     → (fault : RunFault) → IsNotTaken fault now later (cut_text form lines.shown lines.rows)
-    → (answer : Result (Option LinkFault) RunFault) → IsErrAnd answer (λ told. told ≡ fault) → PutsShowing form scope all before later answer
-cut_refused form scope all lines before now later ended fault not_taken (Ok showing) told_is = absurd told_is
+    → (answer : Result (Option LinkFault) RunFault) → IsErrAnd answer (λ told. told ≡ fault)
+    → PutsShowing form scope all before later answer
+cut_refused form scope all lines before now later ended fault not_taken (Ok showing) told_is =
+    absurd told_is
 cut_refused form scope all lines before now later ended fault not_taken (Err told) told_is =
     let P : RunFault → Type 0 = λ f. PutsShowing form scope all before later (Err f) in
     subst P (sym told_is) (untaken form scope all lines before now later ended fault not_taken)
 
 -- a record isn't taken, or can't be read
-refused_by : (form : LineForm) (scope : Scope) (all : List (List (List ℕ))) (lines : Lines) (before now : Output) (fault : RunFault)
-    → HasEnded IsRow IsRefusal (HasShown form scope lines before now) (HasStopped form scope lines before now) ROWS_MAX all (Err fault) → PutsShowing form scope all before now (Err fault)
+refused_by : (form : LineForm) (scope : Scope) (all : List (List (List ℕ))) (lines : Lines)
+    (before now : Output) (fault : RunFault)
+    → HasEnded IsRow IsRefusal (HasShown form scope lines before now)
+    (HasStopped form scope lines before now) ROWS_MAX all (Err fault)
+    → PutsShowing form scope all before now (Err fault)
 refused_by form scope all lines before now (BadRow row fault) ended =
     let has : HasShown form scope lines before now ended.rows = ended.has in
-    let counted : length (events_of has.pieces) ≡ length ended.rows = count_of form scope ended.rows lines before now has in inl (
+    let counted : length (events_of has.pieces) ≡ length ended.rows =
+    count_of form scope ended.rows lines before now has in
+    inl (
       lines_of form (closed_pieces has.pieces),
       record {
         pieces = has.pieces;
         fields = ended.fields;
         rest = ended.rest;
-        shown = shown_of form scope all ended.rows (ended.fields ∷ ended.rest) lines before now has ended.read;
+        shown =
+            shown_of form scope all ended.rows (ended.fields ∷ ended.rest) lines before now has
+            ended.read;
         few = omega (arith, counted, ended.few);
         number = omega (arith, counted, ended.number);
         refused = ended.refused;
@@ -148,23 +202,38 @@ refused_by form scope all lines before now TooLong ended =
         pieces = has.pieces;
         fields = ended.fields;
         rest = ended.rest;
-        shown = shown_of form scope all ended.rows (ended.fields ∷ ended.rest) lines before now has ended.read;
+        shown =
+            shown_of form scope all ended.rows (ended.fields ∷ ended.rest) lines before now has
+            ended.read;
         full = count_of form scope ended.rows lines before now has ∙ ended.full;
         lines = refl;
       },
       has.written,
     )
 refused_by form scope all lines before now Read ended =
-    let shown : AreShown scope all ended.has.pieces ended.rest = shown_of form scope all ended.rows ended.rest lines before now ended.has ended.read in
-    inl (lines_of form (closed_pieces ended.has.pieces), record { pieces = ended.has.pieces; rest = ended.rest; shown = shown; lines = refl }, ended.has.written)
+    let shown : AreShown scope all ended.has.pieces ended.rest =
+    shown_of form scope all ended.rows ended.rest lines before now ended.has ended.read in
+    inl (
+      lines_of form (closed_pieces ended.has.pieces),
+      record { pieces = ended.has.pieces; rest = ended.rest; shown = shown; lines = refl },
+      ended.has.written,
+    )
 refused_by form scope all lines before now Memory ended =
-    let shown : AreShown scope all ended.has.pieces ended.rest = shown_of form scope all ended.rows ended.rest lines before now ended.has ended.read in
-    inl (lines_of form (closed_pieces ended.has.pieces), record { pieces = ended.has.pieces; rest = ended.rest; shown = shown; lines = refl }, ended.has.written)
+    let shown : AreShown scope all ended.has.pieces ended.rest =
+    shown_of form scope all ended.rows ended.rest lines before now ended.has ended.read in
+    inl (
+      lines_of form (closed_pieces ended.has.pieces),
+      record { pieces = ended.has.pieces; rest = ended.rest; shown = shown; lines = refl },
+      ended.has.written,
+    )
 refused_by form scope all lines before now Write ended = absurd ended
 
-pub refused : (form : LineForm) (scope : Scope) (all : List (List (List ℕ))) (lines : Lines) (before now : Output) (fault : RunFault)
-    → HasEnded IsRow IsRefusal (HasShown form scope lines before now) (HasStopped form scope lines before now) ROWS_MAX all (Err fault)
-    → (answer : Result (Option LinkFault) RunFault) → IsErrAnd answer (λ told. told ≡ fault) → PutsShowing form scope all before now answer
+pub refused : (form : LineForm) (scope : Scope) (all : List (List (List ℕ))) (lines : Lines)
+    (before now : Output) (fault : RunFault)
+    → HasEnded IsRow IsRefusal (HasShown form scope lines before now)
+    (HasStopped form scope lines before now) ROWS_MAX all (Err fault)
+    → (answer : Result (Option LinkFault) RunFault) → IsErrAnd answer (λ told. told ≡ fault)
+    → PutsShowing form scope all before now answer
 refused form scope all lines before now fault ended (Ok showing) told_is = absurd told_is
 refused form scope all lines before now fault ended (Err told) told_is =
     let P : RunFault → Type 0 = λ f. PutsShowing form scope all before now (Err f) in
@@ -173,21 +242,36 @@ refused form scope all lines before now fault ended (Err told) told_is =
 -- Where they end at one of the later rows.
 
 -- the pieces up to a row that breaks a rule of the link, and its text, are of the records
-fault_showing : (form : LineForm) (scope : Scope) (all : List (List (List ℕ))) (earlier later : List Event) (rest : List (List (List ℕ))) → AreRead IsRow all (earlier ++ later) rest → length (earlier ++ later) ≤ ROWS_MAX
-    → (fault : LinkFault) (text : List ℕ) → IsAddedToFault form scope earlier later fault text → IsShownToFaultIn form scope all fault text
+fault_showing : (form : LineForm) (scope : Scope) (all : List (List (List ℕ)))
+    (earlier later : List Event) (rest : List (List (List ℕ)))
+    → AreRead IsRow all (earlier ++ later) rest → length (earlier ++ later) ≤ ROWS_MAX
+    → (fault : LinkFault) (text : List ℕ) → IsAddedToFault form scope earlier later fault text
+    → IsShownToFaultIn form scope all fault text
 fault_showing form scope all earlier later rest read few fault text added =
     let lead : LeadInto scope earlier later added.pieces = added.lead in
     let parts : earlier ++ later ≡ (earlier ++ lead.front) ++ added.row ∷ added.after =
-    ap (λ l. earlier ++ l) (lead.parts ∙ ap (λ l. lead.front ++ l) added.next) ∙ sym (append_assoc earlier lead.front (added.row ∷ added.after)) in
+    ap (λ l. earlier ++ l) (lead.parts ∙ ap (λ l. lead.front ++ l) added.next)
+    ∙ sym (append_assoc earlier lead.front (added.row ∷ added.after)) in
     let P : List Event → Type 0 = λ l. AreRead IsRow all l rest in
-    let up_to : IsReadUpTo IsRow all (earlier ++ lead.front) added.row = read_up_to IsRow all (earlier ++ lead.front) added.row added.after rest (subst P parts read) in
-    let counted : length (earlier ++ later) ≡ length (earlier ++ lead.front) + length (added.row ∷ added.after) = ap length parts ∙ length-append (earlier ++ lead.front) (added.row ∷ added.after) in
+    let up_to : IsReadUpTo IsRow all (earlier ++ lead.front) added.row =
+    read_up_to IsRow all (earlier ++ lead.front) added.row added.after rest
+    (subst P parts read) in
+    let counted : length (earlier ++ later)
+    ≡ length (earlier ++ lead.front) + length (added.row ∷ added.after) =
+    ap length parts ∙ length-append (earlier ++ lead.front) (added.row ∷ added.after) in
     let Q : List Event → Type 0 = λ l. AreRows up_to.read.done l in
     record {
       pieces = added.pieces;
       fields = up_to.fields;
       rest = up_to.rest;
-      shown = record { done = up_to.read.done; split = up_to.read.split; told = subst Q (sym lead.are) (are_rows up_to.read.done (earlier ++ lead.front) up_to.read.told); in_order = lead.in_order };
+      shown = record {
+        done = up_to.read.done;
+        split = up_to.read.split;
+        told =
+            subst Q (sym lead.are)
+            (are_rows up_to.read.done (earlier ++ lead.front) up_to.read.told);
+        in_order = lead.in_order;
+      };
       few = omega (arith, counted, ap length lead.are, few);
       row = added.row;
       row_told = up_to.told;
@@ -196,48 +280,102 @@ fault_showing form scope all earlier later rest read few fault text added =
     }
 
 -- and so are those of some of the rows
-part_showing : (form : LineForm) (scope : Scope) (all : List (List (List ℕ))) (earlier later : List Event) (rest : List (List (List ℕ))) → AreRead IsRow all (earlier ++ later) rest → (text : List ℕ) → IsAddedInPart form scope earlier later text → IsShownInPartIn form scope all text
+part_showing : (form : LineForm) (scope : Scope) (all : List (List (List ℕ)))
+    (earlier later : List Event) (rest : List (List (List ℕ)))
+    → AreRead IsRow all (earlier ++ later) rest → (text : List ℕ)
+    → IsAddedInPart form scope earlier later text → IsShownInPartIn form scope all text
 part_showing form scope all earlier later rest read text added =
     let lead : LeadInto scope earlier later added.pieces = added.lead in
-    let parts : earlier ++ later ≡ (earlier ++ lead.front) ++ lead.rest = ap (λ l. earlier ++ l) lead.parts ∙ sym (append_assoc earlier lead.front lead.rest) in
+    let parts : earlier ++ later ≡ (earlier ++ lead.front) ++ lead.rest =
+    ap (λ l. earlier ++ l) lead.parts ∙ sym (append_assoc earlier lead.front lead.rest) in
     let P : List Event → Type 0 = λ l. AreRead IsRow all l rest in
-    let before : IsReadBefore IsRow all (earlier ++ lead.front) lead.rest = read_before IsRow all (earlier ++ lead.front) lead.rest rest (subst P parts read) in
+    let before : IsReadBefore IsRow all (earlier ++ lead.front) lead.rest =
+    read_before IsRow all (earlier ++ lead.front) lead.rest rest (subst P parts read) in
     let Q : List Event → Type 0 = λ l. AreRows before.read.done l in
     record {
       pieces = added.pieces;
       rest = before.after ++ before.rest;
-      shown = record { done = before.read.done; split = before.read.split; told = subst Q (sym lead.are) (are_rows before.read.done (earlier ++ lead.front) before.read.told); in_order = lead.in_order };
+      shown = record {
+        done = before.read.done;
+        split = before.read.split;
+        told =
+            subst Q (sym lead.are)
+            (are_rows before.read.done (earlier ++ lead.front) before.read.told);
+        in_order = lead.in_order;
+      };
       lines = added.lines;
     }
 
 -- a text that these rows may come to is one of the records
-showing_of : (form : LineForm) (scope : Scope) (all : List (List (List ℕ))) (earlier later : List Event) (rest : List (List (List ℕ))) → AreRead IsRow all (earlier ++ later) rest → length (earlier ++ later) ≤ ROWS_MAX
-    → (text : List ℕ) → IsAdded form scope earlier later text → (answer : Result (Option LinkFault) RunFault) × IsShowingIn form scope all answer text
-showing_of form scope all earlier later rest read few text (inl part) = (Err Memory, part_showing form scope all earlier later rest read text part)
-showing_of form scope all earlier later rest read few text (inr to_fault) = (Ok (Some to_fault.0), fault_showing form scope all earlier later rest read few to_fault.0 text to_fault.1)
+showing_of : (form : LineForm) (scope : Scope) (all : List (List (List ℕ)))
+    (earlier later : List Event) (rest : List (List (List ℕ)))
+    → AreRead IsRow all (earlier ++ later) rest → length (earlier ++ later) ≤ ROWS_MAX
+    → (text : List ℕ) → IsAdded form scope earlier later text
+    → (answer : Result (Option LinkFault) RunFault) × IsShowingIn form scope all answer text
+showing_of form scope all earlier later rest read few text (inl part) =
+    (Err Memory, part_showing form scope all earlier later rest read text part)
+showing_of form scope all earlier later rest read few text (inr to_fault) = (
+  Ok (Some to_fault.0),
+  fault_showing form scope all earlier later rest read few to_fault.0 text to_fault.1,
+)
 
 -- a row breaks a rule of the link
-pub at_fault : (form : LineForm) (scope : Scope) (all : List (List (List ℕ))) (lines : Lines) (before after : Output) (fault : LinkFault)
-    → IsStopped IsRow (λ earlier later. HasStopped form scope lines before after earlier later (Ok fault)) ROWS_MAX all → PutsShowing form scope all before after (Ok (Some fault))
+pub at_fault : (form : LineForm) (scope : Scope) (all : List (List (List ℕ))) (lines : Lines)
+    (before after : Output) (fault : LinkFault)
+    → IsStopped IsRow
+    (λ earlier later. HasStopped form scope lines before after earlier later (Ok fault))
+    ROWS_MAX all
+    → PutsShowing form scope all before after (Ok (Some fault))
 at_fault form scope all lines before after fault ended =
-    let added : (text : List ℕ) × IsAddedToFault form scope ended.earlier ended.later fault text × Puts before after text = ended.stops in
-    inl (added.0, fault_showing form scope all ended.earlier ended.later ended.rest ended.read ended.few fault added.0 added.1, added.2)
+    let added : (text : List ℕ) × IsAddedToFault form scope ended.earlier ended.later fault text
+    × Puts before after text =
+    ended.stops in
+    inl (
+      added.0,
+      fault_showing form scope all ended.earlier ended.later ended.rest ended.read ended.few
+          fault added.0 added.1,
+      added.2,
+    )
 
 -- a line isn't taken
-untaken_by : (form : LineForm) (scope : Scope) (all : List (List (List ℕ))) (lines : Lines) (before after : Output) (fault : RunFault)
-    → IsStopped IsRow (λ earlier later. HasStopped form scope lines before after earlier later (Err fault)) ROWS_MAX all → PutsShowing form scope all before after (Err fault)
+untaken_by : (form : LineForm) (scope : Scope) (all : List (List (List ℕ))) (lines : Lines)
+    (before after : Output) (fault : RunFault)
+    → IsStopped IsRow
+    (λ earlier later. HasStopped form scope lines before after earlier later (Err fault))
+    ROWS_MAX all
+    → PutsShowing form scope all before after (Err fault)
 untaken_by form scope all lines before after (BadRow row fault) ended = absurd ended.stops
 untaken_by form scope all lines before after TooLong ended = absurd ended.stops
 untaken_by form scope all lines before after Read ended = absurd ended.stops
 untaken_by form scope all lines before after Write ended =
-    let would : (answer : Result (Option LinkFault) RunFault) × IsShowingIn form scope all answer ended.stops.0 = showing_of form scope all ended.earlier ended.later ended.rest ended.read ended.few ended.stops.0 ended.stops.1 in
-    inr (refl, record { answer = would.0; text = ended.stops.0; showing = would.1; broken = ended.stops.2 })
+    let would : (answer : Result (Option LinkFault) RunFault)
+    × IsShowingIn form scope all answer ended.stops.0 =
+    showing_of form scope all ended.earlier ended.later ended.rest ended.read ended.few
+    ended.stops.0 ended.stops.1 in
+    inr (
+      refl,
+      record {
+        answer = would.0;
+        text = ended.stops.0;
+        showing = would.1;
+        broken = ended.stops.2;
+      },
+    )
 untaken_by form scope all lines before after Memory ended =
-    inl (ended.stops.0, part_showing form scope all ended.earlier ended.later ended.rest ended.read ended.stops.0 ended.stops.1, ended.stops.2)
+    inl (
+      ended.stops.0,
+      part_showing form scope all ended.earlier ended.later ended.rest ended.read
+          ended.stops.0 ended.stops.1,
+      ended.stops.2,
+    )
 
-pub line_untaken : (form : LineForm) (scope : Scope) (all : List (List (List ℕ))) (lines : Lines) (before after : Output) (fault : RunFault)
-    → IsStopped IsRow (λ earlier later. HasStopped form scope lines before after earlier later (Err fault)) ROWS_MAX all
-    → (answer : Result (Option LinkFault) RunFault) → IsErrAnd answer (λ told. told ≡ fault) → PutsShowing form scope all before after answer
+pub line_untaken : (form : LineForm) (scope : Scope) (all : List (List (List ℕ))) (lines : Lines)
+    (before after : Output) (fault : RunFault)
+    → IsStopped IsRow
+    (λ earlier later. HasStopped form scope lines before after earlier later (Err fault))
+    ROWS_MAX all
+    → (answer : Result (Option LinkFault) RunFault) → IsErrAnd answer (λ told. told ≡ fault)
+    → PutsShowing form scope all before after answer
 line_untaken form scope all lines before after fault ended (Ok showing) is = absurd is
 line_untaken form scope all lines before after fault ended (Err told) is =
     let P : RunFault → Type 0 = λ f. PutsShowing form scope all before after (Err f) in
@@ -247,25 +385,32 @@ line_untaken form scope all lines before after fault ended (Err told) is =
 
 -- a fault is handed on
 
-pub fault_not_whole : (fault : RunFault) (answer : Result (Option LinkFault) RunFault) → IsErrAnd answer (λ other. other ≡ fault) → answer ≡ Ok None → ⊥
+pub fault_not_whole : (fault : RunFault) (answer : Result (Option LinkFault) RunFault)
+    → IsErrAnd answer (λ other. other ≡ fault) → answer ≡ Ok None → ⊥
 fault_not_whole fault (Ok shown) handed is = handed
 fault_not_whole fault (Err other) handed is = absurd (cc)
 
-pub heard_fault : {Stop : Type 0} (told : Result (Option Stop) RunFault) (fault : RunFault) (met : Option ReadFault) → IfErr told (IsHeard met) → told ≡ Err fault → (answer : Result (Option LinkFault) RunFault) → IsErrAnd answer (λ other. other ≡ fault)
+pub heard_fault : {Stop : Type 0} (told : Result (Option Stop) RunFault) (fault : RunFault)
+    (met : Option ReadFault) → IfErr told (IsHeard met) → told ≡ Err fault
+    → (answer : Result (Option LinkFault) RunFault) → IsErrAnd answer (λ other. other ≡ fault)
     → IfErr answer (λ other. other ≡ Read → met ≡ Some reading.Read)
 heard_fault told fault met known is (Ok shown) handed = absurd handed
-heard_fault told fault met known is (Err other) handed = λ reads. subst (IsHeard met) (sym handed ∙ reads) (subst (λ t. IfErr t (IsHeard met)) is known)
+heard_fault told fault met known is (Err other) handed =
+    λ reads. subst (IsHeard met) (sym handed ∙ reads) (subst (λ t. IfErr t (IsHeard met)) is known)
 
 shown_by : (failed : ReadFault) → IsShownAs failed (Err (run_fault_of failed))
 shown_by reading.Read = refl
 shown_by reading.Memory = tt
 
-pub met_fault : {Stop : Type 0} (told : Result (Option Stop) RunFault) (fault : RunFault) (met : Option ReadFault) → IfSome met (λ failed. IsToldEnd failed told) → told ≡ Err fault → (answer : Result (Option LinkFault) RunFault) → IsErrAnd answer (λ other. other ≡ fault)
+pub met_fault : {Stop : Type 0} (told : Result (Option Stop) RunFault) (fault : RunFault)
+    (met : Option ReadFault) → IfSome met (λ failed. IsToldEnd failed told) → told ≡ Err fault
+    → (answer : Result (Option LinkFault) RunFault) → IsErrAnd answer (λ other. other ≡ fault)
     → IfSome met (λ failed. IsShownAs failed answer)
 met_fault told fault met known is (Ok shown) handed = absurd handed
 met_fault told fault None known is (Err other) handed = tt
 met_fault {Stop = Stop} told fault (Some failed) known is (Err other) handed =
-    let same : fault ≡ run_fault_of failed = subst (λ (t : Result (Option Stop) RunFault). IsToldEnd failed t) is known in
+    let same : fault ≡ run_fault_of failed =
+    subst (λ (t : Result (Option Stop) RunFault). IsToldEnd failed t) is known in
     subst (λ f. IsShownAs failed (Err f)) (sym (handed ∙ same)) (shown_by failed)
 
 -- a fault of what is written is none of the reading
@@ -277,34 +422,47 @@ IsOfOutput Read = ⊥
 IsOfOutput Write = Unit {0}
 IsOfOutput Memory = Unit {0}
 
-added_of_output : (form : LineForm) (scope : Scope) (lines : Lines) (before after : Output) (earlier rows : List Event) (fault : RunFault) → HasAdded form scope lines before after earlier rows (Err fault) → IsOfOutput fault
+added_of_output : (form : LineForm) (scope : Scope) (lines : Lines) (before after : Output)
+    (earlier rows : List Event) (fault : RunFault)
+    → HasAdded form scope lines before after earlier rows (Err fault) → IsOfOutput fault
 added_of_output form scope lines before after earlier rows (BadRow row fault) added = absurd added
 added_of_output form scope lines before after earlier rows TooLong added = absurd added
 added_of_output form scope lines before after earlier rows Read added = absurd added
 added_of_output form scope lines before after earlier rows Write added = tt
 added_of_output form scope lines before after earlier rows Memory added = tt
 
-pub stop_of_output : (form : LineForm) (scope : Scope) (lines : Lines) (before after : Output) (stop : Result LinkFault RunFault) (fault : RunFault) → IsStop (HasStopped form scope lines before after) stop → stop ≡ Err fault → IsOfOutput fault
+pub stop_of_output : (form : LineForm) (scope : Scope) (lines : Lines) (before after : Output)
+    (stop : Result LinkFault RunFault) (fault : RunFault)
+    → IsStop (HasStopped form scope lines before after) stop → stop ≡ Err fault → IsOfOutput fault
 stop_of_output form scope lines before after stop fault stopped is =
-    added_of_output form scope lines before after stopped.0 stopped.1 fault (subst (λ s. HasStopped form scope lines before after stopped.0 stopped.1 s) is stopped.2)
+    added_of_output form scope lines before after stopped.0 stopped.1 fault
+    (subst (λ s. HasStopped form scope lines before after stopped.0 stopped.1 s) is stopped.2)
 
-pub heard_output : (met : Option ReadFault) (fault : RunFault) → IsOfOutput fault → (answer : Result (Option LinkFault) RunFault) → IsErrAnd answer (λ other. other ≡ fault) → IfErr answer (λ other. other ≡ Read → met ≡ Some reading.Read)
+pub heard_output : (met : Option ReadFault) (fault : RunFault) → IsOfOutput fault
+    → (answer : Result (Option LinkFault) RunFault) → IsErrAnd answer (λ other. other ≡ fault)
+    → IfErr answer (λ other. other ≡ Read → met ≡ Some reading.Read)
 heard_output met fault of (Ok shown) handed = absurd handed
-heard_output met fault of (Err other) handed = λ reads. absurd (subst IsOfOutput (sym handed ∙ reads) of)
+heard_output met fault of (Err other) handed =
+    λ reads. absurd (subst IsOfOutput (sym handed ∙ reads) of)
 
-output_shown : (failed : ReadFault) (fault : RunFault) → IsOfOutput fault → IsShownAs failed (Err fault)
+output_shown : (failed : ReadFault) (fault : RunFault) → IsOfOutput fault
+    → IsShownAs failed (Err fault)
 output_shown failed (BadRow row fault) of = absurd of
 output_shown failed TooLong of = absurd of
 output_shown failed Read of = absurd of
 output_shown failed Write of = tt
 output_shown failed Memory of = tt
 
-pub met_output : (met : Option ReadFault) (fault : RunFault) → IsOfOutput fault → (answer : Result (Option LinkFault) RunFault) → IsErrAnd answer (λ other. other ≡ fault) → IfSome met (λ failed. IsShownAs failed answer)
+pub met_output : (met : Option ReadFault) (fault : RunFault) → IsOfOutput fault
+    → (answer : Result (Option LinkFault) RunFault) → IsErrAnd answer (λ other. other ≡ fault)
+    → IfSome met (λ failed. IsShownAs failed answer)
 met_output met fault of (Ok shown) handed = absurd handed
 met_output None fault of (Err other) handed = tt
-met_output (Some failed) fault of (Err other) handed = subst (λ f. IsShownAs failed (Err f)) (sym handed) (output_shown failed fault of)
+met_output (Some failed) fault of (Err other) handed =
+    subst (λ f. IsShownAs failed (Err f)) (sym handed) (output_shown failed fault of)
 
-pub not_taken_of_output : (fault : RunFault) (before after : Output) (text : List ℕ) → IsNotTaken fault before after text → IsOfOutput fault
+pub not_taken_of_output : (fault : RunFault) (before after : Output) (text : List ℕ)
+    → IsNotTaken fault before after text → IsOfOutput fault
 not_taken_of_output (BadRow row fault) before after text not = absurd not
 not_taken_of_output TooLong before after text not = absurd not
 not_taken_of_output Read before after text not = absurd not
@@ -312,7 +470,8 @@ not_taken_of_output Write before after text not = tt
 not_taken_of_output Memory before after text not = tt
 
 -- a row that cannot be is told before any
-pub met_at_fault : (met : Option ReadFault) (fault : LinkFault) → IfSome met (λ failed. IsShownAs failed (Ok (Some fault)))
+pub met_at_fault : (met : Option ReadFault) (fault : LinkFault)
+    → IfSome met (λ failed. IsShownAs failed (Ok (Some fault)))
 met_at_fault None fault = tt
 met_at_fault (Some failed) fault = tt
 
@@ -323,6 +482,9 @@ not_whole_met None answer shown some is = absurd cc
 not_whole_met (Some failed) answer shown some is = subst (IsShownAs failed) is shown
 
 -- none was met where all rows were read
-pub met_whole : {Stop : Type 0} (told : Result (Option Stop) RunFault) (stop : Option Stop) (met : Option ReadFault) → IfSome met (λ failed. IsToldEnd failed told) → told ≡ Ok stop → stop ≡ None → IfSome met (λ failed. ⊥)
+pub met_whole : {Stop : Type 0} (told : Result (Option Stop) RunFault) (stop : Option Stop)
+    (met : Option ReadFault) → IfSome met (λ failed. IsToldEnd failed told) → told ≡ Ok stop
+    → stop ≡ None → IfSome met (λ failed. ⊥)
 met_whole {Stop = Stop} told stop None known is none = tt
-met_whole {Stop = Stop} told stop (Some failed) known is none = subst (λ (t : Result (Option Stop) RunFault). IsToldEnd failed t) (is ∙ ap Ok none) known
+met_whole {Stop = Stop} told stop (Some failed) known is none =
+    subst (λ (t : Result (Option Stop) RunFault). IsToldEnd failed t) (is ∙ ap Ok none) known

@@ -174,7 +174,8 @@ fn show_rows<F: Form, R: Read + Drop, W: Write>(
     writer: &mut W,
 ) -> Result<Option<LinkFault>, RunFault>
     requires { HasShown F.lines (scope_of showing.old.lines.bus) showing.old.lines
-        (begun (W.contents writer.old)) (output (W.contents writer.old) showing.old.printer.page) [] }
+        (begun (W.contents writer.old)) (output (W.contents writer.old) showing.old.printer.page)
+        [] }
     ensures shows { (all : List (List (List ℕ))) → ToCome R.remaining records.old all
         → PutsShowing F.lines (scope_of showing.old.lines.bus) all (begun (W.contents writer.old))
         (output (W.contents writer.new) showing.new.printer.page) result }
@@ -241,10 +242,12 @@ impl<F: Form, W: Write> TakeRows<W> for Showing<F> {
     ghost scope = { λ showing. scope_of showing.lines.bus };
 
     ghost has = { λ showing before after rows. HasShown F.lines (scope_of showing.lines.bus)
-        showing.lines (begun (W.contents before)) (output (W.contents after) showing.printer.page) rows };
+        showing.lines (begun (W.contents before)) (output (W.contents after) showing.printer.page)
+        rows };
 
     ghost stops = { λ showing before after. HasStopped F.lines (scope_of showing.lines.bus)
-        showing.lines (begun (W.contents before)) (output (W.contents after) showing.printer.page) };
+        showing.lines (begun (W.contents before))
+        (output (W.contents after) showing.printer.page) };
 
     fn rows_taken(&self) -> u64 {
         self.lines.rows

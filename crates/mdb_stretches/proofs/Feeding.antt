@@ -22,7 +22,8 @@ pub fed_to : (old mid new : Surveyor) (rows : List Event) (i : ℕ) (row : Event
     → StandsFor new scope (before ++ get_or rows i row ∷ []) (it ∷ ended))
     → EndsAmong old rows it (take (length rows - (i + 1)) (drop (i + 1) rows)) new
 fed_to old mid new rows i row it within has one ends =
-    rw (take_all (length rows - (i + 1)) (drop (i + 1) rows) (omega (arith, length-drop (i + 1) rows)))
+    rw (take_all (length rows - (i + 1)) (drop (i + 1) rows)
+    (omega (arith, length-drop (i + 1) rows)))
     rw add-one (record {
       front = take i rows;
       row = get_or rows i row;

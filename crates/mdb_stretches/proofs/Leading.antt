@@ -5,7 +5,8 @@ use Rattle.mdb_stretches.specs.declared.stretch.Ended.{Ended}
 use Rattle.mdb_stretches.specs.Stretches.{EndsBy, LeadFrom, StretchStart}
 
 -- a row more of the stretch that runs
-pub lead_more : (start : StretchStart) (rows : List Event) (ended : List Ended) (running : List Event)
+pub lead_more : (start : StretchStart) (rows : List Event) (ended : List Ended)
+    (running : List Event)
     (place : StretchStart) (row : Event) → LeadFrom start rows ended running place
     → LeadFrom start (rows ++ row ∷ []) ended (running ++ row ∷ []) place
 lead_more start rows [] running place row lead = (ap (λ l. l ++ row ∷ []) lead.0, lead.1)
@@ -36,7 +37,8 @@ lead_on start rows ended running place row it next lead ends = record {
 }
 
 -- how many rows and faults there are
-pub lead_rows : (start : StretchStart) (rows : List Event) (ended : List Ended) (running : List Event)
+pub lead_rows : (start : StretchStart) (rows : List Event) (ended : List Ended)
+    (running : List Event)
     (place : StretchStart) → LeadFrom start rows ended running place
     → start.rows + length rows ≡ place.rows + length running
 lead_rows start rows [] running place lead =
@@ -49,12 +51,15 @@ lead_rows start rows (it ∷ earlier) running place goes =
     ap (λ (p : StretchStart). p.rows) goes.ends.on in
     omega (arith, before, on, ap length goes.parts, length-append goes.front (goes.row ∷ running))
 
-pub lead_faults : (start : StretchStart) (rows : List Event) (ended : List Ended) (running : List Event)
-    (place : StretchStart) → LeadFrom start rows ended running place → place.faults ≡ start.faults + length ended
+pub lead_faults : (start : StretchStart) (rows : List Event) (ended : List Ended)
+    (running : List Event)
+    (place : StretchStart) → LeadFrom start rows ended running place
+    → place.faults ≡ start.faults + length ended
 lead_faults start rows [] running place lead =
     ap (λ (p : StretchStart). p.faults) lead.1 ∙ omega (arith)
 lead_faults start rows (it ∷ earlier) running place goes =
     let before : goes.from.faults ≡ start.faults + length earlier =
     lead_faults start goes.front earlier goes.before goes.from goes.lead in
-    let on : place.faults ≡ goes.from.faults + 1 = ap (λ (p : StretchStart). p.faults) goes.ends.on in
+    let on : place.faults ≡ goes.from.faults + 1 =
+    ap (λ (p : StretchStart). p.faults) goes.ends.on in
     omega (arith, before, on)

@@ -137,7 +137,8 @@ ended_alike laws from before row it also place at p q =
           ∙ ap (place_after from (length before) (acts_of q.pieces)) offence ∙ sym q.on,
     )
 
-ends_alike : RunLaws → (one other : List Ended) (before rows : List Event) (from there : StretchStart)
+ends_alike : RunLaws
+    → (one other : List Ended) (before rows : List Event) (from there : StretchStart)
     (row last : Event) (it also : Ended) (place at : StretchStart)
     → AreAlike one other before rows from there → row ≡ last → EndsBy from before row it place
     → EndsBy there rows last also at → (it ≡ also) × (place ≡ at)

@@ -174,7 +174,8 @@ pub last_stays : (scope : Scope) (rows : List Event) (ended : List Ended) (last 
     → IsLeftOut last.scope device
 last_stays scope rows ended last device survey is =
     subst (λ (s : Stretch). IsLeftOut s.scope device) (sym survey.is.begins)
-    (stays_left_out (first_place scope) rows ended survey.running survey.place device survey.lead is)
+    (stays_left_out (first_place scope) rows ended survey.running survey.place device survey.lead
+    is)
 
 -- and nobody else is followed again
 followed_before : (start : StretchStart) (rows : List Event) (ended : List Ended)
@@ -268,7 +269,8 @@ in_order scope rows ended last survey =
     let faults : survey.place.faults ≡ 0 + length ended =
     lead_faults (first_place scope) rows ended survey.running survey.place survey.lead in (
       subst (λ n. EndBefore n ended) (sym begins)
-          (ordered (first_place scope) rows ended survey.running survey.place refl refl survey.lead),
+          (ordered (first_place scope) rows ended survey.running survey.place refl refl
+          survey.lead),
       omega (arith, ends, many, counted),
       omega (arith, number, faults),
     )

@@ -62,7 +62,8 @@ pub taken_more : OneActList → (old new : Surveyor) (scope : Scope) (rows : Lis
     → new.told ≡ learnt_if act old.told → new.scope ≡ old.scope → new.before ≡ old.before
     → new.faults ≡ old.faults → new.totals ≡ old.totals
     → StandsFor new scope (rows ++ row ∷ []) ended
-taken_more one old new scope rows ended row act on follows same_scope ends learnt so before faults totals =
+taken_more one old new scope rows ended row act on follows same_scope ends learnt so before faults
+    totals =
     let it : IsEndedAct on.place.scope on.running row act =
     subst (λ s. IsEndedAct s on.running row act) on.followed_so (ends on.running on.follows) in
     record {
@@ -107,7 +108,9 @@ halted_by old now scope rows row ended on met same_scope told so before faults t
       accepted = it.2.accepted on.running on.follows;
       followed_so = same_scope ∙ on.followed_so;
       taken_so = so ∙ on.taken_so;
-      is = subst (λ s. IsOffence s on.running row it.0) on.followed_so (it.2.offence on.running on.follows);
+      is =
+          subst (λ s. IsOffence s on.running row it.0) on.followed_so
+          (it.2.offence on.running on.follows);
       told = λ pieces list. told ∙ on.told pieces list;
       before = before ∙ on.before;
       faults = faults ∙ on.faults;
@@ -133,7 +136,8 @@ same_stretch n m f g l k s t report number first last so =
 -- as many faults were counted as there are
 counted : (counts : FaultCounts) (ended : List Ended) → counts ≡ counts_of ended
     → counts.all ≡ length ended
-counted counts ended is = ap (λ (c : FaultCounts). c.all) is ∙ length-map ended (λ (it : Ended). it.fault)
+counted counts ended is =
+    ap (λ (c : FaultCounts). c.all) is ∙ length-map ended (λ (it : Ended). it.fault)
 
 -- a stretch as the surveyor tells it is that of where it begins
 pub stretch_told : (scope : Scope) (rows : List Event) (ended : List Ended) (running : List Event)
@@ -205,7 +209,8 @@ pub next_stands : OneActList → (old new : Surveyor) (scope : Scope) (rows : Li
         blame = offence.blame;
       };
     } ∷ ended)
-next_stands one old new scope rows row ended offence report taken on noted reports same begun follows_so so told before faults totals =
+next_stands one old new scope rows row ended offence report taken on noted reports same begun
+    follows_so so told before faults totals =
     let pieces : List Piece = on.accepted.pieces in
     let list : IsActList on.place.scope pieces on.running =
     subst (λ s. IsActList s pieces on.running) on.followed_so on.accepted.act_list in
@@ -230,7 +235,8 @@ next_stands one old new scope rows row ended offence report taken on noted repor
         };
         offence = offence;
         is = is;
-        row_is = ap (λ n. record { row = n + offence.row; rule = offence.rule; blame = offence.blame })
+        row_is =
+            ap (λ n. record { row = n + offence.row; rule = offence.rule; blame = offence.blame })
             on.before;
         pieces = pieces;
         act_list = list;

@@ -34,7 +34,8 @@ pub totals_weaker : (limit more : ℕ) (totals : Totals) → limit ≤ more → 
     → AreWithin more totals
 totals_weaker limit more totals le is = record {
   rows = omega (arith, le, is.rows);
-  accounts = λ account. account_weaker limit more (total_of account totals) le (is.accounts account);
+  accounts =
+      λ account. account_weaker limit more (total_of account totals) le (is.accounts account);
   silences = λ device. omega (arith, le, is.silences device);
   unvalued = λ device. omega (arith, le, is.unvalued device);
 }
@@ -42,7 +43,8 @@ totals_weaker limit more totals le is = record {
 report_weaker : (limit more : ℕ) (report : Report) → limit ≤ more → IsReportWithin limit report
     → IsReportWithin more report
 report_weaker limit more report le is = record {
-  accounts = λ account. account_weaker limit more (account_of account report) le (is.accounts account);
+  accounts =
+      λ account. account_weaker limit more (account_of account report) le (is.accounts account);
   silences = λ device. omega (arith, le, is.silences device);
   unvalued = λ device. omega (arith, le, is.unvalued device);
 }

@@ -1,5 +1,5 @@
--- How a recording is divided into stretches and faults (this profile). Lists of faults and of pieces
--- stand newest first, lists of events oldest first.
+-- How a recording is divided into stretches and faults (this profile). Lists of faults and of
+-- pieces stand newest first, lists of events oldest first.
 use Rattle.std.specs.Prelude.{◌≡◌, ◌+◌, ℕ, List, [], ◌∷◌, ◌++◌, length, Option, Some, None, if◌then◌else◌}
 use Rattle.mdb_words.specs.declared.event.Event.{Event}
 use Rattle.mdb_msgs.specs.declared.command.Device.TheVariants as devices
@@ -39,8 +39,8 @@ pub record StretchStart : Type 0 where
 abbrev pub first_place : Scope → StretchStart
 first_place scope = record { faults = 0; rows = 0; scope = scope; told = told_before scope }
 
--- a reader is left out from a `Profile` on that is blamed on it, unless the controller has last told
--- it a feature level below 2
+-- a reader is left out from a `Profile` on that is blamed on it, unless the controller has last
+-- told it a feature level below 2
 abbrev pub without_reader : Told → ReaderUnit → DeviceSet → DeviceSet
 without_reader told unit without =
     if is_told_below_2 told unit then without else with_device without (devices.Reader unit)
@@ -121,9 +121,9 @@ pub record GoesOnAfter (Lead : List Event → List Event → StretchStart → Ty
   pub parts : rows ≡ front ++ row ∷ running
   pub ends : EndsBy from before row ended place
 
--- From a place on rows lead over these faults, each with the stretch that it ended, to the rows of a
--- stretch that still runs, and that is where it begins. (Whether these rows can be is said where this
--- is used.)
+-- From a place on rows lead over these faults, each with the stretch that it ended, to the rows of
+-- a stretch that still runs, and that is where it begins. (Whether these rows can be is said where
+-- this is used.)
 abbrev pub LeadFrom : StretchStart → List Event → List Ended → List Event → StretchStart → Type 0
 LeadFrom start rows [] running place = (rows ≡ running) × (place ≡ start)
 LeadFrom start rows (ended ∷ earlier) running place =

@@ -1,5 +1,5 @@
--- What the rows so far tell of how the devices are set up (this profile). Lists of acts stand newest
--- first.
+-- What the rows so far tell of how the devices are set up (this profile). Lists of acts stand
+-- newest first.
 use Rattle.std.specs.Prelude.{List, [], ◌∷◌, Bool, false, Option, Some, None, ℕ, nat_lt}
 use Rattle.mdb_msgs.specs.declared.command.Device.{Device}
 use Rattle.mdb_msgs.specs.declared.command.Device.TheVariants as devices

@@ -10,8 +10,8 @@ pub struct Stretch {
     pub number: u64,
     /// The number of its first row in the recording, from 1.
     pub first: u64,
-    /// The number of its last row. A stretch between two faults in neighbouring rows has no row: then
-    /// this is one less than `first`.
+    /// The number of its last row. A stretch between two faults in neighbouring rows has no row:
+    /// then this is one less than `first`.
     pub last: u64,
     /// How its rows are taken. (What a later `Profile` leaves out rests on earlier rows too, so a
     /// survey can't be taken up again from here.)

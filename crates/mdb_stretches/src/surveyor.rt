@@ -98,9 +98,9 @@ impl Surveyor {
         }
     }
 
-    /// Takes the next rows, up to the first that can't be. If there is one, it ends the stretch that
-    /// runs: that stretch is returned, with the fault, and with the rows after it, which aren't taken
-    /// yet.
+    /// Takes the next rows, up to the first that can't be. If there is one, it ends the stretch
+    /// that runs: that stretch is returned, with the fault, and with the rows after it, which
+    /// aren't taken yet.
     // Not inlined, so that its loop has the processor's registers to itself.
     #[inline(never)]
     pub fn feed_all<'a>(&mut self, rows: &'a [Event]) -> Option<(Ended, &'a [Event])>
@@ -170,8 +170,8 @@ impl Surveyor {
         }
     }
 
-    /// The stretch that runs, as [`Surveyor::stretch`] has it, and what the survey comes to if it ends
-    /// here.
+    /// The stretch that runs, as [`Surveyor::stretch`] has it, and what the survey comes to if it
+    /// ends here.
     pub fn ending(&self) -> (Stretch, Summary)
         ensures { (scope : Scope) (rows : List Event) (ended : List Ended)
             → StandsFor self.now scope rows ended

@@ -21,7 +21,9 @@ no_pieces : (scope : Scope) (pieces : List Piece) → ArePieces scope pieces →
 no_pieces scope [] order none = refl
 no_pieces scope (piece ∷ pieces) order none =
     let begins : piece_events piece ≡ order.1.first ∷ order.1.others = order.1.begins in
-    let counted : length (events_of (piece ∷ pieces)) ≡ length (events_of pieces) + length (piece_events piece) = length-append (events_of pieces) (piece_events piece) in
+    let counted : length (events_of (piece ∷ pieces))
+    ≡ length (events_of pieces) + length (piece_events piece) =
+    length-append (events_of pieces) (piece_events piece) in
     absurd (omega (arith, counted, ap length begins, ap length none))
 
 -- the rows that a follower stands for are reached, and so are none of them
@@ -40,7 +42,8 @@ none_are_reached reached fronts follower rows stands =
 nothing_moves : (scope : Scope) (sums : AllSums) → Run scope [] sums → (device : Device)
     → sums device ≡ no_sums
 nothing_moves scope sums run device =
-    let none : run.pieces ≡ [] = no_pieces scope run.pieces run.act_list.in_order run.act_list.whole in
+    let none : run.pieces ≡ [] =
+    no_pieces scope run.pieces run.act_list.in_order run.act_list.whole in
     let Way : List Piece → Type 0 = λ pieces. IsWay scope.begins run.loss pieces run.states sums in
     let way : IsWay scope.begins run.loss [] run.states sums = subst Way none run.way in
     (way device).1
@@ -70,10 +73,12 @@ accounts_still scope reached account = record {
   device = range_still scope reached (λ sums. pos (sums_of account sums).device)
       (λ sums run. ap (λ (s : AccountSums). pos s.device) (account_still scope account sums run));
   controller = range_still scope reached (λ sums. pos (sums_of account sums).controller)
-      (λ sums run. ap (λ (s : AccountSums). pos s.controller) (account_still scope account sums run));
+      (λ sums run.
+      ap (λ (s : AccountSums). pos s.controller) (account_still scope account sums run));
   difference = range_still scope reached
       (λ sums. pos (sums_of account sums).device -ℤ pos (sums_of account sums).controller)
-      (λ sums run. ap (λ (s : AccountSums). pos s.device -ℤ pos s.controller) (account_still scope account sums run));
+      (λ sums run. ap (λ (s : AccountSums). pos s.device -ℤ pos s.controller)
+      (account_still scope account sums run));
 }
 
 abbrev pub report_on_none : Scope → Report

@@ -33,7 +33,8 @@ no_longer : (rows others : List Event) (rest : List (List (List ℕ))) → lengt
     → ((fields : List (List ℕ)) (more : List (List (List ℕ))) (event : Event) → rest ≡ fields ∷ more
     → IsRow fields event → length rows < ROWS_MAX → ⊥) → GoesOn rows others rest → ⊥
 no_longer rows others rest few ends on =
-    let long : length others ≡ length rows + length (on.event ∷ on.more) = ap length on.longer_is ∙ length-append rows (on.event ∷ on.more) in
+    let long : length others ≡ length rows + length (on.event ∷ on.more) =
+    ap length on.longer_is ∙ length-append rows (on.event ∷ on.more) in
     ends on.fields on.after on.event on.record_is on.row (omega (arith, few, long))
 
 -- such a front is one
@@ -43,7 +44,8 @@ one_front : (scope : Scope) (records : List (List (List ℕ))) (ended others : L
     → (second : Front scope records others also left)
     → (first.surveyed.rows ≡ second.surveyed.rows) × (rest ≡ left)
 one_front scope records ended others last also rest left first second =
-    by_case (compared one.done two.done rest left one.rows two.rows one.told two.told (sym one.split ∙ two.split))
+    by_case (compared one.done two.done rest left one.rows two.rows one.told two.told
+    (sym one.split ∙ two.split))
   where
     one : AreSurveyed scope records ended last rest
     one = first.surveyed
@@ -51,7 +53,9 @@ one_front scope records ended others last also rest left first second =
     two : AreSurveyed scope records others also left
     two = second.surveyed
 
-    by_case : ((one.rows ≡ two.rows) × (rest ≡ left)) ⊎ (GoesOn one.rows two.rows rest ⊎ GoesOn two.rows one.rows left) → (one.rows ≡ two.rows) × (rest ≡ left)
+    by_case : ((one.rows ≡ two.rows) × (rest ≡ left))
+        ⊎ (GoesOn one.rows two.rows rest ⊎ GoesOn two.rows one.rows left)
+        → (one.rows ≡ two.rows) × (rest ≡ left)
     by_case (inl same) = same
     by_case (inr (inl on)) = absurd (no_longer one.rows two.rows rest second.few first.ends on)
     by_case (inr (inr on)) = absurd (no_longer two.rows one.rows left first.few second.ends on)
@@ -87,7 +91,11 @@ ending form scope records (Ok summary) text is own = record {
   ended = is.ended;
   last = is.last;
   rest = [];
-  front = record { surveyed = is.surveyed; few = is.few; ends = λ fields more event none row below. cc };
+  front = record {
+    surveyed = is.surveyed;
+    few = is.few;
+    ends = λ fields more event none row below. cc;
+  };
   end = (refl, is.comes_to, is.lines);
 }
 ending form scope records (Err (BadRow row fault)) text is own = record {
@@ -142,19 +150,28 @@ one_end : (form : LineForm) (ended : List Ended) (last : Stretch) (count : ℕ)
     (rest : List (List (List ℕ))) (a b : Result Summary RunFault) (s t : List ℕ)
     → Ends form ended last count rest a s → Ends form ended last count rest b t → Same a b s t
 one_end form ended last count rest (Ok summary) (Ok other) s t p q =
-    let one : summary ≡ other = p.1 ∙ sym q.1 in
-    (ap Ok one, p.2 ∙ (ap (λ x. lines_of form ended ++ form.stretch last ++ form.summary x) one ∙ sym q.2))
-one_end form ended last count rest (Ok summary) (Err (BadRow row fault)) s t p q = absurd (none_left rest q.0 q.1 p.0 q.2)
-one_end form ended last count rest (Ok summary) (Err TooLong) s t p q = absurd (none_left rest q.0 q.1 p.0 q.2)
-one_end form ended last count rest (Err (BadRow row fault)) (Ok summary) s t p q = absurd (none_left rest p.0 p.1 q.0 p.2)
+    let one : summary ≡ other = p.1 ∙ sym q.1 in (
+      ap Ok one,
+      p.2 ∙ (ap (λ x. lines_of form ended ++ form.stretch last ++ form.summary x) one ∙ sym q.2),
+    )
+one_end form ended last count rest (Ok summary) (Err (BadRow row fault)) s t p q =
+    absurd (none_left rest q.0 q.1 p.0 q.2)
+one_end form ended last count rest (Ok summary) (Err TooLong) s t p q =
+    absurd (none_left rest q.0 q.1 p.0 q.2)
+one_end form ended last count rest (Err (BadRow row fault)) (Ok summary) s t p q =
+    absurd (none_left rest p.0 p.1 q.0 p.2)
 one_end form ended last count rest (Err (BadRow row fault)) (Err (BadRow number other)) s t p q =
     let P : List (List ℕ) → Type 0 = λ f. IsRefusal f other in
-    let one : fault ≡ other = one_refusal p.0 fault other p.3 (subst P (same_fields rest p.0 q.0 p.1 q.1 p.2 q.2) q.3) in
+    let one : fault ≡ other =
+    one_refusal p.0 fault other p.3 (subst P (same_fields rest p.0 q.0 p.1 q.1 p.2 q.2) q.3) in
     let same : row ≡ number = p.4 ∙ sym q.4 in
     (ap (λ n. Err (BadRow n fault)) same ∙ ap (λ f. Err (BadRow number f)) one, p.6 ∙ sym q.6)
-one_end form ended last count rest (Err (BadRow row fault)) (Err TooLong) s t p q = absurd (omega (arith, p.5, q.3))
-one_end form ended last count rest (Err TooLong) (Ok summary) s t p q = absurd (none_left rest p.0 p.1 q.0 p.2)
-one_end form ended last count rest (Err TooLong) (Err (BadRow row fault)) s t p q = absurd (omega (arith, p.3, q.5))
+one_end form ended last count rest (Err (BadRow row fault)) (Err TooLong) s t p q =
+    absurd (omega (arith, p.5, q.3))
+one_end form ended last count rest (Err TooLong) (Ok summary) s t p q =
+    absurd (none_left rest p.0 p.1 q.0 p.2)
+one_end form ended last count rest (Err TooLong) (Err (BadRow row fault)) s t p q =
+    absurd (omega (arith, p.3, q.5))
 one_end form ended last count rest (Err TooLong) (Err TooLong) s t p q = (refl, p.4 ∙ sym q.4)
 one_end form ended last count rest (Err Read) b s t p q = absurd p
 one_end form ended last count rest (Err Write) b s t p q = absurd p
@@ -173,16 +190,22 @@ one_surveying form scope law records a b s t p q own other =
     let second : Ending form scope records b t = ending form scope records b t q other in
     let rows : List Event = first.front.surveyed.rows in
     let others : List Event = second.front.surveyed.rows in
-    let same : (rows ≡ others) × (first.rest ≡ second.rest) = one_front scope records first.ended second.ended first.last second.last first.rest second.rest first.front second.front in
+    let same : (rows ≡ others) × (first.rest ≡ second.rest) =
+    one_front scope records first.ended second.ended first.last second.last first.rest
+    second.rest first.front second.front in
     let Survey : List Event → Type 0 = λ l. IsSurvey scope l second.ended second.last in
     let one : (first.ended ≡ second.ended) × (first.last ≡ second.last) =
-    law rows first.ended second.ended first.last second.last first.front.surveyed.survey (subst Survey (sym same.0) second.front.surveyed.survey) in
-    let A : List Event → Type 0 = λ l. Ends form second.ended second.last (length l) second.rest b t in
-    let B : List (List (List ℕ)) → Type 0 = λ l. Ends form second.ended second.last (length rows) l b t in
+    law rows first.ended second.ended first.last second.last first.front.surveyed.survey
+    (subst Survey (sym same.0) second.front.surveyed.survey) in
+    let A : List Event → Type 0 =
+    λ l. Ends form second.ended second.last (length l) second.rest b t in
+    let B : List (List (List ℕ)) → Type 0 =
+    λ l. Ends form second.ended second.last (length rows) l b t in
     let C : List Ended → Type 0 = λ l. Ends form l second.last (length rows) first.rest b t in
     let D : Stretch → Type 0 = λ x. Ends form first.ended x (length rows) first.rest b t in
     one_end form first.ended first.last (length rows) first.rest a b s t first.end
-    (subst D (sym one.1) (subst C (sym one.0) (subst B (sym same.1) (subst A (sym same.0) second.end))))
+    (subst D (sym one.1)
+    (subst C (sym one.0) (subst B (sym same.1) (subst A (sym same.0) second.end))))
 
 -- and so it is in each form
 pub in_other_form : (form other : LineForm) (scope : Scope) (records : List (List (List ℕ)))

@@ -19,7 +19,11 @@ pub written_out : (form : LineForm) (scope : Scope) (all : List (List (List ℕ)
     → PutsSurveying form scope all (begun before) now answer → (answer ≡ Err Write → ⊥)
     → Appends now.held later now.waiting → SurveysIn form scope all before later answer
 written_out form scope all before later now answer (inl surveying) not written =
-    inl (surveying.0, surveying.1, outputs.written_out before later now surveying.0 surveying.2 written)
+    inl (
+      surveying.0,
+      surveying.1,
+      outputs.written_out before later now surveying.0 surveying.2 written,
+    )
 written_out form scope all before later now answer (inr broken) not written = absurd (not broken.0)
 
 -- the writer fails at the page

@@ -30,7 +30,8 @@ Stops form scope before after earlier rows = HasStopped form scope before after 
 
 -- the survey of the rows that were read
 abbrev surveyed_of : (scope : Scope) (all : List (List (List ℕ))) (rows : List Event)
-    (rest : List (List (List ℕ))) (ended : List Ended) (last : Stretch) → AreRead IsRow all rows rest
+    (rest : List (List (List ℕ))) (ended : List Ended) (last : Stretch)
+    → AreRead IsRow all rows rest
     → IsSurvey scope rows ended last → AreSurveyed scope all ended last rest
 surveyed_of scope all rows rest ended last read survey = record {
   done = read.done;
@@ -52,7 +53,9 @@ part_of form scope all rows rest ended read lead =
       ended = ended;
       last = lead.last;
       rest = before.after ++ before.rest;
-      surveyed = surveyed_of scope all lead.front (before.after ++ before.rest) ended lead.last before.read lead.survey;
+      surveyed =
+          surveyed_of scope all lead.front (before.after ++ before.rest) ended lead.last before.read
+          lead.survey;
       lines = refl;
     }
 
@@ -72,10 +75,12 @@ whole_by form scope all surveyor before now later it answer adds summary is =
       surveyed = surveyed_of scope all it.rows [] it.has.ended adds.last it.read both.0;
       few = it.few;
       comes_to = is ∙ both.1;
-      lines = ap (λ s. lines_of form it.has.ended ++ form.stretch adds.last ++ form.summary s) (sym is);
+      lines =
+          ap (λ s. lines_of form it.has.ended ++ form.stretch adds.last ++ form.summary s) (sym is);
     }
 
-pub whole : NoneAreReached → (form : LineForm) (scope : Scope) (all : List (List (List ℕ))) (surveyor : Surveyor)
+pub whole : NoneAreReached
+    → (form : LineForm) (scope : Scope) (all : List (List (List ℕ))) (surveyor : Surveyor)
     (before now later : Output)
     → IsTakenWhole IsRow (HasSurveyed form scope surveyor before now) ROWS_MAX all
     → (answer : Result Summary RunFault) → HasAddedEnd form surveyor now later answer
@@ -83,10 +88,13 @@ pub whole : NoneAreReached → (form : LineForm) (scope : Scope) (all : List (Li
 whole law form scope all surveyor before now later it (Ok summary) adds = inl (
   lines_of form it.has.ended ++ form.stretch adds.last ++ form.summary adds.summary,
   whole_by form scope all surveyor before now later it (Ok summary) adds summary adds.told,
-  subst (Puts before later) (sym (append_assoc (lines_of form it.has.ended) (form.stretch adds.last) (form.summary adds.summary)))
-      (put_both before now later (lines_of form it.has.ended) (form.stretch adds.last ++ form.summary adds.summary) it.has.written adds.added),
+  subst (Puts before later) (sym (append_assoc (lines_of form it.has.ended) (form.stretch adds.last)
+      (form.summary adds.summary)))
+      (put_both before now later (lines_of form it.has.ended)
+      (form.stretch adds.last ++ form.summary adds.summary) it.has.written adds.added),
 )
-whole law form scope all surveyor before now later it (Err (BadRow row fault)) adds = absurd adds.refused
+whole law form scope all surveyor before now later it (Err (BadRow row fault)) adds =
+    absurd adds.refused
 whole law form scope all surveyor before now later it (Err TooLong) adds = absurd adds.refused
 whole law form scope all surveyor before now later it (Err Read) adds = absurd adds.refused
 whole law form scope all surveyor before now later it (Err Write) adds = inr (
@@ -94,15 +102,20 @@ whole law form scope all surveyor before now later it (Err Write) adds = inr (
   record {
     answer = Ok adds.summary;
     text = lines_of form it.has.ended ++ form.stretch adds.last ++ form.summary adds.summary;
-    surveying = whole_by form scope all surveyor before now later it (Err Write) adds adds.summary refl;
-    broken = subst (Breaks before later) (sym (append_assoc (lines_of form it.has.ended) (form.stretch adds.last) (form.summary adds.summary)))
-        (break_both before now later (lines_of form it.has.ended) (form.stretch adds.last ++ form.summary adds.summary) it.has.written adds.refused);
+    surveying =
+        whole_by form scope all surveyor before now later it (Err Write) adds adds.summary refl;
+    broken =
+        subst (Breaks before later) (sym (append_assoc (lines_of form it.has.ended)
+        (form.stretch adds.last) (form.summary adds.summary)))
+        (break_both before now later (lines_of form it.has.ended)
+        (form.stretch adds.last ++ form.summary adds.summary) it.has.written adds.refused);
   },
 )
 whole law form scope all surveyor before now later it (Err Memory) adds =
     let P : Output → Type 0 = λ bytes. Puts before bytes (lines_of form it.has.ended) in inl (
       lines_of form it.has.ended,
-      part_of form scope all it.rows [] it.has.ended it.read (lead_into law scope surveyor it.rows it.has.ended it.has.stands),
+      part_of form scope all it.rows [] it.has.ended it.read
+          (lead_into law scope surveyor it.rows it.has.ended it.has.stands),
       subst P (sym adds.refused) it.has.written,
     )
 
@@ -115,15 +128,20 @@ pub end_refused : (form : LineForm) (surveyor : Surveyor) (now later : Output) (
     → IsNotTaken fault now later (form.stretch last ++ form.summary summary)
     → (answer : Result Summary RunFault) → IsErrAnd answer (λ told. told ≡ fault)
     → HasAddedEnd form surveyor now later answer
-end_refused form surveyor now later last summary survey fault not_taken (Ok told) told_is = absurd told_is
-end_refused form surveyor now later last summary survey fault not_taken (Err told) told_is = record {
-  last = last;
-  summary = summary;
-  survey = survey;
-  told = tt;
-  added = tt;
-  refused = subst (λ f. IsNotTaken f now later (form.stretch last ++ form.summary summary)) (sym told_is) not_taken;
-}
+end_refused form surveyor now later last summary survey fault not_taken (Ok told) told_is =
+    absurd told_is
+end_refused form surveyor now later last summary survey fault not_taken (Err told) told_is =
+    record {
+      last = last;
+      summary = summary;
+      survey = survey;
+      told = tt;
+      added = tt;
+      refused =
+          subst (λ f. IsNotTaken f now later (form.stretch last ++ form.summary summary))
+          (sym told_is)
+          not_taken;
+    }
 
 -- A record isn't taken, or can't be read.
 
@@ -191,17 +209,21 @@ told_with_last form scope all surveyor before now later fault not ended done add
     let has : HasSurveyed form scope surveyor before now it.taken.rows = it.taken.has in inl (
       lines_of form has.ended ++ form.stretch adds.last,
       it.answers adds.last (adds.survey scope it.taken.rows has.ended has.stands),
-      put_both before now later (lines_of form has.ended) (form.stretch adds.last) has.written adds.added,
+      put_both before now later (lines_of form has.ended) (form.stretch adds.last) has.written
+          adds.added,
     )
 
 -- they aren't taken
-last_untaken : NoneAreReached → (form : LineForm) (scope : Scope) (all : List (List (List ℕ))) (surveyor : Surveyor)
+last_untaken : NoneAreReached
+    → (form : LineForm) (scope : Scope) (all : List (List (List ℕ))) (surveyor : Surveyor)
     (before now later : Output) (fault : RunFault)
     → TakenUpTo form scope all surveyor before now fault → (other : RunFault)
     → HasAddedLast form surveyor now later (Err other)
     → PutsSurveying form scope all before later (Err other)
-last_untaken law form scope all surveyor before now later fault it (BadRow row refusal) adds = absurd adds.refused
-last_untaken law form scope all surveyor before now later fault it TooLong adds = absurd adds.refused
+last_untaken law form scope all surveyor before now later fault it (BadRow row refusal) adds =
+    absurd adds.refused
+last_untaken law form scope all surveyor before now later fault it TooLong adds =
+    absurd adds.refused
 last_untaken law form scope all surveyor before now later fault it Read adds = absurd adds.refused
 last_untaken law form scope all surveyor before now later fault it Write adds =
     let has : HasSurveyed form scope surveyor before now it.taken.rows = it.taken.has in inr (
@@ -210,14 +232,17 @@ last_untaken law form scope all surveyor before now later fault it Write adds =
         answer = Err fault;
         text = lines_of form has.ended ++ form.stretch adds.last;
         surveying = it.answers adds.last (adds.survey scope it.taken.rows has.ended has.stands);
-        broken = break_both before now later (lines_of form has.ended) (form.stretch adds.last) has.written adds.refused;
+        broken =
+            break_both before now later (lines_of form has.ended) (form.stretch adds.last)
+            has.written adds.refused;
       },
     )
 last_untaken law form scope all surveyor before now later fault it Memory adds =
     let has : HasSurveyed form scope surveyor before now it.taken.rows = it.taken.has in
     let P : Output → Type 0 = λ bytes. Puts before bytes (lines_of form has.ended) in inl (
       lines_of form has.ended,
-      part_of form scope all it.taken.rows it.taken.rest has.ended it.taken.read (lead_into law scope surveyor it.taken.rows has.ended has.stands),
+      part_of form scope all it.taken.rows it.taken.rest has.ended it.taken.read
+          (lead_into law scope surveyor it.taken.rows has.ended has.stands),
       subst P (sym adds.refused) has.written,
     )
 
@@ -228,11 +253,15 @@ pub last_refused : NoneAreReached → (form : LineForm) (scope : Scope) (all : L
     → (other : RunFault) → HasAddedLast form surveyor now later (Err other)
     → (answer : Result Summary RunFault) → IsErrAnd answer (λ told. told ≡ other)
     → PutsSurveying form scope all before later answer
-last_refused law form scope all surveyor before now later fault not ended other adds (Ok summary) told_is = absurd told_is
-last_refused law form scope all surveyor before now later fault not ended other adds (Err told) told_is =
+last_refused law form scope all surveyor before now later fault not ended other adds (Ok summary)
+    told_is =
+    absurd told_is
+last_refused law form scope all surveyor before now later fault not ended other adds (Err told)
+    told_is =
     let P : RunFault → Type 0 = λ f. PutsSurveying form scope all before later (Err f) in
     subst P (sym told_is)
-    (last_untaken law form scope all surveyor before now later fault (taken_up_to form scope all surveyor before now fault not ended) other adds)
+    (last_untaken law form scope all surveyor before now later fault
+    (taken_up_to form scope all surveyor before now fault not ended) other adds)
 
 -- memory is refused
 pub out_of_memory : NoneAreReached → (form : LineForm) (scope : Scope) (all : List (List (List ℕ)))
@@ -241,12 +270,16 @@ pub out_of_memory : NoneAreReached → (form : LineForm) (scope : Scope) (all : 
     (Stops form scope before now) ROWS_MAX all (Err fault)
     → PutsSurveying form scope all before now (Err fault)
 out_of_memory law form scope all surveyor before now fault is ended =
-    let Ended : RunFault → Type 0 = λ f. HasEnded IsRow IsRefusal (HasSurveyed form scope surveyor before now) (Stops form scope before now) ROWS_MAX all (Err f) in
-    let it : IsTakenInPart IsRow (HasSurveyed form scope surveyor before now) all = subst Ended is ended in
+    let Ended : RunFault → Type 0 = λ f.
+    HasEnded IsRow IsRefusal (HasSurveyed form scope surveyor before now)
+    (Stops form scope before now) ROWS_MAX all (Err f) in
+    let it : IsTakenInPart IsRow (HasSurveyed form scope surveyor before now) all =
+    subst Ended is ended in
     let P : RunFault → Type 0 = λ f. PutsSurveying form scope all before now (Err f) in
     subst P (sym is) (inl (
       lines_of form it.has.ended,
-      part_of form scope all it.rows it.rest it.has.ended it.read (lead_into law scope surveyor it.rows it.has.ended it.has.stands),
+      part_of form scope all it.rows it.rest it.has.ended it.read
+          (lead_into law scope surveyor it.rows it.has.ended it.has.stands),
       it.has.written,
     ))
 

@@ -32,8 +32,10 @@ record LeadsBefore (start : StretchStart) (rows : List Event) (ended : List Ende
   parts : rows ≡ front ++ rest
   lead : LeadFrom start front ended [] place
 
-leads_before : (start : StretchStart) (rows : List Event) (ended : List Ended) (running : List Event)
-    (place : StretchStart) → LeadFrom start rows ended running place → LeadsBefore start rows ended place
+leads_before : (start : StretchStart) (rows : List Event) (ended : List Ended)
+    (running : List Event)
+    (place : StretchStart) → LeadFrom start rows ended running place
+    → LeadsBefore start rows ended place
 leads_before start rows [] running place lead =
     record { front = []; rest = rows; parts = refl; lead = (refl, lead.1) }
 leads_before start rows (newest ∷ earlier) running place lead = record {
@@ -122,19 +124,23 @@ ends_one form scope old new before now later rows more it on counted has added =
   ended = it ∷ has.ended;
   stands = on scope rows has.ended has.stands;
   counted = omega (arith, counted, has.counted, length-append rows more);
-  written = put_both before now later (lines_of form has.ended) (ended_lines form it) has.written added;
+  written =
+      put_both before now later (lines_of form has.ended) (ended_lines form it) has.written added;
 }
 
 -- the last of them ends one, whose lines aren't taken
-ends_none : NoneAreReached → (form : LineForm) (scope : Scope) (old new : Surveyor) (before now later : Output)
+ends_none : NoneAreReached
+    → (form : LineForm) (scope : Scope) (old new : Surveyor) (before now later : Output)
     (rows more : List Event) (it : Ended)
     → ((scope : Scope) (rows : List Event) (ended : List Ended) → StandsFor old scope rows ended
     → StandsFor new scope (rows ++ more) (it ∷ ended))
     → HasSurveyed form scope old before now rows → (fault : RunFault)
     → IsNotTaken fault now later (ended_lines form it)
     → HasStopped form scope before later (rows ++ more) fault
-ends_none law form scope old new before now later rows more it on has (BadRow row fault) refused = absurd refused
-ends_none law form scope old new before now later rows more it on has TooLong refused = absurd refused
+ends_none law form scope old new before now later rows more it on has (BadRow row fault) refused =
+    absurd refused
+ends_none law form scope old new before now later rows more it on has TooLong refused =
+    absurd refused
 ends_none law form scope old new before now later rows more it on has Read refused = absurd refused
 ends_none law form scope old new before now later rows more it on has Write refused = (
   it ∷ has.ended,
@@ -231,7 +237,8 @@ goes_no_more law form scope old mid new was now later rows rest after it goes en
     let more : List Event = ends.front ++ ends.row ∷ [] in
     let here : HasStopped form scope before later ((earlier ++ goes.taken) ++ more) fault =
     ends_none law form scope mid new before now later (earlier ++ goes.taken) more it
-    (λ s. stands_on s mid new rest after it ends) (goes.surveyed before earlier has) fault refused in
+    (λ s. stands_on s mid new rest after it ends) (goes.surveyed before earlier has) fault
+    refused in
     subst P (ap (λ l. l ++ after) (append_assoc earlier goes.taken more)
     ∙ append_assoc earlier (goes.taken ++ more) after
     ∙ ap (λ l. earlier ++ l)

@@ -65,8 +65,8 @@ pub record IsSurveyedTooLong (form : LineForm) (scope : Scope) (records : List (
   pub full : length surveyed.rows ≡ ROWS_MAX
   pub lines : text ≡ lines_of form ended ++ form.stretch last
 
--- Some first records are rows, and the reading ended after them. The text is as before a record that
--- is no row.
+-- Some first records are rows, and the reading ended after them. The text is as before a record
+-- that is no row.
 pub record IsSurveyedToStop (form : LineForm) (scope : Scope) (records : List (List (List ℕ)))
     (text : List ℕ) : Type 0 where
   pub ended : List Ended

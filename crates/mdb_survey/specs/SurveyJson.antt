@@ -1,5 +1,5 @@
--- The lines of a survey, as JSON: each is an object, whose members stand in the order of their names
--- (this profile).
+-- The lines of a survey, as JSON: each is an object, whose members stand in the order of their
+-- names (this profile).
 use Rattle.std.specs.Prelude.{◌==◌, ℕ, List, [], codes, if◌then◌else◌}
 use Rattle.serde_json.specs.Data.{Data, null, boolean, number, string, object, member, no_members, unsigned}
 use Rattle.serde_json.specs.Written.{compact_text}

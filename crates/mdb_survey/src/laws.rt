@@ -1,5 +1,5 @@
-//! Laws of what is surveyed, in whatever form its lines are. Each function's contract is the law, and
-//! its body calls the laws that it rests on.
+//! Laws of what is surveyed, in whatever form its lines are. Each function's contract is the law,
+//! and its body calls the laws that it rests on.
 
 ghost use Rattle.std.specs.Prelude.{◌≡◌, ℕ, List, Result};
 ghost use Rattle.mdb_bus.specs.declared.scope.Scope.{Scope};
@@ -10,8 +10,8 @@ ghost use Rattle.mdb_survey.specs.Survey.{IsOwnSurveying, IsSurveying};
 
 use mdb_stretches::laws as stretches;
 
-/// The records of a text are surveyed in at most one way of their own: what is answered, and what is
-/// written.
+/// The records of a text are surveyed in at most one way of their own: what is answered, and what
+/// is written.
 pub fn texts_are_surveyed_in_one_way()
     ensures { (form : LineForm) (scope : Scope) (records : List (List (List ℕ)))
         (a b : Result Summary RunFault) (s t : List ℕ)

@@ -22,13 +22,13 @@ use std::alloc::Global;
 use std::io::{Read, Write};
 
 /// Reads a recording that is taken as `scope` says, and writes the lines of its survey while it
-/// reads: of each stretch of possible rows the report, as soon as an impossible row ends it, and the
-/// line of that fault. At the end it writes the lines of the last stretch, the totals, and how many
-/// faults there are.
+/// reads: of each stretch of possible rows the report, as soon as an impossible row ends it, and
+/// the line of that fault. At the end it writes the lines of the last stretch, the totals, and how
+/// many faults there are.
 ///
-/// The first stretch is taken as `scope` says. After a fault the next row begins a new stretch. It is
-/// taken as a recording that begins while the machine was running, and is told what the stretches so
-/// far show of how the devices are set up. A reader on which a fault with the rule
+/// The first stretch is taken as `scope` says. After a fault the next row begins a new stretch. It
+/// is taken as a recording that begins while the machine was running, and is told what the
+/// stretches so far show of how the devices are set up. A reader on which a fault with the rule
 /// [`Rule::Profile`](mdb_bus::Rule::Profile) is blamed is left out from there on, unless the
 /// controller has last reported a feature level below 2 to it.
 ///
@@ -81,8 +81,8 @@ pub fn survey_json<R: Read + Drop, W: Write>(
     survey_json_records(alloc, scope, &mut records, writer)
 }
 
-/// Surveys the records that are still to come. Afterwards `records` can still be asked where reading
-/// ended.
+/// Surveys the records that are still to come. Afterwards `records` can still be asked where
+/// reading ended.
 ///
 /// # Errors
 ///

@@ -31,11 +31,13 @@ faults_first faults =
 
 abbrev pub faults_second : FaultCounts → List ℕ
 faults_second faults =
-    codes " cashless " ++ (decimal faults.cashless ++ (codes " cashless-2 " ++ decimal faults.cashless_2))
+    codes " cashless "
+    ++ (decimal faults.cashless ++ (codes " cashless-2 " ++ decimal faults.cashless_2))
 
 abbrev pub faults_third : FaultCounts → List ℕ
 faults_third faults =
-    codes " other " ++ (decimal faults.other ++ (codes " profile " ++ (decimal faults.profile ++ codes "\n")))
+    codes " other "
+    ++ (decimal faults.other ++ (codes " profile " ++ (decimal faults.profile ++ codes "\n")))
 
 pub faults_parts : (faults : FaultCounts)
     → (faults_first faults ++ faults_second faults) ++ faults_third faults ≡ faults_line faults

@@ -15,23 +15,36 @@ on_ok (Ok x) P Q weaker h = weaker h
 on_ok (Err e) P Q weaker h = tt
 
 -- a text that is made of a list, with one part more
-pub one_part_more : {X : Type 0} (part : X → List ℕ) (a b c : Option (List ℕ)) (head : List ℕ) (xs : List X) (i : ℕ) (d : X) (text : List ℕ) → i < length xs
-    → Appends a b (head ++ flat_map part (take i xs)) → text ≡ part (get_or xs i d) → Appends b c text → Appends a c (head ++ flat_map part (take (i + 1) xs))
+pub one_part_more : {X : Type 0} (part : X → List ℕ) (a b c : Option (List ℕ)) (head : List ℕ)
+    (xs : List X) (i : ℕ) (d : X) (text : List ℕ) → i < length xs
+    → Appends a b (head ++ flat_map part (take i xs)) → text ≡ part (get_or xs i d)
+    → Appends b c text → Appends a c (head ++ flat_map part (take (i + 1) xs))
 one_part_more part a b c head xs i d text below so_far is more =
     subst (λ text. Appends a c text)
-    (flat_map_more part head (take i xs) (get_or xs i d) ∙ ap (λ ys. head ++ flat_map part ys) (sym (take_more xs i d below)))
-    (Appends-trans a b c (head ++ flat_map part (take i xs)) (part (get_or xs i d)) so_far (subst (λ text. Appends b c text) is more))
+    (flat_map_more part head (take i xs) (get_or xs i d)
+    ∙ ap (λ ys. head ++ flat_map part ys) (sym (take_more xs i d below)))
+    (Appends-trans a b c (head ++ flat_map part (take i xs)) (part (get_or xs i d)) so_far
+    (subst (λ text. Appends b c text) is more))
 
 -- and with all of them
-pub all_parts : {X : Type 0} (part : X → List ℕ) (a b : Option (List ℕ)) (head : List ℕ) (xs : List X) (i : ℕ) → length xs ≤ i
+pub all_parts : {X : Type 0} (part : X → List ℕ) (a b : Option (List ℕ)) (head : List ℕ)
+    (xs : List X) (i : ℕ) → length xs ≤ i
     → Appends a b (head ++ flat_map part (take i xs)) → Appends a b (head ++ flat_map part xs)
 all_parts part a b head xs i past so_far =
     subst (λ ys. Appends a b (head ++ flat_map part ys)) (take_all i xs past) so_far
 
 -- the line of a word and of the devices of a set, where there are some
 some_words : (word : List ℕ) (changer bill first second : Bool)
-    → ((record { changer = changer; bill = bill; first_reader = first; second_reader = second }) ≡ NONE → ⊥)
-    → (let set : DeviceSet = record { changer = changer; bill = bill; first_reader = first; second_reader = second } in
+    → ((record { changer = changer; bill = bill; first_reader = first; second_reader = second })
+    ≡ NONE → ⊥)
+    → (
+    let set : DeviceSet =
+    record {
+      changer = changer;
+      bill = bill;
+      first_reader = first;
+      second_reader = second;
+    } in
     line_of_devices word (devices_text set) ≡ line (word ++ devices_text set))
 some_words word true bill first second some = refl
 some_words word false true first second some = refl
@@ -39,8 +52,11 @@ some_words word false false true second some = refl
 some_words word false false false true some = refl
 some_words word false false false false some = absurd (some refl)
 
-pub with_line : (word : List ℕ) (set : DeviceSet) → (set ≡ NONE → ⊥) → line (word ++ devices_text set) ≡ line_of_devices word (devices_text set)
-with_line word set some = sym (some_words word set.changer set.bill set.first_reader set.second_reader some)
+pub with_line : (word : List ℕ) (set : DeviceSet) → (set ≡ NONE → ⊥)
+    → line (word ++ devices_text set) ≡ line_of_devices word (devices_text set)
+with_line word set some =
+    sym (some_words word set.changer set.bill set.first_reader set.second_reader some)
 
-pub without_line : (word : List ℕ) (set : DeviceSet) → set ≡ NONE → line_of_devices word (devices_text set) ≡ []
+pub without_line : (word : List ℕ) (set : DeviceSet) → set ≡ NONE
+    → line_of_devices word (devices_text set) ≡ []
 without_line word set none = ap (λ s. line_of_devices word (devices_text s)) none

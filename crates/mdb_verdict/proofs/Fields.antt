@@ -10,7 +10,8 @@ field_some (f ∷ fields) zero below none = cc
 field_some (f ∷ fields) (suc i) below none = field_some fields i (omega (arith, below)) none
 
 -- the three fields of a record of three
-pub three_fields : (fields : List (List ℕ)) (a b c : List ℕ) → length fields ≡ 3 → field_at fields 0 ≡ Some a → field_at fields 1 ≡ Some b → field_at fields 2 ≡ Some c
+pub three_fields : (fields : List (List ℕ)) (a b c : List ℕ) → length fields ≡ 3
+    → field_at fields 0 ≡ Some a → field_at fields 1 ≡ Some b → field_at fields 2 ≡ Some c
     → fields ≡ a ∷ b ∷ c ∷ []
 unfolding field_at
 three_fields [] a b c long x y z = absurd (omega (arith, long))

@@ -12,93 +12,140 @@ not_refused (Ok x) e is answers = absurd (cc)
 not_refused (Err x) e is answers = absurd (cc)
 
 -- an event more
-pub rows_push : (records : List (List (List ℕ))) (rows : List Event) (fields : List (List ℕ)) (event : Event) → AreRows records rows → IsRow fields event → AreRows (records ++ fields ∷ []) (rows ++ event ∷ [])
+pub rows_push : (records : List (List (List ℕ))) (rows : List Event) (fields : List (List ℕ))
+    (event : Event) → AreRows records rows → IsRow fields event
+    → AreRows (records ++ fields ∷ []) (rows ++ event ∷ [])
 rows_push [] [] fields event told row = (row, tt)
-rows_push (r ∷ records) (e ∷ rows) fields event told row = (told.0, rows_push records rows fields event told.1 row)
+rows_push (r ∷ records) (e ∷ rows) fields event told row =
+    (told.0, rows_push records rows fields event told.1 row)
 rows_push [] (e ∷ rows) fields event told row = absurd told
 rows_push (r ∷ records) [] fields event told row = absurd told
 
 -- rows that are events
-pub are_rows : (records : List (List (List ℕ))) (rows : List Event) → AreAll IsRow records rows → AreRows records rows
+pub are_rows : (records : List (List (List ℕ))) (rows : List Event) → AreAll IsRow records rows
+    → AreRows records rows
 are_rows [] [] told = tt
 are_rows (r ∷ records) (e ∷ rows) told = (told.0, are_rows records rows told.1)
 are_rows [] (e ∷ rows) told = absurd told
 are_rows (r ∷ records) [] told = absurd told
 
 -- a row more
-pub all_push : {Row : Type 0} (Is : List (List ℕ) → Row → Type 0) (records : List (List (List ℕ))) (rows : List Row) (fields : List (List ℕ)) (row : Row) → AreAll Is records rows → Is fields row
+pub all_push : {Row : Type 0} (Is : List (List ℕ) → Row → Type 0) (records : List (List (List ℕ)))
+    (rows : List Row) (fields : List (List ℕ)) (row : Row) → AreAll Is records rows → Is fields row
     → AreAll Is (records ++ fields ∷ []) (rows ++ row ∷ [])
 all_push Is [] [] fields row told is = (is, tt)
-all_push Is (r ∷ records) (e ∷ rows) fields row told is = (told.0, all_push Is records rows fields row told.1 is)
+all_push Is (r ∷ records) (e ∷ rows) fields row told is =
+    (told.0, all_push Is records rows fields row told.1 is)
 all_push Is [] (e ∷ rows) fields row told is = absurd told
 all_push Is (r ∷ records) [] fields row told is = absurd told
 
 -- so many are there then
-pub one_longer : {Row : Type 0} (rows longer : List Row) (row : Row) → longer ≡ rows ++ row ∷ [] → length longer ≡ length rows + 1
+pub one_longer : {Row : Type 0} (rows longer : List Row) (row : Row) → longer ≡ rows ++ row ∷ []
+    → length longer ≡ length rows + 1
 one_longer rows longer row are = ap length are ∙ length-append rows (row ∷ [])
 
 -- rows after rows
-pub all_append : {Row : Type 0} (Is : List (List ℕ) → Row → Type 0) (one : List (List (List ℕ))) (first : List Row) (other : List (List (List ℕ))) (second : List Row) → AreAll Is one first → AreAll Is other second
+pub all_append : {Row : Type 0} (Is : List (List ℕ) → Row → Type 0) (one : List (List (List ℕ)))
+    (first : List Row) (other : List (List (List ℕ))) (second : List Row) → AreAll Is one first
+    → AreAll Is other second
     → AreAll Is (one ++ other) (first ++ second)
 all_append Is [] [] other second told more = more
-all_append Is (r ∷ one) (e ∷ first) other second told more = (told.0, all_append Is one first other second told.1 more)
+all_append Is (r ∷ one) (e ∷ first) other second told more =
+    (told.0, all_append Is one first other second told.1 more)
 all_append Is [] (e ∷ first) other second told more = absurd told
 all_append Is (r ∷ one) [] other second told more = absurd told
 
 -- the records of rows that have parts have parts too
-pub record Parts {Row : Type 0} (Is : List (List ℕ) → Row → Type 0) (records : List (List (List ℕ))) (rows more : List Row) : Type 0 where
+pub record Parts {Row : Type 0} (Is : List (List ℕ) → Row → Type 0) (records : List (List (List ℕ)))
+    (rows more : List Row) : Type 0 where
   pub done : List (List (List ℕ))
   pub after : List (List (List ℕ))
   pub is : records ≡ done ++ after
   pub told : AreAll Is done rows
   pub others : AreAll Is after more
 
-pub parts_of : {Row : Type 0} (Is : List (List ℕ) → Row → Type 0) (records : List (List (List ℕ))) (rows more : List Row) → AreAll Is records (rows ++ more) → Parts Is records rows more
-parts_of Is records [] more told = record { done = []; after = records; is = refl; told = tt; others = told }
+pub parts_of : {Row : Type 0} (Is : List (List ℕ) → Row → Type 0) (records : List (List (List ℕ)))
+    (rows more : List Row) → AreAll Is records (rows ++ more) → Parts Is records rows more
+parts_of Is records [] more told = record {
+  done = [];
+  after = records;
+  is = refl;
+  told = tt;
+  others = told;
+}
 parts_of Is [] (row ∷ rows) more told = absurd told
 parts_of Is (fields ∷ records) (row ∷ rows) more told =
     let later : Parts Is records rows more = parts_of Is records rows more told.1 in
-    record { done = fields ∷ later.done; after = later.after; is = ap (λ l. fields ∷ l) later.is; told = (told.0, later.told); others = later.others }
+    record {
+      done = fields ∷ later.done;
+      after = later.after;
+      is = ap (λ l. fields ∷ l) later.is;
+      told = (told.0, later.told);
+      others = later.others;
+    }
 
 -- so the first of some rows are read
-pub record IsReadBefore {Row : Type 0} (Is : List (List ℕ) → Row → Type 0) (all : List (List (List ℕ))) (rows : List Row) (more : List Row) : Type 0 where
+pub record IsReadBefore {Row : Type 0} (Is : List (List ℕ) → Row → Type 0)
+    (all : List (List (List ℕ))) (rows : List Row) (more : List Row) : Type 0 where
   pub after : List (List (List ℕ))
   pub rest : List (List (List ℕ))
   pub others : AreAll Is after more
   pub read : AreRead Is all rows (after ++ rest)
 
-pub read_before : {Row : Type 0} (Is : List (List ℕ) → Row → Type 0) (all : List (List (List ℕ))) (rows more : List Row) (rest : List (List (List ℕ))) → AreRead Is all (rows ++ more) rest → IsReadBefore Is all rows more
+pub read_before : {Row : Type 0} (Is : List (List ℕ) → Row → Type 0) (all : List (List (List ℕ)))
+    (rows more : List Row) (rest : List (List (List ℕ))) → AreRead Is all (rows ++ more) rest
+    → IsReadBefore Is all rows more
 read_before Is all rows more rest read =
     let parts : Parts Is read.done rows more = parts_of Is read.done rows more read.told in
     record {
       after = parts.after;
       rest = rest;
       others = parts.others;
-      read = record { done = parts.done; split = read.split ∙ (ap (λ l. l ++ rest) parts.is ∙ append_assoc parts.done parts.after rest); told = parts.told };
+      read = record {
+        done = parts.done;
+        split =
+            read.split
+            ∙ (ap (λ l. l ++ rest) parts.is ∙ append_assoc parts.done parts.after rest);
+        told = parts.told;
+      };
     }
 
 -- and the record of the row after them
-pub record IsReadUpTo {Row : Type 0} (Is : List (List ℕ) → Row → Type 0) (all : List (List (List ℕ))) (rows : List Row) (row : Row) : Type 0 where
+pub record IsReadUpTo {Row : Type 0} (Is : List (List ℕ) → Row → Type 0)
+    (all : List (List (List ℕ))) (rows : List Row) (row : Row) : Type 0 where
   pub fields : List (List ℕ)
   pub rest : List (List (List ℕ))
   pub read : AreRead Is all rows (fields ∷ rest)
   pub told : Is fields row
 
-pub read_up_to : {Row : Type 0} (Is : List (List ℕ) → Row → Type 0) (all : List (List (List ℕ))) (rows : List Row) (row : Row) (more : List Row) (rest : List (List (List ℕ))) → AreRead Is all (rows ++ row ∷ more) rest
+pub read_up_to : {Row : Type 0} (Is : List (List ℕ) → Row → Type 0) (all : List (List (List ℕ)))
+    (rows : List Row) (row : Row) (more : List Row) (rest : List (List (List ℕ)))
+    → AreRead Is all (rows ++ row ∷ more) rest
     → IsReadUpTo Is all rows row
-read_up_to Is all rows row more rest read = let before = read_before Is all rows (row ∷ more) rest read in first before.after before.rest before.others before.read
+read_up_to Is all rows row more rest read =
+    let before = read_before Is all rows (row ∷ more) rest read in
+    first before.after before.rest before.others before.read
   where
-    first : (after rest : List (List (List ℕ))) → AreAll Is after (row ∷ more) → AreRead Is all rows (after ++ rest) → IsReadUpTo Is all rows row
+    first : (after rest : List (List (List ℕ))) → AreAll Is after (row ∷ more)
+        → AreRead Is all rows (after ++ rest) → IsReadUpTo Is all rows row
     first [] rest others read = absurd others
-    first (fields ∷ after) rest others read = record { fields = fields; rest = after ++ rest; read = read; told = others.0 }
+    first (fields ∷ after) rest others read = record {
+      fields = fields;
+      rest = after ++ rest;
+      read = read;
+      told = others.0;
+    }
 
 -- the first of the records of some rows
-pub first_row : {Row : Type 0} (Is : List (List ℕ) → Row → Type 0) (done rest : List (List (List ℕ))) (rows : List Row) → AreAll Is done rows → 0 < length rows → HasFirst (done ++ rest)
+pub first_row : {Row : Type 0} (Is : List (List ℕ) → Row → Type 0)
+    (done rest : List (List (List ℕ))) (rows : List Row) → AreAll Is done rows → 0 < length rows
+    → HasFirst (done ++ rest)
 first_row Is [] rest [] told some = absurd (omega (arith, some))
 first_row Is [] rest (e ∷ rows) told some = absurd told
 first_row Is (r ∷ done) rest rows told some = record { fields = r; rest = done ++ rest; is = refl }
 
-pub no_rows : {Row : Type 0} (Is : List (List ℕ) → Row → Type 0) (done : List (List (List ℕ))) (rows : List Row) → AreAll Is done rows → rows ≡ [] → done ≡ []
+pub no_rows : {Row : Type 0} (Is : List (List ℕ) → Row → Type 0) (done : List (List (List ℕ)))
+    (rows : List Row) → AreAll Is done rows → rows ≡ [] → done ≡ []
 no_rows Is [] rows told none = refl
 no_rows Is (r ∷ done) [] told none = absurd told
 no_rows Is (r ∷ done) (e ∷ rows) told none = absurd (cc)

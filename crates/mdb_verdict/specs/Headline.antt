@@ -2,9 +2,10 @@
 --
 -- Yes is the answer where the rows can be explained, and only there: by acts that are these words
 -- at these times, by words lost on the way, and by what devices and controller did (`yes`). However
--- they are explained, no sale lacks its approval (`sales`), but for one that may have been requested
--- before a recording that begins in mid-session. The report's bounds are as tight as they can be
--- (`bounds`). A no says how far an explanation goes: to the row before the one named (`first_row`).
+-- they are explained, no sale lacks its approval (`sales`), but for one that may have been
+-- requested before a recording that begins in mid-session. The report's bounds are as tight as they
+-- can be (`bounds`). A no says how far an explanation goes: to the row before the one named
+-- (`first_row`).
 --
 -- An explanation is a run (`Run` of `mdb_follow`): an act list with the words and their times, a
 -- loss, and a way of each device with the controller through it.
@@ -69,7 +70,8 @@ HasBounds scope records report =
 
 -- The runs end before the row that is named: a row with its number is there, the rows up to it have
 -- no run, any fewer have one, and rule and blame are those of this row.
-pub record NamesFirstRow (scope : Scope) (records : List (List (List ℕ))) (offence : Offence) : Type 0 where
+pub record NamesFirstRow (scope : Scope) (records : List (List (List ℕ)))
+    (offence : Offence) : Type 0 where
   pub before : List Event
   pub row : Event
   pub there : AreFirstRows records offence.row (before ++ row ∷ [])

@@ -41,8 +41,8 @@ pub fn verdicts_say_the_headline()
 pub fn texts_have_one_answer()
     ensures { (scope : Scope) (limit : ℕ) (records : List (List (List ℕ)))
         (a b : Result Outcome RunFault)
-        → IsAnswer scope limit records a → IsAnswer scope limit records b → IsOwnAnswer a → IsOwnAnswer b
-        → a ≡ b }
+        → IsAnswer scope limit records a → IsAnswer scope limit records b → IsOwnAnswer a
+        → IsOwnAnswer b → a ≡ b }
 {
     laws::fronts_of_reached_rows_are_reached();
     laws::rows_have_one_report();

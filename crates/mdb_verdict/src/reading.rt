@@ -47,8 +47,8 @@ pub trait TakeRows<O> {
             × has self.old before out.old earlier }
         requires room { count self.old + length rows.now ≤ most }
         ensures taken { (before : O) (earlier : List Self.Row) → has self.old before out.old earlier
-            → HasTakenOrStopped (has self.new before out.new) (stops self.new before out.new) earlier
-            rows.now result }
+            → HasTakenOrStopped (has self.new before out.new) (stops self.new before out.new)
+            earlier rows.now result }
         ensures same_scope { scope self.new ≡ scope self.old };
 
     /// Which rows it has taken tells how many.

@@ -51,7 +51,8 @@ pub record IsStoppedAt (scope : Scope) (taken : List Entry) (entry : Entry)
   pub no_read : stop ≢ Err (marked.Run run.Read)
 
 -- the next entry is taken, or stopped at
-abbrev pub HasTakenNext : Scope → Replaying → List Entry → Entry → Option (Result Offence MarkedFault)
+abbrev pub HasTakenNext : Scope → Replaying → List Entry → Entry
+    → Option (Result Offence MarkedFault)
     → Type 0
 HasTakenNext scope taker taken entry None = HasReplayed scope taker (taken ++ entry ∷ [])
 HasTakenNext scope taker taken entry (Some stop) = IsStoppedAt scope taken entry stop

@@ -41,8 +41,9 @@ pub record LeadInto (scope : Scope) (rows : List Event) (ended : List Ended) : T
   pub last : Stretch
   pub survey : IsSurvey scope front ended last
 
--- One of these rows ended a stretch, and the lines of that and of the fault weren't taken: with want
--- of memory those before them are on their way, and where the writer failed it took a front of all.
+-- One of these rows ended a stretch, and the lines of that and of the fault weren't taken: with
+-- want of memory those before them are on their way, and where the writer failed it took a front of
+-- all.
 abbrev pub HasStopped : LineForm → Scope → Output → Output → List Event → RunFault → Type 0
 HasStopped form scope before after rows (BadRow row fault) = ⊥
 HasStopped form scope before after rows TooLong = ⊥

@@ -27,8 +27,12 @@ told_cut contents before after scope offence (Err told) taken handed =
 pub returns-in_err-write_text : goal.returns-in_err-write_text
 returns-in_err-write_text g c =
     let held = g.W.Write.contents in
-    told_cut held c.args.writer.now c.write_text.new.writer (leaving_out c.args.without) c.args.offence c.from_residual.result
-    (subst (HasTaken (held c.args.writer.now) (held c.write_text.new.writer)) (c.as_slice.ensures.value ∙ (c.in-Ok.ensures ∙ ap (λ s. report_text s (No c.args.offence)) c.leaving_out.ensures)) c.write_text.ensures.front)
+    told_cut held c.args.writer.now c.write_text.new.writer (leaving_out c.args.without)
+    c.args.offence c.from_residual.result
+    (subst (HasTaken (held c.args.writer.now) (held c.write_text.new.writer))
+    (c.as_slice.ensures.value
+    ∙ (c.in-Ok.ensures ∙ ap (λ s. report_text s (No c.args.offence)) c.leaving_out.ensures))
+    c.write_text.ensures.front)
     c.from_residual.ensures.1
 
 pub returns : goal.returns
@@ -36,5 +40,9 @@ returns g c =
     let held = g.W.Write.contents in (
       report_text (leaving_out c.args.without) (No c.args.offence),
       (refl, refl),
-      subst (Appends (held c.args.writer.now) (held c.write_text.new.writer)) (c.as_slice.ensures.value ∙ (c.in-Ok.ensures ∙ ap (λ s. report_text s (No c.args.offence)) c.leaving_out.ensures)) c.in_ok-write_text.ensures.whole,
+      subst (Appends (held c.args.writer.now) (held c.write_text.new.writer))
+          (c.as_slice.ensures.value
+          ∙ (c.in-Ok.ensures
+          ∙ ap (λ s. report_text s (No c.args.offence)) c.leaving_out.ensures))
+          c.in_ok-write_text.ensures.whole,
     )

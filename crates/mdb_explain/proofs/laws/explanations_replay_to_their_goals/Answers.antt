@@ -9,7 +9,8 @@ returns-clause-comes c without = replayed_to_goals (leaving_out without) (record
     rise = c.marks_rise.ensures.rise (leaving_out without);
     within = c.marks_rise.ensures.within (leaving_out without);
   };
-  reported = λ rows marks. c.rows_with_a_marked_run_have_a_replay_report.ensures (leaving_out without) rows marks refl;
+  reported = λ rows marks.
+      c.rows_with_a_marked_run_have_a_replay_report.ensures (leaving_out without) rows marks refl;
   comes = c.explained_goals_are_ends_of_reports.ensures (leaving_out without);
   one_answer = c.inputs_of_replay_have_one_answer.ensures (leaving_out without);
   read = c.explanations_read_as_their_marks_and_rows.ensures.reads;

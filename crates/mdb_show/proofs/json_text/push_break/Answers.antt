@@ -9,4 +9,5 @@ pub returns : goal.returns
 returns c =
     let rows = rows_only_json (codes "break") c.args.first c.args.last in
     put_last c.push_decimal.result _ _ _ (rows ++ codes ",\"length\":") (decimal c.args.length)
-    (then_put _ _ _ rows (codes ",\"length\":") c.in_ok-push_rows_only.ensures c.in_ok-extend_from_slice.ensures.items) c.push_decimal.ensures
+    (then_put _ _ _ rows (codes ",\"length\":") c.in_ok-push_rows_only.ensures
+    c.in_ok-extend_from_slice.ensures.items) c.push_decimal.ensures

@@ -10,7 +10,10 @@ returns c =
     let head = head_json (codes "fault") in
     let blame = blame_json c.args.fault.blame in
     let row = codes ",\"row\":" in
-    put_last c.push_rule.result _ _ _ (head ++ blame ++ row ++ decimal c.args.row) (rule_json c.args.fault.rule)
+    put_last c.push_rule.result _ _ _ (head ++ blame ++ row ++ decimal c.args.row)
+    (rule_json c.args.fault.rule)
     (then_put _ _ _ (head ++ blame ++ row) (decimal c.args.row)
-    (then_put _ _ _ (head ++ blame) row (then_put _ _ _ head blame c.in_ok-push_head.ensures c.in_ok-push_blame.ensures) c.in_ok-extend_from_slice.ensures.items) c.in_ok-push_decimal.ensures)
+    (then_put _ _ _ (head ++ blame) row
+    (then_put _ _ _ head blame c.in_ok-push_head.ensures c.in_ok-push_blame.ensures)
+    c.in_ok-extend_from_slice.ensures.items) c.in_ok-push_decimal.ensures)
     c.push_rule.ensures

@@ -11,20 +11,42 @@ use Rattle.mdb_show.proofs.showing.show_in.Goals.{then-ne+in_ok-write_out, else-
 
 pub returns-clause-shows : goal.returns-clause-shows
 returns-clause-shows g c all to_come =
-    let now = output (g.W.Write.contents c.show_rows-answer.new.writer) c.show_rows-answer.new.showing.printer.page in
+    let now =
+    output (g.W.Write.contents c.show_rows-answer.new.writer)
+    c.show_rows-answer.new.showing.printer.page in
     elim c.if-ne.branch [
       | then-ne+in_ok-write_out w ↦
-          written_out g.F.Form.lines c.args.scope.now all (g.W.Write.contents c.args.writer.now) (g.W.Write.contents c.if-ne.writer) now c.show_rows-answer.result (subst (λ s. PutsShowing g.F.Form.lines s all (begun (g.W.Write.contents c.args.writer.now)) now c.show_rows-answer.result) c.new-showing.ensures.scope (c.show_rows-answer.ensures.shows all to_come)) (search rules) (subst (λ s. Appends now.held (g.W.Write.contents s) now.waiting) (sym w.writer-is) w.in_ok-write_out.ensures.written)
+          written_out g.F.Form.lines c.args.scope.now all (g.W.Write.contents c.args.writer.now)
+          (g.W.Write.contents c.if-ne.writer) now c.show_rows-answer.result
+          (subst (λ s. PutsShowing g.F.Form.lines s all
+          (begun (g.W.Write.contents c.args.writer.now)) now c.show_rows-answer.result)
+          c.new-showing.ensures.scope (c.show_rows-answer.ensures.shows all to_come))
+          (search rules) (subst (λ s. Appends now.held (g.W.Write.contents s) now.waiting)
+          (sym w.writer-is) w.in_ok-write_out.ensures.written)
       | else-ne w ↦
-          subst (λ s. ShowsIn g.F.Form.lines c.args.scope.now all (g.W.Write.contents c.args.writer.now) (g.W.Write.contents s) c.show_rows-answer.result) (sym w.writer-is)
-          (rows_broken g.F.Form.lines c.args.scope.now all (g.W.Write.contents c.args.writer.now) now c.show_rows-answer.result (subst (λ s. PutsShowing g.F.Form.lines s all (begun (g.W.Write.contents c.args.writer.now)) now c.show_rows-answer.result) c.new-showing.ensures.scope (c.show_rows-answer.ensures.shows all to_come)) (search rules))
+          subst (λ s. ShowsIn g.F.Form.lines c.args.scope.now all
+          (g.W.Write.contents c.args.writer.now) (g.W.Write.contents s)
+          c.show_rows-answer.result) (sym w.writer-is)
+          (rows_broken g.F.Form.lines c.args.scope.now all (g.W.Write.contents c.args.writer.now)
+          now c.show_rows-answer.result (subst (λ s. PutsShowing g.F.Form.lines s all
+          (begun (g.W.Write.contents c.args.writer.now)) now c.show_rows-answer.result)
+          c.new-showing.ensures.scope (c.show_rows-answer.ensures.shows all to_come))
+          (search rules))
     ]
 
 pub returns-in_err-write_out-clause-shows : goal.returns-in_err-write_out-clause-shows
 returns-in_err-write_out-clause-shows g c all to_come =
-    let now = output (g.W.Write.contents c.show_rows-answer.new.writer) c.show_rows-answer.new.showing.printer.page in
-    cut_short g.F.Form.lines c.args.scope.now all (g.W.Write.contents c.args.writer.now) (g.W.Write.contents c.write_out.new.writer) c.from_residual.result c.from_residual.ensures.1
-    (page_broken g.F.Form.lines c.args.scope.now all (g.W.Write.contents c.args.writer.now) (g.W.Write.contents c.write_out.new.writer) now c.show_rows-answer.result (subst (λ s. PutsShowing g.F.Form.lines s all (begun (g.W.Write.contents c.args.writer.now)) now c.show_rows-answer.result) c.new-showing.ensures.scope (c.show_rows-answer.ensures.shows all to_come)) (search rules) c.write_out.ensures.front)
+    let now =
+    output (g.W.Write.contents c.show_rows-answer.new.writer)
+    c.show_rows-answer.new.showing.printer.page in
+    cut_short g.F.Form.lines c.args.scope.now all (g.W.Write.contents c.args.writer.now)
+    (g.W.Write.contents c.write_out.new.writer) c.from_residual.result c.from_residual.ensures.1
+    (page_broken g.F.Form.lines c.args.scope.now all (g.W.Write.contents c.args.writer.now)
+    (g.W.Write.contents c.write_out.new.writer) now c.show_rows-answer.result
+    (subst (λ s. PutsShowing g.F.Form.lines s all (begun (g.W.Write.contents c.args.writer.now))
+    now c.show_rows-answer.result) c.new-showing.ensures.scope
+    (c.show_rows-answer.ensures.shows all to_come)) (search rules)
+    c.write_out.ensures.front)
 
 pub returns-clause-met : goal.returns-clause-met
 returns-clause-met g c none some =

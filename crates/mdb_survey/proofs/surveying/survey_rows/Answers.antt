@@ -19,11 +19,17 @@ returns-in-Ok-None-clause-surveys g c all to_come =
     let before : Output = begun (held c.args.writer.now) in
     let now : Output = output (held c.read_rows.new.out) taker.printer.page in
     let later : Output = output (held c.end.new.writer) c.end.new.self.printer.page in
-    let law = none_are_reached c.followers_stand_for_reached_rows.ensures c.fronts_of_reached_rows_are_reached.ensures in
-    let Ended : Option RunFault → Type 0 = λ o. HasEnded IsRow IsRefusal (HasSurveyed form taker.scope taker.surveyor before now) (Stops form taker.scope before now) ROWS_MAX all (Ok o) in
+    let law =
+    none_are_reached c.followers_stand_for_reached_rows.ensures
+    c.fronts_of_reached_rows_are_reached.ensures in
+    let Ended : Option RunFault → Type 0 = λ o.
+    HasEnded IsRow IsRefusal (HasSurveyed form taker.scope taker.surveyor before now)
+    (Stops form taker.scope before now) ROWS_MAX all (Ok o) in
     let Puts : Scope → Type 0 = λ s. PutsSurveying form s all before later c.end.result in
     subst Puts c.read_rows.ensures.same_scope
-    (surveyings.whole law form taker.scope all taker.surveyor before now later (subst Ended c.in-Ok-None.field-0-is (c.in-Ok-None.ensures.ended all to_come)) c.end.result c.end.ensures)
+    (surveyings.whole law form taker.scope all taker.surveyor before now later
+    (subst Ended c.in-Ok-None.field-0-is (c.in-Ok-None.ensures.ended all to_come)) c.end.result
+    c.end.ensures)
 
 pub returns-in-Ok-Some-clause-surveys : goal.returns-in-Ok-Some-clause-surveys
 returns-in-Ok-Some-clause-surveys g c all to_come =
@@ -32,10 +38,13 @@ returns-in-Ok-Some-clause-surveys g c all to_come =
     let taker = c.read_rows.new.taker in
     let before : Output = begun (held c.args.writer.now) in
     let now : Output = output (held c.read_rows.new.out) taker.printer.page in
-    let Ended : Option RunFault → Type 0 = λ o. HasEnded IsRow IsRefusal (HasSurveyed form taker.scope taker.surveyor before now) (Stops form taker.scope before now) ROWS_MAX all (Ok o) in
+    let Ended : Option RunFault → Type 0 = λ o.
+    HasEnded IsRow IsRefusal (HasSurveyed form taker.scope taker.surveyor before now)
+    (Stops form taker.scope before now) ROWS_MAX all (Ok o) in
     let Puts : Scope → Type 0 = λ s. PutsSurveying form s all before now (Err c.in-Ok-Some.fault) in
     subst Puts c.read_rows.ensures.same_scope
-    (surveyings.lines_untaken form taker.scope all before now c.in-Ok-Some.fault (subst Ended c.in-Ok-Some.field-0-is (c.in-Ok-Some.ensures.ended all to_come)))
+    (surveyings.lines_untaken form taker.scope all before now c.in-Ok-Some.fault
+    (subst Ended c.in-Ok-Some.field-0-is (c.in-Ok-Some.ensures.ended all to_come)))
 
 pub returns-in_ok-stop-in-Err-clause-surveys : goal.returns-in_ok-stop-in-Err-clause-surveys
 returns-in_ok-stop-in-Err-clause-surveys g c all to_come =
@@ -47,7 +56,9 @@ returns-in_ok-stop-in-Err-clause-surveys g c all to_come =
     let later : Output = output (held c.stop.new.writer) c.stop.new.self.printer.page in
     let Puts : Scope → Type 0 = λ s. PutsSurveying form s all before later (Err c.in-Err.fault) in
     subst Puts c.read_rows.ensures.same_scope
-    (surveyings.told_with_last form taker.scope all taker.surveyor before now later c.in-Err.fault (search rules) (c.in-Err.ensures.ended all to_come) c.in_ok-stop-in-Err.field-0 c.in_ok-stop-in-Err.ensures)
+    (surveyings.told_with_last form taker.scope all taker.surveyor before now later c.in-Err.fault
+    (search rules) (c.in-Err.ensures.ended all to_come) c.in_ok-stop-in-Err.field-0
+    c.in_ok-stop-in-Err.ensures)
 
 pub returns-in_err-stop-in-Err-clause-surveys : goal.returns-in_err-stop-in-Err-clause-surveys
 returns-in_err-stop-in-Err-clause-surveys g c all to_come =
@@ -57,11 +68,14 @@ returns-in_err-stop-in-Err-clause-surveys g c all to_come =
     let before : Output = begun (held c.args.writer.now) in
     let now : Output = output (held c.read_rows.new.out) taker.printer.page in
     let later : Output = output (held c.stop.new.writer) c.stop.new.self.printer.page in
-    let law = none_are_reached c.followers_stand_for_reached_rows.ensures c.fronts_of_reached_rows_are_reached.ensures in
+    let law =
+    none_are_reached c.followers_stand_for_reached_rows.ensures
+    c.fronts_of_reached_rows_are_reached.ensures in
     let Puts : Scope → Type 0 = λ s. PutsSurveying form s all before later c.from_residual.result in
     subst Puts c.read_rows.ensures.same_scope
-    (surveyings.last_refused law form taker.scope all taker.surveyor before now later c.in-Err.fault (search rules) (c.in-Err.ensures.ended all to_come) c.in_err-stop-in-Err.field-0.0 c.in_err-stop-in-Err.ensures
-    c.from_residual.result c.from_residual.ensures.1)
+    (surveyings.last_refused law form taker.scope all taker.surveyor before now later c.in-Err.fault
+    (search rules) (c.in-Err.ensures.ended all to_come) c.in_err-stop-in-Err.field-0.0
+    c.in_err-stop-in-Err.ensures c.from_residual.result c.from_residual.ensures.1)
 
 pub returns-else-ne-clause-surveys : goal.returns-else-ne-clause-surveys
 returns-else-ne-clause-surveys g c all to_come =
@@ -70,7 +84,10 @@ returns-else-ne-clause-surveys g c all to_come =
     let taker = c.read_rows.new.taker in
     let before : Output = begun (held c.args.writer.now) in
     let now : Output = output (held c.read_rows.new.out) taker.printer.page in
-    let law = none_are_reached c.followers_stand_for_reached_rows.ensures c.fronts_of_reached_rows_are_reached.ensures in
+    let law =
+    none_are_reached c.followers_stand_for_reached_rows.ensures
+    c.fronts_of_reached_rows_are_reached.ensures in
     let Puts : Scope → Type 0 = λ s. PutsSurveying form s all before now (Err c.in-Err.fault) in
     subst Puts c.read_rows.ensures.same_scope
-    (surveyings.out_of_memory law form taker.scope all taker.surveyor before now c.in-Err.fault (search rules) (c.in-Err.ensures.ended all to_come))
+    (surveyings.out_of_memory law form taker.scope all taker.surveyor before now c.in-Err.fault
+    (search rules) (c.in-Err.ensures.ended all to_come))

@@ -18,9 +18,13 @@ returns g c =
     elim c.if-summary-ne0.branch [
       | then-summary-ne0+in_ok-write_totals w ↦
           subst (λ s. Appends (held c.args.writer.now) (held s) first) (sym w.writer-is)
-          (subst (λ text. Appends (held c.args.writer.now) (held w.write_totals.new.writer) text) (sym (if_some rows totals w.if-summary-ne0.true)) w.in_ok-write_totals.ensures)
+          (subst (λ text. Appends (held c.args.writer.now) (held w.write_totals.new.writer) text)
+          (sym (if_some rows totals w.if-summary-ne0.true)) w.in_ok-write_totals.ensures)
       | else-summary-ne0 w ↦
           subst (λ s. Appends (held c.args.writer.now) (held s) first) (sym w.writer-is)
-          (subst (λ text. Appends (held c.args.writer.now) (held c.args.writer.now) text) (sym (if_none rows totals w.if-summary-ne0.false)) (Appends-nil (held c.args.writer.now)))
+          (subst (λ text. Appends (held c.args.writer.now) (held c.args.writer.now) text)
+          (sym (if_none rows totals w.if-summary-ne0.false))
+          (Appends-nil (held c.args.writer.now)))
     ] in
-    on_ok c.write_faults.result _ _ (λ last. Appends-trans _ _ _ _ _ written last) c.write_faults.ensures
+    on_ok c.write_faults.result _ _ (λ last. Appends-trans _ _ _ _ _ written last)
+    c.write_faults.ensures

@@ -10,10 +10,13 @@ use Rattle.mdb_survey_text.proofs.text.write_total_accounts.Goals as goal
 pub loop-name-preserved : goal.loop-name-preserved
 loop-name-preserved g c =
     let i = c.loop-name.name-index in
-    one_part_more (λ name. codes "total " ++ account_line name (total_of name c.args.totals.now)) _ _ _ [] ALL i CoinsIn _ c.loop-name-test.true c.loop-name.invariant
-    (ap (λ account. codes "total " ++ account_line (get_or ALL i CoinsIn) account) c.account.ensures)
+    one_part_more (λ name. codes "total " ++ account_line name (total_of name c.args.totals.now)) _
+    _ _ [] ALL i CoinsIn _ c.loop-name-test.true c.loop-name.invariant
+    (ap (λ account. codes "total " ++ account_line (get_or ALL i CoinsIn) account)
+    c.account.ensures)
     (Appends-trans _ _ _ _ _ c.in_ok-write.ensures.bytes c.in_ok-write_account.ensures)
 
 pub returns : goal.returns
 returns g c =
-    all_parts (λ name. codes "total " ++ account_line name (total_of name c.args.totals.now)) _ _ [] ALL c.loop-name.name-index c.loop-name-test.false c.loop-name.invariant
+    all_parts (λ name. codes "total " ++ account_line name (total_of name c.args.totals.now)) _ _ []
+    ALL c.loop-name.name-index c.loop-name-test.false c.loop-name.invariant

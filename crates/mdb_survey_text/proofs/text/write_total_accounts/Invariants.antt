@@ -9,4 +9,5 @@ use Rattle.mdb_survey_text.proofs.text.write_total_accounts.Given as goal
 abbrev pub invariant-loop-name : goal.invariant-loop-name
 invariant-loop-name g l =
     Appends (g.W.Write.contents l.fn.writer) (g.W.Write.contents l.writer)
-    (flat_map (λ name. codes "total " ++ account_line name (total_of name l.totals)) (take l.name-index l.name-items))
+    (flat_map (λ name. codes "total " ++ account_line name (total_of name l.totals))
+    (take l.name-index l.name-items))

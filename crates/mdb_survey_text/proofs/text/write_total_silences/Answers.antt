@@ -13,11 +13,16 @@ loop-device-init g c = c.in_ok-write.ensures.bytes
 pub loop-device-preserved : goal.loop-device-preserved
 loop-device-preserved g c =
     let i = c.loop-device.device-index in
-    one_part_more (λ device. count_text device (total_silences device c.args.totals.now)) _ _ _ (codes "total silences") DEVICES i Changer _ c.loop-device-test.true c.loop-device.invariant
-    (ap (count_text (get_or DEVICES i Changer)) c.device_silences.ensures) c.in_ok-write_count.ensures
+    one_part_more (λ device. count_text device (total_silences device c.args.totals.now)) _ _ _
+    (codes "total silences") DEVICES i Changer _ c.loop-device-test.true c.loop-device.invariant
+    (ap (count_text (get_or DEVICES i Changer)) c.device_silences.ensures)
+    c.in_ok-write_count.ensures
 
 pub returns : goal.returns
 returns g c =
     on_ok c.write-2.result _ _
-    (λ last. Appends-trans _ _ _ _ _ (all_parts (λ device. count_text device (total_silences device c.args.totals.now)) _ _ (codes "total silences") DEVICES c.loop-device.device-index c.loop-device-test.false c.loop-device.invariant) last)
+    (λ last. Appends-trans _ _ _ _ _
+    (all_parts (λ device. count_text device (total_silences device c.args.totals.now)) _ _
+    (codes "total silences") DEVICES c.loop-device.device-index c.loop-device-test.false
+    c.loop-device.invariant) last)
     c.write-2.ensures.bytes

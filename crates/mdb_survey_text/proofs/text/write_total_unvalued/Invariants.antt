@@ -9,4 +9,5 @@ use Rattle.mdb_survey_text.proofs.text.write_total_unvalued.Given as goal
 abbrev pub invariant-loop-device : goal.invariant-loop-device
 invariant-loop-device g l =
     Appends (g.W.Write.contents l.fn.writer) (g.W.Write.contents l.writer) (codes "total unvalued"
-    ++ flat_map (λ device. count_text device (total_unvalued device l.totals)) (take l.device-index l.device-items))
+    ++ flat_map (λ device. count_text device (total_unvalued device l.totals))
+    (take l.device-index l.device-items))

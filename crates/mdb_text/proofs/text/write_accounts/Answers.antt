@@ -9,9 +9,11 @@ use Rattle.mdb_text.proofs.text.write_accounts.Goals as goal
 pub loop-name-preserved : goal.loop-name-preserved
 loop-name-preserved g c =
     let i = c.loop-name.name-index in
-    one_part_more (λ name. account_line name (account_of name c.args.report.now)) _ _ _ [] ALL i CoinsIn _ c.loop-name-test.true c.loop-name.invariant
+    one_part_more (λ name. account_line name (account_of name c.args.report.now)) _ _ _ [] ALL i
+    CoinsIn _ c.loop-name-test.true c.loop-name.invariant
     (ap (account_line (get_or ALL i CoinsIn)) c.account.ensures) c.in_ok-write_account.ensures
 
 pub returns : goal.returns
 returns g c =
-    all_parts (λ name. account_line name (account_of name c.args.report.now)) _ _ [] ALL c.loop-name.name-index c.loop-name-test.false c.loop-name.invariant
+    all_parts (λ name. account_line name (account_of name c.args.report.now)) _ _ [] ALL
+    c.loop-name.name-index c.loop-name-test.false c.loop-name.invariant

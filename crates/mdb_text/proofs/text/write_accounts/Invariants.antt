@@ -9,4 +9,5 @@ use Rattle.mdb_text.proofs.text.write_accounts.Given as goal
 abbrev pub invariant-loop-name : goal.invariant-loop-name
 invariant-loop-name g l =
     Appends (g.W.Write.contents l.fn.writer) (g.W.Write.contents l.writer)
-    (flat_map (λ name. account_line name (account_of name l.report)) (take l.name-index l.name-items))
+    (flat_map (λ name. account_line name (account_of name l.report))
+    (take l.name-index l.name-items))

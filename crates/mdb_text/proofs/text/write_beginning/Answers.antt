@@ -11,8 +11,14 @@ use Rattle.mdb_text.proofs.text.write_beginning.Goals as goal
 pub returns-in_ok-write_unvalued-in-Joined : goal.returns-in_ok-write_unvalued-in-Joined
 returns-in_ok-write_unvalued-in-Joined g c =
     let held = g.W.Write.contents in
-    let Written : DeviceSet → Type 0 = λ set. OnOk c.write_devices.result (Appends (held c.write_unvalued.new.writer) (held c.write_devices.new.writer) (line_of_devices (codes "setup") (devices_text set))) in
-    let Begun : Beginning → Type 0 = λ begins. OnOk c.write_devices.result (Appends (held c.args.writer.now) (held c.write_devices.new.writer) (beginning_text begins c.args.report.now)) in
+    let Written : DeviceSet → Type 0 = λ set.
+    OnOk c.write_devices.result (Appends (held c.write_unvalued.new.writer)
+    (held c.write_devices.new.writer)
+    (line_of_devices (codes "setup") (devices_text set))) in
+    let Begun : Beginning → Type 0 = λ begins.
+    OnOk c.write_devices.result (Appends (held c.args.writer.now)
+    (held c.write_devices.new.writer) (beginning_text begins c.args.report.now)) in
     subst Begun (sym c.in-Joined.is)
-    (on_ok c.write_devices.result _ _ (λ last. Appends-trans _ _ _ _ _ c.in_ok-write_unvalued-in-Joined.ensures last)
+    (on_ok c.write_devices.result _ _
+    (λ last. Appends-trans _ _ _ _ _ c.in_ok-write_unvalued-in-Joined.ensures last)
     (subst Written c.known_devices.ensures c.write_devices.ensures))

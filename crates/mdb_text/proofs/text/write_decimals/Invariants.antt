@@ -9,4 +9,5 @@ use Rattle.mdb_text.proofs.text.write_decimals.Given as goal
 abbrev pub invariant-loop-device : goal.invariant-loop-device
 invariant-loop-device g l =
     Appends (g.W.Write.contents l.fn.writer) (g.W.Write.contents l.writer) (codes "decimals"
-    ++ flat_map (λ device. places_text device (device_decimals device l.report)) (take l.device-index l.device-items))
+    ++ flat_map (λ device. places_text device (device_decimals device l.report))
+    (take l.device-index l.device-items))

@@ -9,4 +9,5 @@ use Rattle.mdb_text.proofs.text.write_silences.Given as goal
 abbrev pub invariant-loop-device : goal.invariant-loop-device
 invariant-loop-device g l =
     Appends (g.W.Write.contents l.fn.writer) (g.W.Write.contents l.writer) (codes "silences"
-    ++ flat_map (λ device. count_text device (device_silences device l.report)) (take l.device-index l.device-items))
+    ++ flat_map (λ device. count_text device (device_silences device l.report))
+    (take l.device-index l.device-items))

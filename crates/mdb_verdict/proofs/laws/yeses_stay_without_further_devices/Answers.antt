@@ -2,7 +2,8 @@ use Rattle.mdb_verdict.proofs.laws.yeses_stay_without_further_devices.Goals as g
 
 pub returns : goal.returns
 returns c less more limit records one leaves is =
-    let other = c.reports_go_on_without_further_devices.ensures less more is.rows one leaves is.is in (
+    let other =
+    c.reports_go_on_without_further_devices.ensures less more is.rows one leaves is.is in (
       other.0,
       record {
         rows = is.rows;

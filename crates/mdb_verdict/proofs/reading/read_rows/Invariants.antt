@@ -4,10 +4,12 @@ use Rattle.mdb_verdict.specs.declared.batch.Next.TheVariants as next
 use Rattle.mdb_verdict.proofs.Endings.{Progress}
 use Rattle.mdb_verdict.proofs.reading.read_rows.Given as goal
 
--- the rows so far are taken, and the rest of the records is to come; a text that is too long still is
+-- the rows so far are taken, and the rest of the records is to come; a text that is too long still
+-- is
 abbrev pub invariant-loop-batch : goal.invariant-loop-batch
 invariant-loop-batch g l = record {
-  progress : Progress g.T.Row.FromRecord.is g.T.Row.FromRecord.refuses g.R.Read.remaining (g.T.TakeRows.has l.taker l.fn.out l.out) l.fn.records l.records next.More;
+  progress : Progress g.T.Row.FromRecord.is g.T.Row.FromRecord.refuses g.R.Read.remaining
+      (g.T.TakeRows.has l.taker l.fn.out l.out) l.fn.records l.records next.More;
   over : IsOverLimit g.R.Read.remaining l.fn.records → IsOverLimit g.R.Read.remaining l.records;
   met : fault_of l.fn.records ≡ None → fault_of l.records ≡ None;
   few : g.T.TakeRows.count l.taker ≤ l.fn.rows_max;

@@ -7,15 +7,24 @@ use Rattle.mdb_verdict.proofs.verdict.check_scoped_within.Goals as goal
 
 pub returns-clause-whole : goal.returns-clause-whole
 returns-clause-whole g c =
-    let whole : (text : List ℕ) → (c.args.bytes_max < length text → IsOverLimit g.R.Read.remaining c.records_of-records.result) → c.args.bytes_max < length text → IsNoYes c.check_records.result =
+    let whole : (text : List ℕ)
+    → (c.args.bytes_max < length text
+    → IsOverLimit g.R.Read.remaining c.records_of-records.result)
+    → c.args.bytes_max < length text → IsNoYes c.check_records.result =
     λ text over long. c.check_records.ensures.whole (over long) in
     IfSome_then _ c.records_of-records.ensures.over whole
 
 pub returns-clause-answer : goal.returns-clause-answer
-returns-clause-answer g c = IfSome_then _ c.records_of-records.ensures.records (λ text to_come. c.check_records.ensures.answer (records default_config (strip_bom text)) to_come)
+returns-clause-answer g c =
+    IfSome_then _ c.records_of-records.ensures.records (λ text to_come.
+    c.check_records.ensures.answer (records default_config (strip_bom text)) to_come)
 
 pub returns-clause-headline : goal.returns-clause-headline
-returns-clause-headline g c = IfSome_then _ c.records_of-records.ensures.records (λ text to_come. c.check_records.ensures.headline (records default_config (strip_bom text)) to_come)
+returns-clause-headline g c =
+    IfSome_then _ c.records_of-records.ensures.records (λ text to_come.
+    c.check_records.ensures.headline (records default_config (strip_bom text)) to_come)
 
 pub returns-clause-cut : goal.returns-clause-cut
-returns-clause-cut g c = IfSome_then _ c.records_of-records.ensures.records (λ text to_come. c.check_records.ensures.cut (records default_config (strip_bom text)) to_come)
+returns-clause-cut g c =
+    IfSome_then _ c.records_of-records.ensures.records (λ text to_come.
+    c.check_records.ensures.cut (records default_config (strip_bom text)) to_come)

@@ -4,15 +4,28 @@ use Rattle.mdb_explain.proofs.replaying.Replaying.feed.Goals as goal
 
 pub returns-in-Err-clause-taken : goal.returns-in-Err-clause-taken
 returns-in-Err-clause-taken c scope earlier has =
-    steps.faulted scope c.args.self.now earlier c.args.event c.next_mark-mark.result c.in-Err.fault c.stop_of.result has (c.next_mark-mark.ensures.at has.part.passed has.part.later has.marks has.passed) (omega (arith, c.if-rows-ge-ROWS_MAX.false, c.rows.ensures))
+    steps.faulted scope c.args.self.now earlier c.args.event c.next_mark-mark.result c.in-Err.fault
+    c.stop_of.result has
+    (c.next_mark-mark.ensures.at has.part.passed has.part.later has.marks has.passed)
+    (omega (arith, c.if-rows-ge-ROWS_MAX.false, c.rows.ensures))
     (c.in-Err.ensures.fault has.part.rows has.part.passed has.stands) c.stop_of.ensures
 
 pub returns-then-is_some-clause-taken : goal.returns-then-is_some-clause-taken
 returns-then-is_some-clause-taken c scope earlier has =
-    steps.fed scope c.args.self.now _ earlier c.args.event c.next_mark-mark.result has (c.next_mark-mark.ensures.at has.part.passed has.part.later has.marks has.passed) (omega (arith, c.if-rows-ge-ROWS_MAX.false, c.rows.ensures))
-    (c.in-Ok.ensures.reached has.part.rows has.part.passed has.stands) (c.in-Ok.ensures.has_run has.part.rows has.part.passed has.stands) c.in-Ok.ensures.counted c.feed.ensures.scope refl refl (steps.passed_one c.next_mark-mark.result c.args.self.now.passed (sym c.is_some.ensures ∙ c.if-is_some.true))
+    steps.fed scope c.args.self.now _ earlier c.args.event c.next_mark-mark.result has
+    (c.next_mark-mark.ensures.at has.part.passed has.part.later has.marks has.passed)
+    (omega (arith, c.if-rows-ge-ROWS_MAX.false, c.rows.ensures))
+    (c.in-Ok.ensures.reached has.part.rows has.part.passed has.stands)
+    (c.in-Ok.ensures.has_run has.part.rows has.part.passed has.stands) c.in-Ok.ensures.counted
+    c.feed.ensures.scope refl refl (steps.passed_one c.next_mark-mark.result
+    c.args.self.now.passed (sym c.is_some.ensures ∙ c.if-is_some.true))
 
 pub returns-else-is_some-clause-taken : goal.returns-else-is_some-clause-taken
 returns-else-is_some-clause-taken c scope earlier has =
-    steps.fed scope c.args.self.now _ earlier c.args.event c.next_mark-mark.result has (c.next_mark-mark.ensures.at has.part.passed has.part.later has.marks has.passed) (omega (arith, c.if-rows-ge-ROWS_MAX.false, c.rows.ensures))
-    (c.in-Ok.ensures.reached has.part.rows has.part.passed has.stands) (c.in-Ok.ensures.has_run has.part.rows has.part.passed has.stands) c.in-Ok.ensures.counted c.feed.ensures.scope refl refl (steps.passed_none c.next_mark-mark.result c.args.self.now.passed (sym c.is_some.ensures ∙ c.if-is_some.false))
+    steps.fed scope c.args.self.now _ earlier c.args.event c.next_mark-mark.result has
+    (c.next_mark-mark.ensures.at has.part.passed has.part.later has.marks has.passed)
+    (omega (arith, c.if-rows-ge-ROWS_MAX.false, c.rows.ensures))
+    (c.in-Ok.ensures.reached has.part.rows has.part.passed has.stands)
+    (c.in-Ok.ensures.has_run has.part.rows has.part.passed has.stands) c.in-Ok.ensures.counted
+    c.feed.ensures.scope refl refl (steps.passed_none c.next_mark-mark.result
+    c.args.self.now.passed (sym c.is_some.ensures ∙ c.if-is_some.false))

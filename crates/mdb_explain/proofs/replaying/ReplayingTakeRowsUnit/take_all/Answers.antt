@@ -6,7 +6,8 @@ use Rattle.mdb_explain.proofs.replaying.ReplayingTakeRowsUnit.take_all.Goals as 
 
 pub returns-clause-taken : goal.returns-clause-taken
 returns-clause-taken c before earlier has =
-    subst (λ s. HasTakenOrStopped (HasReplayed s c.take_each.new.self) (HasStopped s) earlier c.args.rows.now c.take_each.result) (sym c.take_each.ensures.scope)
+    subst (λ s. HasTakenOrStopped (HasReplayed s c.take_each.new.self) (HasStopped s) earlier
+    c.args.rows.now c.take_each.result) (sym c.take_each.ensures.scope)
     (c.take_each.ensures.taken (scope_of c.args.self.now.replay) earlier has)
 
 pub returns-clause-same_scope : goal.returns-clause-same_scope

@@ -10,6 +10,9 @@ pub returns-clause-taken : goal.returns-clause-taken
 returns-clause-taken g c before earlier has =
     let held = begun (g.W.Write.contents before) in
     let now = output (g.W.Write.contents c.add_all.new.writer) c.add_all.new.printer.page in
-    subst (λ s. HasTakenOrStopped (HasShown g.F.Form.lines s c.add_all.new.self held now) (HasStopped g.F.Form.lines s c.add_all.new.self held now) earlier c.args.rows.now c.transpose.result) (sym c.add_all.ensures.scope)
-    (added g.F.Form.lines (scope_of c.args.self.now.lines.bus) c.add_all.new.self held now earlier c.args.rows.now c.add_all.result c.transpose.result
-    c.transpose.ensures (c.add_all.ensures.added held earlier has))
+    subst (λ s. HasTakenOrStopped (HasShown g.F.Form.lines s c.add_all.new.self held now)
+    (HasStopped g.F.Form.lines s c.add_all.new.self held now) earlier c.args.rows.now
+    c.transpose.result) (sym c.add_all.ensures.scope)
+    (added g.F.Form.lines (scope_of c.args.self.now.lines.bus) c.add_all.new.self held now earlier
+    c.args.rows.now c.add_all.result c.transpose.result c.transpose.ensures
+    (c.add_all.ensures.added held earlier has))

@@ -7,28 +7,32 @@ use Rattle.mdb_stretches.proofs.surveyor.Surveyor.end_stretch.Goals as goal
 
 pub with-self-requires : goal.with-self-requires
 with-self-requires c =
-    can_be_added c.args.self.now.before (follow.rows_of c.args.self.now.follower) c.args.self.now.totals
+    can_be_added c.args.self.now.before (follow.rows_of c.args.self.now.follower)
+    c.args.self.now.totals
     c.report_before-report.result c.args.self.now.few c.args.self.now.within
     c.report_before-report.ensures.within c.report_before-report.ensures.rows
 
 pub invariant_of-self : goal.invariant_of-self
 invariant_of-self c = record {
   few = omega (arith, c.scoped.ensures.empty, c.in-Some.ensures.numbered, c.requires.room);
-  few_faults = few_weaker (c.args.self.now.before + 1) (c.args.self.now.before + c.in-Some.offence.row)
+  few_faults =
+      few_weaker (c.args.self.now.before + 1) (c.args.self.now.before + c.in-Some.offence.row)
       c.add.new.self (omega (arith, c.in-Some.ensures.numbered))
       (c.add.ensures.few c.args.self.now.before c.args.self.now.few_faults);
   within = subst (λ t. AreWithin ((c.args.self.now.before + c.in-Some.offence.row) * 2 ^ 32) t)
       (sym c.with-self.ensures)
       (added_within c.args.self.now.before (follow.rows_of c.args.self.now.follower)
       (c.args.self.now.before + c.in-Some.offence.row) c.args.self.now.totals
-      c.report_before-report.result (omega (arith, c.in-Some.ensures.numbered)) c.args.self.now.within
+      c.report_before-report.result (omega (arith, c.in-Some.ensures.numbered))
+      c.args.self.now.within
       c.report_before-report.ensures.within c.report_before-report.ensures.rows);
 }
 
 pub returns-clause-ended : goal.returns-clause-ended
 returns-clause-ended c scope rows row ended on =
     next_stands c.transcripts_have_one_act_list.ensures c.args.self.now _ scope rows row ended
-    c.in-Some.offence c.report_before-report.result c.copy.result on (sym c.offence.ensures.met ∙ c.in-Some.is)
+    c.in-Some.offence c.report_before-report.result c.copy.result on
+    (sym c.offence.ensures.met ∙ c.in-Some.is)
     c.report_before-report.ensures.before c.copy.ensures c.scoped.ensures.stands
     (c.scoped.ensures.scope ∙ c.scope_after-self.ensures) c.scope_after-self.ensures refl refl
     c.add.ensures.counts c.with-self.ensures

@@ -10,6 +10,7 @@ returns-clause-stretch c scope rows ended on =
 
 pub returns-clause-within : goal.returns-clause-within
 returns-clause-within c =
-    can_be_added c.args.self.now.before (follow.rows_of c.args.self.now.follower) c.args.self.now.totals
+    can_be_added c.args.self.now.before (follow.rows_of c.args.self.now.follower)
+    c.args.self.now.totals
     c.report_before-report.result c.args.self.now.few c.args.self.now.within
     c.report_before-report.ensures.within c.report_before-report.ensures.rows

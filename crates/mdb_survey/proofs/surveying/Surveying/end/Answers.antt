@@ -4,6 +4,9 @@ use Rattle.mdb_survey.proofs.surveying.Surveying.end.Goals as goal
 
 pub returns-in_err-add_end : goal.returns-in_err-add_end
 returns-in_err-add_end g c =
-    end_refused g.F.Form.lines c.args.self.now.surveyor (output (g.W.Write.contents c.args.writer.now) c.args.self.now.printer.page)
-    (output (g.W.Write.contents c.add_end.new.writer) c.add_end.new.self.page) c.ending-last.result.0 c.ending-last.result.1 c.ending-last.ensures
-    c.in_err-add_end.field-0.0 c.in_err-add_end.ensures.refused c.from_residual.result c.from_residual.ensures.1
+    end_refused g.F.Form.lines c.args.self.now.surveyor
+    (output (g.W.Write.contents c.args.writer.now) c.args.self.now.printer.page)
+    (output (g.W.Write.contents c.add_end.new.writer) c.add_end.new.self.page)
+    c.ending-last.result.0 c.ending-last.result.1 c.ending-last.ensures
+    c.in_err-add_end.field-0.0 c.in_err-add_end.ensures.refused c.from_residual.result
+    c.from_residual.ensures.1

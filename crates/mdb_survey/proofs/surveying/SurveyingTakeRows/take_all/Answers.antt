@@ -12,9 +12,13 @@ loop-ended-preserved g c =
     let old = c.args.self.now in
     let mid = c.loop-ended.self in
     record {
-      goes = goes_more g.F.Form.lines old.scope old.surveyor mid.surveyor c.feed_all.new.self (output (held c.args.writer.now) old.printer.page)
-          (output (held c.loop-ended.writer) mid.printer.page) (output (held c.add_ended.new.writer) c.add_ended.new.self.page) c.args.rows.now
-          c.loop-ended.rest.now c.in-Some.after.now c.in-Some.ended c.loop-ended.invariant.goes c.in-Some.ensures.ended c.in_default-add_ended.ensures.added;
+      goes =
+          goes_more g.F.Form.lines old.scope old.surveyor mid.surveyor c.feed_all.new.self
+          (output (held c.args.writer.now) old.printer.page)
+          (output (held c.loop-ended.writer) mid.printer.page)
+          (output (held c.add_ended.new.writer) c.add_ended.new.self.page) c.args.rows.now
+          c.loop-ended.rest.now c.in-Some.after.now c.in-Some.ended c.loop-ended.invariant.goes
+          c.in-Some.ensures.ended c.in_default-add_ended.ensures.added;
       scope = c.loop-ended.invariant.scope;
     }
 
@@ -25,12 +29,16 @@ returns-in-Err-clause-taken g c start earlier has =
     let old = c.args.self.now in
     let mid = c.loop-ended.self in
     let later : Output = output (held c.add_ended.new.writer) c.add_ended.new.self.page in
-    let Stopped : Scope → Type 0 = λ s. HasStopped form s (begun (held start)) later (earlier ++ c.args.rows.now) c.in-Err.fault in
+    let Stopped : Scope → Type 0 = λ s.
+    HasStopped form s (begun (held start)) later (earlier ++ c.args.rows.now) c.in-Err.fault in
     subst Stopped (sym c.loop-ended.invariant.scope)
-    (goes_no_more (none_are_reached c.followers_stand_for_reached_rows.ensures c.fronts_of_reached_rows_are_reached.ensures)
-    form old.scope old.surveyor mid.surveyor c.feed_all.new.self (output (held c.args.writer.now) old.printer.page)
-    (output (held c.loop-ended.writer) mid.printer.page) later c.args.rows.now c.loop-ended.rest.now c.in-Some.after.now c.in-Some.ended
-    c.loop-ended.invariant.goes c.in-Some.ensures.ended c.in-Err.fault c.in-Err.ensures.refused (begun (held start)) earlier has)
+    (goes_no_more (none_are_reached c.followers_stand_for_reached_rows.ensures
+    c.fronts_of_reached_rows_are_reached.ensures) form old.scope old.surveyor mid.surveyor
+    c.feed_all.new.self (output (held c.args.writer.now) old.printer.page)
+    (output (held c.loop-ended.writer) mid.printer.page) later c.args.rows.now
+    c.loop-ended.rest.now c.in-Some.after.now c.in-Some.ended c.loop-ended.invariant.goes
+    c.in-Some.ensures.ended c.in-Err.fault c.in-Err.ensures.refused (begun (held start)) earlier
+    has)
 
 pub returns-clause-taken : goal.returns-clause-taken
 returns-clause-taken g c start earlier has =
@@ -39,7 +47,11 @@ returns-clause-taken g c start earlier has =
     let old = c.args.self.now in
     let mid = c.loop-ended.self in
     let now : Output = output (held c.loop-ended.writer) mid.printer.page in
-    let Surveyed : Scope → Type 0 = λ s. HasSurveyed form s c.feed_all.new.self (begun (held start)) now (earlier ++ c.args.rows.now) in
+    let Surveyed : Scope → Type 0 = λ s.
+    HasSurveyed form s c.feed_all.new.self (begun (held start)) now
+    (earlier ++ c.args.rows.now) in
     subst Surveyed (sym c.loop-ended.invariant.scope)
-    (goes_all form old.scope old.surveyor mid.surveyor c.feed_all.new.self (output (held c.args.writer.now) old.printer.page) now
-    c.args.rows.now c.loop-ended.rest.now c.loop-ended.invariant.goes c.in_default.ensures.taken c.in_default.ensures.counted (begun (held start)) earlier has)
+    (goes_all form old.scope old.surveyor mid.surveyor c.feed_all.new.self
+    (output (held c.args.writer.now) old.printer.page) now c.args.rows.now c.loop-ended.rest.now
+    c.loop-ended.invariant.goes c.in_default.ensures.taken c.in_default.ensures.counted
+    (begun (held start)) earlier has)

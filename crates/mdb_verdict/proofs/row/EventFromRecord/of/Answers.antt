@@ -8,10 +8,14 @@ pub returns-clause-row : goal.returns-clause-row
 returns-clause-row c =
     let long : length (fields_of c.args.fields.now) ≡ 3 = sym c.len.ensures ∙ c.if-len-ne3.false in
     let P : List (List ℕ) → Type 0 = λ fields. IfOk c.read.result (IsRow fields) in
-    subst P (sym (three_fields (fields_of c.args.fields.now) c.field.result.now c.field-2.result.now c.field-3.result.now long c.field.ensures c.field-2.ensures c.field-3.ensures)) c.read.ensures.ok
+    subst P (sym (three_fields (fields_of c.args.fields.now) c.field.result.now c.field-2.result.now
+    c.field-3.result.now long c.field.ensures c.field-2.ensures c.field-3.ensures))
+    c.read.ensures.ok
 
 pub returns-clause-refused : goal.returns-clause-refused
 returns-clause-refused c =
     let long : length (fields_of c.args.fields.now) ≡ 3 = sym c.len.ensures ∙ c.if-len-ne3.false in
     let P : List (List ℕ) → Type 0 = λ fields. IfErr c.read.result (IsRefusal fields) in
-    subst P (sym (three_fields (fields_of c.args.fields.now) c.field.result.now c.field-2.result.now c.field-3.result.now long c.field.ensures c.field-2.ensures c.field-3.ensures)) c.read.ensures.err
+    subst P (sym (three_fields (fields_of c.args.fields.now) c.field.result.now c.field-2.result.now
+    c.field-3.result.now long c.field.ensures c.field-2.ensures c.field-3.ensures))
+    c.read.ensures.err

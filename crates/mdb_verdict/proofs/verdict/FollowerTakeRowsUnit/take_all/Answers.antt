@@ -7,6 +7,8 @@ use Rattle.mdb_verdict.proofs.verdict.FollowerTakeRowsUnit.take_all.Goals as goa
 
 pub returns-clause-taken : goal.returns-clause-taken
 returns-clause-taken c nothing earlier has =
-    subst (λ s. HasTakenOrStopped (HasFollowedRows s c.feed_all.new.self) (HasOffence s) earlier c.args.rows.now c.err.result) (sym c.feed_all.ensures.scope)
-    (followed (scope_of c.args.self.now) c.args.self.now c.feed_all.new.self c.args.rows.now c.feed_all.result c.err.result c.err.ensures.value
-    c.feed_all.ensures.taken c.feed_all.ensures.offence c.feed_all.ensures.scope earlier has)
+    subst (λ s. HasTakenOrStopped (HasFollowedRows s c.feed_all.new.self) (HasOffence s) earlier
+    c.args.rows.now c.err.result) (sym c.feed_all.ensures.scope)
+    (followed (scope_of c.args.self.now) c.args.self.now c.feed_all.new.self c.args.rows.now
+    c.feed_all.result c.err.result c.err.ensures.value c.feed_all.ensures.taken
+    c.feed_all.ensures.offence c.feed_all.ensures.scope earlier has)
