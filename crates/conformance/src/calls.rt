@@ -1,5 +1,6 @@
 //! Calls of the libraries below: blocks, commands, replies, a check within limits, calls for
-//! recordings that are taken with a device left out, or that begin in mid-session, and explanations.
+//! recordings that are taken with a device left out, or that begin in mid-session, and
+//! explanations.
 
 use arrayvec::ArrayVec;
 use mdb_blocks::{Answer, Block, BlockFault, seal, unseal};
@@ -498,8 +499,8 @@ const LEAST_COINS: Goal = Goal {
     bound: Bound::Least,
 };
 
-/// Of rows that need no mark the explanation is these rows, and its replay is a yes of as many; so it
-/// is where the device is left out.
+/// Of rows that need no mark the explanation is these rows, and its replay is a yes of as many; so
+/// it is where the device is left out.
 fn explanations(rt: &HostRuntime, calls: &mut Calls) -> io::Result<()> {
     let alloc = rt.alloc();
     let without = DeviceSet::NONE.with(Device::Changer);

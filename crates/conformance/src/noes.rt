@@ -1,4 +1,5 @@
-//! A no of `check`, and the first fault that `survey` prints of the same rows with the same options.
+//! A no of `check`, and the first fault that `survey` prints of the same rows with the same
+//! options.
 
 use super::command_line;
 use std::alloc::Global;

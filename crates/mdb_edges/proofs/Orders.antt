@@ -10,7 +10,8 @@ pub compared : (a b : ℕ) → (a < b) ⊎ (b ≤ a)
 compared zero zero = inr (omega arith)
 compared zero (suc b) = inl (omega arith)
 compared (suc a) zero = inr (omega arith)
-compared (suc a) (suc b) = elim (compared a b) [ inl lt ↦ inl (omega arith) | inr le ↦ inr (omega arith) ]
+compared (suc a) (suc b) =
+    elim (compared a b) [ inl lt ↦ inl (omega arith) | inr le ↦ inr (omega arith) ]
 
 pub differ : (b : Bool) → b ≡ true → b ≡ false → ⊥
 differ b is other = absurd cc

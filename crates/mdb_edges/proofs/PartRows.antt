@@ -10,19 +10,36 @@ use Rattle.mdb_edges.specs.inner.Parts.{IsNoted}
 use Rattle.mdb_edges.specs.declared.options.EdgesOptions.{EdgesOptions}
 use Rattle.mdb_edges.specs.declared.part.EdgesImported.{EdgesImported}
 
-pub told_more : (options : EdgesOptions) (rows : List Event) (row : Event) (before after : EdgesImported) → IsTold options rows before → IsNoted options before after row → IsTold options (rows ++ row ∷ []) after
+pub told_more : (options : EdgesOptions) (rows : List Event) (row : Event)
+    (before after : EdgesImported) → IsTold options rows before → IsNoted options before after row
+    → IsTold options (rows ++ row ∷ []) after
 told_more options rows row before after told noted = record {
-  rows_are = count_more (is_taken options) rows row before.rows after.rows told.rows_are noted.rows_are;
-  before = count_more (is_before options) rows row before.before after.before told.before noted.before;
+  rows_are =
+      count_more (is_taken options) rows row before.rows after.rows told.rows_are noted.rows_are;
+  before =
+      count_more (is_before options) rows row before.before after.before told.before noted.before;
   after = count_more (is_behind options) rows row before.after after.after told.after noted.after;
-  marked = noted.said.marked ∙ (ap (λ b. b || is_marked row) told.marked ∙ sym (any_more is_marked rows row));
-  controller = noted.said.controller ∙ (ap (λ b. b || is_controllers row) told.controller ∙ sym (any_more is_controllers rows row));
-  peripheral = noted.said.peripheral ∙ (ap (λ b. b || is_peripherals row) told.peripheral ∙ sym (any_more is_peripherals rows row));
+  marked =
+      noted.said.marked
+      ∙ (ap (λ b. b || is_marked row) told.marked ∙ sym (any_more is_marked rows row));
+  controller =
+      noted.said.controller
+      ∙ (ap (λ b. b || is_controllers row) told.controller
+      ∙ sym (any_more is_controllers rows row));
+  peripheral =
+      noted.said.peripheral
+      ∙ (ap (λ b. b || is_peripherals row) told.peripheral
+      ∙ sym (any_more is_peripherals rows row));
 }
 
-last_is : (p : Event → Bool) (row : Event) (b : Bool) → p row ≡ b → filter p (row ∷ []) ≡ (if b then row ∷ [] else [])
+last_is : (p : Event → Bool) (row : Event) (b : Bool) → p row ≡ b
+    → filter p (row ∷ []) ≡ (if b then row ∷ [] else [])
 last_is p row b is = ap (λ c. if c then row ∷ [] else []) is
 
-pub part_more : (options : EdgesOptions) (rows : List Event) (row : Event) (part more : List Event) (b : Bool) → part ≡ part_of options rows → b ≡ is_taken options row → more ≡ part ++ (if b then row ∷ [] else []) → more ≡ part_of options (rows ++ row ∷ [])
+pub part_more : (options : EdgesOptions) (rows : List Event) (row : Event) (part more : List Event)
+    (b : Bool) → part ≡ part_of options rows → b ≡ is_taken options row
+    → more ≡ part ++ (if b then row ∷ [] else []) → more ≡ part_of options (rows ++ row ∷ [])
 part_more options rows row part more b is taken more_is =
-    more_is ∙ ap (λ l. l ++ (if b then row ∷ [] else [])) is ∙ ap (λ l. part_of options rows ++ l) (sym (last_is (is_taken options) row b (sym taken))) ∙ sym (filter-append (is_taken options) rows (row ∷ []))
+    more_is ∙ ap (λ l. l ++ (if b then row ∷ [] else [])) is
+    ∙ ap (λ l. part_of options rows ++ l) (sym (last_is (is_taken options) row b (sym taken)))
+    ∙ sym (filter-append (is_taken options) rows (row ∷ []))

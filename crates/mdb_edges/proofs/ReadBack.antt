@@ -37,7 +37,8 @@ fall_small options columns earliest (row ∷ rows) (moment ∷ moments) told lin
         → cond now (level_at line (level_on line moment) moments t) before ≡ true
         → cond next (level_at line (level_on line moment) moments (t + 1)) before ≡ false
         → (level_at line (level_on line moment) moments t ≡ true
-        → level_at line (level_on line moment) moments (t + 1) ≡ false → micros_of (t + 1) < 10 ^ 15)
+        → level_at line (level_on line moment) moments (t + 1) ≡ false
+        → micros_of (t + 1) < 10 ^ 15)
         → micros_of (t + 1) < 10 ^ 15
     one true true is then_is high low rest = rest high low
     one true false is then_is high low rest = absurd (grind (arith, nat_tests))
@@ -100,7 +101,8 @@ follows_small {line = line} {level = level} {from = from}
 
 line_small : (line : Line) (level : ℕ → Bool) (rows : List Event) → FallsSmall level
     → AreRowsOfLine line level rows → All IsRowEvent rows
-line_small line level rows small (inl never) = subst (All IsRowEvent) (sym never.1) (All-nil IsRowEvent)
+line_small line level rows small (inl never) =
+    subst (All IsRowEvent) (sym never.1) (All-nil IsRowEvent)
 line_small line level rows small (inr some) = follows_small some.2 small some.1.high
 
 pub part_read_back : (options : EdgesOptions) (records : List (List (List ℕ))) (rows : List Event)

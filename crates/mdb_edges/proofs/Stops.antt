@@ -24,10 +24,13 @@ denies_with (stop.Order at fault) P Q f denied = λ is. denied (f is)
 denies_with (stop.Line line wrong) P Q f denied = λ is. denied (f is)
 denies_with stop.Memory P Q f denied = tt
 
-pub told_refutes : (s : Stop) (n : ℕ) (e : EdgesFault) (P : ℕ → Type 0) → IsTellOf s n e → Denies s (P n) → Refutes e P
+pub told_refutes : (s : Stop) (n : ℕ) (e : EdgesFault) (P : ℕ → Type 0) → IsTellOf s n e
+    → Denies s (P n) → Refutes e P
 told_refutes (stop.Form fault) n (Form number told) P is denied = λ p. denied (subst P is.0 p)
-told_refutes (stop.Order at fault) n (Order number micros told) P is denied = λ p. denied (subst P is.0 p)
-told_refutes (stop.Line line wrong) n (Line number micros wire told) P is denied = λ p. denied (subst P is.0 p)
+told_refutes (stop.Order at fault) n (Order number micros told) P is denied =
+    λ p. denied (subst P is.0 p)
+told_refutes (stop.Line line wrong) n (Line number micros wire told) P is denied =
+    λ p. denied (subst P is.0 p)
 told_refutes stop.Memory n Memory P is denied = tt
 told_refutes (stop.Form fault) n _ P is denied = absurd is
 told_refutes (stop.Order at fault) n _ P is denied = absurd is
@@ -37,7 +40,8 @@ told_refutes stop.Memory n _ P is denied = absurd is
 pub told_numbered : (s : Stop) (n : ℕ) (e : EdgesFault) → IsTellOf s n e → 1 ≤ n → IsNumbered e
 told_numbered (stop.Form fault) n (Form number told) is some = omega (arith, is.0, some)
 told_numbered (stop.Order at fault) n (Order number micros told) is some = omega (arith, is.0, some)
-told_numbered (stop.Line line wrong) n (Line number micros wire told) is some = omega (arith, is.0, some)
+told_numbered (stop.Line line wrong) n (Line number micros wire told) is some =
+    omega (arith, is.0, some)
 told_numbered stop.Memory n Memory is some = tt
 told_numbered (stop.Form fault) n _ is some = absurd is
 told_numbered (stop.Order at fault) n _ is some = absurd is

@@ -26,14 +26,17 @@ use Rattle.mdb_edges.proofs.Stops.{claims_deny, denies_with, told_refutes}
 use Rattle.mdb_edges.proofs.Waves.{end_more, fits_at, shown_front, shows_at}
 
 -- the moment of the next record, in the rows that come of a table
-pub record NextIs (options : EdgesOptions) (columns : Columns) (earliest : ℕ) (row : List (List ℕ)) (ms all : List Moment) : Type 0 where
+pub record NextIs (options : EdgesOptions) (columns : Columns) (earliest : ℕ) (row : List (List ℕ))
+    (ms all : List Moment) : Type 0 where
   pub moment : Moment
   pub more : List Moment
   pub parts : all ≡ (ms ++ moment ∷ []) ++ more
   pub is : IsMoment options columns row moment
   pub later : earliest ≤ moment.at
 
-next_of : (options : EdgesOptions) (columns : Columns) (earliest from : ℕ) (row : List (List ℕ)) (rest : List (List (List ℕ))) (ms all tail : List Moment) → earliest ≡ from → all ≡ ms ++ tail → AreMoments options columns from (row ∷ rest) tail → NextIs options columns earliest row ms all
+next_of : (options : EdgesOptions) (columns : Columns) (earliest from : ℕ) (row : List (List ℕ))
+    (rest : List (List (List ℕ))) (ms all tail : List Moment) → earliest ≡ from → all ≡ ms ++ tail
+    → AreMoments options columns from (row ∷ rest) tail → NextIs options columns earliest row ms all
 next_of options columns earliest from row rest ms all [] same parts are = absurd are
 next_of options columns earliest from row rest ms all (m ∷ tail) same parts are = record {
   moment = m;
@@ -43,12 +46,19 @@ next_of options columns earliest from row rest ms all (m ∷ tail) same parts ar
   later = omega (arith, same, are.1);
 }
 
-pub next_is : (options : EdgesOptions) (columns : Columns) (earliest : ℕ) (lines : Lines) (body rest : List (List (List ℕ))) (row : List (List ℕ)) (ms : List Moment) (sent answered : List Event) → HasRead options columns earliest lines body ms → (comes : Comes options columns (body ++ row ∷ rest) sent answered) → NextIs options columns earliest row ms comes.moments
+pub next_is : (options : EdgesOptions) (columns : Columns) (earliest : ℕ) (lines : Lines)
+    (body rest : List (List (List ℕ))) (row : List (List ℕ)) (ms : List Moment)
+    (sent answered : List Event) → HasRead options columns earliest lines body ms
+    → (comes : Comes options columns (body ++ row ∷ rest) sent answered)
+    → NextIs options columns earliest row ms comes.moments
 next_is options columns earliest lines body rest row ms sent answered has comes =
-    let tail = moments_split options columns 0 body (row ∷ rest) ms comes.moments has.told comes.told in
-    next_of options columns earliest (end_of 0 ms) row rest ms comes.moments tail.0 has.next tail.1 tail.2
+    let tail =
+    moments_split options columns 0 body (row ∷ rest) ms comes.moments has.told comes.told in
+    next_of options columns earliest (end_of 0 ms) row rest ms comes.moments tail.0 has.next tail.1
+    tail.2
 
-denies_any : (s : Stop) (P : Moment → Type 0) (Q : Type 0) → (Q → (m : Moment) × P m) → ((m : Moment) → Denies s (P m)) → Denies s Q
+denies_any : (s : Stop) (P : Moment → Type 0) (Q : Type 0) → (Q → (m : Moment) × P m)
+    → ((m : Moment) → Denies s (P m)) → Denies s Q
 denies_any (stop.Form fault) P Q f denied = λ q. denied (f q).0 (f q).1
 denies_any (stop.Order at fault) P Q f denied = λ q. denied (f q).0 (f q).1
 denies_any (stop.Line line wrong) P Q f denied = λ q. denied (f q).0 (f q).1
@@ -60,38 +70,70 @@ denies_of (stop.Order at fault) Q of f = f
 denies_of (stop.Line line wrong) Q of f = f
 denies_of stop.Memory Q of f = absurd of
 
-pub no_moment : (s : Stop) (options : EdgesOptions) (columns : Columns) (earliest : ℕ) (lines : Lines) (body rest : List (List (List ℕ))) (row : List (List ℕ)) (ms : List Moment) (sent answered : List Event) → HasRead options columns earliest lines body ms → ((m : Moment) → Denies s (IsMoment options columns row m)) → Denies s (Comes options columns (body ++ row ∷ rest) sent answered)
+pub no_moment : (s : Stop) (options : EdgesOptions) (columns : Columns) (earliest : ℕ)
+    (lines : Lines) (body rest : List (List (List ℕ))) (row : List (List ℕ)) (ms : List Moment)
+    (sent answered : List Event) → HasRead options columns earliest lines body ms
+    → ((m : Moment) → Denies s (IsMoment options columns row m))
+    → Denies s (Comes options columns (body ++ row ∷ rest) sent answered)
 no_moment s options columns earliest lines body rest row ms sent answered has denied =
-    denies_any s (λ m. IsMoment options columns row m) (Comes options columns (body ++ row ∷ rest) sent answered)
-    (λ comes. let next = next_is options columns earliest lines body rest row ms sent answered has comes in (next.moment, next.is)) denied
+    denies_any s (λ m. IsMoment options columns row m)
+    (Comes options columns (body ++ row ∷ rest) sent answered)
+    (λ comes.
+    let next =
+    next_is options columns earliest lines body rest row ms sent answered has comes in
+    (next.moment, next.is)) denied
 
-pub not_later : (s : Stop) (options : EdgesOptions) (columns : Columns) (earliest : ℕ) (lines : Lines) (body rest : List (List (List ℕ))) (row : List (List ℕ)) (ms : List Moment) (sent answered : List Event) (m : Moment) → HasRead options columns earliest lines body ms → IsMoment options columns row m → m.at < earliest → IsOfTable s → Denies s (Comes options columns (body ++ row ∷ rest) sent answered)
+pub not_later : (s : Stop) (options : EdgesOptions) (columns : Columns) (earliest : ℕ)
+    (lines : Lines) (body rest : List (List (List ℕ))) (row : List (List ℕ)) (ms : List Moment)
+    (sent answered : List Event) (m : Moment) → HasRead options columns earliest lines body ms
+    → IsMoment options columns row m → m.at < earliest → IsOfTable s
+    → Denies s (Comes options columns (body ++ row ∷ rest) sent answered)
 not_later s options columns earliest lines body rest row ms sent answered m has is early of =
     denies_of s (Comes options columns (body ++ row ∷ rest) sent answered) of
     (λ comes.
     let next = next_is options columns earliest lines body rest row ms sent answered has comes in
-    let same = ap (λ (x : Moment). x.at) (one_moment options columns row next.moment m next.is is) in
+    let same =
+    ap (λ (x : Moment). x.at) (one_moment options columns row next.moment m next.is is) in
     omega (arith, next.later, same, early))
 
-pub read_more : (options : EdgesOptions) (columns : Columns) (earliest : ℕ) (old lines : Lines) (body : List (List (List ℕ))) (row : List (List ℕ)) (ms : List Moment) (m : Moment) → HasRead options columns earliest old body ms → IsMoment options columns row m → earliest ≤ m.at → HaveHeard lines (ms ++ m ∷ []) → HasRead options columns (m.at + 1) lines (body ++ row ∷ []) (ms ++ m ∷ [])
+pub read_more : (options : EdgesOptions) (columns : Columns) (earliest : ℕ) (old lines : Lines)
+    (body : List (List (List ℕ))) (row : List (List ℕ)) (ms : List Moment) (m : Moment)
+    → HasRead options columns earliest old body ms → IsMoment options columns row m
+    → earliest ≤ m.at → HaveHeard lines (ms ++ m ∷ [])
+    → HasRead options columns (m.at + 1) lines (body ++ row ∷ []) (ms ++ m ∷ [])
 read_more options columns earliest old lines body row ms m has is later heard = record {
   told = moments_more options columns 0 body ms row m has.told is (omega (arith, has.next, later));
   heard = heard;
   next = sym (end_more 0 ms m);
 }
 
-barred_comes : (options : EdgesOptions) (columns : Columns) (body : List (List (List ℕ))) (sent answered : List Event) (front more : List Moment) (comes : Comes options columns body sent answered) → comes.moments ≡ front ++ more → AreBarred front → ⊥
+barred_comes : (options : EdgesOptions) (columns : Columns) (body : List (List (List ℕ)))
+    (sent answered : List Event) (front more : List Moment)
+    (comes : Comes options columns body sent answered) → comes.moments ≡ front ++ more
+    → AreBarred front → ⊥
 barred_comes options columns body sent answered front more comes parts barred =
     let rising = moments_rise options columns 0 body comes.moments comes.told in
-    let shown = λ (line : Line). shown_front line (level_at line false comes.moments) false 0 front more (subst (λ l. Shows line (level_at line false comes.moments) false 0 l) parts (shows_at line false 0 comes.moments rising)) in
+    let shown = λ (line : Line).
+    shown_front line (level_at line false comes.moments) false 0 front more
+    (subst (λ l. Shows line (level_at line false comes.moments) false 0 l) parts
+    (shows_at line false 0 comes.moments rising)) in
     elim barred [
-      | inl controller ↦ controller (level_at Controller false comes.moments) (shown Controller) sent comes.controller
-      | inr peripheral ↦ peripheral (level_at Peripheral false comes.moments) (shown Peripheral) answered comes.peripheral
+      | inl controller ↦
+          controller (level_at Controller false comes.moments) (shown Controller) sent
+          comes.controller
+      | inr peripheral ↦
+          peripheral (level_at Peripheral false comes.moments) (shown Peripheral) answered
+          comes.peripheral
     ]
 
-pub barred_next : (s : Stop) (options : EdgesOptions) (columns : Columns) (earliest : ℕ) (lines : Lines) (body rest : List (List (List ℕ))) (row : List (List ℕ)) (ms : List Moment) (sent answered : List Event) (m : Moment) → HasRead options columns earliest lines body ms → IsMoment options columns row m → Claims s (AreBarred (ms ++ m ∷ [])) → Denies s (Comes options columns (body ++ row ∷ rest) sent answered)
+pub barred_next : (s : Stop) (options : EdgesOptions) (columns : Columns) (earliest : ℕ)
+    (lines : Lines) (body rest : List (List (List ℕ))) (row : List (List ℕ)) (ms : List Moment)
+    (sent answered : List Event) (m : Moment) → HasRead options columns earliest lines body ms
+    → IsMoment options columns row m → Claims s (AreBarred (ms ++ m ∷ []))
+    → Denies s (Comes options columns (body ++ row ∷ rest) sent answered)
 barred_next s options columns earliest lines body rest row ms sent answered m has is claims =
-    claims_deny s (AreBarred (ms ++ m ∷ [])) (Comes options columns (body ++ row ∷ rest) sent answered)
+    claims_deny s (AreBarred (ms ++ m ∷ []))
+    (Comes options columns (body ++ row ∷ rest) sent answered)
     (λ barred comes.
     let next = next_is options columns earliest lines body rest row ms sent answered has comes in
     let same = one_moment options columns row next.moment m next.is is in
@@ -109,27 +151,38 @@ tails : List (List (List ℕ)) → List (List (List ℕ))
 tails [] = []
 tails (row ∷ rows) = rows
 
-pub head_same : (a b : List (List ℕ)) (xs ys : List (List (List ℕ))) → a ∷ xs ≡ b ∷ ys → (a ≡ b) × (xs ≡ ys)
+pub head_same : (a b : List (List ℕ)) (xs ys : List (List (List ℕ))) → a ∷ xs ≡ b ∷ ys
+    → (a ≡ b) × (xs ≡ ys)
 unfolding heads tails
 head_same a b xs ys same = (ap heads same, ap tails same)
 
-front_row : (xs : List (List (List ℕ))) (row : List (List ℕ)) (rest others : List (List (List ℕ))) (k : ℕ) → k ≡ length xs + 1 → take k others ≡ take k (xs ++ row ∷ rest) → others ≡ xs ++ row ∷ drop k others
+front_row : (xs : List (List (List ℕ))) (row : List (List ℕ)) (rest others : List (List (List ℕ)))
+    (k : ℕ) → k ≡ length xs + 1 → take k others ≡ take k (xs ++ row ∷ rest)
+    → others ≡ xs ++ row ∷ drop k others
 front_row xs row rest others k is same =
     let ys : List (List (List ℕ)) = xs ++ row ∷ [] in
     let parts : xs ++ row ∷ rest ≡ ys ++ rest = sym (append_assoc xs (row ∷ []) rest) in
     let len : k ≡ length ys = omega (arith, is, length-append xs (row ∷ [])) in
-    let front : take k others ≡ ys = same ∙ ap (λ l. take k l) parts ∙ ap (λ n. take n (ys ++ rest)) len ∙ take-append_seam ys rest in
-    sym (take-append-drop k others) ∙ ap (λ l. l ++ drop k others) front ∙ append_assoc xs (row ∷ []) (drop k others)
+    let front : take k others ≡ ys =
+    same ∙ ap (λ l. take k l) parts ∙ ap (λ n. take n (ys ++ rest)) len
+    ∙ take-append_seam ys rest in
+    sym (take-append-drop k others) ∙ ap (λ l. l ++ drop k others) front
+    ∙ append_assoc xs (row ∷ []) (drop k others)
 
-whole_front : (xs others : List (List (List ℕ))) (k : ℕ) → k ≡ length xs + 1 → take k others ≡ take k xs → others ≡ xs
+whole_front : (xs others : List (List (List ℕ))) (k : ℕ) → k ≡ length xs + 1
+    → take k others ≡ take k xs → others ≡ xs
 whole_front xs others k is same =
     let all : take k xs ≡ xs = take_all k xs (omega (arith, is)) in
     elim (compared (length others) k) [
       | inl lt ↦ sym (take_all k others (omega (arith, lt))) ∙ same ∙ all
-      | inr ge ↦ let lengths = ap length (same ∙ all) in let taken = length-take k others in absurd (omega (arith, is, ge, lengths, taken))
+      | inr ge ↦
+          let lengths = ap length (same ∙ all) in
+          let taken = length-take k others in
+          absurd (omega (arith, is, ge, lengths, taken))
     ]
 
-fronts_split : (n : ℕ) (a b : List (List ℕ)) (xs ys : List (List (List ℕ))) → 1 ≤ n → take n (a ∷ xs) ≡ take n (b ∷ ys) → (a ≡ b) × (take (n - 1) xs ≡ take (n - 1) ys)
+fronts_split : (n : ℕ) (a b : List (List ℕ)) (xs ys : List (List (List ℕ))) → 1 ≤ n
+    → take n (a ∷ xs) ≡ take n (b ∷ ys) → (a ≡ b) × (take (n - 1) xs ≡ take (n - 1) ys)
 fronts_split zero a b xs ys some same = absurd (omega (arith, some))
 fronts_split (suc k) a b xs ys some same =
     let both = head_same a b (take k xs) (take k ys) same in
@@ -137,7 +190,9 @@ fronts_split (suc k) a b xs ys some same =
     (both.0, subst (λ m. take m xs ≡ take m ys) less both.1)
 
 -- some records were read, and the rest is to come
-pub record SoFar {R : Type 0} (remaining : R → Option (List ℕ)) (now : Records R) (options : EdgesOptions) (columns : Columns) (earliest number : ℕ) (lines : Lines) (all : List (List (List ℕ))) : Type 0 where
+pub record SoFar {R : Type 0} (remaining : R → Option (List ℕ)) (now : Records R)
+    (options : EdgesOptions) (columns : Columns) (earliest number : ℕ) (lines : Lines)
+    (all : List (List (List ℕ))) : Type 0 where
   pub done : List (List (List ℕ))
   pub rest : List (List (List ℕ))
   pub moments : List Moment
@@ -146,7 +201,10 @@ pub record SoFar {R : Type 0} (remaining : R → Option (List ℕ)) (now : Recor
   pub to_come : ToCome remaining now rest
   pub has : HasRead options columns earliest lines done moments
 
-pub so_far_none : {R : Type 0} (remaining : R → Option (List ℕ)) (now : Records R) (options : EdgesOptions) (columns : Columns) (lines : Lines) (all : List (List (List ℕ))) → HaveHeard lines [] → ToCome remaining now all → SoFar remaining now options columns 0 2 lines all
+pub so_far_none : {R : Type 0} (remaining : R → Option (List ℕ)) (now : Records R)
+    (options : EdgesOptions) (columns : Columns) (lines : Lines) (all : List (List (List ℕ)))
+    → HaveHeard lines [] → ToCome remaining now all
+    → SoFar remaining now options columns 0 2 lines all
 so_far_none remaining now options columns lines all heard to_come = record {
   done = [];
   rest = all;
@@ -157,88 +215,176 @@ so_far_none remaining now options columns lines all heard to_come = record {
   has = record { told = tt; heard = heard; next = refl };
 }
 
-pub so_far_more : {R : Type 0} (remaining : R → Option (List ℕ)) (old now : Records R) (options : EdgesOptions) (columns : Columns) (earliest next number : ℕ) (first lines : Lines) (all : List (List (List ℕ))) (row : List (List ℕ)) (so_far : SoFar remaining old options columns earliest number first all) → row ≡ current_fields now → Advances remaining now true so_far.rest
-    → ((body : List (List (List ℕ))) (ms : List Moment) → HasRead options columns earliest first body ms → (more : List Moment) × HasRead options columns next lines (body ++ row ∷ []) more) → SoFar remaining now options columns next (number + 1) lines all
-so_far_more remaining old now options columns earliest next number first lines all row so_far is advances takes =
+pub so_far_more : {R : Type 0} (remaining : R → Option (List ℕ)) (old now : Records R)
+    (options : EdgesOptions) (columns : Columns) (earliest next number : ℕ) (first lines : Lines)
+    (all : List (List (List ℕ))) (row : List (List ℕ))
+    (so_far : SoFar remaining old options columns earliest number first all)
+    → row ≡ current_fields now → Advances remaining now true so_far.rest
+    → ((body : List (List (List ℕ))) (ms : List Moment)
+    → HasRead options columns earliest first body ms
+    → (more : List Moment) × HasRead options columns next lines (body ++ row ∷ []) more)
+    → SoFar remaining now options columns next (number + 1) lines all
+so_far_more remaining old now options columns earliest next number first lines all row so_far is
+    advances takes =
     let taken = takes so_far.done so_far.moments so_far.has in
     record {
       done = so_far.done ++ row ∷ [];
       rest = advances.0;
       moments = taken.0;
-      split = so_far.split ∙ ap (λ l. so_far.done ++ l) (advances.1 ∙ ap (λ r. r ∷ advances.0) (sym is)) ∙ sym (append_assoc so_far.done (row ∷ []) advances.0);
+      split =
+          so_far.split ∙ ap (λ l. so_far.done ++ l) (advances.1 ∙ ap (λ r. r ∷ advances.0) (sym is))
+          ∙ sym (append_assoc so_far.done (row ∷ []) advances.0);
       counted = omega (arith, so_far.counted, length-append so_far.done (row ∷ []));
       to_come = advances.2;
       has = taken.1;
     }
 
-pub all_come : {R : Type 0} (remaining : R → Option (List ℕ)) (old now : Records R) (options : EdgesOptions) (columns : Columns) (earliest number : ℕ) (lines : Lines) (all : List (List (List ℕ))) (sent answered : List Event) (so_far : SoFar remaining old options columns earliest number lines all) → Advances remaining now false so_far.rest
-    → ((ms : List Moment) → HaveHeard lines ms → IsWhole Controller ms sent × IsWhole Peripheral ms answered) → Comes options columns all sent answered
-all_come remaining old now options columns earliest number lines all sent answered so_far none ends =
+pub all_come : {R : Type 0} (remaining : R → Option (List ℕ)) (old now : Records R)
+    (options : EdgesOptions) (columns : Columns) (earliest number : ℕ) (lines : Lines)
+    (all : List (List (List ℕ))) (sent answered : List Event)
+    (so_far : SoFar remaining old options columns earliest number lines all)
+    → Advances remaining now false so_far.rest
+    → ((ms : List Moment) → HaveHeard lines ms
+    → IsWhole Controller ms sent × IsWhole Peripheral ms answered)
+    → Comes options columns all sent answered
+all_come remaining old now options columns earliest number lines all sent answered so_far none
+    ends =
     let whole = ends so_far.moments so_far.has.heard in
     let rising = moments_rise options columns 0 so_far.done so_far.moments so_far.has.told in
-    let done_is : so_far.done ≡ all = sym (append-nil so_far.done) ∙ ap (λ l. so_far.done ++ l) (sym none) ∙ sym so_far.split in
+    let done_is : so_far.done ≡ all =
+    sym (append-nil so_far.done) ∙ ap (λ l. so_far.done ++ l) (sym none) ∙ sym so_far.split in
     record {
       moments = so_far.moments;
       told = subst (λ l. AreMoments options columns 0 l so_far.moments) done_is so_far.has.told;
-      controller = whole.0 (level_at Controller false so_far.moments) (fits_at Controller so_far.moments rising);
-      peripheral = whole.1 (level_at Peripheral false so_far.moments) (fits_at Peripheral so_far.moments rising);
+      controller =
+          whole.0 (level_at Controller false so_far.moments)
+          (fits_at Controller so_far.moments rising);
+      peripheral =
+          whole.1 (level_at Peripheral false so_far.moments)
+          (fits_at Peripheral so_far.moments rising);
     }
 
-pub same_all : (options : EdgesOptions) (columns : Columns) (body : List (List (List ℕ))) (ms all : List Moment) → AreMoments options columns 0 body ms → AreMoments options columns 0 body all → all ≡ ms
+pub same_all : (options : EdgesOptions) (columns : Columns) (body : List (List (List ℕ)))
+    (ms all : List Moment) → AreMoments options columns 0 body ms
+    → AreMoments options columns 0 body all → all ≡ ms
 same_all options columns body ms all one other =
-    let tail = moments_split options columns 0 body [] ms all one (subst (λ l. AreMoments options columns 0 l all) (sym (append-nil body)) other) in
+    let tail =
+    moments_split options columns 0 body [] ms all one
+    (subst (λ l. AreMoments options columns 0 l all) (sym (append-nil body)) other) in
     tail.1 ∙ ap (λ l. ms ++ l) (empty tail.0 tail.2) ∙ append-nil ms
   where
     empty : (more : List Moment) → AreMoments options columns (end_of 0 ms) [] more → more ≡ []
     empty [] are = refl
     empty (m ∷ more) are = absurd are
 
-pub none_come : {R : Type 0} (remaining : R → Option (List ℕ)) (old now : Records R) (options : EdgesOptions) (columns : Columns) (earliest number : ℕ) (lines : Lines) (all : List (List (List ℕ))) (s : Stop) (e : EdgesFault) (others : List (List (List ℕ))) (sent answered : List Event) (so_far : SoFar remaining old options columns earliest number lines all) → Advances remaining now false so_far.rest
-    → ((ms : List Moment) → HaveHeard lines ms → Claims s (IsEmpty Controller ms ⊎ IsEmpty Peripheral ms)) → IsTellOf s number e → Refutes e (λ n. BeginSame (n - 1) all others × Comes options columns others sent answered)
-none_come remaining old now options columns earliest number lines all s e others sent answered so_far none ends tells =
-    told_refutes s number e (λ n. BeginSame (n - 1) all others × Comes options columns others sent answered) tells
-    (claims_deny s (IsEmpty Controller so_far.moments ⊎ IsEmpty Peripheral so_far.moments) (BeginSame (number - 1) all others × Comes options columns others sent answered) (λ empty both.
+pub none_come : {R : Type 0} (remaining : R → Option (List ℕ)) (old now : Records R)
+    (options : EdgesOptions) (columns : Columns) (earliest number : ℕ) (lines : Lines)
+    (all : List (List (List ℕ))) (s : Stop) (e : EdgesFault) (others : List (List (List ℕ)))
+    (sent answered : List Event)
+    (so_far : SoFar remaining old options columns earliest number lines all)
+    → Advances remaining now false so_far.rest
+    → ((ms : List Moment) → HaveHeard lines ms
+    → Claims s (IsEmpty Controller ms ⊎ IsEmpty Peripheral ms))
+    → IsTellOf s number e
+    → Refutes e (λ n. BeginSame (n - 1) all others × Comes options columns others sent answered)
+none_come remaining old now options columns earliest number lines all s e others sent answered
+    so_far none ends tells =
+    told_refutes s number e
+    (λ n. BeginSame (n - 1) all others × Comes options columns others sent answered) tells
+    (claims_deny s (IsEmpty Controller so_far.moments ⊎ IsEmpty Peripheral so_far.moments)
+    (BeginSame (number - 1) all others × Comes options columns others sent answered)
+    (λ empty both.
     let comes = both.1 in
     let rising = moments_rise options columns 0 others comes.moments comes.told in
-    let done_is : so_far.done ≡ all = sym (append-nil so_far.done) ∙ ap (λ l. so_far.done ++ l) (sym none) ∙ sym so_far.split in
+    let done_is : so_far.done ≡ all =
+    sym (append-nil so_far.done) ∙ ap (λ l. so_far.done ++ l) (sym none) ∙ sym so_far.split in
     let lengths = ap (λ (l : List (List (List ℕ))). length l) done_is in
-    let whole = whole_front all others (number - 1) (omega (arith, so_far.counted, lengths)) both.0 in
-    let same = same_all options columns others so_far.moments comes.moments (subst (λ l. AreMoments options columns 0 l so_far.moments) (done_is ∙ sym whole) so_far.has.told) comes.told in
+    let whole =
+    whole_front all others (number - 1) (omega (arith, so_far.counted, lengths)) both.0 in
+    let same =
+    same_all options columns others so_far.moments comes.moments
+    (subst (λ l. AreMoments options columns 0 l so_far.moments) (done_is ∙ sym whole)
+    so_far.has.told) comes.told in
     elim empty [
-      | inl controller ↦ subst (λ l. IsEmpty Controller l) (sym same) controller (level_at Controller false comes.moments) (fits_at Controller comes.moments rising) sent comes.controller
-      | inr peripheral ↦ subst (λ l. IsEmpty Peripheral l) (sym same) peripheral (level_at Peripheral false comes.moments) (fits_at Peripheral comes.moments rising) answered comes.peripheral
+      | inl controller ↦
+          subst (λ l. IsEmpty Controller l) (sym same) controller
+          (level_at Controller false comes.moments) (fits_at Controller comes.moments rising)
+          sent comes.controller
+      | inr peripheral ↦
+          subst (λ l. IsEmpty Peripheral l) (sym same) peripheral
+          (level_at Peripheral false comes.moments) (fits_at Peripheral comes.moments rising)
+          answered comes.peripheral
     ]) (ends so_far.moments so_far.has.heard))
 
-pub stops_come : {R : Type 0} (remaining : R → Option (List ℕ)) (old now : Records R) (options : EdgesOptions) (columns : Columns) (earliest number : ℕ) (lines : Lines) (all : List (List (List ℕ))) (row : List (List ℕ)) (s : Stop) (e : EdgesFault) (others : List (List (List ℕ))) (sent answered : List Event) (so_far : SoFar remaining old options columns earliest number lines all) → row ≡ current_fields now → Advances remaining now true so_far.rest
-    → ((body rest : List (List (List ℕ))) (ms : List Moment) (s' a : List Event) → HasRead options columns earliest lines body ms → Denies s (Comes options columns (body ++ row ∷ rest) s' a)) → IsTellOf s number e → Refutes e (λ n. BeginSame (n - 1) all others × Comes options columns others sent answered)
-stops_come remaining old now options columns earliest number lines all row s e others sent answered so_far is advances stops tells =
-    let parts = so_far.split ∙ ap (λ l. so_far.done ++ l) (advances.1 ∙ ap (λ r. r ∷ advances.0) (sym is)) in
+pub stops_come : {R : Type 0} (remaining : R → Option (List ℕ)) (old now : Records R)
+    (options : EdgesOptions) (columns : Columns) (earliest number : ℕ) (lines : Lines)
+    (all : List (List (List ℕ))) (row : List (List ℕ)) (s : Stop) (e : EdgesFault)
+    (others : List (List (List ℕ))) (sent answered : List Event)
+    (so_far : SoFar remaining old options columns earliest number lines all)
+    → row ≡ current_fields now → Advances remaining now true so_far.rest
+    → ((body rest : List (List (List ℕ))) (ms : List Moment) (s' a : List Event)
+    → HasRead options columns earliest lines body ms
+    → Denies s (Comes options columns (body ++ row ∷ rest) s' a))
+    → IsTellOf s number e
+    → Refutes e (λ n. BeginSame (n - 1) all others × Comes options columns others sent answered)
+stops_come remaining old now options columns earliest number lines all row s e others sent answered
+    so_far is advances stops tells =
+    let parts =
+    so_far.split
+    ∙ ap (λ l. so_far.done ++ l) (advances.1 ∙ ap (λ r. r ∷ advances.0) (sym is)) in
     let k : number - 1 ≡ length so_far.done + 1 = omega (arith, so_far.counted) in
-    told_refutes s number e (λ n. BeginSame (n - 1) all others × Comes options columns others sent answered) tells
-    (denies_with s (Comes options columns (so_far.done ++ row ∷ drop (number - 1) others) sent answered) (BeginSame (number - 1) all others × Comes options columns others sent answered)
-    (λ both. subst (λ l. Comes options columns l sent answered) (front_row so_far.done row advances.0 others (number - 1) k (both.0 ∙ ap (λ l. take (number - 1) l) parts)) both.1)
+    told_refutes s number e
+    (λ n. BeginSame (n - 1) all others × Comes options columns others sent answered) tells
+    (denies_with s
+    (Comes options columns (so_far.done ++ row ∷ drop (number - 1) others) sent answered)
+    (BeginSame (number - 1) all others × Comes options columns others sent answered)
+    (λ both. subst (λ l. Comes options columns l sent answered) (front_row so_far.done row
+    advances.0 others (number - 1) k (both.0 ∙ ap (λ l. take (number - 1) l) parts)) both.1)
     (stops so_far.done (drop (number - 1) others) so_far.moments sent answered so_far.has))
 
 -- a header, and what comes below it
 
-pub headed : {R : Type 0} (remaining : R → Option (List ℕ)) (now : Records R) (options : EdgesOptions) (columns : Columns) (all : List (List (List ℕ))) (row : List (List ℕ)) → row ≡ current_fields now → IsHeader options row columns → Advances remaining now true all
+pub headed : {R : Type 0} (remaining : R → Option (List ℕ)) (now : Records R)
+    (options : EdgesOptions) (columns : Columns) (all : List (List (List ℕ))) (row : List (List ℕ))
+    → row ≡ current_fields now → IsHeader options row columns → Advances remaining now true all
     → (rest : List (List (List ℕ))) × IsHeaded options all columns rest × ToCome remaining now rest
-headed remaining now options columns all row is named advances =
-    (advances.0, record { header = row; parts = advances.1 ∙ ap (λ r. r ∷ advances.0) (sym is); named = named }, advances.2)
+headed remaining now options columns all row is named advances = (
+  advances.0,
+  record {
+    header = row;
+    parts = advances.1 ∙ ap (λ r. r ∷ advances.0) (sym is);
+    named = named;
+  },
+  advances.2,
+)
 
-pub no_header : {R : Type 0} (remaining : R → Option (List ℕ)) (now : Records R) (options : EdgesOptions) (columns : Columns) (all others rest : List (List (List ℕ))) (row : List (List ℕ)) → row ≡ current_fields now → ((c : Columns) → IsHeader options row c → ⊥) → Advances remaining now true all → BeginSame 1 all others × IsHeaded options others columns rest → ⊥
+pub no_header : {R : Type 0} (remaining : R → Option (List ℕ)) (now : Records R)
+    (options : EdgesOptions) (columns : Columns) (all others rest : List (List (List ℕ)))
+    (row : List (List ℕ)) → row ≡ current_fields now → ((c : Columns) → IsHeader options row c → ⊥)
+    → Advances remaining now true all
+    → BeginSame 1 all others × IsHeaded options others columns rest → ⊥
 no_header remaining now options columns all others rest row is never advances both =
     let head = both.1 in
-    let fronts : take 1 (head.header ∷ rest) ≡ take 1 (row ∷ advances.0) = ap (λ l. take 1 l) (sym head.parts) ∙ both.0 ∙ ap (λ l. take 1 l) (advances.1 ∙ ap (λ r. r ∷ advances.0) (sym is)) in
+    let fronts : take 1 (head.header ∷ rest) ≡ take 1 (row ∷ advances.0) =
+    ap (λ l. take 1 l) (sym head.parts) ∙ both.0
+    ∙ ap (λ l. take 1 l) (advances.1 ∙ ap (λ r. r ∷ advances.0) (sym is)) in
     let same = fronts_split 1 head.header row rest advances.0 (omega arith) fronts in
     never columns (subst (λ h. IsHeader options h columns) same.0 head.named)
 
-pub no_records : {R : Type 0} (remaining : R → Option (List ℕ)) (now : Records R) (options : EdgesOptions) (columns : Columns) (all others rest : List (List (List ℕ))) → Advances remaining now false all → BeginSame 1 all others × IsHeaded options others columns rest → ⊥
+pub no_records : {R : Type 0} (remaining : R → Option (List ℕ)) (now : Records R)
+    (options : EdgesOptions) (columns : Columns) (all others rest : List (List (List ℕ)))
+    → Advances remaining now false all
+    → BeginSame 1 all others × IsHeaded options others columns rest → ⊥
 no_records remaining now options columns all others rest none both =
-    let whole = whole_front all others 1 (omega (arith, ap (λ (l : List (List (List ℕ))). length l) none)) both.0 in
+    let whole =
+    whole_front all others 1 (omega (arith, ap (λ (l : List (List (List ℕ))). length l) none))
+    both.0 in
     absurd (let parts = both.1.parts in cc)
 
-pub table_of : (options : EdgesOptions) (columns : Columns) (all rest : List (List (List ℕ))) (sent answered rows : List Event) → IsHeaded options all columns rest → Comes options columns rest sent answered → Merges sent answered rows → AreRowsOfTable options all rows
+pub table_of : (options : EdgesOptions) (columns : Columns) (all rest : List (List (List ℕ)))
+    (sent answered rows : List Event) → IsHeaded options all columns rest
+    → Comes options columns rest sent answered → Merges sent answered rows
+    → AreRowsOfTable options all rows
 table_of options columns all rest sent answered rows head comes both = record {
   header = head.header;
   body = rest;
@@ -254,11 +400,17 @@ table_of options columns all rest sent answered rows head comes both = record {
   both = both;
 }
 
-parts_of_table : (options : EdgesOptions) (columns : Columns) (all rest others : List (List (List ℕ))) (rows : List Event) (n : ℕ) → IsHeaded options all columns rest → 1 ≤ n → BeginSame n all others → (table : AreRowsOfTable options others rows) → BeginSame (n - 1) rest table.body × Comes options columns table.body table.sent table.answered
+parts_of_table : (options : EdgesOptions) (columns : Columns)
+    (all rest others : List (List (List ℕ))) (rows : List Event) (n : ℕ)
+    → IsHeaded options all columns rest → 1 ≤ n → BeginSame n all others
+    → (table : AreRowsOfTable options others rows)
+    → BeginSame (n - 1) rest table.body × Comes options columns table.body table.sent table.answered
 parts_of_table options columns all rest others rows n head some begins table =
     let fronts = ap (λ l. take n l) (sym table.parts) ∙ begins ∙ ap (λ l. take n l) head.parts in
     let same = fronts_split n table.header head.header table.body rest some fronts in
-    let one = one_header options head.header table.columns columns (subst (λ h. IsHeader options h table.columns) same.0 table.named) head.named in (
+    let one =
+    one_header options head.header table.columns columns
+    (subst (λ h. IsHeader options h table.columns) same.0 table.named) head.named in (
       same.1,
       record {
         moments = table.moments;
@@ -268,22 +420,43 @@ parts_of_table options columns all rest others rows n head some begins table =
       },
     )
 
-pub no_table : (e : EdgesFault) (options : EdgesOptions) (columns : Columns) (all rest : List (List (List ℕ))) → IsHeaded options all columns rest → IsNumbered e → ((others : List (List (List ℕ))) (sent answered : List Event) → Refutes e (λ n. BeginSame (n - 1) rest others × Comes options columns others sent answered))
-    → (others : List (List (List ℕ))) (rows : List Event) → Refutes e (λ n. BeginSame n all others × AreRowsOfTable options others rows)
+pub no_table : (e : EdgesFault) (options : EdgesOptions) (columns : Columns)
+    (all rest : List (List (List ℕ))) → IsHeaded options all columns rest → IsNumbered e
+    → ((others : List (List (List ℕ))) (sent answered : List Event)
+    → Refutes e
+    (λ n. BeginSame (n - 1) rest others × Comes options columns others sent answered))
+    → (others : List (List (List ℕ))) (rows : List Event)
+    → Refutes e (λ n. BeginSame n all others × AreRowsOfTable options others rows)
 no_table (told.Form number fault) options columns all rest head some refuted others rows =
-    λ both. refuted both.1.body both.1.sent both.1.answered (parts_of_table options columns all rest others rows number head some both.0 both.1)
+    λ both. refuted both.1.body both.1.sent both.1.answered
+    (parts_of_table options columns all rest others rows number head some both.0 both.1)
 no_table (told.Order number micros fault) options columns all rest head some refuted others rows =
-    λ both. refuted both.1.body both.1.sent both.1.answered (parts_of_table options columns all rest others rows number head some both.0 both.1)
-no_table (told.Line number micros line fault) options columns all rest head some refuted others rows =
-    λ both. refuted both.1.body both.1.sent both.1.answered (parts_of_table options columns all rest others rows number head some both.0 both.1)
+    λ both. refuted both.1.body both.1.sent both.1.answered
+    (parts_of_table options columns all rest others rows number head some both.0 both.1)
+no_table (told.Line number micros line fault) options columns all rest head some refuted others
+    rows =
+    λ both. refuted both.1.body both.1.sent both.1.answered
+    (parts_of_table options columns all rest others rows number head some both.0 both.1)
 no_table told.Read options columns all rest head some refuted others rows = tt
-no_table told.Write options columns all rest head some refuted others rows = absurd (refuted [] [] [])
+no_table told.Write options columns all rest head some refuted others rows =
+    absurd (refuted [] [] [])
 no_table told.Memory options columns all rest head some refuted others rows = tt
 
-pub no_head_table : (e : EdgesFault) (options : EdgesOptions) (all others : List (List (List ℕ))) → ((rest : List (List (List ℕ))) (columns : Columns) → Refutes e (λ n. BeginSame n all others × IsHeaded options others columns rest)) → (rows : List Event) → Refutes e (λ n. BeginSame n all others × AreRowsOfTable options others rows)
-no_head_table (told.Form number fault) options all others refuted rows = λ both. refuted both.1.body both.1.columns (both.0, record { header = both.1.header; parts = both.1.parts; named = both.1.named })
-no_head_table (told.Order number micros fault) options all others refuted rows = λ both. refuted both.1.body both.1.columns (both.0, record { header = both.1.header; parts = both.1.parts; named = both.1.named })
-no_head_table (told.Line number micros line fault) options all others refuted rows = λ both. refuted both.1.body both.1.columns (both.0, record { header = both.1.header; parts = both.1.parts; named = both.1.named })
+pub no_head_table : (e : EdgesFault) (options : EdgesOptions) (all others : List (List (List ℕ)))
+    → ((rest : List (List (List ℕ))) (columns : Columns)
+    → Refutes e (λ n. BeginSame n all others × IsHeaded options others columns rest))
+    → (rows : List Event)
+    → Refutes e (λ n. BeginSame n all others × AreRowsOfTable options others rows)
+no_head_table (told.Form number fault) options all others refuted rows = λ both.
+    refuted both.1.body both.1.columns
+    (both.0, record { header = both.1.header; parts = both.1.parts; named = both.1.named })
+no_head_table (told.Order number micros fault) options all others refuted rows = λ both.
+    refuted both.1.body both.1.columns
+    (both.0, record { header = both.1.header; parts = both.1.parts; named = both.1.named })
+no_head_table (told.Line number micros line fault) options all others refuted rows = λ both.
+    refuted both.1.body both.1.columns
+    (both.0, record { header = both.1.header; parts = both.1.parts; named = both.1.named })
 no_head_table told.Read options all others refuted rows = tt
-no_head_table told.Write options all others refuted rows = absurd (refuted [] (record { width = 0; controller = 0; peripheral = 0 }))
+no_head_table told.Write options all others refuted rows =
+    absurd (refuted [] (record { width = 0; controller = 0; peripheral = 0 }))
 no_head_table told.Memory options all others refuted rows = tt

@@ -43,22 +43,36 @@ abbrev pub lines_of : List (List (List ℕ)) → List ℕ
 lines_of those = flat_map record_line those
 
 no_quotes : (c : ℕ) → IsPlainByte c → needs_byte default_writer c ≡ false
-no_quotes c plain = rw (ne_eqb c 44 (omega arith), ne_eqb c 34 (omega arith), ne_eqb c 13 (omega arith), ne_eqb c 10 (omega arith)) refl
+no_quotes c plain =
+    rw (
+      ne_eqb c 44 (omega arith),
+      ne_eqb c 34 (omega arith),
+      ne_eqb c 13 (omega arith),
+      ne_eqb c 10 (omega arith),
+    ) refl
 
-unquoted : (field : List ℕ) → All IsPlainByte field → list_any (needs_byte default_writer) field ≡ false
+unquoted : (field : List ℕ) → All IsPlainByte field
+    → list_any (needs_byte default_writer) field ≡ false
 unquoted [] plain = refl
 unquoted (c ∷ field) plain =
-    rw (no_quotes c (All-head IsPlainByte c field plain)) (unquoted field (All-tail IsPlainByte c field plain))
+    rw (no_quotes c (All-head IsPlainByte c field plain))
+    (unquoted field (All-tail IsPlainByte c field plain))
 
 as_it_is : (field : List ℕ) → All IsPlainByte field → field_text default_writer field ≡ field
 as_it_is field plain = rw (unquoted field plain) refl
 
 -- such a line is what csv writes of the record
-line_is : (fields : List (List ℕ)) → IsPlain fields → record_line fields ≡ row_text default_writer fields
+line_is : (fields : List (List ℕ)) → IsPlain fields
+    → record_line fields ≡ row_text default_writer fields
 unfolding fields_text is_blank
-line_is fields plain = rw plain.are (three plain.first plain.second plain.third (as_it_is plain.first plain.first_plain) (as_it_is plain.second plain.second_plain) (as_it_is plain.third plain.third_plain))
+line_is fields plain =
+    rw plain.are (three plain.first plain.second plain.third
+    (as_it_is plain.first plain.first_plain) (as_it_is plain.second plain.second_plain)
+    (as_it_is plain.third plain.third_plain))
   where
-    three : (a b c : List ℕ) → field_text default_writer a ≡ a → field_text default_writer b ≡ b → field_text default_writer c ≡ c → record_line (a ∷ b ∷ c ∷ []) ≡ row_text default_writer (a ∷ b ∷ c ∷ [])
+    three : (a b c : List ℕ) → field_text default_writer a ≡ a → field_text default_writer b ≡ b
+        → field_text default_writer c ≡ c
+        → record_line (a ∷ b ∷ c ∷ []) ≡ row_text default_writer (a ∷ b ∷ c ∷ [])
     three a b c p q r = rw (p, q, r, append-nil c) refl
 
 lines_are : (those : List (List (List ℕ))) → ArePlain those → lines_of those ≡ rows_text those
@@ -75,16 +89,25 @@ back (fields ∷ those) plain = rw (same fields plain.0, back those plain.1) ref
     same fields plain = rw plain.are refl
 
 -- a read of so many records or more
-enough : (n : ℕ) (those : List (List (List ℕ))) → length those ≤ n → records_from default_config (suc n) st.StartRecord (rows_text those) ≡ map read_back those
+enough : (n : ℕ) (those : List (List (List ℕ))) → length those ≤ n
+    → records_from default_config (suc n) st.StartRecord (rows_text those) ≡ map read_back those
 unfolding records_from rows_text next_record
 enough n [] few = refl
 enough zero (fields ∷ those) few = absurd (omega arith)
-enough (suc n) (fields ∷ those) few = rw (read-write fields (rows_text those)) (ap (λ l. read_back fields ∷ l) (enough n those (omega arith)))
+enough (suc n) (fields ∷ those) few =
+    rw (read-write fields (rows_text those))
+    (ap (λ l. read_back fields ∷ l) (enough n those (omega arith)))
 
 -- each record takes a byte at least
 bytes : (those : List (List (List ℕ))) → length those ≤ length (lines_of those)
 bytes [] = omega arith
-bytes (fields ∷ those) = omega (arith, bytes those, length-append (record_line fields) (lines_of those), length-append (joined_by_commas fields) (10 ∷ []))
+bytes (fields ∷ those) =
+    omega (
+      arith,
+      bytes those,
+      length-append (record_line fields) (lines_of those),
+      length-append (joined_by_commas fields) (10 ∷ []),
+    )
 
 -- no byte order mark is taken off
 unmarked : (c : ℕ) (rest : List ℕ) → c < 128 → strip_bom (c ∷ rest) ≡ c ∷ rest
@@ -93,29 +116,39 @@ unmarked c [] low = refl
 unmarked c (d ∷ []) low = refl
 unmarked c (d ∷ e ∷ rest) low = rw (ne_eqb c 239 (omega arith)) refl
 
-whole_field : (field rest : List ℕ) → 1 ≤ length field → All IsPlainByte field → strip_bom (field ++ rest) ≡ field ++ rest
+whole_field : (field rest : List ℕ) → 1 ≤ length field → All IsPlainByte field
+    → strip_bom (field ++ rest) ≡ field ++ rest
 whole_field [] rest some plain = absurd (omega arith)
-whole_field (c ∷ field) rest some plain = unmarked c (field ++ rest) (All-head IsPlainByte c field plain).1
+whole_field (c ∷ field) rest some plain =
+    unmarked c (field ++ rest) (All-head IsPlainByte c field plain).1
 
-regroup : (first more rest : List ℕ) → ((first ++ more) ++ 10 ∷ []) ++ rest ≡ first ++ ((more ++ 10 ∷ []) ++ rest)
-regroup first more rest = ap (λ l. l ++ rest) (append_assoc first more (10 ∷ [])) ∙ append_assoc first (more ++ 10 ∷ []) rest
+regroup : (first more rest : List ℕ)
+    → ((first ++ more) ++ 10 ∷ []) ++ rest ≡ first ++ ((more ++ 10 ∷ []) ++ rest)
+regroup first more rest =
+    ap (λ l. l ++ rest) (append_assoc first more (10 ∷ []))
+    ∙ append_assoc first (more ++ 10 ∷ []) rest
 
-whole_line : (fields : List (List ℕ)) (rest : List ℕ) → IsPlain fields → strip_bom (record_line fields ++ rest) ≡ record_line fields ++ rest
+whole_line : (fields : List (List ℕ)) (rest : List ℕ) → IsPlain fields
+    → strip_bom (record_line fields ++ rest) ≡ record_line fields ++ rest
 whole_line fields rest plain =
     let more : List ℕ = 44 ∷ joined_by_commas (plain.second ∷ plain.third ∷ []) in
-    let begins : record_line fields ++ rest ≡ plain.first ++ ((more ++ 10 ∷ []) ++ rest) = rw plain.are (regroup plain.first more rest) in
+    let begins : record_line fields ++ rest ≡ plain.first ++ ((more ++ 10 ∷ []) ++ rest) =
+    rw plain.are (regroup plain.first more rest) in
     rw begins (whole_field plain.first ((more ++ 10 ∷ []) ++ rest) plain.some plain.first_plain)
 
-whole_text : (those : List (List (List ℕ))) → ArePlain those → strip_bom (lines_of those) ≡ lines_of those
+whole_text : (those : List (List (List ℕ))) → ArePlain those
+    → strip_bom (lines_of those) ≡ lines_of those
 unfolding strip_bom
 whole_text [] plain = refl
 whole_text (fields ∷ those) plain = whole_line fields (lines_of those) plain.0
 
 -- the records of the lines are these
-pub read_of_lines : (those : List (List (List ℕ))) → ArePlain those → records default_config (strip_bom (lines_of those)) ≡ those
+pub read_of_lines : (those : List (List (List ℕ))) → ArePlain those
+    → records default_config (strip_bom (lines_of those)) ≡ those
 read_of_lines those plain =
     let fuel : length (lines_of those) + 1 ≡ suc (length (lines_of those)) = omega arith in
     ap (λ text. records default_config text) (whole_text those plain)
     ∙ (ap (λ n. records_from default_config n st.StartRecord (lines_of those)) fuel
-    ∙ (ap (λ text. records_from default_config (suc (length (lines_of those))) st.StartRecord text) (lines_are those plain)
+    ∙ (ap (λ text. records_from default_config (suc (length (lines_of those))) st.StartRecord text)
+    (lines_are those plain)
     ∙ (enough (length (lines_of those)) those (bytes those) ∙ back those plain)))

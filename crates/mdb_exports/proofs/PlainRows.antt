@@ -30,11 +30,14 @@ glyph_plain : (d : ℕ) → d < 16 → IsPlainByte (digit_glyph true d)
 glyph_plain d h = grind (arith, nat_tests)
 
 three : {A : Type 0} (P : A → Type 0) (a b c : A) → P a → P b → P c → All P (a ∷ b ∷ c ∷ [])
-three P a b c p q r = All-cons P a (b ∷ c ∷ []) p (All-cons P b (c ∷ []) q (All-cons P c [] r (All-nil P)))
+three P a b c p q r =
+    All-cons P a (b ∷ c ∷ []) p (All-cons P b (c ∷ []) q (All-cons P c [] r (All-nil P)))
 
 word_plain : (word : ℕ) → word < 512 → All IsPlainByte (hex_word word)
 word_plain word small =
-    three IsPlainByte (digit_glyph true (word / 256)) (digit_glyph true (word / 16 % 16)) (digit_glyph true (word % 16)) (glyph_plain _ (omega arith)) (glyph_plain _ (omega arith)) (glyph_plain _ (omega arith))
+    three IsPlainByte (digit_glyph true (word / 256)) (digit_glyph true (word / 16 % 16))
+    (digit_glyph true (word % 16)) (glyph_plain _ (omega arith)) (glyph_plain _ (omega arith))
+    (glyph_plain _ (omega arith))
 
 one_plain : (c : ℕ) → IsPlainByte c → All IsPlainByte (c ∷ [])
 one_plain c plain = All-cons IsPlainByte c [] plain (All-nil IsPlainByte)
@@ -44,7 +47,8 @@ letter_plain Controller = (omega arith, omega arith)
 letter_plain Peripheral = (omega arith, omega arith)
 
 -- three plain fields, of which the first is a number
-plain_of : (most n : ℕ) (letter : ℕ) (value : List ℕ) → IsDecimal most (decimal n) n → IsPlainByte letter → All IsPlainByte value → IsPlain (decimal n ∷ (letter ∷ []) ∷ value ∷ [])
+plain_of : (most n : ℕ) (letter : ℕ) (value : List ℕ) → IsDecimal most (decimal n) n
+    → IsPlainByte letter → All IsPlainByte value → IsPlain (decimal n ∷ (letter ∷ []) ∷ value ∷ [])
 plain_of most n letter value is plain others = record {
   first = decimal n;
   second = letter ∷ [];
@@ -61,19 +65,25 @@ plain_of most n letter value is plain others = record {
 abbrev IsWritten : Event → Type 0
 IsWritten event = IsRow (row_fields event) event × IsPlain (row_fields event)
 
-word_written : (at : ℕ) (line : Line) (word : ℕ) → at < 10 ^ 15 → word < 512 → IsWritten (Word at line word)
+word_written : (at : ℕ) (line : Line) (word : ℕ) → at < 10 ^ 15 → word < 512
+    → IsWritten (Word at line word)
 word_written at line word early small =
-    let start : IsDecimal 15 (decimal at) at = IsDecimal-decimal 15 at (omega arith) early (omega arith) in (
+    let start : IsDecimal 15 (decimal at) at =
+    IsDecimal-decimal 15 at (omega arith) early (omega arith) in (
       (decimal at, hex_word word, refl, start, IsHexWord-hex_word word small),
-      plain_of 15 at (letter_of line) (hex_word word) start (letter_plain line) (word_plain word small),
+      plain_of 15 at (letter_of line) (hex_word word) start (letter_plain line)
+          (word_plain word small),
     )
 
 break_written : (at span : ℕ) → at < 10 ^ 15 → span < 10 ^ 9 → IsWritten (Break at span)
 break_written at span early short =
-    let start : IsDecimal 15 (decimal at) at = IsDecimal-decimal 15 at (omega arith) early (omega arith) in
-    let long : IsDecimal 9 (decimal span) span = IsDecimal-decimal 9 span (omega arith) short (omega arith) in (
+    let start : IsDecimal 15 (decimal at) at =
+    IsDecimal-decimal 15 at (omega arith) early (omega arith) in
+    let long : IsDecimal 9 (decimal span) span =
+    IsDecimal-decimal 9 span (omega arith) short (omega arith) in (
       (decimal at, decimal span, refl, start, long),
-      plain_of 15 at break_letter (decimal span) start (omega arith, omega arith) (decimal_plain 9 span long),
+      plain_of 15 at break_letter (decimal span) start (omega arith, omega arith)
+          (decimal_plain 9 span long),
     )
 
 row_written : (row : Event) → IsRowEvent row → IsWritten row

@@ -131,7 +131,8 @@ events_same options (row ∷ records) a b (inr one) (inl two) =
 events_same options (row ∷ records) a b (inr one) (inr two) =
     rows_same options None records a b one.1 two.1
 
-pub imported_same : (options : RowsOptions) (records : List (List (List ℕ))) (rows others : List Event)
+pub imported_same : (options : RowsOptions) (records : List (List (List ℕ)))
+    (rows others : List Event)
     → AreImported options records rows → AreImported options records others → others ≡ rows
 imported_same options records rows others one two =
     two.2 ∙ (ap (taken_of options) (events_same options records two.0 one.0 two.1 one.1)

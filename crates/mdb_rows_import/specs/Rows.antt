@@ -78,9 +78,9 @@ NameNoLine options (time ∷ line ∷ []) = ⊥
 NameNoLine options (time ∷ line ∷ value ∷ []) = NamesNothing options line
 NameNoLine options (time ∷ line ∷ value ∷ more ∷ fields) = ⊤
 
--- The fields of a header, three or more. None is empty or has the form of a time. The first, where a
--- row has its time, and the last, where it has its value, have no digit. The second of three names
--- neither a line nor a break.
+-- The fields of a header, three or more. None is empty or has the form of a time. The first, where
+-- a row has its time, and the last, where it has its value, have no digit. The second of three
+-- names neither a line nor a break.
 pub record IsHeaderOf (options : RowsOptions) (fields : List (List ℕ)) : Type 0 where
   pub titles : AreTitles fields
   pub no_time : BeginWithNoDigit fields

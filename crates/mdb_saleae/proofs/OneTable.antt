@@ -142,7 +142,8 @@ at_same options columns fields time (Break at length) (Break then_at more) one t
 row_same : (options : SaleaeOptions) (columns : Columns) (fields : List (List ℕ)) (a b : Event)
     → IsTableRow options columns fields a → IsTableRow options columns fields b → a ≡ b
 row_same options columns fields a b one two =
-    let time = seconds_same (cell fields columns.time) (start_of a) (start_of b) one.time two.time in
+    let time =
+    seconds_same (cell fields columns.time) (start_of a) (start_of b) one.time two.time in
     at_same options columns fields (start_of b) a b
     (subst (λ t. IsEventAt options columns fields t a) time one.are) two.are
 
@@ -156,7 +157,8 @@ rows_same options columns last (row ∷ records) a b one two =
     (subst (λ e. AreRows options columns (Some (start_of e)) records one.1) first one.5) two.5 in
     one.2 ∙ (ap (λ e. e ∷ one.1) first ∙ (ap (λ l. two.0 ∷ l) rest ∙ sym two.2))
 
-pub events_same : (options : SaleaeOptions) (records : List (List (List ℕ))) (events others : List Event)
+pub events_same : (options : SaleaeOptions) (records : List (List (List ℕ)))
+    (events others : List Event)
     → AreEvents options records events → AreEvents options records others → others ≡ events
 events_same options [] events others one two = absurd one
 events_same options (header ∷ rows) events others one two =

@@ -25,62 +25,106 @@ use Rattle.mdb_sigrok.proofs.Traces.{imported_of, only_rows, partial_of, refused
 
 -- pair by pair
 
-pub moves_begin : (swap : Bool) (a : Option (List ℕ)) (stand : Stand) → Leaves a a (λ text rest. Moves swap true (lines_of text) stand true (lines_of rest) stand)
+pub moves_begin : (swap : Bool) (a : Option (List ℕ)) (stand : Stand)
+    → Leaves a a (λ text rest. Moves swap true (lines_of text) stand true (lines_of rest) stand)
 moves_begin swap None stand = tt
 moves_begin swap (Some text) stand = moves_none swap true (lines_of text) stand
 
-pub moves_twice : (swap more : Bool) (a b c : Option (List ℕ)) (one two three : Stand) → Leaves a b (λ text rest. Moves swap true (lines_of text) one true (lines_of rest) two) → Leaves b c (λ text rest. Moves swap true (lines_of text) two more (lines_of rest) three) → Leaves a c (λ text rest. Moves swap true (lines_of text) one more (lines_of rest) three)
+pub moves_twice : (swap more : Bool) (a b c : Option (List ℕ)) (one two three : Stand)
+    → Leaves a b (λ text rest. Moves swap true (lines_of text) one true (lines_of rest) two)
+    → Leaves b c (λ text rest. Moves swap true (lines_of text) two more (lines_of rest) three)
+    → Leaves a c (λ text rest. Moves swap true (lines_of text) one more (lines_of rest) three)
 moves_twice swap more None b c one two three first second = tt
 moves_twice swap more (Some text) None c one two three first second = absurd first
 moves_twice swap more (Some text) (Some mid) None one two three first second = absurd second
 moves_twice swap more (Some text) (Some mid) (Some rest) one two three first second =
-    moves_on swap true true more (lines_of text) (lines_of mid) (lines_of rest) one two three first second
+    moves_on swap true true more (lines_of text) (lines_of mid) (lines_of rest) one two three first
+    second
 
-pub stops_behind : (fault : SigrokFault) (swap : Bool) (a b : Option (List ℕ)) (one two : Stand) → Leaves a b (λ text rest. Moves swap true (lines_of text) one true (lines_of rest) two) → IfSome b (λ text. (fault ≡ Read) ⊎ Stops fault swap true (lines_of text) two) → IfSome a (λ text. (fault ≡ Read) ⊎ Stops fault swap true (lines_of text) one)
+pub stops_behind : (fault : SigrokFault) (swap : Bool) (a b : Option (List ℕ)) (one two : Stand)
+    → Leaves a b (λ text rest. Moves swap true (lines_of text) one true (lines_of rest) two)
+    → IfSome b (λ text. (fault ≡ Read) ⊎ Stops fault swap true (lines_of text) two)
+    → IfSome a (λ text. (fault ≡ Read) ⊎ Stops fault swap true (lines_of text) one)
 stops_behind fault swap None b one two moves stops = tt
 stops_behind fault swap (Some text) None one two moves stops = absurd moves
 stops_behind fault swap (Some text) (Some mid) one two moves stops = elim stops [
   | inl read ↦ inl read
-  | inr refutes ↦ inr (moves_stop fault swap true true (lines_of text) (lines_of mid) one two moves refutes)
+  | inr refutes ↦
+      inr (moves_stop fault swap true true (lines_of text) (lines_of mid) one two moves refutes)
 ]
 
 -- by two lines that are shown
 
-pub shown_moves : (swap more : Bool) (a b : Option (List ℕ)) (pair : Pair) (one two : Stand) → Leaves a b (λ text rest. IsNext swap (lines_of text) pair more (lines_of rest)) → GoBy one two pair → Leaves a b (λ text rest. Moves swap true (lines_of text) one more (lines_of rest) two)
+pub shown_moves : (swap more : Bool) (a b : Option (List ℕ)) (pair : Pair) (one two : Stand)
+    → Leaves a b (λ text rest. IsNext swap (lines_of text) pair more (lines_of rest))
+    → GoBy one two pair
+    → Leaves a b (λ text rest. Moves swap true (lines_of text) one more (lines_of rest) two)
 shown_moves swap more None b pair one two next go = tt
 shown_moves swap more (Some text) None pair one two next go = absurd next
-shown_moves swap more (Some text) (Some rest) pair one two next go = moves_by swap (lines_of text) one two pair more (lines_of rest) next go
+shown_moves swap more (Some text) (Some rest) pair one two next go =
+    moves_by swap (lines_of text) one two pair more (lines_of rest) next go
 
-pub shown_stops : (fault : SigrokFault) (swap more : Bool) (a b : Option (List ℕ)) (pair : Pair) (stand : Stand) → Leaves a b (λ text rest. IsNext swap (lines_of text) pair more (lines_of rest)) → (pair.line ≡ Controller → Bars fault Controller stand.controller (pair ∷ [])) → (pair.line ≡ Peripheral → Bars fault Peripheral stand.devices (pair ∷ [])) → IfSome a (λ text. (fault ≡ Read) ⊎ Stops fault swap true (lines_of text) stand)
+pub shown_stops : (fault : SigrokFault) (swap more : Bool) (a b : Option (List ℕ)) (pair : Pair)
+    (stand : Stand)
+    → Leaves a b (λ text rest. IsNext swap (lines_of text) pair more (lines_of rest))
+    → (pair.line ≡ Controller → Bars fault Controller stand.controller (pair ∷ []))
+    → (pair.line ≡ Peripheral → Bars fault Peripheral stand.devices (pair ∷ []))
+    → IfSome a (λ text. (fault ≡ Read) ⊎ Stops fault swap true (lines_of text) stand)
 shown_stops fault swap more None b pair stand next one two = tt
 shown_stops fault swap more (Some text) None pair stand next one two = absurd next
-shown_stops fault swap more (Some text) (Some rest) pair stand next one two = inr (barred_stops fault swap (lines_of text) stand pair more (lines_of rest) next one two)
+shown_stops fault swap more (Some text) (Some rest) pair stand next one two =
+    inr (barred_stops fault swap (lines_of text) stand pair more (lines_of rest) next one two)
 
 -- by two lines that are copied, where none were shown and no rows come of them
 
-pub held_stops : (fault : SigrokFault) (swap : Bool) (a b c : Option (List ℕ)) (held : List (List ℕ)) (stand : Stand) → Keeps a b → Leaves b c (λ text rest. AreFirst 2 held (lines_of text) (lines_of rest)) → ((lines behind : List (List ℕ)) → AreFirst 2 held lines behind → Stops fault swap true lines stand) → IfSome a (λ text. (fault ≡ Read) ⊎ Stops fault swap true (lines_of text) stand)
+pub held_stops : (fault : SigrokFault) (swap : Bool) (a b c : Option (List ℕ))
+    (held : List (List ℕ)) (stand : Stand) → Keeps a b
+    → Leaves b c (λ text rest. AreFirst 2 held (lines_of text) (lines_of rest))
+    → ((lines behind : List (List ℕ)) → AreFirst 2 held lines behind
+    → Stops fault swap true lines stand)
+    → IfSome a (λ text. (fault ≡ Read) ⊎ Stops fault swap true (lines_of text) stand)
 held_stops fault swap None b c held stand kept first by = tt
 held_stops fault swap (Some text) None c held stand kept first by = absurd kept
 held_stops fault swap (Some text) (Some mid) None held stand kept first by = absurd first
 held_stops fault swap (Some text) (Some mid) (Some rest) held stand kept first by =
-    inr (subst (λ t. Stops fault swap true (lines_of t) stand) kept (by (lines_of mid) (lines_of rest) first))
+    inr (subst (λ t. Stops fault swap true (lines_of t) stand) kept
+    (by (lines_of mid) (lines_of rest) first))
 
 -- the end of a trace
 
-pub all_told_by : (swap : Bool) (a b c : Option (List ℕ)) (held : List (List ℕ)) (before now : Stand) (sent answered : List Event) → Leaves a b (λ text rest. Moves swap true (lines_of text) before false (lines_of rest) now) → Leaves b c (λ text rest. AreFirst 2 held (lines_of text) (lines_of rest)) → before ≡ start → held ≡ codes "]}" ∷ [] → Ends Controller now.controller now.sent sent → Ends Peripheral now.devices now.answered answered → IfSome a (λ text. Tells swap (lines_of text) sent answered)
+pub all_told_by : (swap : Bool) (a b c : Option (List ℕ)) (held : List (List ℕ))
+    (before now : Stand) (sent answered : List Event)
+    → Leaves a b (λ text rest. Moves swap true (lines_of text) before false (lines_of rest) now)
+    → Leaves b c (λ text rest. AreFirst 2 held (lines_of text) (lines_of rest)) → before ≡ start
+    → held ≡ codes "]}" ∷ [] → Ends Controller now.controller now.sent sent
+    → Ends Peripheral now.devices now.answered answered
+    → IfSome a (λ text. Tells swap (lines_of text) sent answered)
 all_told_by swap None b c held before now sent answered moves first is last one two = tt
-all_told_by swap (Some text) None c held before now sent answered moves first is last one two = absurd moves
-all_told_by swap (Some text) (Some mid) None held before now sent answered moves first is last one two = absurd first
-all_told_by swap (Some text) (Some mid) (Some rest) held before now sent answered moves first is last one two =
-    all_told swap (lines_of text) (lines_of mid) before now sent answered moves is (one_line (codes "]}") held (lines_of mid) (lines_of rest) first last) one two
+all_told_by swap (Some text) None c held before now sent answered moves first is last one two =
+    absurd moves
+all_told_by swap (Some text) (Some mid) None held before now sent answered moves first is last one
+    two =
+    absurd first
+all_told_by swap (Some text) (Some mid) (Some rest) held before now sent answered moves first is
+    last one two =
+    all_told swap (lines_of text) (lines_of mid) before now sent answered moves is
+    (one_line (codes "]}") held (lines_of mid) (lines_of rest) first last) one two
 
-pub only_told_by : (swap : Bool) (a b : Option (List ℕ)) (before now : Stand) (sent answered : List Event) → Leaves a b (λ text rest. Moves swap true (lines_of text) before false (lines_of rest) now) → before ≡ start → Ends Controller now.controller now.sent sent → Ends Peripheral now.devices now.answered answered → IfSome a (λ text. (s t : List Event) → Tells swap (lines_of text) s t → (s ≡ sent) × (t ≡ answered))
+pub only_told_by : (swap : Bool) (a b : Option (List ℕ)) (before now : Stand)
+    (sent answered : List Event)
+    → Leaves a b (λ text rest. Moves swap true (lines_of text) before false (lines_of rest) now)
+    → before ≡ start → Ends Controller now.controller now.sent sent
+    → Ends Peripheral now.devices now.answered answered
+    → IfSome a
+    (λ text. (s t : List Event) → Tells swap (lines_of text) s t → (s ≡ sent) × (t ≡ answered))
 only_told_by swap None b before now sent answered moves is one two = tt
 only_told_by swap (Some text) None before now sent answered moves is one two = absurd moves
 only_told_by swap (Some text) (Some mid) before now sent answered moves is one two =
     only_told swap (lines_of text) (lines_of mid) before now sent answered moves is one two
 
-end_stops : (fault : SigrokFault) (swap : Bool) (held lines behind : List (List ℕ)) (stand : Stand) → AreFirst 2 held lines behind → Stops fault swap false held stand → Stops fault swap false lines stand
+end_stops : (fault : SigrokFault) (swap : Bool) (held lines behind : List (List ℕ)) (stand : Stand)
+    → AreFirst 2 held lines behind → Stops fault swap false held stand
+    → Stops fault swap false lines stand
 end_stops fault swap held lines behind stand first stops = λ s a.
     refutes_too fault _ _ (λ comes. record {
       pairs = comes.pairs;
@@ -89,52 +133,94 @@ end_stops fault swap held lines behind stand first stops = λ s a.
       device_rows = comes.device_rows;
     }) (stops s a)
 
-pub end_stops_by : (fault : SigrokFault) (swap : Bool) (a b c : Option (List ℕ)) (held : List (List ℕ)) (before now : Stand) → Leaves a b (λ text rest. Moves swap true (lines_of text) before false (lines_of rest) now) → Leaves b c (λ text rest. AreFirst 2 held (lines_of text) (lines_of rest)) → before ≡ start → Stops fault swap false held now → IfSome a (λ text. (fault ≡ Read) ⊎ ((s t : List Event) → Refutes fault (Tells swap (lines_of text) s t)))
+pub end_stops_by : (fault : SigrokFault) (swap : Bool) (a b c : Option (List ℕ))
+    (held : List (List ℕ)) (before now : Stand)
+    → Leaves a b (λ text rest. Moves swap true (lines_of text) before false (lines_of rest) now)
+    → Leaves b c (λ text rest. AreFirst 2 held (lines_of text) (lines_of rest)) → before ≡ start
+    → Stops fault swap false held now
+    → IfSome a (λ text.
+    (fault ≡ Read) ⊎ ((s t : List Event) → Refutes fault (Tells swap (lines_of text) s t)))
 end_stops_by fault swap None b c held before now moves first is stops = tt
 end_stops_by fault swap (Some text) None c held before now moves first is stops = absurd moves
-end_stops_by fault swap (Some text) (Some mid) None held before now moves first is stops = absurd first
+end_stops_by fault swap (Some text) (Some mid) None held before now moves first is stops =
+    absurd first
 end_stops_by fault swap (Some text) (Some mid) (Some rest) held before now moves first is stops =
-    inr (start_stops fault swap (lines_of text) (lines_of mid) before now moves is (end_stops fault swap held (lines_of mid) (lines_of rest) now first stops))
+    inr (start_stops fault swap (lines_of text) (lines_of mid) before now moves is
+    (end_stops fault swap held (lines_of mid) (lines_of rest) now first stops))
 
 -- the first line
 
-pub only_rows_by : (swap : Bool) (a b : Option (List ℕ)) (held : List (List ℕ)) (first : List ℕ) (more : List (List ℕ)) (sent answered rows : List Event) → Leaves a b (λ text rest. AreFirst 1 held (lines_of text) (lines_of rest)) → held ≡ first ∷ more → IfSome b (λ text. (s t : List Event) → Tells swap (lines_of text) s t → (s ≡ sent) × (t ≡ answered)) → Merges sent answered rows → IfSome a (λ text. (others : List Event) → AreRowsOfTrace swap text others → others ≡ rows)
+pub only_rows_by : (swap : Bool) (a b : Option (List ℕ)) (held : List (List ℕ)) (first : List ℕ)
+    (more : List (List ℕ)) (sent answered rows : List Event)
+    → Leaves a b (λ text rest. AreFirst 1 held (lines_of text) (lines_of rest))
+    → held ≡ first ∷ more
+    → IfSome b
+    (λ text. (s t : List Event) → Tells swap (lines_of text) s t → (s ≡ sent) × (t ≡ answered))
+    → Merges sent answered rows
+    → IfSome a (λ text. (others : List Event) → AreRowsOfTrace swap text others → others ≡ rows)
 only_rows_by swap None b held first more sent answered rows leaves is only merges = tt
-only_rows_by swap (Some text) None held first more sent answered rows leaves is only merges = absurd leaves
+only_rows_by swap (Some text) None held first more sent answered rows leaves is only merges =
+    absurd leaves
 only_rows_by swap (Some text) (Some rest) held first more sent answered rows leaves is only merges =
-    only_rows swap text first rest sent answered rows (first_alone first more held (lines_of text) (lines_of rest) leaves is) only merges
+    only_rows swap text first rest sent answered rows
+    (first_alone first more held (lines_of text) (lines_of rest) leaves is) only merges
 
-pub refused_rows_by : (fault : SigrokFault) (swap : Bool) (a b : Option (List ℕ)) (held : List (List ℕ)) (first : List ℕ) (more : List (List ℕ)) → Leaves a b (λ text rest. AreFirst 1 held (lines_of text) (lines_of rest)) → held ≡ first ∷ more → IfSome b (λ text. (fault ≡ Read) ⊎ ((s t : List Event) → Refutes fault (Tells swap (lines_of text) s t))) → IfSome a (λ text. (fault ≡ Read) ⊎ ((rows : List Event) → Refutes fault (AreRowsOfTrace swap text rows)))
+pub refused_rows_by : (fault : SigrokFault) (swap : Bool) (a b : Option (List ℕ))
+    (held : List (List ℕ)) (first : List ℕ) (more : List (List ℕ))
+    → Leaves a b (λ text rest. AreFirst 1 held (lines_of text) (lines_of rest))
+    → held ≡ first ∷ more
+    → IfSome b (λ text.
+    (fault ≡ Read) ⊎ ((s t : List Event) → Refutes fault (Tells swap (lines_of text) s t)))
+    → IfSome a (λ text.
+    (fault ≡ Read) ⊎ ((rows : List Event) → Refutes fault (AreRowsOfTrace swap text rows)))
 refused_rows_by fault swap None b held first more leaves is never = tt
 refused_rows_by fault swap (Some text) None held first more leaves is never = absurd leaves
 refused_rows_by fault swap (Some text) (Some rest) held first more leaves is never = elim never [
   | inl read ↦ inl read
-  | inr refutes ↦ inr (refused_rows fault swap text first rest (first_alone first more held (lines_of text) (lines_of rest) leaves is) refutes)
+  | inr refutes ↦
+      inr (refused_rows fault swap text first rest
+      (first_alone first more held (lines_of text) (lines_of rest) leaves is) refutes)
 ]
 
 -- what holds of any text holds of the one that a reader has
-pub of_any : (known : Option (List ℕ)) (P : List ℕ → Type 0) → ((text : List ℕ) → P text) → IfSome known P
+pub of_any : (known : Option (List ℕ)) (P : List ℕ → Type 0) → ((text : List ℕ) → P text)
+    → IfSome known P
 of_any None P all = tt
 of_any (Some text) P all = all text
 
 -- what is written of a trace
 
-pub imported_by : (options : SigrokOptions) (known : Option (List ℕ)) (rows : List Event) (told : SigrokRows) (before after : Option (List ℕ)) → IfSome known (λ text. AreRowsOfTrace options.swap text rows) → IsTold options rows told → Appends before after (part_text options rows) → IfSome known (λ text. IsImported options text told before after)
+pub imported_by : (options : SigrokOptions) (known : Option (List ℕ)) (rows : List Event)
+    (told : SigrokRows) (before after : Option (List ℕ))
+    → IfSome known (λ text. AreRowsOfTrace options.swap text rows) → IsTold options rows told
+    → Appends before after (part_text options rows)
+    → IfSome known (λ text. IsImported options text told before after)
 imported_by options None rows told before after are tally written = tt
-imported_by options (Some text) rows told before after are tally written = imported_of options text rows told before after are tally written
+imported_by options (Some text) rows told before after are tally written =
+    imported_of options text rows told before after are tally written
 
-pub partial_by : (options : SigrokOptions) (known : Option (List ℕ)) (rows : List Event) (fault : SigrokFault) (before after : Option (List ℕ)) → IfSome known (λ text. AreRowsOfTrace options.swap text rows) → HasTaken before after (part_text options rows) → fault ≡ Write → IfSome known (λ text. IsRefused options text fault before after)
+pub partial_by : (options : SigrokOptions) (known : Option (List ℕ)) (rows : List Event)
+    (fault : SigrokFault) (before after : Option (List ℕ))
+    → IfSome known (λ text. AreRowsOfTrace options.swap text rows)
+    → HasTaken before after (part_text options rows) → fault ≡ Write
+    → IfSome known (λ text. IsRefused options text fault before after)
 partial_by options None rows fault before after are taken write = tt
-partial_by options (Some text) rows fault before after are taken write = partial_of options text rows fault before after are taken write
+partial_by options (Some text) rows fault before after are taken write =
+    partial_of options text rows fault before after are taken write
 
-pub refused_by : (options : SigrokOptions) (known : Option (List ℕ)) (fault : SigrokFault) (held : Option (List ℕ)) → IfSome known (λ text. (fault ≡ Read) ⊎ ((rows : List Event) → Refutes fault (AreRowsOfTrace options.swap text rows))) → IfSome known (λ text. IsRefused options text fault held held)
+pub refused_by : (options : SigrokOptions) (known : Option (List ℕ)) (fault : SigrokFault)
+    (held : Option (List ℕ))
+    → IfSome known (λ text. (fault ≡ Read)
+    ⊎ ((rows : List Event) → Refutes fault (AreRowsOfTrace options.swap text rows)))
+    → IfSome known (λ text. IsRefused options text fault held held)
 refused_by options None fault held never = tt
 refused_by options (Some text) fault held never = elim never [
   | inl read ↦ subst (λ f. IsRefused options text f held held) (sym read) (Keeps-refl held)
   | inr refutes ↦ refused_of options text fault held refutes
 ]
 
-pub err_too : {T : Type 0} (r : Result T SigrokFault) (P Q : SigrokFault → Type 0) → ((fault : SigrokFault) → P fault → Q fault) → IfErr r P → IfErr r Q
+pub err_too : {T : Type 0} (r : Result T SigrokFault) (P Q : SigrokFault → Type 0)
+    → ((fault : SigrokFault) → P fault → Q fault) → IfErr r P → IfErr r Q
 err_too (Ok t) P Q from p = tt
 err_too (Err fault) P Q from p = from fault p
 

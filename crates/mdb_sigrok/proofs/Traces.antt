@@ -19,27 +19,44 @@ use Rattle.mdb_sigrok.specs.inner.Pairs.{Tells}
 use Rattle.mdb_exports.proofs.Merges.{one_merge}
 use Rattle.mdb_sigrok.proofs.Pairs.{tails_same}
 
-tells_of : (swap : Bool) (text first rest : List ℕ) (rows : List Event) → lines_of text ≡ first ∷ lines_of rest → (told : AreRowsOfTrace swap text rows) → Tells swap (lines_of rest) told.controller told.devices
+tells_of : (swap : Bool) (text first rest : List ℕ) (rows : List Event)
+    → lines_of text ≡ first ∷ lines_of rest → (told : AreRowsOfTrace swap text rows)
+    → Tells swap (lines_of rest) told.controller told.devices
 tells_of swap text first rest rows is told = record {
   pairs = told.pairs;
-  told = subst (λ l. TellPairs swap l told.pairs) (sym (tails_same first (codes "{\"traceEvents\": [") (lines_of rest) told.lines (sym is ∙ told.begins))) told.told;
+  told =
+      subst (λ l. TellPairs swap l told.pairs) (sym (tails_same first (codes "{\"traceEvents\": [")
+      (lines_of rest) told.lines (sym is ∙ told.begins))) told.told;
   controller_rows = told.controller_rows;
   device_rows = told.device_rows;
 }
 
-pub only_rows : (swap : Bool) (text first rest : List ℕ) (sent answered rows : List Event) → lines_of text ≡ first ∷ lines_of rest → ((s a : List Event) → Tells swap (lines_of rest) s a → (s ≡ sent) × (a ≡ answered)) → Merges sent answered rows → (others : List Event) → AreRowsOfTrace swap text others → others ≡ rows
+pub only_rows : (swap : Bool) (text first rest : List ℕ) (sent answered rows : List Event)
+    → lines_of text ≡ first ∷ lines_of rest
+    → ((s a : List Event) → Tells swap (lines_of rest) s a → (s ≡ sent) × (a ≡ answered))
+    → Merges sent answered rows → (others : List Event) → AreRowsOfTrace swap text others
+    → others ≡ rows
 only_rows swap text first rest sent answered rows is only merges = λ others told.
     let same = only told.controller told.devices (tells_of swap text first rest others is told) in
-    one_merge (subst (λ s. Merges s answered others) same.0 (subst (λ a. Merges told.controller a others) same.1 told.both)) merges
+    one_merge (subst (λ s. Merges s answered others) same.0
+    (subst (λ a. Merges told.controller a others) same.1 told.both)) merges
 
-pub refused_rows : (fault : SigrokFault) (swap : Bool) (text first rest : List ℕ) → lines_of text ≡ first ∷ lines_of rest → ((s a : List Event) → Refutes fault (Tells swap (lines_of rest) s a)) → (rows : List Event) → Refutes fault (AreRowsOfTrace swap text rows)
-refused_rows (Form number wrong) swap text first rest is never = λ rows told. never told.controller told.devices (tells_of swap text first rest rows is told)
-refused_rows (Order number micros line wrong) swap text first rest is never = λ rows told. never told.controller told.devices (tells_of swap text first rest rows is told)
+pub refused_rows : (fault : SigrokFault) (swap : Bool) (text first rest : List ℕ)
+    → lines_of text ≡ first ∷ lines_of rest
+    → ((s a : List Event) → Refutes fault (Tells swap (lines_of rest) s a)) → (rows : List Event)
+    → Refutes fault (AreRowsOfTrace swap text rows)
+refused_rows (Form number wrong) swap text first rest is never =
+    λ rows told. never told.controller told.devices (tells_of swap text first rest rows is told)
+refused_rows (Order number micros line wrong) swap text first rest is never =
+    λ rows told. never told.controller told.devices (tells_of swap text first rest rows is told)
 refused_rows Read swap text first rest is never = λ rows. never [] []
 refused_rows Write swap text first rest is never = λ rows. never [] []
 refused_rows Memory swap text first rest is never = λ rows. tt
 
-pub refused_of : (options : SigrokOptions) (text : List ℕ) (fault : SigrokFault) (held : Option (List ℕ)) → ((rows : List Event) → Refutes fault (AreRowsOfTrace options.swap text rows)) → IsRefused options text fault held held
+pub refused_of : (options : SigrokOptions) (text : List ℕ) (fault : SigrokFault)
+    (held : Option (List ℕ))
+    → ((rows : List Event) → Refutes fault (AreRowsOfTrace options.swap text rows))
+    → IsRefused options text fault held held
 refused_of options text (Form number wrong) held never = (never, Keeps-refl held)
 refused_of options text (Order number micros line wrong) held never = (never, Keeps-refl held)
 refused_of options text Read held never = absurd (never [])
@@ -47,10 +64,26 @@ refused_of options text Write held never = absurd (never [])
 refused_of options text Memory held never = Keeps-refl held
 
 -- the rows of the part are written, or a front of them
-pub imported_of : (options : SigrokOptions) (text : List ℕ) (rows : List Event) (told : SigrokRows) (before after : Option (List ℕ)) → AreRowsOfTrace options.swap text rows → IsTold options rows told → Appends before after (part_text options rows) → IsImported options text told before after
-imported_of options text rows told before after are tally written = record { rows = rows; are = are; tally = tally; written = subst (Appends before after) (part_text_is options rows) written }
+pub imported_of : (options : SigrokOptions) (text : List ℕ) (rows : List Event) (told : SigrokRows)
+    (before after : Option (List ℕ)) → AreRowsOfTrace options.swap text rows
+    → IsTold options rows told → Appends before after (part_text options rows)
+    → IsImported options text told before after
+imported_of options text rows told before after are tally written = record {
+  rows = rows;
+  are = are;
+  tally = tally;
+  written = subst (Appends before after) (part_text_is options rows) written;
+}
 
-pub partial_of : (options : SigrokOptions) (text : List ℕ) (rows : List Event) (fault : SigrokFault) (before after : Option (List ℕ)) → AreRowsOfTrace options.swap text rows → HasTaken before after (part_text options rows) → fault ≡ Write → IsRefused options text fault before after
+pub partial_of : (options : SigrokOptions) (text : List ℕ) (rows : List Event) (fault : SigrokFault)
+    (before after : Option (List ℕ)) → AreRowsOfTrace options.swap text rows
+    → HasTaken before after (part_text options rows) → fault ≡ Write
+    → IsRefused options text fault before after
 partial_of options text rows fault before after are taken write =
-    let partial : IsPartial options text before after = record { rows = rows; are = are; written = subst (HasTaken before after) (part_text_is options rows) taken } in
+    let partial : IsPartial options text before after =
+    record {
+      rows = rows;
+      are = are;
+      written = subst (HasTaken before after) (part_text_is options rows) taken;
+    } in
     subst (λ f. IsRefused options text f before after) (sym write) partial

@@ -25,8 +25,8 @@ IsDigit byte = (digit : ℕ) × (byte ≡ digit_glyph true digit) × (digit < 16
 abbrev pub IsNoWord : List ℕ → Type 0
 IsNoWord name = (word : ℕ) → name ≡ hex_word word → word < 512 → ⊥
 
--- Why `name` is neither that of a start bit nor that of a word up to 1FF. Three digits that write no
--- such word write one above it.
+-- Why `name` is neither that of a start bit nor that of a word up to 1FF. Three digits that write
+-- no such word write one above it.
 abbrev pub IsNoName : List ℕ → OrderFault → Type 0
 IsNoName name fault.Parity = name ≡ codes "Parity error"
 IsNoName name fault.WordDigits = (name ≢ []) × All IsDigit name × (length name ≢ 3)
@@ -53,8 +53,8 @@ IsNoData pair fault.NoBreak = pair.what ≡ FrameError
 IsNoData pair fault.NoFrameError = pair.what ≡ BreakEnd
 IsNoData pair other = ⊥
 
--- Why what was seen behind a start bit and a word is neither the start of the next word, which is in
--- a later microsecond, nor the frame error of a break, whose word is 000.
+-- Why what was seen behind a start bit and a word is neither the start of the next word, which is
+-- in a later microsecond, nor the frame error of a break, whose word is 000.
 abbrev pub IsNoNext : Pair → ℕ → Pair → OrderFault → Type 0
 IsNoNext start word pair fault.Early =
     (pair.what ≡ Start) × (micros_of pair.from ≤ micros_of start.from)

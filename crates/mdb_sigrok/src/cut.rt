@@ -74,7 +74,8 @@ pub(crate) fn cut_near<const N: usize>(text: &[u8], byte: u8) -> Option<(&[u8], 
 }
 
 /// The first place of a byte among the first `N` of a text; `None` where it isn't among them, or
-/// where there are fewer. A search of the whole text would begin with larger steps, which take longer.
+/// where there are fewer. A search of the whole text would begin with larger steps, which take
+/// longer.
 fn place_near<const N: usize>(text: &[u8], byte: u8) -> Option<usize>
     ensures { IfSome result (IsFirstAt byte text.now) }
 {

@@ -31,7 +31,8 @@ impl Model for Moment {
 
     ghost view = { λ m. m.whole * 1000000 + m.part };
 
-    ghost invariant = { λ m. (m.part < 1000000) × (micros_of (m.whole * 1000000 + m.part) < 10 ^ 15) };
+    ghost invariant = { λ m. (m.part < 1000000)
+        × (micros_of (m.whole * 1000000 + m.part) < 10 ^ 15) };
 
     ghost inverse = { λ n. record { whole = n / 1000000; part = n % 1000000 } };
 }

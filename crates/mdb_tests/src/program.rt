@@ -44,8 +44,8 @@ silences changer 0 bill 0 cashless 0 cashless-2 0\n\
 unvalued changer 0 bill 0 cashless 0 cashless-2 0\n";
 
 /// The command line that tells setup data of two devices, and leaves out a third.
-const TOLD: &str =
-    "mdbcheck check --setup cashless~01~01~00~01~01~02~05~00~0B --joined --setup=changer~02~00~01~05~02~00~07~01~02~05~19 --without bill";
+const TOLD: &str = "mdbcheck check --setup cashless~01~01~00~01~01~02~05~00~0B --joined \
+    --setup=changer~02~00~01~05~02~00~07~01~02~05~19 --without bill";
 
 /// The report on nothing of such a recording.
 const NOTHING_TOLD: &[u8] = b"verdict yes\nrows 0\n\
@@ -66,7 +66,8 @@ const HELP: &[u8] = b"mdbcheck: commands: check (verdict), survey (all faults), 
 explain (bound), replay (explanation); all: mdbcheck manual\n";
 
 const CHECK_HELP: &[u8] = b"mdbcheck: usage: mdbcheck check [--joined] \
-[--setup 'DEVICE BYTES'].. [--without DEVICE].. [--json] < TRANSCRIPT; all: mdbcheck manual check\n";
+[--setup 'DEVICE BYTES'].. [--without DEVICE].. [--json] < TRANSCRIPT; \
+all: mdbcheck manual check\n";
 
 const SHOW_HELP: &[u8] = b"mdbcheck: usage: mdbcheck show [--without DEVICE].. [--json] \
 < TRANSCRIPT; all: mdbcheck manual show\n";
@@ -471,7 +472,8 @@ static REFUSED_GOALS: [(&str, &str); 30] = [
     ),
     (
         "mdbcheck explain Coins-in device least",
-        "ACCOUNT \"Coins-in\" isn't coins-in, bills-in, paid-out, approved, sold, approved-2, sold-2",
+        "ACCOUNT \"Coins-in\" isn't coins-in, bills-in, paid-out, approved, sold, approved-2, \
+        sold-2",
     ),
     (
         "mdbcheck explain device coins-in least",
@@ -479,7 +481,8 @@ static REFUSED_GOALS: [(&str, &str); 30] = [
     ),
     (
         "mdbcheck explain -- --without bill least",
-        "ACCOUNT \"--without\" isn't coins-in, bills-in, paid-out, approved, sold, approved-2, sold-2",
+        "ACCOUNT \"--without\" isn't coins-in, bills-in, paid-out, approved, sold, approved-2, \
+        sold-2",
     ),
     (
         "mdbcheck explain coins-in device least --without",
@@ -623,11 +626,13 @@ static MORE_REFUSED_SETUPS: [(&str, &str); 20] = [
         "--setup \"changer 02 00 01 05 02 0..\" is no answer of its device to SETUP",
     ),
     (
-        "mdbcheck check --joined --setup changer~02~00~01~05~02~00~07~01~01~01~01~01~01~01~01~01~01~01~01~01~01~01~01~01~22",
+        "mdbcheck check --joined --setup changer~02~00~01~05~02~00~07~01~01~01~01~01~01~01~01~01\
+        ~01~01~01~01~01~01~01~01~22",
         "--setup \"changer 02 00 01 05 02 0..\" is no answer of its device to SETUP",
     ),
     (
-        "mdbcheck check --joined --setup changer~01~01~01~01~01~01~01~01~01~01~01~01~01~01~01~01~01~01~01~01~01~01~01~01~01~01~01~01~01~01~01~01~01~01~01~01~01~01~01~01~28",
+        "mdbcheck check --joined --setup changer~01~01~01~01~01~01~01~01~01~01~01~01~01~01~01~01\
+        ~01~01~01~01~01~01~01~01~01~01~01~01~01~01~01~01~01~01~01~01~01~01~01~01~28",
         "--setup \"changer 01 01 01 01 01 0..\" is no answer of its device to SETUP",
     ),
     (
@@ -659,19 +664,23 @@ static MORE_REFUSED_SETUPS: [(&str, &str); 20] = [
         "--setup \"cashless 02 00 01 05 02 ..\" is no answer of its device to SETUP",
     ),
     (
-        "mdbcheck check --joined --setup changer~02~00~01~05~02~00~07~01~02~05~19 --setup changer~02~00~01~05~02~00~07~01~02~05~19",
+        "mdbcheck check --joined --setup changer~02~00~01~05~02~00~07~01~02~05~19 --setup \
+        changer~02~00~01~05~02~00~07~01~02~05~19",
         "--setup \"changer 02 00 01 05 02 0..\" names its device again",
     ),
     (
-        "mdbcheck check --joined --setup=cashless~01~01~00~01~01~02~05~00~0B --setup cashless~01~01~00~01~01~00~05~00~09",
+        "mdbcheck check --joined --setup=cashless~01~01~00~01~01~02~05~00~0B --setup \
+        cashless~01~01~00~01~01~00~05~00~09",
         "--setup \"cashless 01 01 00 01 01 ..\" names its device again",
     ),
     (
-        "mdbcheck check --joined --setup changer~02~00~01~05~02~00~07~01~02~05~19 --without changer",
+        "mdbcheck check --joined --setup changer~02~00~01~05~02~00~07~01~02~05~19 --without \
+        changer",
         "--setup \"changer 02 00 01 05 02 0..\" names a device that is left out",
     ),
     (
-        "mdbcheck check --without cashless-2 --setup cashless-2~01~01~00~01~01~02~05~00~0B --joined",
+        "mdbcheck check --without cashless-2 --setup cashless-2~01~01~00~01~01~02~05~00~0B \
+        --joined",
         "--setup \"cashless-2 01 01 00 01 0..\" names a device that is left out",
     ),
 ];
@@ -760,7 +769,8 @@ static KNOWN: [&str; 26] = [
     "mdbcheck check --joined --joined",
     "mdbcheck check --joined --setup changer~02~00~01~05~02~00~07~01~02~05~19",
     "mdbcheck check --setup=bill~01~00~01~00~64~02~00~C8~00~00~FF~00~01~05~35 --joined --",
-    "mdbcheck check --without bill --joined --setup cashless-2~01~01~00~01~01~02~05~00~0B --setup=changer~02~00~01~05~02~00~07~01~02~05~19 --setup cashless~01~01~00~01~01~02~05~00~0B",
+    "mdbcheck check --without bill --joined --setup cashless-2~01~01~00~01~01~02~05~00~0B \
+    --setup=changer~02~00~01~05~02~00~07~01~02~05~19 --setup cashless~01~01~00~01~01~02~05~00~0B",
     "mdbcheck check --joined --setup changer~02~00~01~05~02~00~07~11",
     "mdbcheck check --json",
     "mdbcheck check --json --joined --json --without=bill --",
@@ -771,7 +781,8 @@ static KNOWN: [&str; 26] = [
     "mdbcheck explain approved --without=changer difference --without bill least --",
     "mdbcheck explain sold-2 -- device greatest",
     "mdbcheck explain -- approved-2 controller least",
-    "mdbcheck check --joined --setup cashless~00~01~01~00~01~01~02~05~00~0B~01~01~00~01~01~02~05~00~21",
+    "mdbcheck check --joined --setup \
+    cashless~00~01~01~00~01~01~02~05~00~0B~01~01~00~01~01~02~05~00~21",
 ];
 
 #[test]

@@ -14,14 +14,18 @@ abbrev pub NoneHas : List ℕ → List AccountName → Type 0
 NoneHas word [] = Unit {0}
 NoneHas word (account ∷ accounts) = (account_word account ≢ word) × NoneHas word accounts
 
-and_one : (word : List ℕ) (accounts : List AccountName) (account : AccountName) → NoneHas word accounts → account_word account ≢ word → NoneHas word (accounts ++ account ∷ [])
+and_one : (word : List ℕ) (accounts : List AccountName) (account : AccountName)
+    → NoneHas word accounts → account_word account ≢ word → NoneHas word (accounts ++ account ∷ [])
 and_one word [] account none other = (other, tt)
 and_one word (first ∷ rest) account none other = (none.0, and_one word rest account none.1 other)
 
-pub none_more : (word : List ℕ) (accounts : List AccountName) (i : ℕ) (account : AccountName) → i < length accounts → NoneHas word (take i accounts) → account_word (get_or accounts i account) ≢ word
+pub none_more : (word : List ℕ) (accounts : List AccountName) (i : ℕ) (account : AccountName)
+    → i < length accounts → NoneHas word (take i accounts)
+    → account_word (get_or accounts i account) ≢ word
     → NoneHas word (take (i + 1) accounts)
 none_more word accounts i account within none other =
-    subst (NoneHas word) (sym (take_more accounts i account within)) (and_one word (take i accounts) (get_or accounts i account) none other)
+    subst (NoneHas word) (sym (take_more accounts i account within))
+    (and_one word (take i accounts) (get_or accounts i account) none other)
 
 -- the first of these accounts that has the word
 find : List ℕ → List AccountName → Option AccountName
@@ -73,5 +77,7 @@ none_of_all word none account same =
     some_none is = absurd cc
 
 -- an account whose word was compared with another one
-pub other_word : (shown word spelled : List ℕ) (equal : Bool) → shown ≡ spelled → equal ≡ bytes_eq shown word → equal ≡ false → spelled ≢ word
-other_word shown word spelled equal is test differs same = true≢false (sym ((bytes_eq-Decides shown word).1 (is ∙ same)) ∙ sym test ∙ differs)
+pub other_word : (shown word spelled : List ℕ) (equal : Bool) → shown ≡ spelled
+    → equal ≡ bytes_eq shown word → equal ≡ false → spelled ≢ word
+other_word shown word spelled equal is test differs same =
+    true≢false (sym ((bytes_eq-Decides shown word).1 (is ∙ same)) ∙ sym test ∙ differs)

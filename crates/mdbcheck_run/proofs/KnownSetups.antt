@@ -95,7 +95,8 @@ next_adds one_told left_out before words i word now all within are whole =
     (texts (drop (i + 1) words)) all
     (subst Are (ap texts parts
     ∙ map-append (λ w. w.now) (take i words) (get_or words i word ∷ drop (i + 1) words)) whole) in
-    let same = one_setups one_told left_out before (texts (take i words)) at.known now at.are are in (
+    let same =
+    one_setups one_told left_out before (texts (take i words)) at.known now at.are are in (
       at.after,
       subst (λ known. AddsSetup left_out known (get_or words i word).now at.after) same
           at.adds,

@@ -31,69 +31,154 @@ use Rattle.mdb_verdict.specs.Verdict.{IsAnswer, IsNoYes}
 use Rattle.mdb_writing.specs.Written.{HasTaken}
 use Rattle.mdb_bus.specs.declared.scope.Scope.{Scope}
 
-says_checked : (scope : Scope) (form : Form) {W : Type 0} (contents : W → Option (List ℕ)) (all : List (List (List ℕ))) (old new : W) (answer : Result Outcome RunFault)
+says_checked : (scope : Scope) (form : Form) {W : Type 0} (contents : W → Option (List ℕ))
+    (all : List (List (List ℕ))) (old new : W) (answer : Result Outcome RunFault)
     → IsAnswer scope ROWS_MAX all answer
-    → IfOk answer (λ outcome. Appends (contents old) (contents new) (answer_text form scope outcome))
-    → IfErr answer (λ fault. fault ≢ Write → new ≡ old) → (answer ≡ Err Write → IsCutIn (answer_text form) scope ROWS_MAX all (contents old) (contents new))
+    → IfOk answer
+    (λ outcome. Appends (contents old) (contents new) (answer_text form scope outcome))
+    → IfErr answer (λ fault. fault ≢ Write → new ≡ old)
+    → (answer ≡ Err Write
+    → IsCutIn (answer_text form) scope ROWS_MAX all (contents old) (contents new))
     → SaysChecked scope form all (contents old) (contents new) (status_of answer)
 says_checked scope form contents all old new (Ok (Yes report)) is written kept cut =
-    record { possible = λ e. (report, is, written); impossible = λ e. absurd (omega (arith, e)); unanswered = λ e. absurd (omega (arith, e)) }
+    record {
+      possible = λ e. (report, is, written);
+      impossible = λ e. absurd (omega (arith, e));
+      unanswered = λ e. absurd (omega (arith, e));
+    }
 says_checked scope form contents all old new (Ok (No offence)) is written kept cut =
-    record { possible = λ e. absurd (omega (arith, e)); impossible = λ e. (offence, is, written); unanswered = λ e. absurd (omega (arith, e)) }
+    record {
+      possible = λ e. absurd (omega (arith, e));
+      impossible = λ e. (offence, is, written);
+      unanswered = λ e. absurd (omega (arith, e));
+    }
 says_checked scope form contents all old new (Err Write) is written kept cut =
-    record { possible = λ e. absurd (omega (arith, e)); impossible = λ e. absurd (omega (arith, e)); unanswered = λ e. inr (cut refl) }
+    record {
+      possible = λ e. absurd (omega (arith, e));
+      impossible = λ e. absurd (omega (arith, e));
+      unanswered = λ e. inr (cut refl);
+    }
 says_checked scope form contents all old new (Err fault) is written kept cut =
-    record { possible = λ e. absurd (omega (arith, e)); impossible = λ e. absurd (omega (arith, e)); unanswered = λ e. inl (ap contents (kept (λ same. absurd (cc)))) }
+    record {
+      possible = λ e. absurd (omega (arith, e));
+      impossible = λ e. absurd (omega (arith, e));
+      unanswered = λ e. inl (ap contents (kept (λ same. absurd (cc))));
+    }
 
 -- the same of a replay
-says_replayed : (scope : Scope) (form : Form) {W : Type 0} (contents : W → Option (List ℕ)) (all : List (List (List ℕ))) (old new : W) (answer : Result Outcome MarkedFault)
+says_replayed : (scope : Scope) (form : Form) {W : Type 0} (contents : W → Option (List ℕ))
+    (all : List (List (List ℕ))) (old new : W) (answer : Result Outcome MarkedFault)
     → IsReplayAnswer scope ROWS_MAX all answer
-    → IfOk answer (λ outcome. Appends (contents old) (contents new) (answer_text form scope outcome))
-    → IfErr answer (λ fault. fault ≢ marked.Run Write → new ≡ old) → (answer ≡ Err (marked.Run Write) → IsCutReplayIn (answer_text form) scope ROWS_MAX all (contents old) (contents new))
+    → IfOk answer
+    (λ outcome. Appends (contents old) (contents new) (answer_text form scope outcome))
+    → IfErr answer (λ fault. fault ≢ marked.Run Write → new ≡ old)
+    → (answer ≡ Err (marked.Run Write)
+    → IsCutReplayIn (answer_text form) scope ROWS_MAX all (contents old) (contents new))
     → SaysReplayed scope form all (contents old) (contents new) (status_of answer)
 says_replayed scope form contents all old new (Ok (Yes report)) is written kept cut =
-    record { possible = λ e. (report, is, written); impossible = λ e. absurd (omega (arith, e)); unanswered = λ e. absurd (omega (arith, e)) }
+    record {
+      possible = λ e. (report, is, written);
+      impossible = λ e. absurd (omega (arith, e));
+      unanswered = λ e. absurd (omega (arith, e));
+    }
 says_replayed scope form contents all old new (Ok (No offence)) is written kept cut =
-    record { possible = λ e. absurd (omega (arith, e)); impossible = λ e. (offence, is, written); unanswered = λ e. absurd (omega (arith, e)) }
+    record {
+      possible = λ e. absurd (omega (arith, e));
+      impossible = λ e. (offence, is, written);
+      unanswered = λ e. absurd (omega (arith, e));
+    }
 says_replayed scope form contents all old new (Err (marked.Run Write)) is written kept cut =
-    record { possible = λ e. absurd (omega (arith, e)); impossible = λ e. absurd (omega (arith, e)); unanswered = λ e. inr (cut refl) }
+    record {
+      possible = λ e. absurd (omega (arith, e));
+      impossible = λ e. absurd (omega (arith, e));
+      unanswered = λ e. inr (cut refl);
+    }
 says_replayed scope form contents all old new (Err fault) is written kept cut =
-    record { possible = λ e. absurd (omega (arith, e)); impossible = λ e. absurd (omega (arith, e)); unanswered = λ e. inl (ap contents (kept (λ same. absurd (cc)))) }
+    record {
+      possible = λ e. absurd (omega (arith, e));
+      impossible = λ e. absurd (omega (arith, e));
+      unanswered = λ e. inl (ap contents (kept (λ same. absurd (cc))));
+    }
 
 -- the same of an explanation
-says_explained : (scope : Scope) (goal : Goal) {W : Type 0} (contents : W → Option (List ℕ)) (all : List (List (List ℕ))) (old new : W) (answer : Result Outcome RunFault)
+says_explained : (scope : Scope) (goal : Goal) {W : Type 0} (contents : W → Option (List ℕ))
+    (all : List (List (List ℕ))) (old new : W) (answer : Result Outcome RunFault)
     → IsAnswer scope ROWS_MAX all answer
     → IfOk answer (IsExplainedIn scope goal all (contents old) (contents new))
-    → IfErr answer (λ fault. fault ≢ Write → new ≡ old) → (answer ≡ Err Write → IsCutExplanation scope ROWS_MAX goal all (contents old) (contents new))
+    → IfErr answer (λ fault. fault ≢ Write → new ≡ old)
+    → (answer ≡ Err Write → IsCutExplanation scope ROWS_MAX goal all (contents old) (contents new))
     → SaysExplained scope goal all (contents old) (contents new) (status_of answer)
 says_explained scope goal contents all old new (Ok (Yes report)) is written kept cut =
-    record { possible = λ e. (report, is, written); impossible = λ e. absurd (omega (arith, e)); unanswered = λ e. absurd (omega (arith, e)) }
+    record {
+      possible = λ e. (report, is, written);
+      impossible = λ e. absurd (omega (arith, e));
+      unanswered = λ e. absurd (omega (arith, e));
+    }
 says_explained scope goal contents all old new (Ok (No offence)) is written kept cut =
     let P : List ℕ → Type 0 = λ text. Appends (contents old) (contents new) text in
-    record { possible = λ e. absurd (omega (arith, e)); impossible = λ e. (offence, is, subst P written.1 written.2); unanswered = λ e. absurd (omega (arith, e)) }
+    record {
+      possible = λ e. absurd (omega (arith, e));
+      impossible = λ e. (offence, is, subst P written.1 written.2);
+      unanswered = λ e. absurd (omega (arith, e));
+    }
 says_explained scope goal contents all old new (Err Write) is written kept cut =
-    record { possible = λ e. absurd (omega (arith, e)); impossible = λ e. absurd (omega (arith, e)); unanswered = λ e. inr (cut refl) }
+    record {
+      possible = λ e. absurd (omega (arith, e));
+      impossible = λ e. absurd (omega (arith, e));
+      unanswered = λ e. inr (cut refl);
+    }
 says_explained scope goal contents all old new (Err fault) is written kept cut =
-    record { possible = λ e. absurd (omega (arith, e)); impossible = λ e. absurd (omega (arith, e)); unanswered = λ e. inl (ap contents (kept (λ same. absurd (cc)))) }
+    record {
+      possible = λ e. absurd (omega (arith, e));
+      impossible = λ e. absurd (omega (arith, e));
+      unanswered = λ e. inl (ap contents (kept (λ same. absurd (cc))));
+    }
 
 -- a text that was written whole is a front of itself
-taken_whole : (before after : Option (List ℕ)) (text : List ℕ) → Appends before after text → HasTaken before after text
-taken_whole before after text written = record { front = text; rest = []; parts = sym (append-nil text); grown = written }
+taken_whole : (before after : Option (List ℕ)) (text : List ℕ) → Appends before after text
+    → HasTaken before after text
+taken_whole before after text written = record {
+  front = text;
+  rest = [];
+  parts = sym (append-nil text);
+  grown = written;
+}
 
-says_shown : (scope : Scope) (form : Form) (all : List (List (List ℕ))) (before after : Option (List ℕ)) (answer : Result (Option LinkFault) RunFault) → ShowsIn (lines_in form) scope all before after answer → SaysShown scope form all before after (show_status_of answer)
+says_shown : (scope : Scope) (form : Form) (all : List (List (List ℕ)))
+    (before after : Option (List ℕ)) (answer : Result (Option LinkFault) RunFault)
+    → ShowsIn (lines_in form) scope all before after answer
+    → SaysShown scope form all before after (show_status_of answer)
 says_shown scope form all before after (Ok None) (inl shows) =
-    record { whole = λ e. shows; to_fault = λ e. absurd (omega (arith, e)); unanswered = λ e. absurd (omega (arith, e)) }
+    record {
+      whole = λ e. shows;
+      to_fault = λ e. absurd (omega (arith, e));
+      unanswered = λ e. absurd (omega (arith, e));
+    }
 says_shown scope form all before after (Ok (Some fault)) (inl shows) =
-    record { whole = λ e. absurd (omega (arith, e)); to_fault = λ e. (fault, shows.0, shows.1, shows.2); unanswered = λ e. absurd (omega (arith, e)) }
+    record {
+      whole = λ e. absurd (omega (arith, e));
+      to_fault = λ e. (fault, shows.0, shows.1, shows.2);
+      unanswered = λ e. absurd (omega (arith, e));
+    }
 says_shown scope form all before after (Ok showing) (inr cut) = absurd (cc (cut.0))
 says_shown scope form all before after (Err fault) (inl shows) =
     record {
       whole = λ e. absurd (omega (arith, e));
       to_fault = λ e. absurd (omega (arith, e));
-      unanswered = λ e. record { answer = Err fault; text = shows.0; showing = shows.1; taken = taken_whole before after shows.0 shows.2 };
+      unanswered = λ e.
+          record {
+            answer = Err fault;
+            text = shows.0;
+            showing = shows.1;
+            taken = taken_whole before after shows.0 shows.2;
+          };
     }
 says_shown scope form all before after (Err fault) (inr cut) =
-    record { whole = λ e. absurd (omega (arith, e)); to_fault = λ e. absurd (omega (arith, e)); unanswered = λ e. cut.1 }
+    record {
+      whole = λ e. absurd (omega (arith, e));
+      to_fault = λ e. absurd (omega (arith, e));
+      unanswered = λ e. cut.1;
+    }
 
 -- What is said by the status of a survey that came to its end, by whether it has no fault.
 says_whole : (scope : Scope) (form : Form) (all : List (List (List ℕ)))
@@ -142,12 +227,14 @@ says_surveyed scope form all before after (Err fault) (inr cut) =
     }
 
 -- a text that isn't one of a yes has another status, and so has one that isn't shown whole
-pub not_yes : {Fault : Type 0} (answer : Result Outcome Fault) → IsNoYes answer → status_of answer ≢ 0
+pub not_yes : {Fault : Type 0} (answer : Result Outcome Fault) → IsNoYes answer
+    → status_of answer ≢ 0
 not_yes (Ok (Yes report)) none = absurd none
 not_yes (Ok (No offence)) _ = λ e. absurd (omega (arith, e))
 not_yes (Err fault) _ = λ e. absurd (omega (arith, e))
 
-pub not_whole : (answer : Result (Option LinkFault) RunFault) → answer ≢ Ok None → show_status_of answer ≢ 0
+pub not_whole : (answer : Result (Option LinkFault) RunFault) → answer ≢ Ok None
+    → show_status_of answer ≢ 0
 not_whole (Ok None) other = absurd (other refl)
 not_whole (Ok (Some fault)) _ = λ e. absurd (omega (arith, e))
 not_whole (Err fault) _ = λ e. absurd (omega (arith, e))
@@ -158,19 +245,26 @@ no_survey (Ok summary) err = absurd (true≢false (sym err))
 no_survey (Err fault) err = refl
 
 -- where a text is longer than the limit, the status is not 0
-pub too_long : {Over : Type 0} (known : Option (List ℕ)) (limit status : ℕ) → IfSome known (λ text. limit < length text → Over) → (Over → status ≢ 0)
+pub too_long : {Over : Type 0} (known : Option (List ℕ)) (limit status : ℕ)
+    → IfSome known (λ text. limit < length text → Over) → (Over → status ≢ 0)
     → IfSome known (λ text. limit < length text → status ≢ 0)
 too_long None limit status over other = tt
 too_long (Some text) limit status over other = λ long. other (over long)
 
 -- what the status of a checked text says
-pub checked_says : (scope : Scope) (form : Form) {W : Type 0} (contents : W → Option (List ℕ)) (known : Option (List ℕ)) (old new : W) (answer : Result Outcome RunFault) (status : ℕ)
-    → IfSome known (λ text. IsAnswer scope ROWS_MAX (records default_config (strip_bom text)) answer)
-    → IfOk answer (λ outcome. Appends (contents old) (contents new) (answer_text form scope outcome))
+pub checked_says : (scope : Scope) (form : Form) {W : Type 0} (contents : W → Option (List ℕ))
+    (known : Option (List ℕ)) (old new : W) (answer : Result Outcome RunFault) (status : ℕ)
+    → IfSome known
+    (λ text. IsAnswer scope ROWS_MAX (records default_config (strip_bom text)) answer)
+    → IfOk answer
+    (λ outcome. Appends (contents old) (contents new) (answer_text form scope outcome))
     → IfErr answer (λ fault. fault ≢ Write → new ≡ old)
-    → IfSome known (λ text. answer ≡ Err Write → IsCutIn (answer_text form) scope ROWS_MAX (records default_config (strip_bom text)) (contents old) (contents new))
+    → IfSome known (λ text. answer ≡ Err Write
+    → IsCutIn (answer_text form) scope ROWS_MAX (records default_config (strip_bom text))
+    (contents old) (contents new))
     → status ≡ status_of answer
-    → IfSome known (λ text. SaysChecked scope form (records default_config (strip_bom text)) (contents old) (contents new) status)
+    → IfSome known (λ text. SaysChecked scope form (records default_config (strip_bom text))
+    (contents old) (contents new) status)
 checked_says scope form contents None old new answer status is written kept cut same = tt
 checked_says scope form contents (Some text) old new answer status is written kept cut same =
     let all : List (List (List ℕ)) = records default_config (strip_bom text) in
@@ -178,13 +272,19 @@ checked_says scope form contents (Some text) old new answer status is written ke
     subst P (sym same) (says_checked scope form contents all old new answer is written kept cut)
 
 -- what the status of a replayed input says
-pub replayed_says : (scope : Scope) (form : Form) {W : Type 0} (contents : W → Option (List ℕ)) (known : Option (List ℕ)) (old new : W) (answer : Result Outcome MarkedFault) (status : ℕ)
-    → IfSome known (λ text. IsReplayAnswer scope ROWS_MAX (records default_config (strip_bom text)) answer)
-    → IfOk answer (λ outcome. Appends (contents old) (contents new) (answer_text form scope outcome))
+pub replayed_says : (scope : Scope) (form : Form) {W : Type 0} (contents : W → Option (List ℕ))
+    (known : Option (List ℕ)) (old new : W) (answer : Result Outcome MarkedFault) (status : ℕ)
+    → IfSome known
+    (λ text. IsReplayAnswer scope ROWS_MAX (records default_config (strip_bom text)) answer)
+    → IfOk answer
+    (λ outcome. Appends (contents old) (contents new) (answer_text form scope outcome))
     → IfErr answer (λ fault. fault ≢ marked.Run Write → new ≡ old)
-    → IfSome known (λ text. answer ≡ Err (marked.Run Write) → IsCutReplayIn (answer_text form) scope ROWS_MAX (records default_config (strip_bom text)) (contents old) (contents new))
+    → IfSome known (λ text. answer ≡ Err (marked.Run Write)
+    → IsCutReplayIn (answer_text form) scope ROWS_MAX (records default_config (strip_bom text))
+    (contents old) (contents new))
     → status ≡ status_of answer
-    → IfSome known (λ text. SaysReplayed scope form (records default_config (strip_bom text)) (contents old) (contents new) status)
+    → IfSome known (λ text. SaysReplayed scope form (records default_config (strip_bom text))
+    (contents old) (contents new) status)
 replayed_says scope form contents None old new answer status is written kept cut same = tt
 replayed_says scope form contents (Some text) old new answer status is written kept cut same =
     let all : List (List (List ℕ)) = records default_config (strip_bom text) in
@@ -192,13 +292,19 @@ replayed_says scope form contents (Some text) old new answer status is written k
     subst P (sym same) (says_replayed scope form contents all old new answer is written kept cut)
 
 -- what the status of an explained text says
-pub explained_says : (scope : Scope) (goal : Goal) {W : Type 0} (contents : W → Option (List ℕ)) (known : Option (List ℕ)) (old new : W) (answer : Result Outcome RunFault) (status : ℕ)
-    → IfSome known (λ text. IsAnswer scope ROWS_MAX (records default_config (strip_bom text)) answer)
-    → IfSome known (λ text. IfOk answer (IsExplainedIn scope goal (records default_config (strip_bom text)) (contents old) (contents new)))
+pub explained_says : (scope : Scope) (goal : Goal) {W : Type 0} (contents : W → Option (List ℕ))
+    (known : Option (List ℕ)) (old new : W) (answer : Result Outcome RunFault) (status : ℕ)
+    → IfSome known
+    (λ text. IsAnswer scope ROWS_MAX (records default_config (strip_bom text)) answer)
+    → IfSome known (λ text. IfOk answer (IsExplainedIn scope goal
+    (records default_config (strip_bom text)) (contents old) (contents new)))
     → IfErr answer (λ fault. fault ≢ Write → new ≡ old)
-    → IfSome known (λ text. answer ≡ Err Write → IsCutExplanation scope ROWS_MAX goal (records default_config (strip_bom text)) (contents old) (contents new))
+    → IfSome known (λ text. answer ≡ Err Write
+    → IsCutExplanation scope ROWS_MAX goal (records default_config (strip_bom text))
+    (contents old) (contents new))
     → status ≡ status_of answer
-    → IfSome known (λ text. SaysExplained scope goal (records default_config (strip_bom text)) (contents old) (contents new) status)
+    → IfSome known (λ text. SaysExplained scope goal (records default_config (strip_bom text))
+    (contents old) (contents new) status)
 explained_says scope goal contents None old new answer status is written kept cut same = tt
 explained_says scope goal contents (Some text) old new answer status is written kept cut same =
     let all : List (List (List ℕ)) = records default_config (strip_bom text) in
@@ -206,10 +312,13 @@ explained_says scope goal contents (Some text) old new answer status is written 
     subst P (sym same) (says_explained scope goal contents all old new answer is written kept cut)
 
 -- what the status of a text that was shown says
-pub shown_says : (scope : Scope) (form : Form) (known : Option (List ℕ)) (before after : Option (List ℕ)) (answer : Result (Option LinkFault) RunFault) (status : ℕ)
-    → IfSome known (λ text. ShowsIn (lines_in form) scope (records default_config (strip_bom text)) before after answer)
+pub shown_says : (scope : Scope) (form : Form) (known : Option (List ℕ))
+    (before after : Option (List ℕ)) (answer : Result (Option LinkFault) RunFault) (status : ℕ)
+    → IfSome known (λ text.
+    ShowsIn (lines_in form) scope (records default_config (strip_bom text)) before after answer)
     → status ≡ show_status_of answer
-    → IfSome known (λ text. SaysShown scope form (records default_config (strip_bom text)) before after status)
+    → IfSome known
+    (λ text. SaysShown scope form (records default_config (strip_bom text)) before after status)
 shown_says scope form None before after answer status shows same = tt
 shown_says scope form (Some text) before after answer status shows same =
     let all : List (List (List ℕ)) = records default_config (strip_bom text) in
@@ -246,13 +355,18 @@ surveyed_not_yes (Some text) limit status none = λ long yes. let two = none lon
     absurd (omega (arith, two, yes))
 
 -- what the status of a refused command line says
-pub refused_says : (known : Option (List ℕ)) (words : List (List ℕ)) (before after : Option (List ℕ)) (status : ℕ) → status ≡ 2 → after ≡ before
-    → IfSome known (λ text. Says words (records default_config (strip_bom text)) before after status)
+pub refused_says : (known : Option (List ℕ)) (words : List (List ℕ))
+    (before after : Option (List ℕ)) (status : ℕ) → status ≡ 2 → after ≡ before
+    → IfSome known
+    (λ text. Says words (records default_config (strip_bom text)) before after status)
 refused_says None words before after status same kept = tt
 refused_says (Some text) words before after status same kept = refused same kept
 
 -- what the status of the manual says, whatever stands in the input
-pub manual_says : (page : List ℕ) (words : List (List ℕ)) (before after : Option (List ℕ)) (status : ℕ) → NamesManual words page → SaysManual page before after status
-    → (known : Option (List ℕ)) → IfSome known (λ text. Says words (records default_config (strip_bom text)) before after status)
+pub manual_says : (page : List ℕ) (words : List (List ℕ)) (before after : Option (List ℕ))
+    (status : ℕ) → NamesManual words page → SaysManual page before after status
+    → (known : Option (List ℕ))
+    → IfSome known
+    (λ text. Says words (records default_config (strip_bom text)) before after status)
 manual_says page words before after status names says None = tt
 manual_says page words before after status names says (Some text) = told page names says

@@ -85,8 +85,8 @@ const NO_VERDICT: u8 = 2;
 /// command of the program. Words that ask for help or for the version count as none too. One line
 /// on `err` shows why. If `err` refuses the line, the status is the same.
 ///
-/// With `--json`, `check` and `replay` write their report as one line of JSON, `show` a line of JSON
-/// for each act, and `survey` one for each stretch, for each fault and for the whole.
+/// With `--json`, `check` and `replay` write their report as one line of JSON, `show` a line of
+/// JSON for each act, and `survey` one for each stretch, for each fault and for the whole.
 pub fn run<R: Read + Drop, W: Write, E: Write>(
     alloc: Global,
     words: Vec<String>,

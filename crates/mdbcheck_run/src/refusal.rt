@@ -6,8 +6,8 @@ use clap::error::ErrorKind;
 #[derive(Clone, Copy)]
 pub(crate) enum Refusal {
     /// For what `clap` says of its words, for a value of `--without` that is no device's word, for
-    /// words of `explain` that are no goal's, for a word of `manual` that is no command, or for want
-    /// of memory.
+    /// words of `explain` that are no goal's, for a word of `manual` that is no command, or for
+    /// want of memory.
     Words(ErrorKind),
     /// For the values of `--setup`.
     Setup(SetupFault),

@@ -57,7 +57,7 @@ fn line_on_values(
     let mut line = Line::of(program);
     line.add(&[": "]);
     if let Ok(Some(name)) = found.value(COMMAND) {
-        // (the word names no command, so all of them are told)
+        // (the word names no command, so all of them are listed)
         line.add_word("unknown command \"", name, "\"");
         line.add_usage(program, None);
         return line;

@@ -286,7 +286,8 @@ module _ (one : WordsNameOneCommand) where
       let alike = (one commands words manual_command manual_command uses also refl refl refl named
       too).1 in
       one_page (chosen (codes "COMMAND") also) page other
-      (subst (λ v. AskForManual mdbimport_manual v page) (alike.values (codes "COMMAND")) asks) asks_too
+      (subst (λ v. AskForManual mdbimport_manual v page) (alike.values (codes "COMMAND")) asks)
+      asks_too
 
   pub manual_alone : (words : List Text) → NamesManual words → NameAnImport words → ⊥
   manual_alone words (page, (uses, named, asks)) (inl (option, (more, also, too))) =

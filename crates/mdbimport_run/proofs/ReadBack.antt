@@ -40,14 +40,16 @@ pairs_small {swap = swap} (last first second pair is) =
 pairs_small {swap = swap} (more first second pair lines pairs is rest) =
     All-cons IsSmall pair pairs (pair_small swap pair first second true is) (pairs_small rest)
 
-line_small : (line : Line) (pairs : List Pair) → All IsSmall pairs → All IsSmall (on_line line pairs)
+line_small : (line : Line) (pairs : List Pair) → All IsSmall pairs
+    → All IsSmall (on_line line pairs)
 line_small line [] all = All-nil IsSmall
 line_small line (pair ∷ pairs) all =
     one (is_line line pair.line) (line_small line pairs (All-tail IsSmall pair pairs all))
   where
     one : (b : Bool) → All IsSmall (on_line line pairs)
         → All IsSmall (cond b (pair ∷ on_line line pairs) (on_line line pairs))
-    one true rest = All-cons IsSmall pair (on_line line pairs) (All-head IsSmall pair pairs all) rest
+    one true rest =
+        All-cons IsSmall pair (on_line line pairs) (All-head IsSmall pair pairs all) rest
     one false rest = rest
 
 rows_small : {line : Line} {earliest : ℕ} {pairs : List Pair} {rows : List Event}

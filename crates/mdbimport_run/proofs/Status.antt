@@ -31,21 +31,31 @@ use Rattle.command_words.specs.Manual.{AskForManual}
 use Rattle.command_words.proofs.Manuals.{asked_part}
 
 -- the words that were read are those that were given
-pub asked : (read given : List (String Global)) (found task : Task) → read ≡ given → found ≡ task → AskFor (map string_bytes read) found → AskFor (map string_bytes given) task
+pub asked : (read given : List (String Global)) (found task : Task) → read ≡ given → found ≡ task
+    → AskFor (map string_bytes read) found → AskFor (map string_bytes given) task
 asked read given found task same is asks =
     let Words : List (String Global) → Type 0 = λ words. AskFor (map string_bytes words) found in
     subst (AskFor (map string_bytes given)) is (subst Words same asks)
 
 -- words that are refused name no part of the manual, but where memory was refused
-why_no_manual : (words : List (List ℕ)) (refusal : Refusal) → ((task : Task) → AskFor words task → refusal ≡ no_memory) → NamesManual words → refusal ≡ no_memory
+why_no_manual : (words : List (List ℕ)) (refusal : Refusal)
+    → ((task : Task) → AskFor words task → refusal ≡ no_memory) → NamesManual words
+    → refusal ≡ no_memory
 why_no_manual words refusal why (page, (uses, named, asks)) =
     let (part, is) = asked_part mdbimport_manual _ page asks in
-    why (Manual part) (uses, named, subst (AskForManual mdbimport_manual (chosen (codes "COMMAND") uses)) (sym is) asks)
+    why (Manual part) (
+      uses,
+      named,
+      subst (AskForManual mdbimport_manual (chosen (codes "COMMAND") uses)) (sym is) asks,
+    )
 
 -- words that are refused name no task, but where memory was refused
-pub refused : (read given : List (String Global)) (refusal : Refusal) → read ≡ given → ((task : Task) → AskFor (map string_bytes read) task → refusal ≡ no_memory) → NameATask (map string_bytes given) → refusal ≡ no_memory
+pub refused : (read given : List (String Global)) (refusal : Refusal) → read ≡ given
+    → ((task : Task) → AskFor (map string_bytes read) task → refusal ≡ no_memory)
+    → NameATask (map string_bytes given) → refusal ≡ no_memory
 refused read given refusal same why names =
-    let Words : List (String Global) → Type 0 = λ words. NameATask (map string_bytes words) → refusal ≡ no_memory in
+    let Words : List (String Global) → Type 0 =
+    λ words. NameATask (map string_bytes words) → refusal ≡ no_memory in
     subst Words same (λ named. elim named [
       | inl manual ↦ why_no_manual (map string_bytes read) refusal why manual
       | inr (inl rows) ↦ why (Rows rows.0) rows.1
@@ -54,31 +64,53 @@ refused read given refusal same why names =
       | inr (inr (inr (inr edges))) ↦ why (Edges edges.0) edges.1
     ]) names
 
-pub refused_says : (known : Option (List ℕ)) (words : List (List ℕ)) (before after : Option (List ℕ)) (refusal : Refusal) → (NameATask words → refusal ≡ no_memory) → after ≡ before → IfSome known (λ text. Says words text before after (Refused refusal))
+pub refused_says : (known : Option (List ℕ)) (words : List (List ℕ))
+    (before after : Option (List ℕ)) (refusal : Refusal) → (NameATask words → refusal ≡ no_memory)
+    → after ≡ before → IfSome known (λ text. Says words text before after (Refused refusal))
 refused_says None words before after refusal why same = tt
 refused_says (Some text) words before after refusal why same = (why, same)
 
 -- the answer of a task is that of its words
-pub rows_say : (words : List (List ℕ)) (options : RowsOptions) (before after : Option (List ℕ)) (answer : Result Imported ImportFault) → AskFor words (Rows options) → (text : List ℕ) → Imports options (export_records text) before after answer → Says words text before after (ended.Rows answer)
+pub rows_say : (words : List (List ℕ)) (options : RowsOptions) (before after : Option (List ℕ))
+    (answer : Result Imported ImportFault) → AskFor words (Rows options) → (text : List ℕ)
+    → Imports options (export_records text) before after answer
+    → Says words text before after (ended.Rows answer)
 rows_say words options before after answer asks text imports = (options, asks, imports)
 
-pub sigrok_says : (words : List (List ℕ)) (options : SigrokOptions) (before after : Option (List ℕ)) (answer : Result SigrokRows SigrokFault) → AskFor words (Sigrok options) → (text : List ℕ) → AnswersTo options text before after answer → Says words text before after (ended.Sigrok answer)
+pub sigrok_says : (words : List (List ℕ)) (options : SigrokOptions) (before after : Option (List ℕ))
+    (answer : Result SigrokRows SigrokFault) → AskFor words (Sigrok options) → (text : List ℕ)
+    → AnswersTo options text before after answer
+    → Says words text before after (ended.Sigrok answer)
 sigrok_says words options before after answer asks text answers = (options, asks, answers)
 
-pub saleae_says : (words : List (List ℕ)) (options : SaleaeOptions) (before after : Option (List ℕ)) (answer : Result Imported SaleaeFault) → AskFor words (Saleae options) → (text : List ℕ) → table.Imports options (export_records text) before after answer → Says words text before after (ended.Saleae answer)
+pub saleae_says : (words : List (List ℕ)) (options : SaleaeOptions) (before after : Option (List ℕ))
+    (answer : Result Imported SaleaeFault) → AskFor words (Saleae options) → (text : List ℕ)
+    → table.Imports options (export_records text) before after answer
+    → Says words text before after (ended.Saleae answer)
 saleae_says words options before after answer asks text imports = (options, asks, imports)
 
-pub edges_say : (words : List (List ℕ)) (options : EdgesOptions) (before after : Option (List ℕ)) (answer : Result EdgesImported EdgesFault) → AskFor words (Edges options) → (text : List ℕ) → IsEdgesAnswer options text before after answer → Says words text before after (ended.Edges answer)
+pub edges_say : (words : List (List ℕ)) (options : EdgesOptions) (before after : Option (List ℕ))
+    (answer : Result EdgesImported EdgesFault) → AskFor words (Edges options) → (text : List ℕ)
+    → IsEdgesAnswer options text before after answer
+    → Says words text before after (ended.Edges answer)
 edges_say words options before after answer asks text answers = (options, asks, answers)
 
-pub manual_says : (words : List (List ℕ)) (page : List ℕ) (before after : Option (List ℕ)) (answer : Result (Prim.Unit {0}) WriteFailed) → NameManual words page → IsManualWritten page before after answer → (known : Option (List ℕ)) → IfSome known (λ text. Says words text before after (ended.Manual answer))
+pub manual_says : (words : List (List ℕ)) (page : List ℕ) (before after : Option (List ℕ))
+    (answer : Result (Prim.Unit {0}) WriteFailed) → NameManual words page
+    → IsManualWritten page before after answer → (known : Option (List ℕ))
+    → IfSome known (λ text. Says words text before after (ended.Manual answer))
 manual_says words page before after answer asks written None = tt
 manual_says words page before after answer asks written (Some text) = (page, asks, written)
 
 -- what is said of both answers to the records of a table of edges is said of the answer
-pub edges_answer : (Come : List (List (List ℕ)) → Type 0) (text : List ℕ) (options : EdgesOptions) (before after : Option (List ℕ)) (answer : Result EdgesImported EdgesFault)
-    → IfOk answer (λ told. (all : List (List (List ℕ))) → Come all → edges.AreImported options all told before after)
-    → IfErr answer (λ fault. (all : List (List (List ℕ))) → Come all → edges.AreRefused options all fault before after)
+pub edges_answer : (Come : List (List (List ℕ)) → Type 0) (text : List ℕ) (options : EdgesOptions)
+    (before after : Option (List ℕ)) (answer : Result EdgesImported EdgesFault)
+    → IfOk answer (λ told.
+    (all : List (List (List ℕ))) → Come all → edges.AreImported options all told before after)
+    → IfErr answer (λ fault.
+    (all : List (List (List ℕ))) → Come all → edges.AreRefused options all fault before after)
     → Come (export_records text) → IsEdgesAnswer options text before after answer
-edges_answer Come text options before after (Ok told) written refused come = written (export_records text) come
-edges_answer Come text options before after (Err fault) written refused come = refused (export_records text) come
+edges_answer Come text options before after (Ok told) written refused come =
+    written (export_records text) come
+edges_answer Come text options before after (Err fault) written refused come =
+    refused (export_records text) come

@@ -274,7 +274,8 @@ fn note<E: Write>(notes: Notes, err: &mut E) {
     if passed > 0 {
         let _ = writeln!(
             err,
-            "mdbimport: left out {passed} records outside the part that are no rows, or not in order"
+            "mdbimport: left out {passed} records outside the part that are no rows, \
+            or not in order"
         );
     }
     say(text_on_lines(notes), err);

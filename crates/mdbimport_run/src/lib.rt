@@ -1,8 +1,8 @@
 //! The program `mdbimport`, as a function of its words.
 //!
 //! [`run`] does the import that the words of a command line name, or prints the manual, and writes
-//! its remarks to standard error. [`Ended`] is the answer of that import, or the reason why the words were
-//! refused.
+//! its remarks to standard error. [`Ended`] is the answer of that import, or the reason why the
+//! words were refused.
 #![tactic(auto)]
 
 mod command_line;

@@ -1,5 +1,5 @@
--- What a fault of `mdb_exports` is told as. This file serves private functions and proofs: no public
--- clause cites it.
+-- What a fault of `mdb_exports` is told as. This file serves private functions and proofs: no
+-- public clause cites it.
 use Rattle.mdb_exports.specs.declared.fault.RecordFault.{RecordFault}
 use Rattle.mdb_exports.specs.declared.fault.RecordFault.TheVariants as found
 use Rattle.mdb_saleae.specs.declared.fault.RowFault.{RowFault}

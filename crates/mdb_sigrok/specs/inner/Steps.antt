@@ -37,8 +37,9 @@ pub record Leads (line : Line) (earliest : ℕ) (front : List Pair) (later : ℕ
     (told : List Event) : Type 0 where
   pub took : (pairs : List Pair) (rows : List Event) → LineRows line later (behind ++ pairs) rows →
       LineRows line earliest (front ++ pairs) (told ++ rows)
-  pub only : (pairs : List Pair) (rows : List Event) → LineRows line earliest (front ++ pairs) rows →
-      (more : List Event) × (rows ≡ told ++ more) × LineRows line later (behind ++ pairs) more
+  pub only : (pairs : List Pair) (rows : List Event)
+      → LineRows line earliest (front ++ pairs) rows
+      → (more : List Event) × (rows ≡ told ++ more) × LineRows line later (behind ++ pairs) more
 
 -- where a line stands behind some records
 pub record IsPlace (line : Line) (earliest : ℕ) (front : List Pair) (told : List Event)
@@ -57,7 +58,8 @@ abbrev pub IsNoneAfter : Line → ℕ → Open → Pair → OrderFault → Type 
 IsNoneAfter line earliest Nothing pair told = IsNoStart earliest pair told
 IsNoneAfter line earliest (Started start) pair told = IsNoData pair told
 IsNoneAfter line earliest (Worded start value word) pair told = IsNoNext start word pair told
-IsNoneAfter line earliest (Wrong start zero_pair frame) pair told = IsNoBreak earliest line pair told
+IsNoneAfter line earliest (Wrong start zero_pair frame) pair told =
+    IsNoBreak earliest line pair told
 
 abbrev pub IsNoMore : Place → Pair → OrderFault → Type 0
 IsNoMore place pair told = IsNoneAfter place.line place.earliest place.held pair told

@@ -12,6 +12,8 @@ pub returns-in-Ok-clause-range : goal.returns-in-Ok-clause-range
 returns-in-Ok-clause-range c = λ rows stands.
     let scope = scope_of c.args.follower.now in
     let is = c.in-Ok.ensures.report rows stands in
-    let account = c.reports_name_the_accounts_of_runs.ensures scope rows c.in-Ok.report is c.args.name in
-    subst (λ (ranges : Account). IsRange (Run scope rows) (λ (sums : AllSums). side_value Difference (sums_of c.args.name sums)) ranges.difference)
+    let account =
+    c.reports_name_the_accounts_of_runs.ensures scope rows c.in-Ok.report is c.args.name in
+    subst (λ (ranges : Account). IsRange (Run scope rows)
+    (λ (sums : AllSums). side_value Difference (sums_of c.args.name sums)) ranges.difference)
     (sym c.account.ensures) account.difference

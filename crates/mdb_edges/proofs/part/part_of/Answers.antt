@@ -1,4 +1,7 @@
 use Rattle.mdb_edges.proofs.part.part_of.Goals as goal
 
 pub loop-row-init : goal.loop-row-init
-loop-row-init c = record { part = c.new-part.ensures.items; told = c.new-told.ensures c.args.options.now }
+loop-row-init c = record {
+  part = c.new-part.ensures.items;
+  told = c.new-told.ensures c.args.options.now;
+}

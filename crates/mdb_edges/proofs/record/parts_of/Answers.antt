@@ -10,8 +10,14 @@ overflow_mul-result-then-number-limit c =
     let p = c.args.number.places in
     let k = c.scale_of-per_second.result.1 in
     let q = c.from-then-number-limit.ensures ∙ c.power-then-number-limit.ensures.value in
-    let below = subst (λ s. n < 10 ^ p * (1000000000 * s)) c.scale_of-per_second.ensures.value (subst (λ x. n < x * (1000000000 * c.scale_of-per_second.result.0)) (c.from.ensures ∙ c.power.ensures.value) c.if-number-limit.true) in
-    let small = subst (λ x. n * (k * x) < 3000000000000000000000000000000000) (sym q) (parts_small n k (per_second c.args.unit) p c.scale_of-per_second.ensures.scale c.args.number.few below) in
+    let below =
+    subst (λ s. n < 10 ^ p * (1000000000 * s)) c.scale_of-per_second.ensures.value
+    (subst (λ x. n < x * (1000000000 * c.scale_of-per_second.result.0))
+    (c.from.ensures ∙ c.power.ensures.value) c.if-number-limit.true) in
+    let small =
+    subst (λ x. n * (k * x) < 3000000000000000000000000000000000) (sym q)
+    (parts_small n k (per_second c.args.unit) p c.scale_of-per_second.ensures.scale
+    c.args.number.few below) in
     omega (arith, small)
 
 pub returns-then-number-limit-clause-some : goal.returns-then-number-limit-clause-some
@@ -20,4 +26,5 @@ returns-then-number-limit-clause-some c =
     let p = c.args.number.places in
     let k = c.scale_of-per_second.result.1 in
     let q = c.from-then-number-limit.ensures ∙ c.power-then-number-limit.ensures.value in
-    subst (λ x. AreParts c.args.unit n p (n * (k * x))) (sym q) (parts_exact n k (per_second c.args.unit) p c.scale_of-per_second.ensures.scale c.args.number.few)
+    subst (λ x. AreParts c.args.unit n p (n * (k * x))) (sym q) (parts_exact n k
+    (per_second c.args.unit) p c.scale_of-per_second.ensures.scale c.args.number.few)

@@ -14,7 +14,8 @@ loop-row-preserved g c =
     outputs.put_more row_line (begun (held c.args.writer.now))
     (output (held c.loop-row.writer) c.loop-row.page)
     (output (held c.add_row.new.writer) c.add_row.new.page) c.args.rows.now c.loop-row.row-index _ _
-    c.loop-row-test.true c.loop-row.invariant (ap row_line c.row-item.is) c.in_ok-add_row.ensures.added
+    c.loop-row-test.true c.loop-row.invariant (ap row_line c.row-item.is)
+    c.in_ok-add_row.ensures.added
 
 pub returns-in_err-add_row-clause-front : goal.returns-in_err-add_row-clause-front
 returns-in_err-add_row-clause-front g c =
@@ -22,7 +23,8 @@ returns-in_err-add_row-clause-front g c =
     outputs.break_more row_line (begun (held c.args.writer.now))
     (output (held c.loop-row.writer) c.loop-row.page)
     (output (held c.add_row.new.writer) c.add_row.new.page) c.args.rows.now c.loop-row.row-index _ _
-    c.loop-row-test.true c.loop-row.invariant (ap row_line c.row-item.is) c.in_err-add_row.ensures.broken
+    c.loop-row-test.true c.loop-row.invariant (ap row_line c.row-item.is)
+    c.in_err-add_row.ensures.broken
 
 pub returns-clause-front : goal.returns-clause-front
 returns-clause-front g c =

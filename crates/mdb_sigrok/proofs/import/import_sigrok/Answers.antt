@@ -8,19 +8,28 @@ use Rattle.mdb_sigrok.proofs.Sources.{imported_by, partial_by, refused_by}
 use Rattle.mdb_sigrok.proofs.import.import_sigrok.Goals as goal
 
 pub returns : goal.returns
-returns g c = refused_by c.args.options.now (g.R.Read.remaining c.args.reader) c.in-Err.fault (g.W.Write.contents c.args.writer.now) c.in-Err.ensures.refused
+returns g c =
+    refused_by c.args.options.now (g.R.Read.remaining c.args.reader) c.in-Err.fault
+    (g.W.Write.contents c.args.writer.now) c.in-Err.ensures.refused
 
 pub returns-in-Ok : goal.returns-in-Ok
 returns-in-Ok g c =
     let held = g.W.Write.contents in
     let options = c.args.options.now in
-    partial_by options (g.R.Read.remaining c.args.reader) c.in-Ok.rows.items c.from.result (held c.args.writer.now) (held c.write_part.new.writer) c.in-Ok.ensures.rows
-    (subst (λ (l : List Event). HasTaken (held c.args.writer.now) (held c.write_part.new.writer) (part_text options l)) c.as_slice.ensures.value c.write_part.ensures.front) c.from.ensures
+    partial_by options (g.R.Read.remaining c.args.reader) c.in-Ok.rows.items c.from.result
+    (held c.args.writer.now) (held c.write_part.new.writer) c.in-Ok.ensures.rows
+    (subst (λ (l : List Event).
+    HasTaken (held c.args.writer.now) (held c.write_part.new.writer) (part_text options l))
+    c.as_slice.ensures.value c.write_part.ensures.front) c.from.ensures
 
 pub returns-in-Ok-write_part : goal.returns-in-Ok-write_part
 returns-in-Ok-write_part g c =
     let held = g.W.Write.contents in
     let options = c.args.options.now in
-    imported_by options (g.R.Read.remaining c.args.reader) c.in-Ok.rows.items c.tally_of.result (held c.args.writer.now) (held c.write_part.new.writer) c.in-Ok.ensures.rows
-    (subst (λ (l : List Event). IsTold options l c.tally_of.result) c.as_slice-in-Ok-write_part.ensures.value c.tally_of.ensures)
-    (subst (λ (l : List Event). Appends (held c.args.writer.now) (held c.write_part.new.writer) (part_text options l)) c.as_slice.ensures.value c.in-Ok-write_part.ensures.whole)
+    imported_by options (g.R.Read.remaining c.args.reader) c.in-Ok.rows.items c.tally_of.result
+    (held c.args.writer.now) (held c.write_part.new.writer) c.in-Ok.ensures.rows
+    (subst (λ (l : List Event). IsTold options l c.tally_of.result)
+    c.as_slice-in-Ok-write_part.ensures.value c.tally_of.ensures)
+    (subst (λ (l : List Event).
+    Appends (held c.args.writer.now) (held c.write_part.new.writer) (part_text options l))
+    c.as_slice.ensures.value c.in-Ok-write_part.ensures.whole)

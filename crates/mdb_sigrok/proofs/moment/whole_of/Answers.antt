@@ -8,4 +8,6 @@ returns-in-Some-clause-digits c =
     (whole.some, whole.digits)
 
 pub returns-in-Some-clause-value : goal.returns-in-Some-clause-value
-returns-in-Some-clause-value c = c.value.ensures.value ∙ (whole_from c.args.digits.now c.in-Some.whole c.in-Some.ensures.some).value
+returns-in-Some-clause-value c =
+    c.value.ensures.value
+    ∙ (whole_from c.args.digits.now c.in-Some.whole c.in-Some.ensures.some).value

@@ -24,7 +24,8 @@ returns-in_err-add_row-clause-front g c =
     outputs.break_more line (begun (held c.args.writer.now))
     (output (held c.loop-row.writer) c.loop-row.page)
     (output (held c.add_row.new.writer) c.add_row.new.page) c.args.rows.now c.loop-row.row-index _ _
-    c.loop-row-test.true c.loop-row.invariant (ap line c.row-item.is) c.in_err-add_row.ensures.broken
+    c.loop-row-test.true c.loop-row.invariant (ap line c.row-item.is)
+    c.in_err-add_row.ensures.broken
 
 pub returns-clause-front : goal.returns-clause-front
 returns-clause-front g c =

@@ -11,7 +11,8 @@ use Rattle.mdbcheck_run.proofs.Status.{manual_says, refused_says, surveyed_not_y
 use Rattle.mdbcheck_run.proofs.program.run.Goals as goal
 
 -- the words that were read are those that were given
-asked : (read given : List (String Global)) (found task : Task) → read ≡ given → found ≡ task → AsksFor (map string_bytes read) found → AsksFor (map string_bytes given) task
+asked : (read given : List (String Global)) (found task : Task) → read ≡ given → found ≡ task
+    → AsksFor (map string_bytes read) found → AsksFor (map string_bytes given) task
 asked read given found task same is asks =
     let Words : List (String Global) → Type 0 = λ words. AsksFor (map string_bytes words) found in
     subst (AsksFor (map string_bytes given)) is (subst Words same asks)
@@ -28,11 +29,17 @@ name_a_task words (Manual part) asks = inr (_, asks)
 
 pub returns-in-Ok-Check-clause-says : goal.returns-in-Ok-Check-clause-says
 returns-in-Ok-Check-clause-says g c =
-    let asks = asked _ _ _ (Check c.in-Ok-Check.scope c.in-Ok-Check.form) c.as_slice.ensures.value c.in-Ok-Check.field-0-is c.in-Ok-Check.ensures.asked in
-    IfSome_then _ c.run_check.ensures.says (λ text says. checked c.in-Ok-Check.scope c.in-Ok-Check.form asks says)
+    let asks =
+    asked _ _ _ (Check c.in-Ok-Check.scope c.in-Ok-Check.form) c.as_slice.ensures.value
+    c.in-Ok-Check.field-0-is c.in-Ok-Check.ensures.asked in
+    IfSome_then _ c.run_check.ensures.says
+    (λ text says. checked c.in-Ok-Check.scope c.in-Ok-Check.form asks says)
 
 pub returns-in-Ok-Check-clause-named : goal.returns-in-Ok-Check-clause-named
-returns-in-Ok-Check-clause-named g c = inl (name_a_task _ (Check c.in-Ok-Check.scope c.in-Ok-Check.form) (asked _ _ _ (Check c.in-Ok-Check.scope c.in-Ok-Check.form) c.as_slice.ensures.value c.in-Ok-Check.field-0-is c.in-Ok-Check.ensures.asked))
+returns-in-Ok-Check-clause-named g c =
+    inl (name_a_task _ (Check c.in-Ok-Check.scope c.in-Ok-Check.form) (asked _ _ _
+    (Check c.in-Ok-Check.scope c.in-Ok-Check.form) c.as_slice.ensures.value
+    c.in-Ok-Check.field-0-is c.in-Ok-Check.ensures.asked))
 
 pub returns-in-Ok-Survey-clause-says : goal.returns-in-Ok-Survey-clause-says
 returns-in-Ok-Survey-clause-says g c =
@@ -56,19 +63,31 @@ returns-in-Ok-Survey-clause-whole g c reads =
 
 pub returns-in-Ok-Show-clause-says : goal.returns-in-Ok-Show-clause-says
 returns-in-Ok-Show-clause-says g c =
-    let asks = asked _ _ _ (Show c.in-Ok-Show.scope c.in-Ok-Show.form) c.as_slice.ensures.value c.in-Ok-Show.field-0-is c.in-Ok-Show.ensures.asked in
-    IfSome_then _ c.run_show.ensures.says (λ text says. shown c.in-Ok-Show.scope c.in-Ok-Show.form asks says)
+    let asks =
+    asked _ _ _ (Show c.in-Ok-Show.scope c.in-Ok-Show.form) c.as_slice.ensures.value
+    c.in-Ok-Show.field-0-is c.in-Ok-Show.ensures.asked in
+    IfSome_then _ c.run_show.ensures.says
+    (λ text says. shown c.in-Ok-Show.scope c.in-Ok-Show.form asks says)
 
 pub returns-in-Ok-Show-clause-named : goal.returns-in-Ok-Show-clause-named
-returns-in-Ok-Show-clause-named g c = inl (name_a_task _ (Show c.in-Ok-Show.scope c.in-Ok-Show.form) (asked _ _ _ (Show c.in-Ok-Show.scope c.in-Ok-Show.form) c.as_slice.ensures.value c.in-Ok-Show.field-0-is c.in-Ok-Show.ensures.asked))
+returns-in-Ok-Show-clause-named g c =
+    inl (name_a_task _ (Show c.in-Ok-Show.scope c.in-Ok-Show.form) (asked _ _ _
+    (Show c.in-Ok-Show.scope c.in-Ok-Show.form) c.as_slice.ensures.value c.in-Ok-Show.field-0-is
+    c.in-Ok-Show.ensures.asked))
 
 pub returns-in-Ok-Replay-clause-says : goal.returns-in-Ok-Replay-clause-says
 returns-in-Ok-Replay-clause-says g c =
-    let asks = asked _ _ _ (Replay c.in-Ok-Replay.without c.in-Ok-Replay.form) c.as_slice.ensures.value c.in-Ok-Replay.field-0-is c.in-Ok-Replay.ensures.asked in
-    IfSome_then _ c.run_replay.ensures.says (λ text says. replayed (leaving_out c.in-Ok-Replay.without) c.in-Ok-Replay.form asks says)
+    let asks =
+    asked _ _ _ (Replay c.in-Ok-Replay.without c.in-Ok-Replay.form) c.as_slice.ensures.value
+    c.in-Ok-Replay.field-0-is c.in-Ok-Replay.ensures.asked in
+    IfSome_then _ c.run_replay.ensures.says
+    (λ text says. replayed (leaving_out c.in-Ok-Replay.without) c.in-Ok-Replay.form asks says)
 
 pub returns-in-Ok-Replay-clause-named : goal.returns-in-Ok-Replay-clause-named
-returns-in-Ok-Replay-clause-named g c = inl (name_a_task _ (Replay c.in-Ok-Replay.without c.in-Ok-Replay.form) (asked _ _ _ (Replay c.in-Ok-Replay.without c.in-Ok-Replay.form) c.as_slice.ensures.value c.in-Ok-Replay.field-0-is c.in-Ok-Replay.ensures.asked))
+returns-in-Ok-Replay-clause-named g c =
+    inl (name_a_task _ (Replay c.in-Ok-Replay.without c.in-Ok-Replay.form)
+    (asked _ _ _ (Replay c.in-Ok-Replay.without c.in-Ok-Replay.form) c.as_slice.ensures.value
+    c.in-Ok-Replay.field-0-is c.in-Ok-Replay.ensures.asked))
 
 pub returns-clause-says : goal.returns-clause-says
 returns-clause-says g c = refused_says _ _ _ _ _ c.refuse.ensures refl
@@ -76,17 +95,25 @@ returns-clause-says g c = refused_says _ _ _ _ _ c.refuse.ensures refl
 pub returns-in-Ok-Explain-clause-says : goal.returns-in-Ok-Explain-clause-says
 returns-in-Ok-Explain-clause-says g c =
     let task = Explain c.in-Ok-Explain.goal c.in-Ok-Explain.without in
-    let asks = asked _ _ _ task c.as_slice.ensures.value c.in-Ok-Explain.field-0-is c.in-Ok-Explain.ensures.asked in
-    IfSome_then _ c.run_explain.ensures.says (λ text says. explained (leaving_out c.in-Ok-Explain.without) c.in-Ok-Explain.goal asks says)
+    let asks =
+    asked _ _ _ task c.as_slice.ensures.value c.in-Ok-Explain.field-0-is
+    c.in-Ok-Explain.ensures.asked in
+    IfSome_then _ c.run_explain.ensures.says (λ text says.
+    explained (leaving_out c.in-Ok-Explain.without) c.in-Ok-Explain.goal asks says)
 
 pub returns-in-Ok-Explain-clause-named : goal.returns-in-Ok-Explain-clause-named
 returns-in-Ok-Explain-clause-named g c =
     let task = Explain c.in-Ok-Explain.goal c.in-Ok-Explain.without in
-    inl (name_a_task _ task (asked _ _ _ task c.as_slice.ensures.value c.in-Ok-Explain.field-0-is c.in-Ok-Explain.ensures.asked))
+    inl (name_a_task _ task (asked _ _ _ task c.as_slice.ensures.value c.in-Ok-Explain.field-0-is
+    c.in-Ok-Explain.ensures.asked))
 
 pub returns-in-Ok-Manual-clause-says : goal.returns-in-Ok-Manual-clause-says
 returns-in-Ok-Manual-clause-says g c =
-    manual_says _ _ _ _ _ (asked _ _ _ (Manual c.in-Ok-Manual.part) c.as_slice.ensures.value c.in-Ok-Manual.field-0-is c.in-Ok-Manual.ensures.asked) c.run_manual.ensures.says (g.R.Read.remaining c.args.reader)
+    manual_says _ _ _ _ _ (asked _ _ _ (Manual c.in-Ok-Manual.part) c.as_slice.ensures.value
+    c.in-Ok-Manual.field-0-is c.in-Ok-Manual.ensures.asked) c.run_manual.ensures.says
+    (g.R.Read.remaining c.args.reader)
 
 pub returns-in-Ok-Manual-clause-named : goal.returns-in-Ok-Manual-clause-named
-returns-in-Ok-Manual-clause-named g c = inl (name_a_task _ (Manual c.in-Ok-Manual.part) (asked _ _ _ (Manual c.in-Ok-Manual.part) c.as_slice.ensures.value c.in-Ok-Manual.field-0-is c.in-Ok-Manual.ensures.asked))
+returns-in-Ok-Manual-clause-named g c =
+    inl (name_a_task _ (Manual c.in-Ok-Manual.part) (asked _ _ _ (Manual c.in-Ok-Manual.part)
+    c.as_slice.ensures.value c.in-Ok-Manual.field-0-is c.in-Ok-Manual.ensures.asked))

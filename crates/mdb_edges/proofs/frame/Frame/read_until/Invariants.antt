@@ -7,7 +7,8 @@ use Rattle.mdb_edges.proofs.frame.Frame.read_until.Given as goal
 abbrev pub invariant-loop-frame : goal.invariant-loop-frame
 invariant-loop-frame l = record {
   high : l.frame.high ≡ l.initial.frame.high;
-  framed : (line : Line) (level : ℕ → Bool) (known : ℕ) (rows : List Event) → IsFramed line level known rows l.initial.frame
+  framed : (line : Line) (level : ℕ → Bool) (known : ℕ) (rows : List Event)
+      → IsFramed line level known rows l.initial.frame
       → Holds level known l.at l.initial.frame.high → IsFramed line level known rows l.frame;
 }
 

@@ -8,4 +8,6 @@ returns-in-Err-clause-wrong c moments heard =
 
 pub returns-in-Err-end-clause-wrong : goal.returns-in-Err-end-clause-wrong
 returns-in-Err-end-clause-wrong c moments heard =
-    second_in_end c.in-Err-end.stop moments _ (c.in-Ok.ensures.ok Controller moments heard.controller) (c.in-Err-end.ensures.wrong Peripheral moments heard.peripheral)
+    second_in_end c.in-Err-end.stop moments _
+    (c.in-Ok.ensures.ok Controller moments heard.controller)
+    (c.in-Err-end.ensures.wrong Peripheral moments heard.peripheral)

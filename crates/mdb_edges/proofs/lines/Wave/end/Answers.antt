@@ -4,12 +4,16 @@ use Rattle.mdb_edges.proofs.lines.Wave.end.Goals as goal
 pub returns-in-Err-clause-err : goal.returns-in-Err-clause-err
 returns-in-Err-clause-err c line moments heard level fits =
     let wave = c.args.self.now in
-    none_on wave line moments level heard (c.in-Err.ensures.err level _ wave.rows.items (stands_on wave line moments level heard fits) (still_held wave line moments level heard fits))
+    none_on wave line moments level heard (c.in-Err.ensures.err level _ wave.rows.items
+    (stands_on wave line moments level heard fits)
+    (still_held wave line moments level heard fits))
 
 pub returns-in-Err-clause-wrong : goal.returns-in-Err-clause-wrong
 returns-in-Err-clause-wrong c line moments heard = (
   heard.same,
   λ level fits.
       let wave = c.args.self.now in
-      wrong_in_end wave line moments level c.in-Err.wrong heard (c.in-Err.ensures.wrong level _ wave.rows.items (stands_on wave line moments level heard fits) (still_held wave line moments level heard fits)),
+      wrong_in_end wave line moments level c.in-Err.wrong heard (c.in-Err.ensures.wrong level _
+      wave.rows.items (stands_on wave line moments level heard fits)
+      (still_held wave line moments level heard fits)),
 )
