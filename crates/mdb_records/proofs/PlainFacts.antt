@@ -42,6 +42,21 @@ own-more text from end low high own h =
     (All-cons (λ b. is_special b ≡ false) (get_or text end 0) [] own
     (All-nil (λ b. is_special b ≡ false))))
 
+-- the first bytes are those from no place on
+pub own-front : (count : ℕ) (text : List ℕ)
+    → All (λ b. is_special b ≡ false) (take count text)
+    → All (λ b. is_special b ≡ false) (take (count - 0) (drop 0 text))
+own-front count text own =
+    let all : count - 0 ≡ count = omega arith in
+    rw all own
+
+-- no byte is no other
+pub none-own : (from : ℕ) (text : List ℕ)
+    → All (λ b. is_special b ≡ false) (take (from - from) (drop from text))
+none-own from text =
+    let none : from - from ≡ 0 = omega arith in
+    rw none (All-nil (λ b. is_special b ≡ false))
+
 -- such bytes only join it
 runs-own : (run : List ℕ) → All (λ c. is_special c ≡ false) run → Runs default_config st.InField run
 unfolding Runs

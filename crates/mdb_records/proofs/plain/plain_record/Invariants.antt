@@ -1,13 +1,16 @@
-use Rattle.std.specs.Prelude.{◌≡◌, ◌≤◌, ◌-◌, length}
+use Rattle.std.specs.Prelude.{◌≡◌, ◌≤◌, ◌-◌, All, false, length, take, drop}
 use Rattle.mdb_records.specs.Fields.{parted}
+use Rattle.mdb_records.specs.Plain.{is_special}
 use Rattle.mdb_records.proofs.PartFacts.{next_start}
 use Rattle.mdb_records.proofs.PlainFacts.{ReadsOnAt}
 use Rattle.mdb_records.proofs.plain.plain_record.Given as goal
 
--- the fields so far are those that csv reads before this place
-abbrev pub invariant-fields : goal.invariant-fields
-invariant-fields l = (next_start 0 l.ends.items ≡ l.start) × (l.start ≤ length l.text)
-    × ReadsOnAt l.text l.start (parted 0 l.ends.items l.text)
+-- csv reads the fields so far, and the bytes after them up to this place mean themselves alone
+abbrev pub invariant-bytes : goal.invariant-bytes
+invariant-bytes l = (next_start 0 l.ends.items ≤ l.end) × (l.end ≤ length l.text)
+    × All (λ c. is_special c ≡ false)
+        (take (l.end - next_start 0 l.ends.items) (drop (next_start 0 l.ends.items) l.text))
+    × ReadsOnAt l.text (next_start 0 l.ends.items) (parted 0 l.ends.items l.text)
 
-abbrev pub decreases-fields : goal.decreases-fields
-decreases-fields l = length l.text - l.start
+abbrev pub decreases-bytes : goal.decreases-bytes
+decreases-bytes l = length l.text - l.end
