@@ -1,4 +1,4 @@
-use Rattle.std.proofs.Common.{◌≡◌, ◌<◌, ◌+◌, refl, length, arith}
+use Rattle.std.proofs.Common.{◌<◌, ◌+◌, refl, length, arith}
 use Rattle.mdb_records.specs.Fields.{parted}
 use Rattle.mdb_records.proofs.PartFacts.{next-after, next_start, parted-more}
 use Rattle.mdb_records.proofs.PlainFacts.{none-own, own-front, own-more, reads-field, reads-line}
