@@ -1,20 +1,37 @@
--- Tracks go on by the only step of their machine.
+-- Tracks go on by the only step of their machine: that of one device, those of all, and those that
+-- have no part in an act.
 use Rattle.std.proofs.Common.{arith, refl, sym, ap, subst, ◌∙◌, ◌≡◌, ◌≤◌, ◌+◌, ◌*◌, ◌^◌, ℕ, List, ◌∷◌}
-use Rattle.std.proofs.Common.{Some}
+use Rattle.std.proofs.Common.{Some, ◌<◌, get_or, inl, inr, Ok, Err, Result}
+use Rattle.std.specs.Prelude.{IfErr, IfOk, OnErr}
+use Rattle.mdb_msgs.specs.declared.command.Device.{Device}
+use Rattle.mdb_msgs.specs.declared.command.Device.TheVariants as devices
+use Rattle.mdb_msgs.specs.declared.command.ReaderUnit.TheVariants.{First, Second}
 use Rattle.mdb_bus.specs.declared.act.Act.{Act}
+use Rattle.mdb_bus.specs.declared.fault.Rule.{Rule}
+use Rattle.mdb_bus.specs.declared.scope.Beginning.TheVariants.{PowerOn}
 use Rattle.mdb_machine.specs.declared.choice.Choice.{Choice}
 use Rattle.mdb_machine.specs.declared.gains.Gains.{Gains}
-use Rattle.mdb_machine.specs.Gains.{IsSmall}
+use Rattle.mdb_machine.specs.Gains.{IsSmall, no_gains}
 use Rattle.mdb_machine.specs.Machine.{Machine}
-use Rattle.mdb_machine.specs.Pair.{IsOnlyStep}
+use Rattle.mdb_machine.specs.Pair.{IsActOf, IsMachineOf, IsOnlyStep}
 use Rattle.mdb_explained_runs.specs.declared.track.Track.{Track}
 use Rattle.mdb_explained_runs.specs.declared.tracks.Tracks.{Tracks}
 use Rattle.mdb_follow.specs.Ranges.{IsCell}
 use Rattle.mdb_follow.specs.Sums.{added}
-use Rattle.mdb_explained_runs.specs.Tracks.{track_in}
+use Rattle.mdb_follow.specs.declared.report.TheConstants.Report.{DEVICES}
+use Rattle.mdb_follow.specs.Choosing.{Choices}
+use Rattle.mdb_follow.specs.Machines.{machine_of}
+use Rattle.mdb_follow.specs.Offences.{rule_of}
+use Rattle.mdb_explained_runs.specs.Tracks.{HasNoStepFrom, IsTrackOf, TrackOf, track_in}
 use Rattle.mdb_follow.specs.Cells.{moved_cell}
 use Rattle.mdb_follow.specs.Limits.{IsCellWithin}
-use Rattle.mdb_explained_runs.specs.inner.TrackSteps.{AreTracksWithin, IsTrackWithin, Leads, TracksLead}
+use Rattle.mdb_explained_runs.specs.inner.TrackSteps.{AreTracksWithin, IsTrackWithin, Leads}
+use Rattle.mdb_explained_runs.specs.inner.TrackSteps.{LeadsOf, OneLeads, TrackStops, TracksLead}
+use Rattle.mdb_explained_runs.specs.inner.TrackSteps.{TracksStop}
+use Rattle.mdb_follow.proofs.ByDevice.{Front, front-next, same_or_not}
+use Rattle.mdb_follow.proofs.Machines.{is_machine_of}
+use Rattle.mdb_follow.proofs.Sided.{unmoved, untold}
+use Rattle.mdb_follow.proofs.Ways.{no-gains}
 use Rattle.mdb_follow.proofs.Ends.{Moved, cell-moved, cell-moved-within, cell-same, cell-within-weaker}
 
 -- a track was led over an act by the only step from its state
@@ -80,6 +97,145 @@ track-within-weaker limit more track le is =
       ends = cell-within-weaker limit more track.cell le is.ends;
       count = omega (arith, le, count);
     }
+
+-- an act in which a device has no part leaves its track, whatever the choice
+still : (device : Device) (track : TrackOf device) (act : Act) (choice : Choice)
+    → (IsActOf device act → ⊥) → LeadsOf act choice device track track
+still device track act choice other =
+    let is : IsMachineOf device (machine_of PowerOn device) = is_machine_of PowerOn device in
+    record {
+      stands = λ acts chosen can on. record {
+        facts = unmoved PowerOn device track.facts acts act other on.facts;
+        sums = on.sums;
+        way = record {
+          before = track.state;
+          sums_before = on.sums;
+          gains = no_gains;
+          way = on.way;
+          step = (is.elsewhere acts act choice track.state track.state no_gains other).1
+              (refl, refl);
+          adds = no-gains on.sums;
+        };
+        only = λ state sums way.
+            let was = on.only way.before way.sums_before way.way in
+            let stays = (is.elsewhere acts act choice way.before state way.gains other).0 way.step
+            in (
+              stays.0 ∙ was.0,
+              way.adds ∙ ap (added way.sums_before) stays.1
+                  ∙ sym (no-gains way.sums_before) ∙ was.1,
+            );
+        cell = on.cell;
+        counted = on.counted ∙ sym (untold PowerOn device acts act other);
+      };
+      within = λ limit. track-within-weaker limit (limit + 2 ^ 32) track (omega arith);
+    }
+
+-- tracks with one in place of a device's
+abbrev pub with_track : (device : Device) → TrackOf device → Tracks → Tracks
+with_track devices.Changer track tracks = record tracks { changer = track }
+with_track devices.Bill track tracks = record tracks { bill = track }
+with_track (devices.Reader First) track tracks = record tracks { first_reader = track }
+with_track (devices.Reader Second) track tracks = record tracks { second_reader = track }
+
+its : (device : Device) (track : TrackOf device) (tracks : Tracks)
+    → track ≡ track_in (with_track device track tracks) device
+its devices.Changer track tracks = refl
+its devices.Bill track tracks = refl
+its (devices.Reader First) track tracks = refl
+its (devices.Reader Second) track tracks = refl
+
+others : (device : Device) (track : TrackOf device) (tracks : Tracks) (other : Device)
+    → (other ≡ device → ⊥)
+    → track_in (with_track device track tracks) other ≡ track_in tracks other
+others devices.Changer track tracks devices.Changer not = absurd (not refl)
+others devices.Bill track tracks devices.Bill not = absurd (not refl)
+others (devices.Reader First) track tracks (devices.Reader First) not = absurd (not refl)
+others (devices.Reader Second) track tracks (devices.Reader Second) not = absurd (not refl)
+others _ track tracks _ not = refl
+
+-- The track of the device that an arm is of goes on.
+pub one-leads : {T E : Type 0} (r : Result T E) (device which : Device) (tracks : Tracks)
+    (track : TrackOf which) (act : Act) (choice : Choice) → device ≡ which
+    → IfOk r (λ _. LeadsOf act choice which (track_in tracks which) track)
+    → IfOk r (λ _. OneLeads device tracks act choice (with_track which track tracks))
+one-leads (Ok x) device which tracks track act choice is goes =
+    subst (λ d. OneLeads d tracks act choice (with_track which track tracks)) (sym is) (record {
+      own = subst (LeadsOf act choice which (track_in tracks which)) (its which track tracks) goes;
+      others = others which track tracks;
+    })
+one-leads (Err e) device which tracks track act choice is goes = tt
+
+-- It has no step.
+pub one-stops : {T : Type 0} (r : Result T Rule) (device which : Device) (tracks : Tracks)
+    (act : Act) (choice : Choice) → device ≡ which
+    → OnErr r ((acts : List Act) (chosen : Choices acts)
+    → IsTrackOf which (track_in tracks which) acts chosen
+    → HasNoStepFrom (machine_of PowerOn which) acts act choice (track_in tracks which).state)
+    → IfErr r (λ broken. broken ≡ rule_of which)
+    → IfErr r (TrackStops device tracks act choice)
+one-stops (Ok x) device which tracks act choice is none its = tt
+one-stops (Err broken) device which tracks act choice is none its =
+    subst (λ d. TrackStops d tracks act choice broken) (sym is)
+    (record { rule = its; none = none })
+
+-- its ends and its count are as far from 0 as those of the device
+pub within-at : (device which : Device) (limit : ℕ) (tracks : Tracks) → device ≡ which
+    → IsTrackWithin limit (track_in tracks device) → IsTrackWithin limit (track_in tracks which)
+within-at device which limit tracks is = subst (λ d. IsTrackWithin limit (track_in tracks d)) is
+
+-- All go on by an act that is of no other device than one that goes on.
+pub all-lead : (device : Device) (old new : Tracks) (act : Act) (choice : Choice)
+    → ((other : Device) → IsActOf other act → other ≡ device)
+    → OneLeads device old act choice new → TracksLead old act choice new
+all-lead device old new act choice only leads other =
+    elim (same_or_not other device) [
+      | inl same ↦ subst (λ d. LeadsOf act choice d (track_in old d) (track_in new d)) (sym same)
+          leads.own
+      | inr apart ↦ subst (LeadsOf act choice other (track_in old other))
+          (sym (leads.others other apart))
+          (still other (track_in old other) act choice (λ of. apart (only other of)))
+    ]
+
+-- All stay where the act is no device's.
+pub none-leads : (tracks : Tracks) (act : Act) (choice : Choice)
+    → ((other : Device) → IsActOf other act → ⊥) → TracksLead tracks act choice tracks
+none-leads tracks act choice none device =
+    still device (track_in tracks device) act choice (none device)
+
+-- the tracks of the devices before a place were led
+abbrev pub FrontLeads : ℕ → Tracks → Act → Choice → Tracks → Type 0
+FrontLeads count old act choice new =
+    Front TrackOf (LeadsOf act choice) count (track_in old) (track_in new)
+
+-- the next track has no step where it had none before
+pub front-stops : (count : ℕ) (old : Tracks) (act : Act) (choice : Choice) (mid : Tracks)
+    (d : Device) (broken : Rule) → count < 4 → FrontLeads count old act choice mid
+    → TrackStops (get_or DEVICES count d) mid act choice broken
+    → TracksStop old act choice broken
+front-stops count old act choice mid d broken within front stops =
+    let device : Device = get_or DEVICES count d in (
+      device,
+      record {
+        rule = stops.rule;
+        none = subst (λ (t : TrackOf device). (acts : List Act) (chosen : Choices acts)
+            → IsTrackOf device t acts chosen
+            → HasNoStepFrom (machine_of PowerOn device) acts act choice t.state)
+            (front-next TrackOf (LeadsOf act choice) count (track_in old) (track_in mid) d within
+            front)
+            stops.none;
+      },
+    )
+
+-- and is as far from 0 as it was
+pub front-fits : (count : ℕ) (old : Tracks) (act : Act) (choice : Choice) (mid : Tracks)
+    (d : Device) (limit : ℕ) → count < 4 → FrontLeads count old act choice mid
+    → AreTracksWithin limit old → IsTrackWithin limit (track_in mid (get_or DEVICES count d))
+front-fits count old act choice mid d limit within front on =
+    let device : Device = get_or DEVICES count d in
+    subst (λ (t : TrackOf device). IsTrackWithin limit t)
+    (sym (front-next TrackOf (LeadsOf act choice) count (track_in old) (track_in mid) d within
+    front))
+    (on device)
 
 -- how far from 0 the ends of all tracks and their counts are, by the rows of a recording
 pub tracks-within-weaker : (limit more : ℕ) (tracks : Tracks) → limit ≤ more

@@ -1,14 +1,13 @@
 //! A device and the controller, as a replay follows them.
 
-ghost use Rattle.std.specs.Prelude.{◌≡◌, ◌<◌, ◌↔◌, ◌^◌, List, []};
-ghost use Rattle.std.specs.Bool.{OnFalse, OnTrue};
+ghost use Rattle.std.specs.Prelude.{◌≡◌, ◌<◌, ◌↔◌, ◌^◌, List, [], IfErr, IfOk, OnErr};
 ghost use Rattle.mdb_bus.specs.declared.act.Act.{Act};
 ghost use Rattle.mdb_bus.specs.declared.scope.Beginning.TheVariants.{PowerOn};
 ghost use Rattle.mdb_follow.specs.Choosing.{Choices};
 ghost use Rattle.mdb_explained_runs.specs.Tracks.{HasNoStepFrom, IsTrack};
 ghost use Rattle.mdb_explained_runs.specs.inner.TrackSteps.{IsTrackWithin, Leads};
 
-use mdb_bus::{Act, Beginning};
+use mdb_bus::{Act, Beginning, Rule};
 use mdb_follow::Cell;
 use mdb_machine::{Choice, Pair};
 
@@ -41,31 +40,38 @@ pub(crate) fn start<P: Pair>() -> Track<P::Facts, P::State>
     }
 }
 
-/// Leads a track over an act under a choice. Answers whether there is a step: from power-on each
-/// act is settled, so there is one at most. Where there is none, nothing changes.
+/// Leads a track over an act under a choice. From power-on each act is settled, so there is one step
+/// at most.
+///
+/// # Errors
+///
+/// The rule of the device, where there is no step. Then nothing changes.
+#[inline(always)]
 pub(crate) fn lead<P: Pair>(
     track: &mut Track<P::Facts, P::State>,
     act: &Act,
     choice: Choice,
-) -> bool
+    rule: Rule,
+) -> Result<(), Rule>
     requires { IsTrackWithin (2 ^ 62) track.old }
-    ensures led { OnTrue result (Leads (P.stands_for PowerOn) (P.machine PowerOn)
+    ensures led { IfOk result (λ _. Leads (P.stands_for PowerOn) (P.machine PowerOn)
         (P.unvalued PowerOn) track.old act.now choice track.new) }
-    ensures none { OnFalse result ((acts : List Act) (chosen : Choices acts)
+    ensures its { IfErr result (λ broken. broken ≡ rule) }
+    ensures none { OnErr result ((acts : List Act) (chosen : Choices acts)
         → IsTrack (P.stands_for PowerOn) (P.machine PowerOn) (P.unvalued PowerOn) track.old acts
         chosen → HasNoStepFrom (P.machine PowerOn) acts act.now choice track.old.state) }
 {
     if !P::settles(&track.facts, act) {
-        return false;
+        return Err(rule);
     }
     match P::step_from(&track.facts, act, choice, track.state) {
-        None => false,
+        None => Err(rule),
         Some((after, gains)) => {
             track.state = after;
             track.cell = track.cell.moved(&gains);
             track.unvalued += P::unvalued_by(&track.facts, act);
             P::learn(&mut track.facts, act);
-            true
+            Ok(())
         }
     }
 }

@@ -12,14 +12,16 @@ ghost use Rattle.mdb_follow.specs.declared.account.Account.{Account};
 ghost use Rattle.mdb_follow.specs.Report.{report_of as told_of};
 ghost use Rattle.mdb_follow.specs.Silences.{asks_of};
 ghost use Rattle.mdb_follow.specs.SilencesKept.{AllStandForAsks};
-ghost use Rattle.mdb_explained_runs.specs.Tracks.{AreTracks};
-ghost use Rattle.mdb_explained_runs.specs.inner.TrackSteps.{AreTracksWithin, TracksLead, TracksStop};
+ghost use Rattle.mdb_explained_runs.specs.Tracks.{AreTracks, track_in};
+ghost use Rattle.mdb_explained_runs.specs.inner.TrackSteps.{AreTracksWithin, IsTrackWithin};
+ghost use Rattle.mdb_explained_runs.specs.inner.TrackSteps.{OneLeads, TrackStops, TracksLead};
+ghost use Rattle.mdb_explained_runs.specs.inner.TrackSteps.{TracksStop};
 
 use crate::track::{self, Track};
 use mdb_bus::{Act, Rule};
 use mdb_cash::{Bill, BillKnown, BillState, Changer, ChangerKnown, ChangerState};
 use mdb_cashless::{Reader, ReaderKnown, ReaderState};
-use mdb_follow::{Account, Report, Silences};
+use mdb_follow::{Account, Owner, Report, Silences, owner_of};
 use mdb_machine::Choice;
 use mdb_msgs::{Device, ReaderUnit};
 
@@ -46,29 +48,67 @@ impl Tracks {
         }
     }
 
-    /// Leads each track over an act under a choice. An act of another device leaves a state.
+    /// Leads each track over an act under a choice: those of the devices that have a part in it, as
+    /// it leaves the others.
     ///
     /// # Errors
     ///
-    /// The rule of the first device that has no step by it.
+    /// The rule of a device that has no step by it.
+    #[inline(always)]
     pub(crate) fn lead(&mut self, act: &Act, choice: Choice) -> Result<(), Rule>
         requires { AreTracksWithin (2 ^ 62) self.old }
         ensures led { IfOk result (λ _. TracksLead self.old act.now choice self.new) }
         ensures stopped { IfErr result (TracksStop self.old act.now choice) }
     {
-        if !track::lead::<Changer>(&mut self.changer, act, choice) {
-            return Err(Rule::Changer);
+        match owner_of(act) {
+            Owner::One(device) => self.lead_one(device, act, choice),
+            Owner::All => self.lead_all(act, choice),
+            Owner::Nobody => Ok(()),
         }
-        if !track::lead::<Bill>(&mut self.bill, act, choice) {
-            return Err(Rule::Bill);
-        }
-        if !track::lead::<Reader<0>>(&mut self.first_reader, act, choice) {
-            return Err(Rule::Cashless);
-        }
-        if !track::lead::<Reader<1>>(&mut self.second_reader, act, choice) {
-            return Err(Rule::Cashless);
+    }
+
+    /// Leads each track over an act under a choice, whosever the act is.
+    ///
+    /// # Errors
+    ///
+    /// The rule of the first device that has no step by it.
+    #[inline(never)]
+    fn lead_all(&mut self, act: &Act, choice: Choice) -> Result<(), Rule>
+        requires { AreTracksWithin (2 ^ 62) self.old }
+        ensures led { IfOk result (λ _. TracksLead self.old act.now choice self.new) }
+        ensures stopped { IfErr result (TracksStop self.old act.now choice) }
+    {
+        for device in &Report::DEVICES {
+            self.lead_one(*device, act, choice)?;
         }
         Ok(())
+    }
+
+    /// Leads the track of a device over an act under a choice, and leaves the others.
+    ///
+    /// # Errors
+    ///
+    /// The rule of the device, where it has no step by it.
+    #[inline(always)]
+    fn lead_one(&mut self, device: Device, act: &Act, choice: Choice) -> Result<(), Rule>
+        requires { IsTrackWithin (2 ^ 62) (track_in self.old device) }
+        ensures led { IfOk result (λ _. OneLeads device self.old act.now choice self.new) }
+        ensures stopped { IfErr result (TrackStops device self.old act.now choice) }
+    {
+        match device {
+            Device::Changer => {
+                track::lead::<Changer>(&mut self.changer, act, choice, Rule::Changer)
+            }
+            Device::Bill => track::lead::<Bill>(&mut self.bill, act, choice, Rule::Bill),
+            Device::Reader(unit) => match unit {
+                ReaderUnit::First => {
+                    track::lead::<Reader<0>>(&mut self.first_reader, act, choice, Rule::Cashless)
+                }
+                ReaderUnit::Second => {
+                    track::lead::<Reader<1>>(&mut self.second_reader, act, choice, Rule::Cashless)
+                }
+            },
+        }
     }
 }
 

@@ -40,7 +40,7 @@ use Rattle.mdb_follow.proofs.Ways.{table-same}
 use Rattle.mdb_follow.proofs.Within.{side-within-weaker}
 
 -- an act in which a device has no part leaves its facts
-unmoved : (begins : Beginning) (device : Device) (facts : FactsOf device) (acts : List Act)
+pub unmoved : (begins : Beginning) (device : Device) (facts : FactsOf device) (acts : List Act)
     (act : Act) → (IsActOf device act → ⊥) → stands_for begins device facts acts
     → stands_for begins device facts (act ∷ acts)
 unmoved begins devices.Changer facts = changer_ways.unmoved begins (changer_values.known_in facts)
@@ -49,7 +49,7 @@ unmoved begins (devices.Reader unit) facts =
     reader_ways.unmoved unit begins (reader_values.known_in facts)
 
 -- and tells no amount of it
-untold : (begins : Beginning) (device : Device) (acts : List Act) (act : Act)
+pub untold : (begins : Beginning) (device : Device) (acts : List Act) (act : Act)
     → (IsActOf device act → ⊥)
     → unvalued_of begins device (act ∷ acts) ≡ unvalued_of begins device acts
 untold begins devices.Changer = changer_ways.untold begins

@@ -12,6 +12,7 @@ pub mod LeavingOut
 pub mod Limits
 pub mod Machines
 pub mod Offences
+pub mod Owners
 pub mod Ranges
 pub mod Report
 pub mod ReportLimits

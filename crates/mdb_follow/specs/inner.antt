@@ -1,4 +1,3 @@
 pub mod Entries
 pub mod FollowerSteps
-pub mod Owners
 pub mod SideSteps

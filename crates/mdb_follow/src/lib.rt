@@ -33,6 +33,7 @@ pub use devices::device_place;
 pub use follower::{Follower, ROWS_MAX, sender_of};
 pub use goal::{AccountSide, Bound, Goal};
 pub use offence::Offence;
+pub use owner::{Owner, owner_of};
 pub use range::Range;
 pub use report::Report;
 pub use silence::{

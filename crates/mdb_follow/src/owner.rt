@@ -1,13 +1,13 @@
 //! Whose an act is.
 
-ghost use Rattle.mdb_follow.specs.inner.Owners.{Owns};
+ghost use Rattle.mdb_follow.specs.Owners.{Owns};
 
 use mdb_bus::Act;
 use mdb_msgs::Device;
 
 /// Whose an act is: which devices have a part in it.
 #[derive(Clone, Copy, PartialEq, Eq, Debug)]
-pub(crate) enum Owner {
+pub enum Owner {
     /// This device's alone, whose command it is.
     One(Device),
     /// All devices': a break.
@@ -18,7 +18,7 @@ pub(crate) enum Owner {
 
 /// Whose an act is.
 #[inline(always)]
-pub(crate) fn owner_of(act: &Act) -> Owner
+pub fn owner_of(act: &Act) -> Owner
     ensures { Owns result act.now }
 {
     match act {

@@ -10,6 +10,7 @@ use Rattle.mdb_machine.specs.Choices.{CanStand}
 use Rattle.mdb_machine.specs.Machine.{Machine}
 use Rattle.mdb_explained_runs.specs.declared.track.Track.{Track}
 use Rattle.mdb_explained_runs.specs.declared.tracks.Tracks.{Tracks}
+use Rattle.mdb_follow.specs.ByDevice.{OneGoes}
 use Rattle.mdb_follow.specs.Choosing.{Choices}
 use Rattle.mdb_follow.specs.Machines.{machine_of}
 use Rattle.mdb_follow.specs.Offences.{rule_of}
@@ -41,15 +42,20 @@ pub record Leads {Facts State : Type 0} (stands_for : Facts → List Act → Typ
   pub within : (limit : ℕ) → IsTrackWithin limit old → IsTrackWithin (limit + 2 ^ 32) new
 
 -- the track of a device was
-abbrev pub LeadsOf : (device : Device) → TrackOf device → Act → Choice → TrackOf device → Type 0
-LeadsOf device old act choice new =
+abbrev pub LeadsOf : Act → Choice → (device : Device) → TrackOf device → TrackOf device → Type 0
+LeadsOf act choice device old new =
     Leads (stands_for PowerOn device) (machine_of PowerOn device) (unvalued_of PowerOn device) old
     act choice new
+
+-- the track of one device was, and each other is what it was
+abbrev pub OneLeads : Device → Tracks → Act → Choice → Tracks → Type 0
+OneLeads device old act choice new =
+    OneGoes TrackOf (LeadsOf act choice) device (track_in old) (track_in new)
 
 -- each was
 abbrev pub TracksLead : Tracks → Act → Choice → Tracks → Type 0
 TracksLead old act choice new =
-    (device : Device) → LeadsOf device (track_in old device) act choice (track_in new device)
+    (device : Device) → LeadsOf act choice device (track_in old device) (track_in new device)
 
 -- The track of a device has no step by an act under a choice, so the rule of the device is broken.
 pub record TrackStops (device : Device) (tracks : Tracks) (act : Act) (choice : Choice)

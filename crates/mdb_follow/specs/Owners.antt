@@ -1,4 +1,4 @@
--- Whose an act is. This serves private functions.
+-- Whose an act is.
 use Rattle.std.specs.Prelude.{◌≡◌}
 use Rattle.mdb_msgs.specs.declared.command.Device.{Device}
 use Rattle.mdb_bus.specs.declared.act.Act.{Act}
