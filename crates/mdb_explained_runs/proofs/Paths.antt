@@ -1,9 +1,11 @@
 -- The best ways of one device: through no act, and through one act more.
 use Rattle.std.proofs.Common.{arith, refl, sym, subst, ap, ◌∙◌, ◌≡◌, ◌↔◌, ◌==◌, ◌+◌, ◌<◌, ◌≤◌, ℕ}
 use Rattle.std.proofs.Common.{pos, ◌+ℤ◌, List, [], ◌∷◌, ◌++◌, length, get_or, Contains, Bool, true, false}
-use Rattle.std.proofs.Common.{if◌then◌else◌, length-append}
+use Rattle.std.proofs.Common.{if◌then◌else◌, length-append, take}
 use Rattle.std.proofs.lemmas.Int.{ints}
-use Rattle.std.proofs.lemmas.List.{append-nil}
+use Rattle.std.proofs.lemmas.List.{append-nil, take_more}
+use Rattle.std.specs.Prelude.{All}
+use Rattle.std.proofs.lemmas.List.Elements.{All-append, All-cons, All-contains, All-nil}
 use Rattle.std.proofs.lemmas.List.Elements.{Contains-get_or}
 use Rattle.mdb_words.specs.declared.event.Event.{Event}
 use Rattle.mdb_msgs.specs.declared.command.Device.{Device}
@@ -24,8 +26,9 @@ use Rattle.mdb_follow.specs.Choosing.{Choices, Follows}
 use Rattle.mdb_explained_runs.specs.Marks.{marks_at, own_marks}
 use Rattle.mdb_follow.specs.Sums.{Sums, added, no_sums}
 use Rattle.mdb_explained_runs.specs.inner.Chains.{Denotes, KeepChains, nothing}
-use Rattle.mdb_explained_runs.specs.inner.Paths.{AreEntriesWithin, AreLed, AreStarts, HasAsGood}
-use Rattle.mdb_explained_runs.specs.inner.Paths.{IsLed, IsPath, IsPaths, no_path}
+use Rattle.mdb_explained_runs.specs.inner.Paths.{AllRest, AreEntriesWithin, AreLed, AreStarts}
+use Rattle.mdb_explained_runs.specs.inner.Paths.{HasAsGood, IsLed, IsPath, IsPaths, RestsAt}
+use Rattle.mdb_explained_runs.specs.inner.Paths.{no_path}
 use Rattle.mdb_explained_runs.specs.inner.Weights.{weigh, weight_of}
 use Rattle.mdb_explained_runs.proofs.Bests.{as_good-more, has-counted, has-weaker}
 use Rattle.mdb_follow.proofs.Listed.{contains-none, nil-told}
@@ -288,7 +291,7 @@ no-way number code_of device machine weight old links pieces act row from entrie
     contains-none (code_of state, has.best)
     (subst (λ es. Contains es (code_of state, has.best)) none has.listed)
 
--- through an act that leaves each state and the sums
+-- through an act that leaves the state of each entry and the sums
 
 -- such an act adds nothing to what the sums count
 weigh-same : (weight : Weight) (sums : Sums) (gains : Gains) → gains ≡ no_gains
@@ -305,23 +308,50 @@ no-more false own = append-nil own
 at-least : (own more : List (ℕ × Mark)) → length own ≤ length (own ++ more)
 at-least own more = omega (arith, length-append own more)
 
+-- one entry more rests
+pub rests-more : {State : Type 0} (code_of : State → ℕ) (machine : Machine State) (act : Act)
+    (entries : List (ℕ × Best)) (i : ℕ) (d : ℕ × Best) (state : State) → i < length entries
+    → ((one other : State) → code_of one ≡ code_of other → one ≡ other)
+    → code_of state ≡ (get_or entries i d).0
+    → ((acts : List Act) (choice : Choice) (after : State) (gains : Gains)
+    → machine.Step acts act choice state after gains ↔ Stays state after gains)
+    → AllRest code_of machine act (take i entries)
+    → AllRest code_of machine act (take (i + 1) entries)
+rests-more {State} code_of machine act entries i d state within apart is here before =
+    let Rests : ℕ × Best → Type 0 = λ entry. RestsAt code_of machine act entry.0 in
+    let one : RestsAt code_of machine act (get_or entries i d).0 =
+    λ acts choice other after gains same.
+    subst (λ (s : State). machine.Step acts act choice s after gains ↔ Stays s after gains)
+    (apart state other (is ∙ sym same))
+    (here acts choice after gains) in
+    subst (All Rests) (sym (take_more entries i d within))
+    (All-append Rests (take i entries) (get_or entries i d ∷ []) before
+    (All-cons Rests _ [] one (All-nil Rests)))
+
 pub paths-still : {State : Type 0} (code_of : State → ℕ) (device : Device)
     (machine : Machine State) (weight : Weight) (links : List Link) (pieces : List Piece)
     (act : Act) (events : List Event) (entries : List (ℕ × Best))
-    → ((choice : Choice) (before after : State) (gains : Gains)
-    → machine.Step (acts_of pieces) act choice before after gains ↔ Stays before after gains)
+    → AllRest code_of machine act entries
     → IsPaths code_of device machine weight links pieces entries
     → IsPaths code_of device machine weight links (Whole act events ∷ pieces) entries
-paths-still {State} code_of device machine weight links pieces act events entries still are =
+paths-still {State} code_of device machine weight links pieces act events entries rest are =
     record {
-      sound = λ entry has. stays entry (are.sound entry has);
-      whole = λ state sums chosen way. has state sums chosen way
-          ((still chosen.choice way.before state way.gains).0 way.step);
+      sound = λ entry has. stays entry (rests entry has) (are.sound entry has);
+      whole = λ state sums chosen way.
+          (let had = are.whole way.before way.sums_before chosen.before way.way in
+          has state sums chosen way
+          ((rests (code_of way.before, had.best) had.listed (acts_of pieces) chosen.choice
+          way.before state way.gains refl).0 way.step));
     }
   where
-    stays : (entry : ℕ × Best) → IsPath code_of device machine weight links pieces entry
+    rests : (entry : ℕ × Best) → Contains entries entry → RestsAt code_of machine act entry.0
+    rests entry has = All-contains (λ (e : ℕ × Best). RestsAt code_of machine act e.0) entries
+        entry rest has
+
+    stays : (entry : ℕ × Best) → RestsAt code_of machine act entry.0
+        → IsPath code_of device machine weight links pieces entry
         → IsPath code_of device machine weight links (Whole act events ∷ pieces) entry
-    stays entry path =
+    stays entry still path =
         let chosen : Choices (act ∷ acts_of pieces) =
         record { choice = Plain; stands = tt; before = path.choices } in
         let own : own_marks device (Whole act events ∷ pieces) chosen
@@ -337,7 +367,8 @@ paths-still {State} code_of device machine weight links pieces act events entrie
             sums_before = path.sums;
             gains = no_gains;
             way = path.way;
-            step = (still Plain path.state path.state no_gains).1 (refl, refl);
+            step = (still (acts_of pieces) Plain path.state path.state no_gains path.is).1
+                (refl, refl);
             adds = refl;
           };
           value = path.value ∙ sym (weigh-same weight path.sums no_gains refl);

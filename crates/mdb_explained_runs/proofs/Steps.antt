@@ -1,10 +1,12 @@
 -- What steps from entries lead to, as it is taken in.
-use Rattle.std.proofs.Common.{inl, inr, refl, sym, subst, ◌∙◌, ◌≡◌, ◌⊎◌, ◌+◌, ◌<◌, ℕ, ℤ}
+use Rattle.std.proofs.Common.{arith, inl, inr, refl, sym, subst, ◌∙◌, ◌≡◌, ◌⊎◌, ◌+◌, ◌<◌, ℕ, ℤ}
 use Rattle.std.proofs.Common.{◌+ℤ◌, List, [], ◌∷◌, ◌++◌, length, take, get_or, Contains}
+use Rattle.std.proofs.lemmas.Int.{ints}
 use Rattle.std.proofs.lemmas.List.{take_more}
 use Rattle.std.proofs.lemmas.List.Elements.{Contains-append_left, Contains-push}
 use Rattle.std.proofs.lemmas.List.Elements.{Contains-push_cases}
 use Rattle.mdb_machine.specs.declared.choice.Choice.{Choice}
+use Rattle.mdb_machine.specs.declared.choice.Choice.TheVariants.{Plain}
 use Rattle.mdb_machine.specs.declared.gains.Gains.{Gains}
 use Rattle.mdb_machine.specs.Gains.{IsSmall}
 use Rattle.mdb_machine.specs.Pair.{IsStep}
@@ -16,7 +18,7 @@ use Rattle.mdb_explained_runs.specs.inner.Chains.{KeepChains}
 use Rattle.mdb_explained_runs.specs.inner.Paths.{AreLed, LinksGoOnFrom, HasAsGood, IsLed, TakesIn}
 use Rattle.mdb_explained_runs.specs.inner.Paths.{TakesSteps}
 use Rattle.mdb_explained_runs.specs.inner.Weights.{weight_of}
-use Rattle.mdb_explained_runs.proofs.Bests.{takes-same}
+use Rattle.mdb_explained_runs.proofs.Bests.{has-weaker, takes-same}
 use Rattle.mdb_follow.proofs.Listed.{contains-none}
 
 -- where there is no step, nothing is taken in
@@ -159,6 +161,51 @@ takes-alone number One Can code_of Step weight row old_links links before old ne
       };
       has = λ choice can. takes.has choice (back choice can);
     }
+
+-- where it is of no matter what is chosen: a step leads nowhere else than the plain one
+pub takes-unheeded : {State : Type 0} (number : ℕ) (Can : Choice → Type 0) (code_of : State → ℕ)
+    (Step : Choice → State → State → Gains → Type 0) (weight : Weight) (row : ℕ)
+    (old_links links : List Link) (before : ℕ × Best) (old new : List (ℕ × Best))
+    (state : State) → ((one other : State) → code_of one ≡ code_of other → one ≡ other)
+    → code_of state ≡ before.0 → Can Plain
+    → ((choice : Choice) (after : State) (gains : Gains) → Can choice
+    → Step choice state after gains → Step Plain state after gains)
+    → TakesSteps number (λ one. one ≡ Plain) code_of Step weight row old_links links before old new
+    → TakesSteps number Can code_of Step weight row old_links links before old new
+takes-unheeded {State} number Can code_of Step weight row old_links links before old new state
+    apart its can matters_not takes = record {
+      takes = record {
+        from = λ entry in'. elim (takes.takes.from entry in') [
+          | inl was ↦ inl was
+          | inr led ↦ inr (led-relinked number (λ one. one ≡ Plain) Can code_of Step weight row
+              old_links old_links links links before entry
+              (λ choice same. subst Can (sym same) can) (λ chain marks is. is)
+              (λ chain marks is. is) led)
+        ];
+        kept = takes.takes.kept;
+      };
+      has = λ choice stands next gains step.
+          (let plain : IsStep code_of (Step Plain) before.0 next gains = record {
+            before = state;
+            after = step.after;
+            starts = its;
+            ends = step.ends;
+            step = matters_not choice step.after gains stands
+                (subst (λ s. Step choice s step.after gains)
+                (apart step.before state (step.starts ∙ sym its)) step.step);
+          } in
+          has-more new next (before.1.value +ℤ weight_of weight gains) before.1.marks row choice
+          (takes.has Plain refl next gains plain));
+    }
+  where
+    has-more : (entries : List (ℕ × Best)) (code : ℕ) (value : ℤ) (marks row : ℕ)
+        (choice : Choice) → HasAsGood entries code value (marks + length (marks_at row Plain))
+        → HasAsGood entries code value (marks + length (marks_at row choice))
+    has-more entries code value marks row choice =
+        has-weaker entries code value _ value _ (record {
+          no_greater = omega (arith, ints);
+          no_more = λ _. omega arith;
+        })
 
 -- no entry has been led yet
 pub led-none : {State : Type 0} (number : ℕ) (Can : Choice → Type 0) (code_of : State → ℕ)

@@ -1,13 +1,13 @@
 -- The best ways of one device through acts, with the chains of their marks. Pieces and acts stand
 -- newest first. This serves private functions.
-use Rattle.std.specs.Prelude.{◌≡◌, ◌⊎◌, ◌+◌, ◌<◌, ◌≤◌, ℕ, ℤ, pos, neg_ℤ, ◌+ℤ◌, ◌≤ℤ◌}
+use Rattle.std.specs.Prelude.{◌≡◌, ◌⊎◌, ◌↔◌, ◌+◌, ◌<◌, ◌≤◌, ℕ, ℤ, pos, neg_ℤ, ◌+ℤ◌, ◌≤ℤ◌}
 use Rattle.std.specs.Prelude.{All, Contains, List, ◌++◌, length, slice_index_or}
 use Rattle.mdb_msgs.specs.declared.command.Device.{Device}
 use Rattle.mdb_bus.specs.declared.act.Act.{Act}
 use Rattle.mdb_bus.specs.ActLists.{Piece, acts_of}
 use Rattle.mdb_machine.specs.declared.choice.Choice.{Choice}
 use Rattle.mdb_machine.specs.declared.gains.Gains.{Gains}
-use Rattle.mdb_machine.specs.Gains.{IsSmall}
+use Rattle.mdb_machine.specs.Gains.{IsSmall, Stays}
 use Rattle.mdb_machine.specs.Machine.{Machine}
 use Rattle.mdb_machine.specs.Pair.{IsStep}
 use Rattle.mdb_explained_runs.specs.declared.explain.best.Best.{Best}
@@ -82,6 +82,23 @@ pub record IsEntryWithin (number limit : ℕ) (links : List Link) (entry : ℕ �
 -- those of all entries are
 abbrev pub AreEntriesWithin : ℕ → ℕ → List Link → List (ℕ × Best) → Type 0
 AreEntriesWithin number limit links entries = All (IsEntryWithin number limit links) entries
+
+-- the codes of all entries are below a number
+abbrev pub AreBelow : ℕ → List (ℕ × Best) → Type 0
+AreBelow number entries = All (λ entry. entry.0 < number) entries
+
+-- An act leaves the states that have a code, and the sums, after whatever acts and under whatever
+-- choice.
+abbrev pub RestsAt : {State : Type 0} → (State → ℕ) → Machine State → Act → ℕ → Type 0
+RestsAt {State} code_of machine act code =
+    (acts : List Act) (choice : Choice) (before after : State) (gains : Gains)
+    → code_of before ≡ code
+    → machine.Step acts act choice before after gains ↔ Stays before after gains
+
+-- and those of all entries
+abbrev pub AllRest : {State : Type 0} → (State → ℕ) → Machine State → Act → List (ℕ × Best)
+    → Type 0
+AllRest code_of machine act entries = All (λ entry. RestsAt code_of machine act entry.0) entries
 
 -- An entry is where the way of another goes on with a value and a choice at a row.
 pub record LinksGoOnFrom (old_links links : List Link) (before : Best) (row : ℕ) (choice : Choice)

@@ -6,6 +6,7 @@ ghost use Rattle.mdb_words.specs.declared.event.Event.{Event};
 ghost use Rattle.mdb_msgs.specs.declared.command.Device.{Device};
 ghost use Rattle.mdb_bus.specs.declared.act.Act.{Act};
 ghost use Rattle.mdb_bus.specs.ActLists.{Piece, Whole, events_of};
+ghost use Rattle.mdb_machine.specs.Pair.{IsActOf};
 ghost use Rattle.mdb_follow.specs.declared.goal.Goal.{Goal};
 ghost use Rattle.mdb_explained_runs.specs.inner.AllPaths.{AreAllFacts, AreAllPaths, AreAllWithin};
 ghost use Rattle.mdb_explained_runs.specs.declared.explain.best.Best.{Best};
@@ -21,7 +22,7 @@ use crate::Mark;
 use mdb_bus::Act;
 use mdb_cash::{Bill, BillKnown, Changer, ChangerKnown};
 use mdb_cashless::{Reader, ReaderKnown};
-use mdb_follow::{Goal, device_place};
+use mdb_follow::{Goal, Owner, device_place, owner_of};
 use mdb_msgs::{Device, ReaderUnit};
 use std::alloc::{AllocError, Global};
 
@@ -76,13 +77,42 @@ impl AllPaths {
         })
     }
 
-    /// Leads the paths of each device over an act that ends at a row. Where no way of some device
-    /// leads over it, it answers `false`.
+    /// Leads the paths of each device over an act that ends at a row: those of the devices that have
+    /// a part in it, as it leaves the others. Where no way of some device leads over it, it answers
+    /// `false`.
     ///
     /// # Errors
     ///
     /// Memory was refused.
+    #[inline(always)]
     pub(crate) fn lead(&mut self, goal: &Goal, act: &Act, row: u64) -> Result<bool, AllocError>
+        requires stands { (acts : List Act) × AreAllFacts acts self.old }
+        requires within { AreAllWithin (2 ^ 62) self.old }
+        ensures led { IfOk result (λ goes. OnTrue goes ((pieces : List Piece)
+            (events : List Event) → row ≡ length (events_of pieces ++ events)
+            → AreAllPaths goal.now pieces self.old
+            → AreAllPaths goal.now (Whole act.now events ∷ pieces) self.new)) }
+        ensures none { IfOk result (λ goes. OnFalse goes ((pieces : List Piece)
+            → AreAllPaths goal.now pieces self.old
+            → (device : Device) × HasNoWay pieces act.now device)) }
+        ensures within { IfOk result (λ goes. OnTrue goes ((limit : ℕ)
+            → AreAllWithin limit self.old → AreAllWithin (limit + 2 ^ 32) self.new)) }
+        ensures kept { KeepChains self.old.chains.links.items self.new.chains.links.items }
+    {
+        match owner_of(act) {
+            Owner::One(device) => self.lead_one(device, goal, act, row),
+            Owner::All => self.lead_all(goal, act, row),
+            Owner::Nobody => Ok(true),
+        }
+    }
+
+    /// Leads the paths of each device over an act that ends at a row, whosever the act is.
+    ///
+    /// # Errors
+    ///
+    /// Memory was refused.
+    #[inline(never)]
+    fn lead_all(&mut self, goal: &Goal, act: &Act, row: u64) -> Result<bool, AllocError>
         requires stands { (acts : List Act) × AreAllFacts acts self.old }
         requires within { AreAllWithin (2 ^ 62) self.old }
         ensures led { IfOk result (λ goes. OnTrue goes ((pieces : List Piece)
@@ -118,6 +148,55 @@ impl AllPaths {
         }
         Ok(true)
     }
+
+    /// Leads the paths of a device over an act that ends at a row, where no other device has a part
+    /// in it.
+    ///
+    /// # Errors
+    ///
+    /// Memory was refused.
+    #[inline(always)]
+    fn lead_one(
+        &mut self,
+        device: Device,
+        goal: &Goal,
+        act: &Act,
+        row: u64,
+    ) -> Result<bool, AllocError>
+        requires own { (other : Device) → IsActOf other act.now → other ≡ device }
+        requires stands { (acts : List Act) × AreAllFacts acts self.old }
+        requires within { AreAllWithin (2 ^ 62) self.old }
+        ensures led { IfOk result (λ goes. OnTrue goes ((pieces : List Piece)
+            (events : List Event) → row ≡ length (events_of pieces ++ events)
+            → AreAllPaths goal.now pieces self.old
+            → AreAllPaths goal.now (Whole act.now events ∷ pieces) self.new)) }
+        ensures none { IfOk result (λ goes. OnFalse goes ((pieces : List Piece)
+            → AreAllPaths goal.now pieces self.old
+            → (device : Device) × HasNoWay pieces act.now device)) }
+        ensures within { IfOk result (λ goes. OnTrue goes ((limit : ℕ)
+            → AreAllWithin limit self.old → AreAllWithin (limit + 2 ^ 32) self.new)) }
+        ensures kept { KeepChains self.old.chains.links.items self.new.chains.links.items }
+    {
+        let weight = weight_of(goal, device);
+        let chains = &mut self.chains;
+        match device {
+            Device::Changer => {
+                paths::lead::<Changer, _>(&mut self.changer, chains, &weight, act, row)
+            }
+            Device::Bill => paths::lead::<Bill, _>(&mut self.bill, chains, &weight, act, row),
+            Device::Reader(unit) => match unit {
+                ReaderUnit::First => {
+                    let paths = &mut self.first_reader;
+                    paths::lead::<FirstReader, _>(paths, chains, &weight, act, row)
+                }
+                ReaderUnit::Second => {
+                    let paths = &mut self.second_reader;
+                    paths::lead::<SecondReader, _>(paths, chains, &weight, act, row)
+                }
+            },
+        }
+    }
+
     /// The best entry of a device's paths, whatever its state is.
     fn best(&self, device: Device) -> Best
         ensures { (entry : ℕ × Best) → Contains (paths_in self.now device).entries.items entry

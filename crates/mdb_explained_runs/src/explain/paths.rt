@@ -7,6 +7,7 @@ ghost use Rattle.mdb_bus.specs.declared.act.Act.{Act};
 ghost use Rattle.mdb_bus.specs.declared.scope.Beginning.TheVariants.{PowerOn};
 ghost use Rattle.mdb_bus.specs.ActLists.{Piece, Whole, acts_of, events_of};
 ghost use Rattle.mdb_machine.specs.Choices.{CanStand};
+ghost use Rattle.mdb_machine.specs.Pair.{IsActOf};
 ghost use Rattle.mdb_words.specs.declared.event.Event.{Event};
 ghost use Rattle.mdb_follow.specs.Choosing.{Choices, Follows};
 ghost use Rattle.mdb_explained_runs.specs.Marks.{marks_at};
@@ -14,7 +15,8 @@ ghost use Rattle.mdb_follow.specs.Sums.{Sums};
 ghost use Rattle.mdb_explained_runs.specs.declared.explain.best.Best.{Best};
 ghost use Rattle.mdb_explained_runs.specs.declared.explain.chains.Link.{Link};
 ghost use Rattle.mdb_explained_runs.specs.inner.Chains.{IsChain, KeepChains};
-ghost use Rattle.mdb_explained_runs.specs.inner.Paths.{AreEntriesWithin, AreLed, ArePaths, AreStarts};
+ghost use Rattle.mdb_explained_runs.specs.inner.Paths.{AllRest, AreBelow, AreEntriesWithin, AreLed};
+ghost use Rattle.mdb_explained_runs.specs.inner.Paths.{ArePaths, AreStarts};
 ghost use Rattle.mdb_explained_runs.specs.inner.Paths.{LinksGoOnFrom, HasAsGood, HasCodeAt, IsBestOf};
 ghost use Rattle.mdb_explained_runs.specs.inner.Paths.{IsEntryWithin, TakesIn, TakesSteps};
 ghost use Rattle.mdb_explained_runs.specs.declared.explain.best.Weight.{Weight};
@@ -126,7 +128,7 @@ pub(crate) fn lead<P: Pair, const N: usize>(
         paths.new.entries.items) }
     ensures kept { KeepChains chains.old.links.items chains.new.links.items }
 {
-    if P::concerns(act) {
+    if matters::<P, N>(act, paths) {
         fill::<P, N>(
             &paths.facts,
             act,
@@ -143,6 +145,37 @@ pub(crate) fn lead<P: Pair, const N: usize>(
     }
     P::learn(&mut paths.facts, act);
     Ok(true)
+}
+
+/// Whether an act may matter to paths: where it doesn't, it leaves the state of each entry, and the
+/// sums.
+#[inline(always)]
+fn matters<P: Pair, const N: usize>(act: &Act, paths: &Paths<P::Facts, N>) -> bool
+    requires { AreBelow P.CODES paths.now.entries.items }
+    ensures own { OnTrue result (IsActOf P.device act.now) }
+    ensures still { OnFalse result (AllRest P.code_of (P.machine PowerOn) act.now
+        paths.now.entries.items) }
+{
+    if !P::concerns(act) {
+        return false;
+    }
+    if all_rest::<P>(act, &paths.entries) {
+        return false;
+    }
+    true
+}
+
+/// Whether an act leaves the states of all entries, and the sums.
+fn all_rest<P: Pair>(act: &Act, entries: &[(usize, Best)]) -> bool
+    requires { AreBelow P.CODES entries.now }
+    ensures { OnTrue result (AllRest P.code_of (P.machine PowerOn) act.now entries.now) }
+{
+    for (code, _) in entries {
+        if !P::rests(act, P::state(*code)) {
+            return false;
+        }
+    }
+    true
 }
 
 /// The best of all entries; the one of no act where there is none.
@@ -216,6 +249,10 @@ fn take_steps<P: Pair, const N: usize>(
     ensures kept { KeepChains chains.old.links.items chains.new.links.items }
 {
     take_step::<P, N>(facts, act, row, weight, Choice::Plain, entry, room, chains)?;
+    // Where it is of no matter what is chosen, another choice leads nowhere else, by a mark more.
+    if !P::heeds_choice(act, P::state(entry.0)) {
+        return Ok(());
+    }
     if let Some(choice) = other_choice(act) {
         take_step::<P, N>(facts, act, row, weight, choice, entry, room, chains)?;
     }

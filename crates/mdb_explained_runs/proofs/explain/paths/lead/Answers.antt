@@ -10,7 +10,10 @@ use Rattle.mdb_explained_runs.proofs.EntryLimits.{all-led-within, entries-within
 use Rattle.mdb_explained_runs.proofs.Paths.{empty-told}
 use Rattle.mdb_explained_runs.proofs.Paths.{no-way, paths-led, paths-still}
 use Rattle.mdb_explained_runs.proofs.explain.paths.lead.Goals as goal
-use Rattle.mdb_explained_runs.proofs.explain.paths.lead.Goals.{then-concerns+in_ok-fill+else-is_empty, else-concerns}
+use Rattle.mdb_explained_runs.proofs.explain.paths.lead.Goals.{then-matters+in_ok-fill+else-is_empty, else-matters}
+
+pub matters-requires : goal.matters-requires
+matters-requires g c k d within = (c.requires.within k d within).code
 
 pub fill-requires : goal.fill-requires
 fill-requires g c = (
@@ -54,18 +57,18 @@ returns-clause-led g c pieces events at are =
     let act = c.args.act.now in
     let weight = c.args.weight.now in
     let links = c.args.chains.now.links.items in
-    let still : c.if-concerns.paths.facts ≡ c.args.paths.now.facts =
-    elim c.if-concerns.branch [
-      | then-concerns+in_ok-fill+else-is_empty w ↦ ap (λ v. v.facts) w.paths-is
-      | else-concerns w ↦ ap (λ v. v.facts) w.paths-is
+    let still : c.if-matters.paths.facts ≡ c.args.paths.now.facts =
+    elim c.if-matters.branch [
+      | then-matters+in_ok-fill+else-is_empty w ↦ ap (λ v. v.facts) w.paths-is
+      | else-matters w ↦ ap (λ v. v.facts) w.paths-is
     ] in
     record {
       facts = c.learn.ensures PowerOn (acts_of pieces)
           (subst (λ f. p.stands_for PowerOn f (acts_of pieces)) (sym still) are.facts);
-      best = elim c.if-concerns.branch [
-        | then-concerns+in_ok-fill+else-is_empty w ↦
+      best = elim c.if-matters.branch [
+        | then-matters+in_ok-fill+else-is_empty w ↦
             subst (λ (es : List (ℕ × Best)). IsPaths p.code_of p.device machine weight
-            c.if-concerns.chains.links.items (Whole act events ∷ pieces) es)
+            c.if-matters.chains.links.items (Whole act events ∷ pieces) es)
             (sym (ap (λ v. v.entries.items) w.paths-is ∙ ap (λ v. v.items) w.swap.ensures.x_after))
             (subst (λ (ls : List Link). IsPaths p.code_of p.device machine weight ls
             (Whole act events ∷ pieces) w.fill.new.room.entries.items)
@@ -73,20 +76,20 @@ returns-clause-led g c pieces events at are =
             (paths-led p.CODES p.code_of p.device machine weight links
             w.fill.new.chains.links.items pieces act events c.args.row w.deref.result.now
             w.fill.new.room.entries.items g.met.P.Pair.apart
-            ((decides p.device act).1 w.if-concerns.ensures.own) at
+            ((decides p.device act).1 w.if-matters.ensures.own) at
             (w.in_ok-fill.ensures.led (acts_of pieces) are.facts)
             (subst (λ (es : List (ℕ × Best)). IsPaths p.code_of p.device machine weight links
             pieces es) (sym w.deref.ensures.value) are.best)))
-        | else-concerns w ↦
+        | else-matters w ↦
             subst (λ (es : List (ℕ × Best)). IsPaths p.code_of p.device machine weight
-            c.if-concerns.chains.links.items (Whole act events ∷ pieces) es)
+            c.if-matters.chains.links.items (Whole act events ∷ pieces) es)
             (sym (ap (λ v. v.entries.items) w.paths-is))
             (subst (λ (ls : List Link). IsPaths p.code_of p.device machine weight ls
             (Whole act events ∷ pieces) c.args.paths.now.entries.items)
             (sym (ap (λ v. v.links.items) w.chains-is))
             (paths-still p.code_of p.device machine weight links pieces act events
             c.args.paths.now.entries.items
-            (w.if-concerns.ensures.still PowerOn (acts_of pieces)) are.best))
+            w.if-matters.ensures.still are.best))
       ];
     }
 
@@ -95,9 +98,9 @@ returns-clause-within g c limit within =
     let p = g.P.Pair in
     let links = c.args.chains.now.links.items in
     let stands = c.requires.stands in
-    elim c.if-concerns.branch [
-      | then-concerns+in_ok-fill+else-is_empty w ↦
-          subst (AreEntriesWithin p.CODES (limit + 2 ^ 32) c.if-concerns.chains.links.items)
+    elim c.if-matters.branch [
+      | then-matters+in_ok-fill+else-is_empty w ↦
+          subst (AreEntriesWithin p.CODES (limit + 2 ^ 32) c.if-matters.chains.links.items)
           (sym (ap (λ v. v.entries.items) w.paths-is ∙ ap (λ v. v.items) w.swap.ensures.x_after))
           (subst (λ (ls : List Link). AreEntriesWithin p.CODES (limit + 2 ^ 32) ls
           w.fill.new.room.entries.items)
@@ -107,8 +110,8 @@ returns-clause-within g c limit within =
           w.fill.new.chains.links.items w.deref.result.now w.fill.new.room.entries.items
           (w.in_ok-fill.ensures.led stands.0 stands.1)
           (subst (AreEntriesWithin p.CODES limit links) (sym w.deref.ensures.value) within)))
-      | else-concerns w ↦
-          subst (AreEntriesWithin p.CODES (limit + 2 ^ 32) c.if-concerns.chains.links.items)
+      | else-matters w ↦
+          subst (AreEntriesWithin p.CODES (limit + 2 ^ 32) c.if-matters.chains.links.items)
           (sym (ap (λ v. v.entries.items) w.paths-is))
           (subst (λ (ls : List Link). AreEntriesWithin p.CODES (limit + 2 ^ 32) ls
           c.args.paths.now.entries.items)

@@ -6,8 +6,19 @@ use Rattle.mdb_machine.specs.Choices.{CanStand}
 use Rattle.mdb_machine.specs.declared.choice.Choice.{Choice}
 use Rattle.mdb_machine.specs.declared.choice.Choice.TheVariants.{Plain}
 use Rattle.mdb_machine.proofs.Ways.{plain_or_not}
-use Rattle.mdb_explained_runs.proofs.Steps.{takes-alone, takes-both}
+use Rattle.mdb_explained_runs.proofs.Steps.{takes-alone, takes-both, takes-unheeded}
 use Rattle.mdb_explained_runs.proofs.explain.paths.take_steps.Goals as goal
+
+pub returns-then-not-heeds_choice-clause-takes : goal.returns-then-not-heeds_choice-clause-takes
+returns-then-not-heeds_choice-clause-takes g c acts stands =
+    let p = g.P.Pair in
+    let act = c.args.act.now in
+    takes-unheeded p.CODES (CanStand act) p.code_of ((p.machine PowerOn).Step acts act)
+    c.args.weight.now c.args.row c.args.chains.now.links.items c.take_step.new.chains.links.items
+    c.args.entry.now c.args.room.now.entries.items c.take_step.new.room.entries.items
+    c.state.result g.met.P.Pair.apart c.state.ensures tt
+    (c.if-not-heeds_choice.ensures PowerOn acts)
+    (c.in_ok-take_step.ensures.takes acts stands)
 
 -- the plain choice can stand on each act
 plain-stands : (act : Act) (choice : Choice) → choice ≡ Plain → CanStand act choice
