@@ -12,3 +12,4 @@ pub mod Pages
 pub mod Orders
 pub mod Tallies
 mod Names
+mod Handed

@@ -32,11 +32,9 @@ pub fn import_sigrok<R: Read + Drop, W: Write>(
     ensures { IfSome (R.remaining reader) (λ text. AnswersTo options.now text
         (W.contents writer.old) (W.contents writer.new) result) }
 {
-    match rows_of_trace(alloc, options.swap, reader) {
-        Ok(rows) => match write_part(options, rows.as_slice(), writer) {
-            Ok(()) => Ok(tally_of(options, rows.as_slice())),
-            Err(failed) => Err(SigrokFault::from(failed)),
-        },
-        Err(fault) => Err(fault),
+    let rows = rows_of_trace(alloc, options.swap, reader)?;
+    match write_part(options, rows.as_slice(), writer) {
+        Ok(()) => Ok(tally_of(options, rows.as_slice())),
+        Err(failed) => Err(SigrokFault::from(failed)),
     }
 }

@@ -73,10 +73,8 @@ fn silent(step: Result<(), OrderFault>) -> Result<Option<Event>, OrderFault>
     ensures ok { IfOk result (λ row. (step ≡ Ok tt) × (row ≡ None)) }
     ensures err { IfErr result (λ fault. step ≡ Err fault) }
 {
-    match step {
-        Ok(()) => Ok(None),
-        Err(fault) => Err(fault),
-    }
+    step?;
+    Ok(None)
 }
 
 /// Whether what was seen is the start of a word, in that microsecond or later; else why not.
@@ -106,13 +104,9 @@ fn started(place: &mut Place, pair: &Pair) -> Result<(), OrderFault>
     ensures why { IfErr result (IsNoStart place.old.earliest pair.now) }
     ensures kept { IfErr result (λ _. place.new ≡ place.old) }
 {
-    match start_of_word(place.earliest, pair) {
-        Ok(()) => {
-            place.held = Open::Started(*pair);
-            Ok(())
-        }
-        Err(fault) => Err(fault),
-    }
+    start_of_word(place.earliest, pair)?;
+    place.held = Open::Started(*pair);
+    Ok(())
 }
 
 /// Goes on from behind a start bit.
@@ -182,14 +176,10 @@ fn next_word(
     let at = start.from.time();
     let line = place.line;
     let earliest = at.value() + 1;
-    match start_of_word(earliest, pair) {
-        Ok(()) => {
-            place.earliest = earliest;
-            place.held = Open::Started(*pair);
-            Ok(Some(Event::Word { at, line, word }))
-        }
-        Err(fault) => Err(fault),
-    }
+    start_of_word(earliest, pair)?;
+    place.earliest = earliest;
+    place.held = Open::Started(*pair);
+    Ok(Some(Event::Word { at, line, word }))
 }
 
 /// Goes on from behind a word by a frame error.
@@ -235,14 +225,10 @@ fn broken(
     ensures why { IfErr result (IsNoBreak place.old.earliest place.old.line pair.now) }
     ensures kept { IfErr result (λ _. place.new ≡ place.old) }
 {
-    match break_row(place, pair) {
-        Ok(row) => {
-            place.earliest = row.start().value() + 1;
-            place.held = Open::Nothing;
-            Ok(Some(row))
-        }
-        Err(fault) => Err(fault),
-    }
+    let row = break_row(place, pair)?;
+    place.earliest = row.start().value() + 1;
+    place.held = Open::Nothing;
+    Ok(Some(row))
 }
 
 /// The row of a break.

@@ -49,10 +49,7 @@ impl Moment {
         let Some(part) = part_of(part) else {
             return Err(FormFault::NoRecord);
         };
-        let whole = match whole_of(whole) {
-            Ok(whole) => whole,
-            Err(fault) => return Err(fault),
-        };
+        let whole = whole_of(whole)?;
         if nearest(whole, part) < 1_000_000_000_000_000 {
             Ok(Moment { whole, part })
         } else {

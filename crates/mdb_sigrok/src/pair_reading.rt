@@ -59,14 +59,12 @@ pub(crate) fn next_pair(swap: bool, text: &[u8], number: u64) -> Result<Seen<'_>
         Ok(read) => read,
         Err(fault) => return Err(Refusal { fault, line: None }),
     };
-    match pair_of(swap, &first, &second, number) {
-        Ok(pair) => Ok(Seen {
-            pair,
-            more: second.more,
-            rest,
-        }),
-        Err(refusal) => Err(refusal),
-    }
+    let pair = pair_of(swap, &first, &second, number)?;
+    Ok(Seen {
+        pair,
+        more: second.more,
+        rest,
+    })
 }
 
 /// The record of the next line, and the text behind it.

@@ -195,10 +195,8 @@ impl Both {
             Ok(seen) => seen,
             Err(refusal) => return Err(self.fault_before(refusal.line, refusal.fault)),
         };
-        match self.take(number, &seen.pair) {
-            Ok(()) => Ok(seen.more),
-            Err(fault) => Err(fault),
-        }
+        self.take(number, &seen.pair)?;
+        Ok(seen.more)
     }
 
     /// Goes on by what was seen.
@@ -239,17 +237,8 @@ impl Both {
         ensures err { IfErr result (λ fault. (swap : Bool) →
             Stops fault swap false (lines_of text.now) (stand_of self.old)) }
     {
-        match end_of_trace(text, number) {
-            Ok(()) => (),
-            Err(fault) => return Err(fault),
-        }
-        match self.controller.end() {
-            Ok(()) => (),
-            Err(fault) => return Err(fault),
-        }
-        match self.devices.end() {
-            Ok(()) => Ok(()),
-            Err(fault) => Err(fault),
-        }
+        end_of_trace(text, number)?;
+        self.controller.end()?;
+        self.devices.end()
     }
 }

@@ -41,17 +41,15 @@ pub(crate) fn record_of(line: &[u8]) -> Result<Record<'_>, FormFault>
     let Some((tid, name, more)) = names_of(names) else {
         return Err(FormFault::NoRecord);
     };
-    match Moment::read(digits) {
-        Ok(time) => Ok(Record {
-            ends,
-            time,
-            tid,
-            name,
-            more,
-            names,
-        }),
-        Err(fault) => Err(fault),
-    }
+    let time = Moment::read(digits)?;
+    Ok(Record {
+        ends,
+        time,
+        tid,
+        name,
+        more,
+        names,
+    })
 }
 
 /// The same, behind a record. Where the same text stands behind both times, it isn't read again.
@@ -71,17 +69,15 @@ pub(crate) fn record_behind<'a>(
     let Some((tid, name, more)) = names_behind(names, before) else {
         return Err(FormFault::NoRecord);
     };
-    match Moment::read(digits) {
-        Ok(time) => Ok(Record {
-            ends,
-            time,
-            tid,
-            name,
-            more,
-            names,
-        }),
-        Err(fault) => Err(fault),
-    }
+    let time = Moment::read(digits)?;
+    Ok(Record {
+        ends,
+        time,
+        tid,
+        name,
+        more,
+        names,
+    })
 }
 
 /// The same as `names_of`, of a text that is likely to be that of a record before it.

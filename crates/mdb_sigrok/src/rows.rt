@@ -67,22 +67,17 @@ fn read_rows<B: BufRead>(
         Refutes fault (AreRowsOfTrace swap text rows)))) }
 {
     let mut held = Vec::new(alloc);
-    match read_one(reader, &mut held) {
-        Ok(()) => (),
-        Err(fault) => return Err(fault),
-    }
+    read_one(reader, &mut held)?;
     let Some((first, _)) = next_line(held.as_slice()) else {
         return Err(form(0, FormFault::NoTrace));
     };
     if !is_text(first, b"{\"traceEvents\": [") {
         return Err(form(0, FormFault::NoTrace));
     }
-    match rows_of_lines(alloc, swap, reader, &mut held) {
-        Ok(both) => match merged(alloc, both.0.as_slice(), both.1.as_slice()) {
-            Ok(rows) => Ok(rows),
-            Err(_) => Err(SigrokFault::Memory),
-        },
-        Err(fault) => Err(fault),
+    let both = rows_of_lines(alloc, swap, reader, &mut held)?;
+    match merged(alloc, both.0.as_slice(), both.1.as_slice()) {
+        Ok(rows) => Ok(rows),
+        Err(_) => Err(SigrokFault::Memory),
     }
 }
 
@@ -103,18 +98,10 @@ fn rows_of_lines<B: BufRead>(
         Refutes fault (Tells swap (lines_of text) sent answered)))) }
 {
     let mut both = Both::new(alloc);
-    let number = match read_pairs(&mut both, swap, reader, held) {
-        Ok(number) => number,
-        Err(fault) => return Err(fault),
-    };
-    match read_two(reader, held) {
-        Ok(()) => (),
-        Err(fault) => return Err(fault),
-    }
-    match both.end(held.as_slice(), number) {
-        Ok(()) => Ok((both.controller.rows, both.devices.rows)),
-        Err(fault) => Err(fault),
-    }
+    let number = read_pairs(&mut both, swap, reader, held)?;
+    read_two(reader, held)?;
+    both.end(held.as_slice(), number)?;
+    Ok((both.controller.rows, both.devices.rows))
 }
 
 /// Reads all pairs of records of a trace. What it answers is the number of the record that would
@@ -135,10 +122,7 @@ fn read_pairs<B: BufRead>(
 {
     let mut number: u64 = 1;
     while number < u64::MAX {
-        let more = match next_step(both, swap, reader, held, number) {
-            Ok(more) => more,
-            Err(fault) => return Err(fault),
-        };
+        let more = next_step(both, swap, reader, held, number)?;
         number = number.saturating_add(2);
         if !more {
             return Ok(number);
@@ -166,18 +150,10 @@ fn next_step<B: BufRead>(
     ensures err { IfErr result (λ fault. IfSome (B.remaining reader.old) (λ text.
         (fault ≡ SigrokFault.Read) ⊎ Stops fault swap true (lines_of text) (stand_of both.old))) }
 {
-    match pass_pair(reader, swap, number) {
-        Ok(Some(shown)) => {
-            return match both.take(number, &shown.pair) {
-                Ok(()) => Ok(shown.more),
-                Err(fault) => Err(fault),
-            };
-        }
-        Ok(None) => (),
-        Err(fault) => return Err(fault),
+    if let Some(shown) = pass_pair(reader, swap, number)? {
+        both.take(number, &shown.pair)?;
+        return Ok(shown.more);
     }
-    match read_two(reader, held) {
-        Ok(()) => both.step(swap, held.as_slice(), number),
-        Err(fault) => Err(fault),
-    }
+    read_two(reader, held)?;
+    both.step(swap, held.as_slice(), number)
 }

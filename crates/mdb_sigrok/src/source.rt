@@ -101,10 +101,8 @@ pub(crate) fn read_two<B: BufRead>(reader: &mut B, held: &mut Vec<u8>) -> Result
     ensures err { IfErr result IsOfReading }
 {
     held.clear();
-    match append_line(reader, held) {
-        Ok(()) => append_line(reader, held),
-        Err(fault) => Err(fault),
-    }
+    append_line(reader, held)?;
+    append_line(reader, held)
 }
 
 /// Appends the next line to what is held.
