@@ -100,11 +100,7 @@ fn wanted_place(header: &Record<'_>, column: Column) -> Result<usize, HeaderFaul
     ensures ok { IfOk result (λ place. IsOnly (fields_of header.now) column (Some place)) }
     ensures err { IfErr result (IsHeaderFault (fields_of header.now)) }
 {
-    match place_of(header, column) {
-        Ok(Some(place)) => Ok(place),
-        Ok(None) => Err(HeaderFault::Missing { column }),
-        Err(fault) => Err(fault),
-    }
+    place_of(header, column)?.ok_or(HeaderFault::Missing { column })
 }
 
 /// The place of a column, if it is there.

@@ -45,10 +45,7 @@ pub fn import_table<R: Read + Drop, W: Write>(
     ensures failed { IfErr result (λ fault. fault ≡ SaleaeFault.Read
         → HasFailed R.remaining records.old records.new) }
 {
-    let columns = match columns_of(records) {
-        Ok(columns) => columns,
-        Err(fault) => return Err(fault),
-    };
+    let columns = columns_of(records)?;
     let mut importing = Importing::new();
     let answer = importing.take_all(options, &columns, records, writer);
     if answer != Err(SaleaeFault::Write) {
@@ -150,16 +147,11 @@ impl Importing {
     {
         // The header was taken.
         for taken in 1..u64::MAX {
-            let found = match records.advance() {
-                Ok(found) => found,
-                Err(fault) => return Err(SaleaeFault::from(fault)),
-            };
+            let found = records.advance()?;
             if !found {
                 return Ok(self.tally);
             }
-            if let Err(fault) = self.take(options, columns, taken + 1, &records.row(), writer) {
-                return Err(fault);
-            }
+            self.take(options, columns, taken + 1, &records.row(), writer)?;
         }
         Err(SaleaeFault::Read)
     }
@@ -246,10 +238,7 @@ fn next_in(
 ) -> Result<Event, Refusal>
     ensures { IsNext options.now columns.now last (fields_of fields.now) result }
 {
-    let event = match event_in(options, columns, fields) {
-        Ok(event) => event,
-        Err(refusal) => return Err(refusal),
-    };
+    let event = event_in(options, columns, fields)?;
     match expect_after(last, &event) {
         Ok(()) => Ok(event),
         Err(fault) => Err(Refusal {

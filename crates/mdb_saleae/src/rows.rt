@@ -81,14 +81,8 @@ fn event_at(
     let Some(line) = line_of(options, cell(fields, columns.name)) else {
         return Err(RowFault::BadName);
     };
-    let framed = match is_framed(columns, fields) {
-        Ok(framed) => framed,
-        Err(fault) => return Err(fault),
-    };
-    let word = match read_value(columns, fields) {
-        Ok(word) => word,
-        Err(fault) => return Err(fault),
-    };
+    let framed = is_framed(columns, fields)?;
+    let word = read_value(columns, fields)?;
     if framed {
         break_of(options, at, line, word)
     } else {

@@ -12,4 +12,3 @@ pub mod Pages
 pub mod Orders
 pub mod Tallies
 mod Names
-mod Handed

@@ -1,7 +1,7 @@
 use Rattle.std.proofs.Common.{◌∷◌, true, false}
 use Rattle.mdb_sigrok.specs.Text.{lines_of}
 use Rattle.mdb_sigrok.proofs.Pairs.{first_agrees, makes_pair}
-use Rattle.mdb_sigrok.proofs.Handed.{handed_on}
+use Rattle.mdb_exports.proofs.Handed.{handed_on}
 use Rattle.mdb_sigrok.proofs.pair_reading.next_pair.Goals as goal
 
 pub returns-in-Err-clause-err : goal.returns-in-Err-clause-err

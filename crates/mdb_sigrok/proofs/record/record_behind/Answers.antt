@@ -1,7 +1,7 @@
 use Rattle.std.proofs.Common.{sym, subst}
 use Rattle.mdb_sigrok.specs.Record.{AreNames}
 use Rattle.mdb_sigrok.proofs.Records.{record_from, same_head}
-use Rattle.mdb_sigrok.proofs.Handed.{handed_on}
+use Rattle.mdb_exports.proofs.Handed.{handed_on}
 use Rattle.mdb_sigrok.proofs.record.record_behind.Goals as goal
 
 pub returns-clause-ok : goal.returns-clause-ok

@@ -4,7 +4,7 @@ use Rattle.mdb_sigrok.specs.inner.Fronts.{AreFirst, Leaves}
 use Rattle.mdb_sigrok.specs.inner.Pairs.{IsNext}
 use Rattle.mdb_sigrok.specs.inner.Stands.{stand_of}
 use Rattle.mdb_sigrok.proofs.Sources.{err_too, held_stops, none_of, shown_moves, shown_stops, some_of}
-use Rattle.mdb_sigrok.proofs.Handed.{handed_on}
+use Rattle.mdb_exports.proofs.Handed.{handed_on}
 use Rattle.mdb_sigrok.proofs.rows.next_step.Goals as goal
 
 pub returns-in-Some-clause-ok : goal.returns-in-Some-clause-ok

@@ -4,7 +4,7 @@ use Rattle.mdb_sigrok.specs.inner.Fronts.{Leaves}
 use Rattle.mdb_sigrok.specs.inner.Pairs.{Moves}
 use Rattle.mdb_sigrok.specs.inner.Stands.{stand_of}
 use Rattle.mdb_sigrok.proofs.Sources.{of_any, moves_begin, moves_twice, stops_behind}
-use Rattle.mdb_sigrok.proofs.Handed.{handed_on}
+use Rattle.mdb_exports.proofs.Handed.{handed_on}
 use Rattle.mdb_sigrok.proofs.rows.read_pairs.Goals as goal
 
 pub loop-number-init : goal.loop-number-init

@@ -3,7 +3,7 @@ use Rattle.mdb_exports.specs.Order.{Merges}
 use Rattle.mdb_sigrok.specs.Text.{lines_of}
 use Rattle.mdb_sigrok.specs.inner.Fronts.{AreFirst, Leaves}
 use Rattle.mdb_sigrok.proofs.Sources.{of_any, only_rows_by, refused_rows_by}
-use Rattle.mdb_sigrok.proofs.Handed.{handed_on}
+use Rattle.mdb_exports.proofs.Handed.{handed_on}
 use Rattle.mdb_sigrok.proofs.rows.read_rows.Goals as goal
 
 pub returns-in-Ok-clause-only : goal.returns-in-Ok-clause-only

@@ -3,7 +3,7 @@ use Rattle.mdb_sigrok.specs.Text.{lines_of}
 use Rattle.mdb_sigrok.specs.inner.Fronts.{AreFirst, Leaves}
 use Rattle.mdb_sigrok.specs.inner.Stands.{stand_of}
 use Rattle.mdb_sigrok.proofs.Sources.{all_told_by, end_stops_by, only_told_by}
-use Rattle.mdb_sigrok.proofs.Handed.{handed_on}
+use Rattle.mdb_exports.proofs.Handed.{handed_on}
 use Rattle.mdb_sigrok.proofs.rows.rows_of_lines.Goals as goal
 
 pub returns-clause-ok : goal.returns-clause-ok

@@ -1,6 +1,6 @@
 use Rattle.std.proofs.Common.{arith}
 use Rattle.mdb_sigrok.proofs.Digits.{around_point, whole_small}
-use Rattle.mdb_sigrok.proofs.Handed.{handed_on}
+use Rattle.mdb_exports.proofs.Handed.{handed_on}
 use Rattle.mdb_sigrok.proofs.moment.Moment.read.Goals as goal
 
 pub returns-in_default-part_of-clause-err : goal.returns-in_default-part_of-clause-err

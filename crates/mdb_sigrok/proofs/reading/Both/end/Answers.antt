@@ -2,7 +2,7 @@ use Rattle.mdb_sigrok.specs.Text.{lines_of}
 use Rattle.mdb_sigrok.specs.inner.Stands.{stand_of}
 use Rattle.mdb_sigrok.proofs.Sources.{err_too}
 use Rattle.mdb_sigrok.proofs.Moves.{controller_stops, devices_stop}
-use Rattle.mdb_sigrok.proofs.Handed.{handed_on}
+use Rattle.mdb_exports.proofs.Handed.{handed_on}
 use Rattle.mdb_sigrok.proofs.reading.Both.end.Goals as goal
 
 pub returns-in_err-end-clause-err : goal.returns-in_err-end-clause-err

@@ -2,7 +2,7 @@ use Rattle.mdb_sigrok.specs.Text.{lines_of}
 use Rattle.mdb_sigrok.specs.inner.Stands.{stand_of}
 use Rattle.mdb_sigrok.proofs.Fronts.{first_next, next_first}
 use Rattle.mdb_sigrok.proofs.Moves.{barred_stops, moves_by, unread_stops}
-use Rattle.mdb_sigrok.proofs.Handed.{handed_on}
+use Rattle.mdb_exports.proofs.Handed.{handed_on}
 use Rattle.mdb_sigrok.proofs.reading.Both.step.Goals as goal
 
 pub returns-in-Err-clause-err : goal.returns-in-Err-clause-err
