@@ -40,8 +40,8 @@ pub(crate) fn start<P: Pair>() -> Track<P::Facts, P::State>
     }
 }
 
-/// Leads a track over an act under a choice. From power-on each act is settled, so there is one step
-/// at most.
+/// Leads a track over an act under a choice. From power-on each act is settled, so there is at
+/// most one step.
 ///
 /// # Errors
 ///

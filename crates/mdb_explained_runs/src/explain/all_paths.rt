@@ -77,9 +77,8 @@ impl AllPaths {
         })
     }
 
-    /// Leads the paths of each device over an act that ends at a row: those of the devices that have
-    /// a part in it, as it leaves the others. Where no way of some device leads over it, it answers
-    /// `false`.
+    /// Leads the paths of each device over an act that ends at a row. Those without a part in it
+    /// stay as they are. Where no way of some device leads over it, it answers `false`.
     ///
     /// # Errors
     ///

@@ -37,21 +37,21 @@ bytes-preserved c =
     let inside : c.bytes.end < length text = c.bytes-test.true in
     elim c.match-meaning_of.branch [
       | in-Own w ↦ rw w.ends-is (
-          omega (arith, inv.0),
-          omega (arith, inside),
-          own-more text (next_start 0 ends) c.bytes.end inv.0 inside w.in-Own.ensures inv.2,
-          inv.3,
-        )
+        omega (arith, inv.0),
+        omega (arith, inside),
+        own-more text (next_start 0 ends) c.bytes.end inv.0 inside w.in-Own.ensures inv.2,
+        inv.3,
+      )
       | in-Comma+in_ok-add_end-in-Comma w ↦ rw (
-          w.ends-is,
-          w.in_ok-add_end-in-Comma.ensures,
-          parted-more 0 ends c.bytes.end text,
-          next-after 0 ends c.bytes.end,
-        ) (
-          omega arith,
-          omega (arith, inside),
-          none-own (c.bytes.end + 1) text,
-          reads-field text (next_start 0 ends) c.bytes.end _ inv.0 inside w.in-Comma.ensures inv.2
-              inv.3,
-        )
+        w.ends-is,
+        w.in_ok-add_end-in-Comma.ensures,
+        parted-more 0 ends c.bytes.end text,
+        next-after 0 ends c.bytes.end,
+      ) (
+        omega arith,
+        omega (arith, inside),
+        none-own (c.bytes.end + 1) text,
+        reads-field text (next_start 0 ends) c.bytes.end _ inv.0 inside w.in-Comma.ensures inv.2
+            inv.3,
+      )
     ]

@@ -9,7 +9,7 @@ use Rattle.mdb_records.proofs.plain.plain_record.Given as goal
 abbrev pub invariant-bytes : goal.invariant-bytes
 invariant-bytes l = (next_start 0 l.ends.items ≤ l.end) × (l.end ≤ length l.text)
     × All (λ c. is_special c ≡ false)
-        (take (l.end - next_start 0 l.ends.items) (drop (next_start 0 l.ends.items) l.text))
+    (take (l.end - next_start 0 l.ends.items) (drop (next_start 0 l.ends.items) l.text))
     × ReadsOnAt l.text (next_start 0 l.ends.items) (parted 0 l.ends.items l.text)
 
 abbrev pub decreases-bytes : goal.decreases-bytes

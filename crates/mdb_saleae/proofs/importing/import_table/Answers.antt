@@ -22,7 +22,8 @@ returns-in_err-write_out-clause-imports g c all to_come =
     c.take_all-answer.new.self.page in
     let begins = c.in_ok-columns.ensures.begins all to_come in
     cut_short c.args.options.now all (g.W.Write.contents c.args.writer.now)
-    (g.W.Write.contents c.write_out.new.writer) c.from_residual-in_err-write_out.result c.from_residual-in_err-write_out.ensures.1
+    (g.W.Write.contents c.write_out.new.writer) c.from_residual-in_err-write_out.result
+    c.from_residual-in_err-write_out.ensures.1
     (page_broken c.args.options.now begins.0 begins.1 all c.in_ok-columns.columns
     (g.W.Write.contents c.args.writer.now) (g.W.Write.contents c.write_out.new.writer) now
     c.take_all-answer.result begins.2 begins.3

@@ -9,7 +9,8 @@ use Rattle.mdb_saleae.proofs.importing.next_in.Goals as goal
 pub returns-in_err-event : goal.returns-in_err-event
 returns-in_err-event c =
     let told = err_from_is_err_and c.from_residual.result c.from_residual.ensures.1 in
-    rw (told.1, told.2) (λ event row after. c.in_err-event.ensures.err event row, inl c.in_err-event.ensures.why)
+    rw (told.1, told.2)
+    (λ event row after. c.in_err-event.ensures.err event row, inl c.in_err-event.ensures.why)
 
 pub returns-in-Err : goal.returns-in-Err
 returns-in-Err c = (

@@ -31,7 +31,8 @@ returns-in-Bill-clause-stopped c =
 pub returns-in-First-clause-led : goal.returns-in-First-clause-led
 returns-in-First-clause-led c =
     one-leads c.lead-in-First.result c.args.device (devices.Reader First) c.args.self.now
-    c.lead-in-First.new.track c.args.act.now c.args.choice (c.in-Reader.is ∙ ap devices.Reader c.in-First.is)
+    c.lead-in-First.new.track c.args.act.now c.args.choice
+    (c.in-Reader.is ∙ ap devices.Reader c.in-First.is)
     c.lead-in-First.ensures.led
 
 pub returns-in-First-clause-stopped : goal.returns-in-First-clause-stopped
@@ -43,7 +44,8 @@ returns-in-First-clause-stopped c =
 pub returns-in-Second-clause-led : goal.returns-in-Second-clause-led
 returns-in-Second-clause-led c =
     one-leads c.lead-in-Second.result c.args.device (devices.Reader Second) c.args.self.now
-    c.lead-in-Second.new.track c.args.act.now c.args.choice (c.in-Reader.is ∙ ap devices.Reader c.in-Second.is)
+    c.lead-in-Second.new.track c.args.act.now c.args.choice
+    (c.in-Reader.is ∙ ap devices.Reader c.in-Second.is)
     c.lead-in-Second.ensures.led
 
 pub returns-in-Second-clause-stopped : goal.returns-in-Second-clause-stopped

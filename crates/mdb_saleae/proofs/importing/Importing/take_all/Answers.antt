@@ -48,9 +48,13 @@ returns-in_err-take-clause-puts g c all to_come =
     let so_far = c.loop-taken.invariant all to_come in
     let before = begun (g.W.Write.contents c.args.writer.now) in
     let P : Bool → Type 0 = λ b. Advances g.R.Read.remaining c.advance.new.self b so_far.rest in
-    let next = subst P c.if-not-found.false (c.in_ok-found.ensures.next so_far.rest so_far.to_come) in
-    let told = err_from_is_err_and c.from_residual-in_err-take.result c.from_residual-in_err-take.ensures.1 in
-    rw (told.1, told.2) (not_taken g.R.Read.remaining c.loop-taken.records c.args.options.now c.args.columns.now
+    let next =
+    subst P c.if-not-found.false (c.in_ok-found.ensures.next so_far.rest so_far.to_come) in
+    let told =
+    err_from_is_err_and c.from_residual-in_err-take.result
+    c.from_residual-in_err-take.ensures.1 in
+    rw (told.1, told.2)
+    (not_taken g.R.Read.remaining c.loop-taken.records c.args.options.now c.args.columns.now
     c.loop-taken.self c.take.new.self before (output (g.W.Write.contents c.loop-taken.writer)
     c.loop-taken.self.page) (output (g.W.Write.contents c.take.new.writer) c.take.new.self.page)
     c.loop-taken.taken all (fields_of c.row.result) so_far next.0
@@ -63,7 +67,8 @@ loop-taken-preserved g c all to_come =
     let so_far = c.loop-taken.invariant all to_come in
     let before = begun (g.W.Write.contents c.args.writer.now) in
     let P : Bool → Type 0 = λ b. Advances g.R.Read.remaining c.advance.new.self b so_far.rest in
-    let next = subst P c.if-not-found.false (c.in_ok-found.ensures.next so_far.rest so_far.to_come) in
+    let next =
+    subst P c.if-not-found.false (c.in_ok-found.ensures.next so_far.rest so_far.to_come) in
     one_further g.R.Read.remaining c.loop-taken.records c.advance.new.self c.args.options.now
     c.args.columns.now c.loop-taken.self c.take.new.self before
     (output (g.W.Write.contents c.loop-taken.writer) c.loop-taken.self.page)
@@ -82,7 +87,8 @@ returns-clause-puts g c all to_come =
 
 pub returns-in_err-found-clause-failed : goal.returns-in_err-found-clause-failed
 returns-in_err-found-clause-failed g c =
-    handed_on c.from_residual.result (read_fault_of c.in_err-found.field-0.0) _ c.from_residual.ensures
+    handed_on c.from_residual.result (read_fault_of c.in_err-found.field-0.0) _
+    c.from_residual.ensures
     (λ is. inl (c.in_err-found.ensures.failed ∙ ap Some (read_fault c.in_err-found.field-0.0 is)))
 
 pub returns-in_err-take-clause-failed : goal.returns-in_err-take-clause-failed

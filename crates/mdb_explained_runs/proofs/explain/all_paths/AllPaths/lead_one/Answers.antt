@@ -51,14 +51,16 @@ lead-requires-in-Bill c = (
 
 pub returns-in-Bill-clause-led : goal.returns-in-Bill-clause-led
 returns-in-Bill-clause-led c =
-    one-led c.lead-in-Bill.result c.args.goal.now c.args.device devices.Bill c.weight_of-weight.result
+    one-led c.lead-in-Bill.result c.args.goal.now c.args.device devices.Bill
+    c.weight_of-weight.result
     c.args.act.now c.args.row c.args.self.now c.lead-in-Bill.new.chains c.lead-in-Bill.new.paths
     c.in-Bill.is c.weight_of-weight.ensures c.requires.own c.lead-in-Bill.ensures.kept
     c.lead-in-Bill.ensures.led
 
 pub returns-in-Bill-clause-none : goal.returns-in-Bill-clause-none
 returns-in-Bill-clause-none c =
-    one-none c.lead-in-Bill.result c.args.goal.now c.args.device devices.Bill c.weight_of-weight.result
+    one-none c.lead-in-Bill.result c.args.goal.now c.args.device devices.Bill
+    c.weight_of-weight.result
     c.args.act.now c.args.self.now c.in-Bill.is c.weight_of-weight.ensures
     c.lead-in-Bill.ensures.none
 
@@ -84,20 +86,25 @@ lead-requires-in-First c = (
 
 pub returns-in-First-clause-led : goal.returns-in-First-clause-led
 returns-in-First-clause-led c =
-    one-led c.lead-in-First.result c.args.goal.now c.args.device (devices.Reader First) c.weight_of-weight.result
+    one-led c.lead-in-First.result c.args.goal.now c.args.device (devices.Reader First)
+    c.weight_of-weight.result
     c.args.act.now c.args.row c.args.self.now c.lead-in-First.new.chains c.lead-in-First.new.paths
-    (c.in-Reader.is ∙ ap devices.Reader c.in-First.is) c.weight_of-weight.ensures c.requires.own c.lead-in-First.ensures.kept
+    (c.in-Reader.is ∙ ap devices.Reader c.in-First.is) c.weight_of-weight.ensures c.requires.own
+    c.lead-in-First.ensures.kept
     c.lead-in-First.ensures.led
 
 pub returns-in-First-clause-none : goal.returns-in-First-clause-none
 returns-in-First-clause-none c =
-    one-none c.lead-in-First.result c.args.goal.now c.args.device (devices.Reader First) c.weight_of-weight.result
-    c.args.act.now c.args.self.now (c.in-Reader.is ∙ ap devices.Reader c.in-First.is) c.weight_of-weight.ensures
+    one-none c.lead-in-First.result c.args.goal.now c.args.device (devices.Reader First)
+    c.weight_of-weight.result
+    c.args.act.now c.args.self.now (c.in-Reader.is ∙ ap devices.Reader c.in-First.is)
+    c.weight_of-weight.ensures
     c.lead-in-First.ensures.none
 
 pub returns-in-First-clause-within : goal.returns-in-First-clause-within
 returns-in-First-clause-within c =
-    one-within c.lead-in-First.result (devices.Reader First) c.args.self.now c.lead-in-First.new.chains
+    one-within c.lead-in-First.result (devices.Reader First) c.args.self.now
+    c.lead-in-First.new.chains
     c.lead-in-First.new.paths c.lead-in-First.ensures.kept c.lead-in-First.ensures.within
 
 pub returns-in-First-clause-kept : goal.returns-in-First-clause-kept
@@ -117,20 +124,25 @@ lead-requires-in-Second c = (
 
 pub returns-in-Second-clause-led : goal.returns-in-Second-clause-led
 returns-in-Second-clause-led c =
-    one-led c.lead-in-Second.result c.args.goal.now c.args.device (devices.Reader Second) c.weight_of-weight.result
+    one-led c.lead-in-Second.result c.args.goal.now c.args.device (devices.Reader Second)
+    c.weight_of-weight.result
     c.args.act.now c.args.row c.args.self.now c.lead-in-Second.new.chains c.lead-in-Second.new.paths
-    (c.in-Reader.is ∙ ap devices.Reader c.in-Second.is) c.weight_of-weight.ensures c.requires.own c.lead-in-Second.ensures.kept
+    (c.in-Reader.is ∙ ap devices.Reader c.in-Second.is) c.weight_of-weight.ensures c.requires.own
+    c.lead-in-Second.ensures.kept
     c.lead-in-Second.ensures.led
 
 pub returns-in-Second-clause-none : goal.returns-in-Second-clause-none
 returns-in-Second-clause-none c =
-    one-none c.lead-in-Second.result c.args.goal.now c.args.device (devices.Reader Second) c.weight_of-weight.result
-    c.args.act.now c.args.self.now (c.in-Reader.is ∙ ap devices.Reader c.in-Second.is) c.weight_of-weight.ensures
+    one-none c.lead-in-Second.result c.args.goal.now c.args.device (devices.Reader Second)
+    c.weight_of-weight.result
+    c.args.act.now c.args.self.now (c.in-Reader.is ∙ ap devices.Reader c.in-Second.is)
+    c.weight_of-weight.ensures
     c.lead-in-Second.ensures.none
 
 pub returns-in-Second-clause-within : goal.returns-in-Second-clause-within
 returns-in-Second-clause-within c =
-    one-within c.lead-in-Second.result (devices.Reader Second) c.args.self.now c.lead-in-Second.new.chains
+    one-within c.lead-in-Second.result (devices.Reader Second) c.args.self.now
+    c.lead-in-Second.new.chains
     c.lead-in-Second.new.paths c.lead-in-Second.ensures.kept c.lead-in-Second.ensures.within
 
 pub returns-in-Second-clause-kept : goal.returns-in-Second-clause-kept
