@@ -11,6 +11,11 @@ at_slot of zero d below = refl
 at_slot of (suc zero) d below = refl
 at_slot of (suc (suc slot)) d below = absurd (omega (arith, below))
 
+-- two things are those for each slot, if each is
+pub two_by_slot : {X : Type 0} (of : ℕ → X) (first second : X) → first ≡ of 0 → second ≡ of 1
+    → first ∷ second ∷ [] ≡ by_slot of
+two_by_slot of first second one other = cc
+
 -- of amounts below a limit each is below it
 pub below_at : (limit : ℕ) (amounts : List ℕ) (slot : ℕ) → 0 < limit
     → AllByRecursion (λ amount. amount < limit) amounts → slice_index amounts slot < limit

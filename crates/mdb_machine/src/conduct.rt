@@ -386,19 +386,10 @@ fn worth<K: Conduct>(facts: &KeeperFacts<K>, messages: &[K::Kept]) -> [u64; SLOT
     ensures value { result ≡ by_slot (spec.worth K.conduct (facts_in facts.now) messages.now) }
     ensures small { AreSmall result }
 {
-    [worth_at(facts, 0, messages), worth_at(facts, 1, messages)]
-}
-
-/// What kept messages add to the account in a slot.
-#[inline(always)]
-fn worth_at<K: Conduct>(facts: &KeeperFacts<K>, slot: usize, messages: &[K::Kept]) -> u64
-    requires { length messages.now ≤ 16 }
-    ensures value { result ≡ spec.worth K.conduct (facts_in facts.now) messages.now slot }
-    ensures small { result < 2 ^ 32 }
-{
-    let mut worth = 0;
+    let mut worth = [0; SLOTS];
     for message in messages {
-        worth += K::gain(facts, slot, *message);
+        worth[0] += K::gain(facts, 0, *message);
+        worth[1] += K::gain(facts, 1, *message);
     }
     worth
 }

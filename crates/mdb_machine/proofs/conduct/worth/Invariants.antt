@@ -1,0 +1,15 @@
+use Rattle.std.proofs.Common.{◌≡◌, ◌*◌, ◌≤◌, take}
+use Rattle.std.specs.List.{AllByRecursion}
+use Rattle.mdb_machine.specs.Gains.{by_slot}
+use Rattle.mdb_machine.specs.KeeperSteps.{worth}
+use Rattle.mdb_machine.specs.KeeperValues.{facts_in}
+use Rattle.mdb_machine.proofs.conduct.worth.Given as goal
+
+abbrev pub invariant-loop-message : goal.invariant-loop-message
+invariant-loop-message g l =
+    record {
+      value : l.worth
+          ≡ by_slot (worth g.K.Conduct.conduct (facts_in l.facts)
+          (take l.message-index l.messages));
+      small : AllByRecursion (λ amount. amount ≤ 268435455 * l.message-index) l.worth;
+    }
