@@ -1,9 +1,12 @@
 -- What it means that a reading stops.
-use Rattle.std.proofs.Common.{◌≤◌, ℕ, subst, arith}
+use Rattle.std.proofs.Common.{◌≡◌, ◌≤◌, ℕ, sym, subst, arith}
 use Rattle.mdb_edges.specs.declared.fault.Stop.{Stop}
 use Rattle.mdb_edges.specs.declared.fault.Stop.TheVariants as stop
 use Rattle.mdb_edges.specs.declared.fault.EdgesFault.{EdgesFault}
 use Rattle.mdb_edges.specs.declared.fault.EdgesFault.TheVariants.{Form, Order, Line, Memory}
+use Rattle.mdb_words.specs.declared.word.Line as word
+use Rattle.mdb_edges.specs.declared.fault.Wrong.{Wrong}
+use Rattle.mdb_edges.specs.inner.Waves.{IsStopOf}
 use Rattle.mdb_edges.specs.inner.Stops.{Claims, Denies, IsNumbered, IsTellOf, Refutes}
 
 pub claims_with : (s : Stop) (P Q : Type 0) → (P → Q) → Claims s P → Claims s Q
@@ -47,3 +50,11 @@ told_numbered (stop.Form fault) n _ is some = absurd is
 told_numbered (stop.Order at fault) n _ is some = absurd is
 told_numbered (stop.Line line wrong) n _ is some = absurd is
 told_numbered stop.Memory n _ is some = absurd is
+
+-- refused memory claims nothing
+pub no_claim : (s : Stop) (P : Type 0) → s ≡ stop.Memory → Claims s P
+no_claim s P is = subst (λ t. Claims t P) (sym is) tt
+
+-- and tells nothing of a line
+pub no_stop : (s : Stop) (line : word.Line) (P : Wrong → Type 0) → s ≡ stop.Memory → IsStopOf line P s
+no_stop s line P is = subst (IsStopOf line P) (sym is) tt

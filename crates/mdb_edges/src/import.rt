@@ -44,13 +44,8 @@ pub fn import_edge_records<R: Read + Drop, W: Write>(
     ensures failed { IfErr result (λ fault. fault ≡ EdgesFault.Read →
         HasFailed R.remaining records.old records.new) }
 {
-    match rows_of_records(alloc, options, records) {
-        Ok(rows) => match write_part(alloc, options, rows.as_slice(), writer) {
-            Ok(told) => Ok(told),
-            Err(fault) => Err(fault),
-        },
-        Err(fault) => Err(fault),
-    }
+    let rows = rows_of_records(alloc, options, records)?;
+    write_part(alloc, options, rows.as_slice(), writer)
 }
 
 /// Reads the table of edges that a reader has left, and writes the same rows.
@@ -70,10 +65,7 @@ pub fn import_edges<R: Read + Drop, W: Write>(
         IsRefused options.now text fault (W.contents writer.old) (W.contents writer.new))) }
 {
     let mut records = records_of(alloc, reader);
-    match import_edge_records(alloc, options, &mut records, writer) {
-        Ok(told) => Ok(told),
-        Err(fault) => Err(fault),
-    }
+    import_edge_records(alloc, options, &mut records, writer)
 }
 
 /// Writes the rows of the part that is asked for.

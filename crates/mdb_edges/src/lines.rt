@@ -53,17 +53,11 @@ impl Wave {
             → IsStopOf line (IsShownBy line (moments ++ moment ∷ []) at) stop) }
     {
         match wait_until(self.line, self.state, at) {
-            Ok(step) => match self.add(step) {
-                Ok(()) => (),
-                Err(stop) => return Err(stop),
-            },
+            Ok(step) => self.add(step)?,
             Err(wrong) => return Err(Stop::Line(self.line, wrong)),
         }
         match turn(self.line, self.state, at, high) {
-            Ok(step) => match self.add(step) {
-                Ok(()) => Ok(()),
-                Err(stop) => Err(stop),
-            },
+            Ok(step) => self.add(step),
             Err(wrong) => Err(Stop::Line(self.line, wrong)),
         }
     }
@@ -89,10 +83,7 @@ impl Wave {
             HasHeard self.old line moments → IsStopOf line (IsShownInEnd line moments) stop) }
     {
         match finish(self.line, self.state) {
-            Ok(row) => match self.push(row) {
-                Ok(()) => Ok(()),
-                Err(stop) => Err(stop),
-            },
+            Ok(row) => self.push(row),
             Err(wrong) => Err(Stop::Line(self.line, wrong)),
         }
     }
@@ -146,14 +137,8 @@ impl Lines {
             HaveHeard self.old moments → end_of 0 moments ≤ moment.now.at →
             AreShown (moments ++ moment.now ∷ []) moment.now.at stop) }
     {
-        match self.controller.take(moment.at, moment.controller) {
-            Ok(()) => (),
-            Err(stop) => return Err(stop),
-        }
-        match self.peripheral.take(moment.at, moment.peripheral) {
-            Ok(()) => Ok(()),
-            Err(stop) => Err(stop),
-        }
+        self.controller.take(moment.at, moment.controller)?;
+        self.peripheral.take(moment.at, moment.peripheral)
     }
 
     /// Takes the end of the table.
@@ -166,13 +151,7 @@ impl Lines {
         ensures wrong { IfErr result (λ stop. (moments : List Moment) → HaveHeard self.old moments →
             AreShownInEnd moments stop) }
     {
-        match self.controller.end() {
-            Ok(()) => (),
-            Err(stop) => return Err(stop),
-        }
-        match self.peripheral.end() {
-            Ok(()) => Ok(()),
-            Err(stop) => Err(stop),
-        }
+        self.controller.end()?;
+        self.peripheral.end()
     }
 }

@@ -54,17 +54,11 @@ pub(crate) fn wait_until(line: Line, state: State, at: Instant) -> Result<Step, 
     let State::Framed(frame) = state else {
         return Ok(silent(state));
     };
-    let frame = match frame.read_until(at.parts()) {
-        Ok(frame) => frame,
-        Err(wrong) => return Err(wrong),
-    };
+    let frame = frame.read_until(at.parts())?;
     if frame.next >= at.parts() {
         return Ok(silent(State::Framed(frame)));
     }
-    match stop(line, frame) {
-        Ok(step) => Ok(step),
-        Err(wrong) => Err(wrong),
-    }
+    stop(line, frame)
 }
 
 /// Reads the stop bit of a frame.
@@ -195,10 +189,7 @@ pub(crate) fn finish(line: Line, state: State) -> Result<Option<Event>, Wrong>
 {
     match state {
         State::Unknown | State::Idle => Ok(None),
-        State::Framed(frame) => match last_row(line, frame) {
-            Ok(row) => Ok(row),
-            Err(wrong) => Err(wrong),
-        },
+        State::Framed(frame) => last_row(line, frame),
         State::Low(start) => Err(Wrong {
             start,
             fault: LineFault::Cut,
@@ -222,10 +213,7 @@ fn last_row(line: Line, frame: Frame) -> Result<Option<Event>, Wrong>
     if !frame.high {
         return Err(frame.wrong(LineFault::Cut));
     }
-    let whole = match frame.read_until(u128::MAX) {
-        Ok(whole) => whole,
-        Err(wrong) => return Err(wrong),
-    };
+    let whole = frame.read_until(u128::MAX)?;
     match stop(line, whole) {
         Ok(step) => Ok(step.row),
         Err(wrong) => Err(wrong),

@@ -44,15 +44,9 @@ pub(crate) fn rows_of_records<R: Read + Drop>(
     ensures failed { IfErr result (λ fault. fault ≡ EdgesFault.Read →
         HasFailed R.remaining records.old records.new) }
 {
-    let columns = match read_header(options, records) {
-        Ok(columns) => columns,
-        Err(fault) => return Err(fault),
-    };
+    let columns = read_header(options, records)?;
     let mut lines = Lines::new(alloc);
-    match read_moments(options, &columns, records, &mut lines) {
-        Ok(()) => (),
-        Err(fault) => return Err(fault),
-    }
+    read_moments(options, &columns, records, &mut lines)?;
     match merged(
         alloc,
         lines.controller.rows.as_slice(),
@@ -159,17 +153,12 @@ fn take_record(
         → HasRead options.now columns.now earliest lines.old body moments →
         IsMet options.now columns.now moments (fields_of row.now ∷ rest) stop) }
 {
-    let moment = match moment_of(options, columns, row) {
-        Ok(moment) => moment,
-        Err(stop) => return Err(stop),
-    };
+    let moment = moment_of(options, columns, row)?;
     if moment.at.parts() < earliest {
         return Err(early(&moment, earliest));
     }
-    match lines.take(&moment) {
-        Ok(()) => Ok(moment.at),
-        Err(stop) => Err(stop),
-    }
+    lines.take(&moment)?;
+    Ok(moment.at)
 }
 
 /// A moment that isn't later than the one before it.

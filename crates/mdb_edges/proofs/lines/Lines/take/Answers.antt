@@ -3,40 +3,37 @@ use Rattle.mdb_words.specs.declared.word.Line.TheVariants.{Controller, Periphera
 use Rattle.mdb_edges.proofs.Shown.{first_shown, second_shown}
 use Rattle.mdb_edges.proofs.Waves.{fine_by}
 use Rattle.mdb_edges.proofs.Stops.{claims_with}
+use Rattle.std.proofs.lemmas.Result.{IfErr-weaker, on_ok_weaker}
+use Rattle.mdb_exports.proofs.Handed.{handed_on}
 use Rattle.mdb_edges.proofs.lines.Lines.take.Goals as goal
 
-pub returns-in-Err-clause-err : goal.returns-in-Err-clause-err
-returns-in-Err-clause-err c moments heard later =
-    claims_with c.in-Err.stop _ _ inl (c.in-Err.ensures.err Controller moments c.args.moment.now
-    heard.controller (record { instant = refl; level = refl; later = later }))
+pub returns-in_err-take-clause-err : goal.returns-in_err-take-clause-err
+returns-in_err-take-clause-err c =
+    handed_on c.from_residual.result c.in_err-take.field-0.0 _ c.from_residual.ensures
+    (λ moments heard later. claims_with c.in_err-take.field-0.0 _ _ inl (c.in_err-take.ensures.err Controller moments c.args.moment.now heard.controller (record { instant = refl; level = refl; later = later })))
 
-pub returns-in-Ok-take-clause-ok : goal.returns-in-Ok-take-clause-ok
-returns-in-Ok-take-clause-ok c moments heard later = record {
-  controller =
-      c.in-Ok.ensures.ok Controller moments c.args.moment.now heard.controller
-      (record { instant = refl; level = refl; later = later });
-  peripheral =
-      c.in-Ok-take.ensures.ok Peripheral moments c.args.moment.now heard.peripheral
-      (record { instant = refl; level = refl; later = later });
-}
+pub returns-clause-ok : goal.returns-clause-ok
+returns-clause-ok c =
+    on_ok_weaker c.take-2.result (λ ok moments heard later. record {
+      controller = c.in_ok-take.ensures.ok Controller moments c.args.moment.now heard.controller (record { instant = refl; level = refl; later = later });
+      peripheral = ok Peripheral moments c.args.moment.now heard.peripheral (record { instant = refl; level = refl; later = later });
+    }) c.take-2.ensures.ok
 
-pub returns-in-Err-take-clause-err : goal.returns-in-Err-take-clause-err
-returns-in-Err-take-clause-err c moments heard later =
-    claims_with c.in-Err-take.stop _ _ inr (c.in-Err-take.ensures.err Peripheral moments
-    c.args.moment.now heard.peripheral (record { instant = refl; level = refl; later = later }))
+pub returns-clause-err : goal.returns-clause-err
+returns-clause-err c =
+    IfErr-weaker c.take-2.result _ _ (λ stop err moments heard later.
+    claims_with stop _ _ inr (err Peripheral moments c.args.moment.now heard.peripheral (record { instant = refl; level = refl; later = later })))
+    c.take-2.ensures.err
 
-pub returns-in-Err-clause-wrong : goal.returns-in-Err-clause-wrong
-returns-in-Err-clause-wrong c moments heard later =
-    first_shown c.in-Err.stop (moments ++ c.args.moment.now ∷ []) c.args.moment.now.at
-    (c.in-Err.ensures.wrong Controller moments c.args.moment.now heard.controller
-    (record { instant = refl; level = refl; later = later }))
+pub returns-in_err-take-clause-wrong : goal.returns-in_err-take-clause-wrong
+returns-in_err-take-clause-wrong c =
+    handed_on c.from_residual.result c.in_err-take.field-0.0 _ c.from_residual.ensures
+    (λ moments heard later. first_shown c.in_err-take.field-0.0 (moments ++ c.args.moment.now ∷ []) c.args.moment.now.at (c.in_err-take.ensures.wrong Controller moments c.args.moment.now heard.controller (record { instant = refl; level = refl; later = later })))
 
-pub returns-in-Err-take-clause-wrong : goal.returns-in-Err-take-clause-wrong
-returns-in-Err-take-clause-wrong c moments heard later =
-    let taken =
-    c.in-Ok.ensures.ok Controller moments c.args.moment.now heard.controller
-    (record { instant = refl; level = refl; later = later }) in
-    second_shown c.in-Err-take.stop (moments ++ c.args.moment.now ∷ []) c.args.moment.now.at
-    (fine_by _ Controller (moments ++ c.args.moment.now ∷ []) taken)
-    (c.in-Err-take.ensures.wrong Peripheral moments c.args.moment.now heard.peripheral
-    (record { instant = refl; level = refl; later = later }))
+pub returns-clause-wrong : goal.returns-clause-wrong
+returns-clause-wrong c =
+    IfErr-weaker c.take-2.result _ _ (λ stop wrong moments heard later.
+    let taken = c.in_ok-take.ensures.ok Controller moments c.args.moment.now heard.controller (record { instant = refl; level = refl; later = later }) in
+    second_shown stop (moments ++ c.args.moment.now ∷ []) c.args.moment.now.at (fine_by _ Controller (moments ++ c.args.moment.now ∷ []) taken)
+    (wrong Peripheral moments c.args.moment.now heard.peripheral (record { instant = refl; level = refl; later = later })))
+    c.take-2.ensures.wrong

@@ -1,4 +1,6 @@
 use Rattle.mdb_edges.proofs.Waves.{none_on, stands_on, still_held, wrong_in_end}
+use Rattle.std.proofs.lemmas.Result.{IfErr-weaker}
+use Rattle.mdb_edges.proofs.Stops.{no_claim, no_stop}
 use Rattle.mdb_edges.proofs.lines.Wave.end.Goals as goal
 
 pub returns-in-Err-clause-err : goal.returns-in-Err-clause-err
@@ -17,3 +19,11 @@ returns-in-Err-clause-wrong c line moments heard = (
       wave.rows.items (stands_on wave line moments level heard fits)
       (still_held wave line moments level heard fits)),
 )
+
+pub returns-in-Ok-clause-err : goal.returns-in-Ok-clause-err
+returns-in-Ok-clause-err c =
+    IfErr-weaker c.push.result _ _ (λ stop is line moments heard. no_claim stop _ is) c.push.ensures.err
+
+pub returns-in-Ok-clause-wrong : goal.returns-in-Ok-clause-wrong
+returns-in-Ok-clause-wrong c =
+    IfErr-weaker c.push.result _ _ (λ stop is line moments heard. no_stop stop _ _ is) c.push.ensures.err
