@@ -56,5 +56,6 @@ pub no_claim : (s : Stop) (P : Type 0) → s ≡ stop.Memory → Claims s P
 no_claim s P is = subst (λ t. Claims t P) (sym is) tt
 
 -- and tells nothing of a line
-pub no_stop : (s : Stop) (line : word.Line) (P : Wrong → Type 0) → s ≡ stop.Memory → IsStopOf line P s
+pub no_stop : (s : Stop) (line : word.Line) (P : Wrong → Type 0) → s ≡ stop.Memory
+    → IsStopOf line P s
 no_stop s line P is = subst (IsStopOf line P) (sym is) tt

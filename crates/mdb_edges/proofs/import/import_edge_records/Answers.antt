@@ -8,20 +8,25 @@ use Rattle.mdb_edges.proofs.import.import_edge_records.Goals as goal
 pub returns-in_err-rows-clause-refused : goal.returns-in_err-rows-clause-refused
 returns-in_err-rows-clause-refused g c =
     handed_on c.from_residual.result c.in_err-rows.field-0.0 _ c.from_residual.ensures
-    (λ all to_come. refused_of c.args.options.now all c.in_err-rows.field-0.0 (g.W.Write.contents c.args.writer.now) (c.in_err-rows.ensures.why all to_come) (c.in_err-rows.ensures.err all to_come))
+    (λ all to_come. refused_of c.args.options.now all c.in_err-rows.field-0.0
+    (g.W.Write.contents c.args.writer.now) (c.in_err-rows.ensures.why all to_come)
+    (c.in_err-rows.ensures.err all to_come))
 
 pub returns-clause-written : goal.returns-clause-written
 returns-clause-written g c =
     IfOk-weaker c.write_part.result _ _ (λ told written all to_come. written all
-    (subst (λ rows. AreRowsOfTable c.args.options.now all rows) (sym c.as_slice.ensures.value) (c.in_ok-rows.ensures.ok all to_come)))
+    (subst (λ rows. AreRowsOfTable c.args.options.now all rows) (sym c.as_slice.ensures.value)
+    (c.in_ok-rows.ensures.ok all to_come)))
     c.write_part.ensures.written
 
 pub returns-clause-refused : goal.returns-clause-refused
 returns-clause-refused g c =
     IfErr-weaker c.write_part.result _ _ (λ fault refused all to_come. refused all
-    (subst (λ rows. AreRowsOfTable c.args.options.now all rows) (sym c.as_slice.ensures.value) (c.in_ok-rows.ensures.ok all to_come)))
+    (subst (λ rows. AreRowsOfTable c.args.options.now all rows) (sym c.as_slice.ensures.value)
+    (c.in_ok-rows.ensures.ok all to_come)))
     c.write_part.ensures.refused
 
 pub returns-clause-failed : goal.returns-clause-failed
 returns-clause-failed g c =
-    IfErr-weaker c.write_part.result _ _ (λ fault none is. absurd (none is)) c.write_part.ensures.read
+    IfErr-weaker c.write_part.result _ _ (λ fault none is. absurd (none is))
+    c.write_part.ensures.read

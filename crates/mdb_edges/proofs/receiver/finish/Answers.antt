@@ -18,7 +18,8 @@ returns-in-Framed-clause-err c =
 
 pub returns-in-Low-clause-err : goal.returns-in-Low-clause-err
 returns-in-Low-clause-err c level known rows stands after =
-    ends_low c.args.line level known c.in-Low.start rows (subst (λ s. Stands c.args.line level known s rows) c.in-Low.is stands)
+    ends_low c.args.line level known c.in-Low.start rows
+    (subst (λ s. Stands c.args.line level known s rows) c.in-Low.is stands)
     (subst (λ s. (t : ℕ) → known ≤ t → level t ≡ held_of s) c.in-Low.is after)
 
 pub returns-in-Framed-clause-wrong : goal.returns-in-Framed-clause-wrong
@@ -30,7 +31,8 @@ returns-in-Framed-clause-wrong c =
 
 pub returns-in-Low-clause-wrong : goal.returns-in-Low-clause-wrong
 returns-in-Low-clause-wrong c level known rows stands after =
-    cut_low c.args.line level known c.in-Low.start rows (subst (λ s. Stands c.args.line level known s rows) c.in-Low.is stands)
+    cut_low c.args.line level known c.in-Low.start rows
+    (subst (λ s. Stands c.args.line level known s rows) c.in-Low.is stands)
     (subst (λ s. (t : ℕ) → known ≤ t → level t ≡ held_of s) c.in-Low.is after)
 
 pub returns-in-Framed-clause-ok : goal.returns-in-Framed-clause-ok

@@ -10,39 +10,62 @@ pub returns-in_err-moment-clause-err : goal.returns-in_err-moment-clause-err
 returns-in_err-moment-clause-err c =
     handed_on c.from_residual.result c.in_err-moment.field-0.0 _ c.from_residual.ensures
     (λ body rest moments sent answered has.
-    no_moment c.in_err-moment.field-0.0 c.args.options.now c.args.columns.now c.args.earliest c.args.lines.now body rest (fields_of c.args.row.now) moments sent answered has c.in_err-moment.ensures.err)
+    no_moment c.in_err-moment.field-0.0 c.args.options.now c.args.columns.now c.args.earliest
+    c.args.lines.now body rest (fields_of c.args.row.now) moments sent answered has
+    c.in_err-moment.ensures.err)
 
 pub returns-then-parts-earliest-clause-err : goal.returns-then-parts-earliest-clause-err
 returns-then-parts-earliest-clause-err c body rest moments sent answered has =
-    let early : c.in_ok-moment.moment.at < c.args.earliest = omega (arith, c.if-parts-earliest.true, c.parts.ensures.value) in
-    not_later c.early.result c.args.options.now c.args.columns.now c.args.earliest c.args.lines.now body rest (fields_of c.args.row.now) moments sent answered c.in_ok-moment.moment has c.in_ok-moment.ensures.ok early c.early.ensures.of_table
+    let early : c.in_ok-moment.moment.at < c.args.earliest =
+    omega (arith, c.if-parts-earliest.true, c.parts.ensures.value) in
+    not_later c.early.result c.args.options.now c.args.columns.now c.args.earliest c.args.lines.now
+    body rest (fields_of c.args.row.now) moments sent answered c.in_ok-moment.moment has
+    c.in_ok-moment.ensures.ok early c.early.ensures.of_table
 
 pub returns-clause-ok : goal.returns-clause-ok
 returns-clause-ok c body moments has =
-    let later : c.args.earliest ≤ c.in_ok-moment.moment.at = omega (arith, c.if-parts-earliest.false, c.parts.ensures.value) in
-    (moments ++ c.in_ok-moment.moment ∷ [], read_more c.args.options.now c.args.columns.now c.args.earliest c.args.lines.now c.take.new.self body (fields_of c.args.row.now) moments c.in_ok-moment.moment has c.in_ok-moment.ensures.ok later (c.in_ok-take.ensures.ok moments has.heard (omega (arith, later, has.next))))
+    let later : c.args.earliest ≤ c.in_ok-moment.moment.at =
+    omega (arith, c.if-parts-earliest.false, c.parts.ensures.value) in (
+      moments ++ c.in_ok-moment.moment ∷ [],
+      read_more c.args.options.now c.args.columns.now c.args.earliest c.args.lines.now
+          c.take.new.self body (fields_of c.args.row.now) moments c.in_ok-moment.moment has
+          c.in_ok-moment.ensures.ok later
+          (c.in_ok-take.ensures.ok moments has.heard (omega (arith, later, has.next))),
+    )
 
 pub returns-in_err-take-clause-err : goal.returns-in_err-take-clause-err
 returns-in_err-take-clause-err c =
-    handed_on c.from_residual-in_err-take.result c.in_err-take.field-0.0 _ c.from_residual-in_err-take.ensures
+    handed_on c.from_residual-in_err-take.result c.in_err-take.field-0.0 _
+    c.from_residual-in_err-take.ensures
     (λ body rest moments sent answered has.
-    let later : c.args.earliest ≤ c.in_ok-moment.moment.at = omega (arith, c.if-parts-earliest.false, c.parts.ensures.value) in
-    barred_next c.in_err-take.field-0.0 c.args.options.now c.args.columns.now c.args.earliest c.args.lines.now body rest (fields_of c.args.row.now) moments sent answered c.in_ok-moment.moment has c.in_ok-moment.ensures.ok (c.in_err-take.ensures.err moments has.heard (omega (arith, later, has.next))))
+    let later : c.args.earliest ≤ c.in_ok-moment.moment.at =
+    omega (arith, c.if-parts-earliest.false, c.parts.ensures.value) in
+    barred_next c.in_err-take.field-0.0 c.args.options.now c.args.columns.now c.args.earliest
+    c.args.lines.now body rest (fields_of c.args.row.now) moments sent answered
+    c.in_ok-moment.moment has c.in_ok-moment.ensures.ok
+    (c.in_err-take.ensures.err moments has.heard (omega (arith, later, has.next))))
 
 pub returns-in_err-moment-clause-why : goal.returns-in_err-moment-clause-why
 returns-in_err-moment-clause-why c =
     handed_on c.from_residual.result c.in_err-moment.field-0.0 _ c.from_residual.ensures
     (λ body rest moments has.
-    met_record c.in_err-moment.field-0.0 c.args.options.now c.args.columns.now moments (fields_of c.args.row.now) rest c.in_err-moment.ensures.why)
+    met_record c.in_err-moment.field-0.0 c.args.options.now c.args.columns.now moments
+    (fields_of c.args.row.now) rest c.in_err-moment.ensures.why)
 
 pub returns-then-parts-earliest-clause-why : goal.returns-then-parts-earliest-clause-why
 returns-then-parts-earliest-clause-why c body rest moments has =
-    met_early c.early.result c.args.options.now c.args.columns.now moments (fields_of c.args.row.now) rest c.args.earliest c.in_ok-moment.moment has.next c.in_ok-moment.ensures.ok c.early.ensures.is
+    met_early c.early.result c.args.options.now c.args.columns.now moments
+    (fields_of c.args.row.now) rest c.args.earliest c.in_ok-moment.moment has.next
+    c.in_ok-moment.ensures.ok c.early.ensures.is
 
 pub returns-in_err-take-clause-why : goal.returns-in_err-take-clause-why
 returns-in_err-take-clause-why c =
-    handed_on c.from_residual-in_err-take.result c.in_err-take.field-0.0 _ c.from_residual-in_err-take.ensures
+    handed_on c.from_residual-in_err-take.result c.in_err-take.field-0.0 _
+    c.from_residual-in_err-take.ensures
     (λ body rest moments has.
-    let later : c.args.earliest ≤ c.in_ok-moment.moment.at = omega (arith, c.if-parts-earliest.false, c.parts.ensures.value) in
+    let later : c.args.earliest ≤ c.in_ok-moment.moment.at =
+    omega (arith, c.if-parts-earliest.false, c.parts.ensures.value) in
     let behind : end_of 0 moments ≤ c.in_ok-moment.moment.at = omega (arith, later, has.next) in
-    met_lines c.in_err-take.field-0.0 c.args.options.now c.args.columns.now body moments (fields_of c.args.row.now) rest c.args.earliest c.args.lines.now c.in_ok-moment.moment has c.in_ok-moment.ensures.ok behind (c.in_err-take.ensures.wrong moments has.heard behind))
+    met_lines c.in_err-take.field-0.0 c.args.options.now c.args.columns.now body moments
+    (fields_of c.args.row.now) rest c.args.earliest c.args.lines.now c.in_ok-moment.moment has
+    c.in_ok-moment.ensures.ok behind (c.in_err-take.ensures.wrong moments has.heard behind))

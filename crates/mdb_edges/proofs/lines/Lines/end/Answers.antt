@@ -9,23 +9,31 @@ use Rattle.mdb_edges.proofs.lines.Lines.end.Goals as goal
 pub returns-in_err-end-clause-err : goal.returns-in_err-end-clause-err
 returns-in_err-end-clause-err c =
     handed_on c.from_residual.result c.in_err-end.field-0.0 _ c.from_residual.ensures
-    (λ moments heard. claims_with c.in_err-end.field-0.0 _ _ inl (c.in_err-end.ensures.err Controller moments heard.controller))
+    (λ moments heard. claims_with c.in_err-end.field-0.0 _ _ inl
+    (c.in_err-end.ensures.err Controller moments heard.controller))
 
 pub returns-in_err-end-clause-wrong : goal.returns-in_err-end-clause-wrong
 returns-in_err-end-clause-wrong c =
     handed_on c.from_residual.result c.in_err-end.field-0.0 _ c.from_residual.ensures
-    (λ moments heard. first_in_end c.in_err-end.field-0.0 moments (c.in_err-end.ensures.wrong Controller moments heard.controller))
+    (λ moments heard. first_in_end c.in_err-end.field-0.0 moments
+    (c.in_err-end.ensures.wrong Controller moments heard.controller))
 
 pub returns-clause-ok : goal.returns-clause-ok
 returns-clause-ok c =
-    on_ok_weaker c.end-2.result (λ ok moments heard. (c.in_ok-end.ensures.ok Controller moments heard.controller, ok Peripheral moments heard.peripheral)) c.end-2.ensures.ok
+    on_ok_weaker c.end-2.result (λ ok moments heard. (
+      c.in_ok-end.ensures.ok Controller moments
+          heard.controller,
+      ok Peripheral moments heard.peripheral,
+    )) c.end-2.ensures.ok
 
 pub returns-clause-err : goal.returns-clause-err
 returns-clause-err c =
-    IfErr-weaker c.end-2.result _ _ (λ stop err moments heard. claims_with stop _ _ inr (err Peripheral moments heard.peripheral)) c.end-2.ensures.err
+    IfErr-weaker c.end-2.result _ _ (λ stop err moments heard.
+    claims_with stop _ _ inr (err Peripheral moments heard.peripheral)) c.end-2.ensures.err
 
 pub returns-clause-wrong : goal.returns-clause-wrong
 returns-clause-wrong c =
     IfErr-weaker c.end-2.result _ _ (λ stop wrong moments heard.
-    second_in_end stop moments _ (c.in_ok-end.ensures.ok Controller moments heard.controller) (wrong Peripheral moments heard.peripheral))
+    second_in_end stop moments _ (c.in_ok-end.ensures.ok Controller moments heard.controller)
+    (wrong Peripheral moments heard.peripheral))
     c.end-2.ensures.wrong

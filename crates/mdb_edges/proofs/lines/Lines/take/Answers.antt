@@ -10,30 +10,43 @@ use Rattle.mdb_edges.proofs.lines.Lines.take.Goals as goal
 pub returns-in_err-take-clause-err : goal.returns-in_err-take-clause-err
 returns-in_err-take-clause-err c =
     handed_on c.from_residual.result c.in_err-take.field-0.0 _ c.from_residual.ensures
-    (λ moments heard later. claims_with c.in_err-take.field-0.0 _ _ inl (c.in_err-take.ensures.err Controller moments c.args.moment.now heard.controller (record { instant = refl; level = refl; later = later })))
+    (λ moments heard later. claims_with c.in_err-take.field-0.0 _ _ inl
+    (c.in_err-take.ensures.err Controller moments c.args.moment.now heard.controller
+    (record { instant = refl; level = refl; later = later })))
 
 pub returns-clause-ok : goal.returns-clause-ok
 returns-clause-ok c =
     on_ok_weaker c.take-2.result (λ ok moments heard later. record {
-      controller = c.in_ok-take.ensures.ok Controller moments c.args.moment.now heard.controller (record { instant = refl; level = refl; later = later });
-      peripheral = ok Peripheral moments c.args.moment.now heard.peripheral (record { instant = refl; level = refl; later = later });
+      controller =
+          c.in_ok-take.ensures.ok Controller moments c.args.moment.now heard.controller
+          (record { instant = refl; level = refl; later = later });
+      peripheral =
+          ok Peripheral moments c.args.moment.now heard.peripheral
+          (record { instant = refl; level = refl; later = later });
     }) c.take-2.ensures.ok
 
 pub returns-clause-err : goal.returns-clause-err
 returns-clause-err c =
     IfErr-weaker c.take-2.result _ _ (λ stop err moments heard later.
-    claims_with stop _ _ inr (err Peripheral moments c.args.moment.now heard.peripheral (record { instant = refl; level = refl; later = later })))
+    claims_with stop _ _ inr (err Peripheral moments c.args.moment.now heard.peripheral
+    (record { instant = refl; level = refl; later = later })))
     c.take-2.ensures.err
 
 pub returns-in_err-take-clause-wrong : goal.returns-in_err-take-clause-wrong
 returns-in_err-take-clause-wrong c =
     handed_on c.from_residual.result c.in_err-take.field-0.0 _ c.from_residual.ensures
-    (λ moments heard later. first_shown c.in_err-take.field-0.0 (moments ++ c.args.moment.now ∷ []) c.args.moment.now.at (c.in_err-take.ensures.wrong Controller moments c.args.moment.now heard.controller (record { instant = refl; level = refl; later = later })))
+    (λ moments heard later. first_shown c.in_err-take.field-0.0 (moments ++ c.args.moment.now ∷ [])
+    c.args.moment.now.at (c.in_err-take.ensures.wrong Controller moments c.args.moment.now
+    heard.controller (record { instant = refl; level = refl; later = later })))
 
 pub returns-clause-wrong : goal.returns-clause-wrong
 returns-clause-wrong c =
     IfErr-weaker c.take-2.result _ _ (λ stop wrong moments heard later.
-    let taken = c.in_ok-take.ensures.ok Controller moments c.args.moment.now heard.controller (record { instant = refl; level = refl; later = later }) in
-    second_shown stop (moments ++ c.args.moment.now ∷ []) c.args.moment.now.at (fine_by _ Controller (moments ++ c.args.moment.now ∷ []) taken)
-    (wrong Peripheral moments c.args.moment.now heard.peripheral (record { instant = refl; level = refl; later = later })))
+    let taken =
+    c.in_ok-take.ensures.ok Controller moments c.args.moment.now heard.controller
+    (record { instant = refl; level = refl; later = later }) in
+    second_shown stop (moments ++ c.args.moment.now ∷ []) c.args.moment.now.at
+    (fine_by _ Controller (moments ++ c.args.moment.now ∷ []) taken)
+    (wrong Peripheral moments c.args.moment.now heard.peripheral
+    (record { instant = refl; level = refl; later = later })))
     c.take-2.ensures.wrong

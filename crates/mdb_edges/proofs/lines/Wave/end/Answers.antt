@@ -22,8 +22,10 @@ returns-in-Err-clause-wrong c line moments heard = (
 
 pub returns-in-Ok-clause-err : goal.returns-in-Ok-clause-err
 returns-in-Ok-clause-err c =
-    IfErr-weaker c.push.result _ _ (λ stop is line moments heard. no_claim stop _ is) c.push.ensures.err
+    IfErr-weaker c.push.result _ _ (λ stop is line moments heard. no_claim stop _ is)
+    c.push.ensures.err
 
 pub returns-in-Ok-clause-wrong : goal.returns-in-Ok-clause-wrong
 returns-in-Ok-clause-wrong c =
-    IfErr-weaker c.push.result _ _ (λ stop is line moments heard. no_stop stop _ _ is) c.push.ensures.err
+    IfErr-weaker c.push.result _ _ (λ stop is line moments heard. no_stop stop _ _ is)
+    c.push.ensures.err
