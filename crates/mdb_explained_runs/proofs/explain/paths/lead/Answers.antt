@@ -13,7 +13,7 @@ use Rattle.mdb_explained_runs.proofs.explain.paths.lead.Goals as goal
 use Rattle.mdb_explained_runs.proofs.explain.paths.lead.Goals.{then-matters+in_ok-fill+else-is_empty, else-matters}
 
 pub matters-requires : goal.matters-requires
-matters-requires g c k d within = (c.requires.within k d within).code
+matters-requires g c = (search rules, λ k d within. (c.requires.within k d within).code)
 
 pub fill-requires : goal.fill-requires
 fill-requires g c = (

@@ -1,6 +1,9 @@
 use Rattle.mdb_explained_runs.proofs.AllPaths.{none-led, none-within}
 use Rattle.mdb_explained_runs.proofs.explain.all_paths.AllPaths.lead.Goals as goal
 
+pub lead_one-requires-clause-own : goal.lead_one-requires-clause-own
+lead_one-requires-clause-own c = c.in-One.ensures
+
 pub returns-in-Nobody-clause-led : goal.returns-in-Nobody-clause-led
 returns-in-Nobody-clause-led c pieces events at are =
     none-led c.args.goal.now c.args.act.now c.args.self.now c.in-Nobody.ensures pieces events are
