@@ -6,7 +6,7 @@ pub returns-in-One-clause-led : goal.returns-in-One-clause-led
 returns-in-One-clause-led c =
     if-ok c.lead_one.result _ _
     (λ _. all-lead c.in-One.device c.args.self.now c.lead_one.new.self c.args.act.now
-    c.args.choice c.in-One.ensures)
+    c.args.choice (λ other. (c.in-One.ensures other).0))
     c.lead_one.ensures.led
 
 pub returns-in-Nobody-clause-led : goal.returns-in-Nobody-clause-led

@@ -6,7 +6,7 @@ pub returns-in-One-clause-followed : goal.returns-in-One-clause-followed
 returns-in-One-clause-followed c =
     if-ok c.lead_one.result _ _
     (λ _. all-follow c.in-One.device c.args.self.now c.lead_one.new.self c.args.act.now
-    c.in-One.ensures)
+    (λ other. (c.in-One.ensures other).0))
     c.lead_one.ensures.followed
 
 pub returns-in-One-clause-stay : goal.returns-in-One-clause-stay

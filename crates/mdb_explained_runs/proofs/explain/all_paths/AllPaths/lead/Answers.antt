@@ -2,7 +2,7 @@ use Rattle.mdb_explained_runs.proofs.AllPaths.{none-led, none-within}
 use Rattle.mdb_explained_runs.proofs.explain.all_paths.AllPaths.lead.Goals as goal
 
 pub lead_one-requires-clause-own : goal.lead_one-requires-clause-own
-lead_one-requires-clause-own c = c.in-One.ensures
+lead_one-requires-clause-own c = λ other. (c.in-One.ensures other).0
 
 pub returns-in-Nobody-clause-led : goal.returns-in-Nobody-clause-led
 returns-in-Nobody-clause-led c pieces events at are =
