@@ -1,5 +1,5 @@
 -- Bytes have one reading as a reader's answer.
-use Rattle.std.proofs.Common.{◌≡◌, ◌≢◌, ℕ, ◌≤◌, ◌⊎◌, inl, inr, false, List, [], ◌∷◌, ◌++◌, length, get_or, refl, sym, ap, ◌∙◌, arith, append_assoc, append-nil, length-append, subst, replicate, Result, Ok, Err, IfOk, IfErr, IfSome, IsNone, Bor}
+use Rattle.std.proofs.Common.{◌≡◌, ◌≢◌, ℕ, ◌≤◌, ◌==◌, if◌then◌else◌, ◌⊎◌, inl, inr, false, List, [], ◌∷◌, ◌++◌, length, get_or, refl, sym, ap, ◌∙◌, arith, append_assoc, append-nil, length-append, subst, replicate, Result, Ok, Err, IfOk, IfErr, IfSome, IsNone, Bor}
 use Rattle.std.specs.Result.{result_ok}
 use Rattle.std.specs.List.{flat_map, AllByRecursion}
 use Rattle.std.proofs.lemmas.Grind.{flat_map-append}
@@ -44,25 +44,38 @@ one_message id text other words l a b x y h e =
 abbrev pub ReaderEnds : List ℕ → Type 0
 ReaderEnds rest = Ends NoReaderMsg rest ⊎ ((time : ℕ) × (text : List ℕ) × (rest ≡ 2 ∷ time ∷ text))
 
+-- how many bytes a message has after its first, at least
+abbrev least : ℕ → ℕ
+least first =
+    if first == 1 then 7
+    else (if first == 3 then 2
+    else (if first == 5 then 2
+    else (if first == 9 then 29
+    else (if first == 10 then 1
+    else 0))))
+
 -- bytes that a message other than a display request begins
 abbrev IsFront : ℕ → List ℕ → Type 0
 IsFront first further =
-    (first ≤ 11) × (first ≢ 2) × (first ≡ 1 → 7 ≤ length further) × (first ≡ 3 → 2 ≤ length further)
-    × (first ≡ 5 → 2 ≤ length further) × (first ≡ 9 → 29 ≤ length further)
-    × (first ≡ 10 → 1 ≤ length further)
+    (first ≤ 11) × (first ≢ 2) × (least first ≤ length further)
+
+long : (n first : ℕ) (further : List ℕ) → IsFront first further → first ≡ n
+    → least n ≤ length further
+long n first further h is = subst (λ m. least m ≤ length further) is h.2
 
 no_fault : (first : ℕ) (further : List ℕ) (fault : MsgFault) → IsFront first further
     → NoReaderMsg (first ∷ further) fault → ⊥
-no_fault first further faults.Message h (inl none) = omega (arith, h.2 none.0, none.1)
+no_fault first further faults.Message h (inl none) =
+    omega (arith, long 1 first further h none.0, none.1)
 no_fault first further faults.Message h (inr (inl none)) = h.1 none.0
 no_fault first further faults.Message h (inr (inr (inl (inl three, short)))) =
-    omega (arith, h.3 three, short)
+    omega (arith, long 3 first further h three, short)
 no_fault first further faults.Message h (inr (inr (inl (inr five, short)))) =
-    omega (arith, h.4 five, short)
+    omega (arith, long 5 first further h five, short)
 no_fault first further faults.Message h (inr (inr (inr (inl none)))) =
-    omega (arith, h.5 none.0, none.1)
+    omega (arith, long 9 first further h none.0, none.1)
 no_fault first further faults.Message h (inr (inr (inr (inr none)))) = let nothing : length further
-    ≡ 0 = ap length none.1 in omega (arith, h.6 none.0, nothing)
+    ≡ 0 = ap length none.1 in omega (arith, long 10 first further h none.0, nothing)
 no_fault first further faults.Profile h none = omega (arith, h.0, none)
 no_fault first further faults.Length h none = none
 no_fault first further faults.Answer h none = none
@@ -74,112 +87,30 @@ no_end first further h (inr shown) = h.1 (ap (λ x. get_or x 0 0) shown.2)
 
 goes_on : (id text : List ℕ) → length id ≡ 29
     → NoEnd (reader_msg_bytes id text) NotDisplay ReaderEnds
-goes_on id text l JustReset x h e = no_end 0 x (
-  omega arith,
-  omega arith,
-  λ k. omega arith,
-  λ k. omega arith,
-  λ k. omega arith,
-  λ k. omega arith,
-  λ k. omega arith,
-) e
+goes_on id text l JustReset x h e =
+    no_end 0 x (omega arith, omega arith, omega arith) e
 goes_on id text l (Config level code scale decimals response options) x h e =
-    no_end 1 _ (
-      omega arith,
-      omega arith,
-      λ k. omega arith,
-      λ k. omega arith,
-      λ k. omega arith,
-      λ k. omega arith,
-      λ k. omega arith,
-    ) e
+    no_end 1 _ (omega arith, omega arith, omega arith) e
 goes_on id text l (Display time) x h e = cc h
 goes_on id text l (BeginSession funds) x h e =
-    no_end 3 _ (
-      omega arith,
-      omega arith,
-      λ k. omega arith,
-      λ k. omega arith,
-      λ k. omega arith,
-      λ k. omega arith,
-      λ k. omega arith,
-    ) e
-goes_on id text l CancelRequest x h e = no_end 4 x (
-  omega arith,
-  omega arith,
-  λ k. omega arith,
-  λ k. omega arith,
-  λ k. omega arith,
-  λ k. omega arith,
-  λ k. omega arith,
-) e
+    no_end 3 _ (omega arith, omega arith, omega arith) e
+goes_on id text l CancelRequest x h e =
+    no_end 4 x (omega arith, omega arith, omega arith) e
 goes_on id text l (VendApproved amount) x h e =
-    no_end 5 _ (
-      omega arith,
-      omega arith,
-      λ k. omega arith,
-      λ k. omega arith,
-      λ k. omega arith,
-      λ k. omega arith,
-      λ k. omega arith,
-    ) e
-goes_on id text l VendDenied x h e = no_end 6 x (
-  omega arith,
-  omega arith,
-  λ k. omega arith,
-  λ k. omega arith,
-  λ k. omega arith,
-  λ k. omega arith,
-  λ k. omega arith,
-) e
-goes_on id text l EndSession x h e = no_end 7 x (
-  omega arith,
-  omega arith,
-  λ k. omega arith,
-  λ k. omega arith,
-  λ k. omega arith,
-  λ k. omega arith,
-  λ k. omega arith,
-) e
-goes_on id text l Cancelled x h e = no_end 8 x (
-  omega arith,
-  omega arith,
-  λ k. omega arith,
-  λ k. omega arith,
-  λ k. omega arith,
-  λ k. omega arith,
-  λ k. omega arith,
-) e
+    no_end 5 _ (omega arith, omega arith, omega arith) e
+goes_on id text l VendDenied x h e =
+    no_end 6 x (omega arith, omega arith, omega arith) e
+goes_on id text l EndSession x h e =
+    no_end 7 x (omega arith, omega arith, omega arith) e
+goes_on id text l Cancelled x h e =
+    no_end 8 x (omega arith, omega arith, omega arith) e
 goes_on id text l PeripheralId x h e =
     let long = length-append id x in
-    no_end 9 (id ++ x) (
-      omega arith,
-      omega arith,
-      λ k. omega arith,
-      λ k. omega arith,
-      λ k. omega arith,
-      λ k. omega arith,
-      λ k. omega arith,
-    ) e
+    no_end 9 (id ++ x) (omega arith, omega arith, omega arith) e
 goes_on id text l (Malfunction code) x h e =
-    no_end 10 (code ∷ x) (
-      omega arith,
-      omega arith,
-      λ k. omega arith,
-      λ k. omega arith,
-      λ k. omega arith,
-      λ k. omega arith,
-      λ k. omega arith,
-    ) e
-goes_on id text l OutOfSequence x h e = no_end 11 x (
-  omega arith,
-  omega arith,
-  λ k. omega arith,
-  λ k. omega arith,
-  λ k. omega arith,
-  λ k. omega arith,
-  λ k. omega arith,
-) e
+    no_end 10 (code ∷ x) (omega arith, omega arith, omega arith) e
+goes_on id text l OutOfSequence x h e =
+    no_end 11 x (omega arith, omega arith, omega arith) e
 
 -- two lists of messages that are no display requests, with the same bytes before an end, are one
 pub one_bare : (id text other words : List ℕ) → length id ≡ 29 → length other ≡ 29
