@@ -1,5 +1,4 @@
-use Rattle.std.proofs.Common.{[], ap, get_or}
-use Rattle.mdb_follow.specs.declared.account_name.AccountName.TheVariants.{CoinsIn}
+use Rattle.std.proofs.Common.{[], ap}
 use Rattle.mdb_follow.specs.declared.account_name.TheConstants.AccountName.{ALL}
 use Rattle.mdb_follow.specs.AccountNames.{account_of}
 use Rattle.mdb_text.specs.Text.{account_line}
@@ -10,8 +9,8 @@ pub loop-name-preserved : goal.loop-name-preserved
 loop-name-preserved g c =
     let i = c.loop-name.name-index in
     one_part_more (λ name. account_line name (account_of name c.args.report.now)) _ _ _ [] ALL i
-    CoinsIn _ c.loop-name-test.true c.loop-name.invariant
-    (ap (account_line (get_or ALL i CoinsIn)) c.account.ensures) c.in_ok-write_account.ensures
+    _ _ c.loop-name-test.true c.loop-name.invariant (ap (account_line _) c.account.ensures)
+    c.in_ok-write_account.ensures
 
 pub returns : goal.returns
 returns g c =

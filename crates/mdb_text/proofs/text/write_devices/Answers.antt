@@ -1,6 +1,5 @@
 use Rattle.std.proofs.Common.{rules, refl, subst, sym}
 use Rattle.std.proofs.lemmas.List.{append-nil}
-use Rattle.mdb_msgs.specs.declared.command.Device.TheVariants.{Changer}
 use Rattle.mdb_follow.specs.declared.report.TheConstants.Report.{DEVICES}
 use Rattle.std.specs.Io.KnownBytes.{Appends}
 use Rattle.mdb_text.specs.Text.{word_in}
@@ -16,7 +15,7 @@ loop-device-init g c =
 pub loop-device-preserved : goal.loop-device-preserved
 loop-device-preserved g c =
     let i = c.loop-device.device-index in
-    one_part_more (word_in c.args.devices) _ _ _ c.args.word.now DEVICES i Changer _
+    one_part_more (word_in c.args.devices) _ _ _ c.args.word.now DEVICES i _ _
     c.loop-device-test.true c.loop-device.invariant
     refl c.in_ok-write_if_in.ensures
 

@@ -1,5 +1,4 @@
-use Rattle.std.proofs.Common.{codes, ap, get_or}
-use Rattle.mdb_msgs.specs.declared.command.Device.TheVariants.{Changer}
+use Rattle.std.proofs.Common.{codes, ap}
 use Rattle.mdb_follow.specs.declared.report.TheConstants.Report.{DEVICES}
 use Rattle.mdb_follow.specs.Report.{device_unvalued}
 use Rattle.mdb_text.specs.Text.{count_text}
@@ -14,8 +13,8 @@ pub loop-device-preserved : goal.loop-device-preserved
 loop-device-preserved g c =
     let i = c.loop-device.device-index in
     one_part_more (λ device. count_text device (device_unvalued device c.args.report.now)) _ _ _
-    (codes "unvalued") DEVICES i Changer _ c.loop-device-test.true c.loop-device.invariant
-    (ap (count_text (get_or DEVICES i Changer)) c.device_unvalued.ensures)
+    (codes "unvalued") DEVICES i _ _ c.loop-device-test.true c.loop-device.invariant
+    (ap (count_text _) c.device_unvalued.ensures)
     c.in_ok-write_count.ensures
 
 pub returns : goal.returns
