@@ -7,8 +7,7 @@ use Rattle.mdb_text.proofs.text.write_accounts.Goals as goal
 
 pub loop-name-preserved : goal.loop-name-preserved
 loop-name-preserved g c =
-    let i = c.loop-name.name-index in
-    one_part_more (λ name. account_line name (account_of name c.args.report.now)) _ _ _ [] ALL i
+    one_part_more (λ name. account_line name (account_of name c.args.report.now)) _ _ _ [] ALL _
     _ _ c.loop-name-test.true c.loop-name.invariant (ap (account_line _) c.account.ensures)
     c.in_ok-write_account.ensures
 

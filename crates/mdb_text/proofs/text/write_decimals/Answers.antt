@@ -11,11 +11,9 @@ loop-device-init g c = c.in_ok-write.ensures.bytes
 
 pub loop-device-preserved : goal.loop-device-preserved
 loop-device-preserved g c =
-    let i = c.loop-device.device-index in
     one_part_more (λ device. places_text device (device_decimals device c.args.report.now)) _ _ _
-    (codes "decimals") DEVICES i _ _ c.loop-device-test.true c.loop-device.invariant
-    (ap (places_text _) c.device_decimals.ensures)
-    c.in_ok-write_places.ensures
+    (codes "decimals") DEVICES _ _ _ c.loop-device-test.true c.loop-device.invariant
+    (ap (places_text _) c.device_decimals.ensures) c.in_ok-write_places.ensures
 
 pub returns : goal.returns
 returns g c =

@@ -14,10 +14,9 @@ loop-device-init g c =
 
 pub loop-device-preserved : goal.loop-device-preserved
 loop-device-preserved g c =
-    let i = c.loop-device.device-index in
-    one_part_more (word_in c.args.devices) _ _ _ c.args.word.now DEVICES i _ _
-    c.loop-device-test.true c.loop-device.invariant
-    refl c.in_ok-write_if_in.ensures
+    one_part_more (word_in c.args.devices) _ _ _ c.args.word.now DEVICES _ _ _
+    c.loop-device-test.true c.loop-device.invariant refl
+    c.in_ok-write_if_in.ensures
 
 pub returns : goal.returns
 returns g c =

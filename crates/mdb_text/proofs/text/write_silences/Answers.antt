@@ -11,11 +11,9 @@ loop-device-init g c = c.in_ok-write.ensures.bytes
 
 pub loop-device-preserved : goal.loop-device-preserved
 loop-device-preserved g c =
-    let i = c.loop-device.device-index in
     one_part_more (λ device. count_text device (device_silences device c.args.report.now)) _ _ _
-    (codes "silences") DEVICES i _ _ c.loop-device-test.true c.loop-device.invariant
-    (ap (count_text _) c.device_silences.ensures)
-    c.in_ok-write_count.ensures
+    (codes "silences") DEVICES _ _ _ c.loop-device-test.true c.loop-device.invariant
+    (ap (count_text _) c.device_silences.ensures) c.in_ok-write_count.ensures
 
 pub returns : goal.returns
 returns g c =
