@@ -1,23 +1,23 @@
 -- An answer has no float.
 use Rattle.std.proofs.Common.{refl, ◌≡◌, ℤ, pos, negsuc, false, ℕ, List, Option, Some, None}
+use Rattle.std.specs.List.{filter}
 use Rattle.serde_json.specs.Find.{is_float, of_integer}
 use Rattle.serde_json.specs.Written.{has_float}
 use Rattle.mdb_msgs.specs.declared.command.Device.{Device}
-use Rattle.mdb_msgs.specs.declared.command.Device.TheVariants.{Changer, Bill, Reader}
-use Rattle.mdb_msgs.specs.declared.command.ReaderUnit.TheVariants.{First, Second}
 use Rattle.mdb_bus.specs.declared.scope.Scope.{Scope}
 use Rattle.mdb_follow.specs.declared.account.Account.{Account}
-use Rattle.mdb_follow.specs.declared.account_name.AccountName.TheVariants.{CoinsIn, BillsIn}
-use Rattle.mdb_follow.specs.declared.account_name.AccountName.TheVariants.{PaidOut, Approved, Sold}
+use Rattle.mdb_follow.specs.declared.account_name.TheConstants.AccountName.{ALL}
 use Rattle.mdb_follow.specs.declared.goal.AccountSide.TheVariants as sides
 use Rattle.mdb_follow.specs.declared.range.Range.{Range}
 use Rattle.mdb_follow.specs.declared.report.Report.{Report}
+use Rattle.mdb_follow.specs.declared.report.TheConstants.Report.{DEVICES}
 use Rattle.mdb_follow.specs.Ends.{side_range}
 use Rattle.mdb_follow.specs.Report.{device_decimals}
 use Rattle.mdb_follow.specs.AccountNames.{account_in}
 use Rattle.mdb_text.specs.declared.outcome.Outcome.{Outcome}
 use Rattle.mdb_text.specs.declared.outcome.Outcome.TheVariants.{Yes, No}
-use Rattle.mdb_json.specs.Reports.{account_data, accounts_data, device_data, devices_data, outcome_data, places_data, range_data, yes_data}
+use Rattle.mdb_json.specs.Reports.{account_data, account_member, accounts_data, device_data, device_member, devices_data, keeps, outcome_data, places_data, range_data, yes_data}
+use Rattle.mdb_json.proofs.Objects.{without_float}
 
 no_float : (n : ℤ) → is_float (of_integer n) ≡ false
 no_float (pos n) = refl
@@ -34,16 +34,9 @@ of_account account =
 
 pub of_accounts : (accounts : List Account) (which : Device)
     → has_float (accounts_data accounts which) ≡ false
-of_accounts accounts Changer =
-    rw (of_account (account_in CoinsIn accounts))
-    (rw (of_account (account_in PaidOut accounts)) refl)
-of_accounts accounts Bill = rw (of_account (account_in BillsIn accounts)) refl
-of_accounts accounts (Reader First) =
-    rw (of_account (account_in (Approved First) accounts))
-    (rw (of_account (account_in (Sold First) accounts)) refl)
-of_accounts accounts (Reader Second) =
-    rw (of_account (account_in (Approved Second) accounts))
-    (rw (of_account (account_in (Sold Second) accounts)) refl)
+of_accounts accounts which =
+    without_float (account_member accounts) (filter (keeps which) ALL)
+    (λ name. of_account (account_in name accounts))
 
 of_places : (places : Option ℕ) → has_float (places_data places) ≡ false
 of_places (Some places) = refl
@@ -56,9 +49,7 @@ of_device scope report which =
 
 of_devices : (scope : Scope) (report : Report) → has_float (devices_data scope report) ≡ false
 of_devices scope report =
-    rw (of_device scope report Bill) (rw (of_device scope report (Reader First))
-    (rw (of_device scope report (Reader Second))
-    (rw (of_device scope report Changer) refl)))
+    without_float (device_member scope report) DEVICES (of_device scope report)
 
 pub of_yes : (scope : Scope) (report : Report) → has_float (yes_data scope report) ≡ false
 of_yes scope report = rw (of_devices scope report) refl

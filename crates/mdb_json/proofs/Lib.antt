@@ -1,2 +1,3 @@
 pub mod Depths
 pub mod Floats
+pub mod Objects

@@ -1,36 +1,41 @@
--- An answer as a JSON value. The members of an object stand in the order of their names.
-use Rattle.std.specs.Prelude.{ℕ, List, [], ◌∷◌, Bool, true, false, Option, Some, None, codes}
-use Rattle.serde_json.specs.Data.{Data, null, boolean, number, string, Members, object, member, no_members, unsigned}
+-- An answer as a JSON value.
+use Rattle.std.specs.Prelude.{ℕ, List, [], ◌∷◌, Bool, true, false, Option, Some, None, codes, map}
+use Rattle.std.specs.List.{filter, fold}
+use Rattle.serde_json.specs.Data.{Data, null, boolean, number, string, Members, object, no_members, put, unsigned}
 use Rattle.serde_json.specs.Find.{of_integer}
 use Rattle.mdb_msgs.specs.declared.command.Device.{Device}
-use Rattle.mdb_msgs.specs.declared.command.Device.TheVariants.{Changer, Bill, Reader}
-use Rattle.mdb_msgs.specs.declared.command.ReaderUnit.TheVariants.{First, Second}
 use Rattle.mdb_msgs.specs.declared.device_set.DeviceSet.{DeviceSet}
 use Rattle.mdb_msgs.specs.declared.device_set.TheConstants.DeviceSet.{NONE}
 use Rattle.mdb_msgs.specs.DeviceSets.{has}
+use Rattle.mdb_msgs.specs.Devices.{device_word}
 use Rattle.mdb_bus.specs.declared.scope.Beginning.{Beginning}
 use Rattle.mdb_bus.specs.declared.scope.Beginning.TheVariants.{PowerOn, Joined}
 use Rattle.mdb_bus.specs.declared.scope.Scope.{Scope}
 use Rattle.mdb_bus.specs.FaultWords.{blame_word, rule_word}
 use Rattle.mdb_follow.specs.declared.account.Account.{Account}
-use Rattle.mdb_follow.specs.declared.account_name.AccountName.TheVariants.{CoinsIn, BillsIn}
-use Rattle.mdb_follow.specs.declared.account_name.AccountName.TheVariants.{PaidOut, Approved, Sold}
+use Rattle.mdb_follow.specs.declared.account_name.AccountName.{AccountName}
+use Rattle.mdb_follow.specs.declared.account_name.TheConstants.AccountName.{ALL}
 use Rattle.mdb_follow.specs.declared.goal.AccountSide.{AccountSide}
 use Rattle.mdb_follow.specs.declared.goal.AccountSide.TheVariants as sides
 use Rattle.mdb_follow.specs.declared.offence.Offence.{Offence}
 use Rattle.mdb_follow.specs.declared.range.Range.{Range}
 use Rattle.mdb_follow.specs.declared.report.Report.{Report}
+use Rattle.mdb_follow.specs.declared.report.TheConstants.Report.{DEVICES}
+use Rattle.mdb_follow.specs.Devices.{same_device}
 use Rattle.mdb_follow.specs.Ends.{side_range}
 use Rattle.mdb_follow.specs.Report.{device_decimals, device_silences, device_unvalued}
-use Rattle.mdb_follow.specs.AccountNames.{account_in}
+use Rattle.mdb_follow.specs.AccountNames.{account_device, account_in, account_word}
 use Rattle.mdb_text.specs.declared.outcome.Outcome.{Outcome}
 use Rattle.mdb_text.specs.declared.outcome.Outcome.TheVariants.{Yes, No}
 use Rattle.mdb_text.specs.Known.{known_devices}
 
--- the members of an object, each with its name, in this order
+-- members and one more, at the place of its name
+abbrev pub with_member : Members → List ℕ × Data → Members
+with_member others (name, value) = put name value others
+
+-- the members of an object, each with its name, in the order of their names
 abbrev pub members : List (List ℕ × Data) → Members
-members [] = no_members
-members ((name, value) ∷ others) = member name value (members others)
+members = fold with_member no_members
 
 -- the least and the greatest of a sum, in the smallest unit of its device
 abbrev pub range_data : Range → Data
@@ -53,19 +58,18 @@ account_data account =
     ∷ (codes "difference", side_data account sides.Difference) ∷ []
     ))
 
--- the accounts that a device keeps, by their words, of a list in the order of a report
+-- an account by its word, of a list in the order of a report
+abbrev pub account_member : List Account → AccountName → List ℕ × Data
+account_member accounts name = (account_word name, account_data (account_in name accounts))
+
+-- whether a device keeps an account
+abbrev pub keeps : Device → AccountName → Bool
+keeps device name = same_device (account_device name) device
+
+-- the accounts that a device keeps
 abbrev pub accounts_data : List Account → Device → Data
-accounts_data accounts Changer =
-    object (member (codes "coins-in") (account_data (account_in CoinsIn accounts))
-    (member (codes "paid-out") (account_data (account_in PaidOut accounts)) no_members))
-accounts_data accounts Bill =
-    object (member (codes "bills-in") (account_data (account_in BillsIn accounts)) no_members)
-accounts_data accounts (Reader First) =
-    object (member (codes "approved") (account_data (account_in (Approved First) accounts))
-    (member (codes "sold") (account_data (account_in (Sold First) accounts)) no_members))
-accounts_data accounts (Reader Second) =
-    object (member (codes "approved-2") (account_data (account_in (Approved Second) accounts))
-    (member (codes "sold-2") (account_data (account_in (Sold Second) accounts)) no_members))
+accounts_data accounts device =
+    object (members (map (account_member accounts) (filter (keeps device) ALL)))
 
 -- how many decimal places a device told of; null where it told of none
 abbrev pub places_data : Option ℕ → Data
@@ -91,15 +95,13 @@ device_data scope report device =
     ∷ (codes "without", boolean (has scope.without device)) ∷ []
     ))
 
--- each device, by its word
+-- a device by its word
+abbrev pub device_member : Scope → Report → Device → List ℕ × Data
+device_member scope report device = (device_word device, device_data scope report device)
+
+-- all devices
 abbrev pub devices_data : Scope → Report → Data
-devices_data scope report =
-    object (members (
-    (codes "bill", device_data scope report Bill)
-    ∷ (codes "cashless", device_data scope report (Reader First))
-    ∷ (codes "cashless-2", device_data scope report (Reader Second))
-    ∷ (codes "changer", device_data scope report Changer) ∷ []
-    ))
+devices_data scope report = object (members (map (device_member scope report) DEVICES))
 
 -- whether a recording begins in mid-session
 abbrev pub is_joined : Beginning → Bool

@@ -5,9 +5,9 @@ ghost use Rattle.serde_json.specs.View.{view};
 ghost use Rattle.mdb_follow.specs.AccountNames.{account_in};
 ghost use Rattle.mdb_json.specs.Reports.{account_data, accounts_data, range_data};
 
-use mdb_follow::{Account, AccountName, Range};
-use mdb_msgs::{Device, ReaderUnit};
-use serde_json::{Value, json};
+use mdb_follow::{Account, AccountName, Range, device_place};
+use mdb_msgs::Device;
+use serde_json::{Map, Value, json, put};
 use std::alloc::{AllocError, Global};
 
 /// The accounts that a device keeps, by their words: those of all, which stand in the order of
@@ -19,51 +19,14 @@ use std::alloc::{AllocError, Global};
 pub fn accounts_of(alloc: Global, all: &[Account; 7], device: Device) -> Result<Value, AllocError>
     ensures { IfOk result (λ value. view value ≡ accounts_data all.now device) }
 {
-    match device {
-        Device::Changer => of_changer(alloc, all),
-        Device::Bill => of_bill(alloc, all),
-        Device::Reader(ReaderUnit::First) => of_first_reader(alloc, all),
-        Device::Reader(ReaderUnit::Second) => of_second_reader(alloc, all),
+    let mut accounts = Map::new(alloc);
+    for name in AccountName::ALL {
+        if device_place(name.device()) == device_place(device) {
+            let value = account(alloc, all, name)?;
+            put(&mut accounts, alloc, name.word(), value)?;
+        }
     }
-}
-
-/// The accounts of the changer.
-fn of_changer(alloc: Global, all: &[Account; 7]) -> Result<Value, AllocError>
-    ensures { IfOk result (λ value. view value ≡ accounts_data all.now Device.Changer) }
-{
-    json!(in alloc; {
-        "coins-in": account(alloc, all, AccountName::CoinsIn)?,
-        "paid-out": account(alloc, all, AccountName::PaidOut)?
-    })
-}
-
-/// The account of the validator.
-fn of_bill(alloc: Global, all: &[Account; 7]) -> Result<Value, AllocError>
-    ensures { IfOk result (λ value. view value ≡ accounts_data all.now Device.Bill) }
-{
-    json!(in alloc; {"bills-in": account(alloc, all, AccountName::BillsIn)?})
-}
-
-/// The accounts of the first reader.
-fn of_first_reader(alloc: Global, all: &[Account; 7]) -> Result<Value, AllocError>
-    ensures { IfOk result (λ value. view value ≡ accounts_data all.now
-        (Device.Reader ReaderUnit.First)) }
-{
-    json!(in alloc; {
-        "approved": account(alloc, all, AccountName::Approved(ReaderUnit::First))?,
-        "sold": account(alloc, all, AccountName::Sold(ReaderUnit::First))?
-    })
-}
-
-/// The accounts of the second reader.
-fn of_second_reader(alloc: Global, all: &[Account; 7]) -> Result<Value, AllocError>
-    ensures { IfOk result (λ value. view value ≡ accounts_data all.now
-        (Device.Reader ReaderUnit.Second)) }
-{
-    json!(in alloc; {
-        "approved-2": account(alloc, all, AccountName::Approved(ReaderUnit::Second))?,
-        "sold-2": account(alloc, all, AccountName::Sold(ReaderUnit::Second))?
-    })
+    Ok(Value::Object(accounts))
 }
 
 /// What an account comes to on each side.

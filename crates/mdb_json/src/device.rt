@@ -7,25 +7,25 @@ ghost use Rattle.mdb_json.specs.Reports.{device_data, devices_data, known_in, pl
 use super::account::accounts_of;
 use mdb_bus::{Beginning, Scope};
 use mdb_follow::Report;
-use mdb_msgs::{Device, DeviceSet, ReaderUnit};
+use mdb_msgs::{Device, DeviceSet};
 use mdb_text::known_devices;
-use serde_json::{Value, json};
+use serde_json::{Map, Value, json, put};
 use std::alloc::{AllocError, Global};
 
 /// What a yes tells of each device, by its word.
 pub(crate) fn devices(alloc: Global, scope: &Scope, report: &Report) -> Result<Value, AllocError>
     ensures { IfOk result (λ value. view value ≡ devices_data scope.now report.now) }
 {
-    json!(in alloc; {
-        "changer": device(alloc, scope, report, Device::Changer)?,
-        "bill": device(alloc, scope, report, Device::Bill)?,
-        "cashless": device(alloc, scope, report, Device::Reader(ReaderUnit::First))?,
-        "cashless-2": device(alloc, scope, report, Device::Reader(ReaderUnit::Second))?
-    })
+    let mut devices = Map::new(alloc);
+    for device in Report::DEVICES {
+        let value = device_value(alloc, scope, report, device)?;
+        put(&mut devices, alloc, device.word(), value)?;
+    }
+    Ok(Value::Object(devices))
 }
 
 /// What a yes tells of a device.
-fn device(
+fn device_value(
     alloc: Global,
     scope: &Scope,
     report: &Report,

@@ -1,0 +1,10 @@
+use Rattle.std.proofs.Common.{◌≡◌, map, take}
+use Rattle.serde_json.specs.View.{members_view}
+use Rattle.mdb_json.specs.Reports.{device_member, members}
+use Rattle.mdb_json.proofs.device.devices.Given as goal
+
+-- the devices so far are members
+abbrev pub invariant-loop-device : goal.invariant-loop-device
+invariant-loop-device l =
+    members_view l.devices.entries
+    ≡ members (map (device_member l.scope l.report) (take l.device-index l.device-items))
