@@ -1,6 +1,5 @@
-use Rattle.std.proofs.Common.{[], ◌++◌, ap, codes, get_or}
+use Rattle.std.proofs.Common.{[], ◌++◌, ap, codes}
 use Rattle.std.proofs.KnownBytes.{Appends-trans}
-use Rattle.mdb_follow.specs.declared.account_name.AccountName.TheVariants.{CoinsIn}
 use Rattle.mdb_follow.specs.declared.account_name.TheConstants.AccountName.{ALL}
 use Rattle.mdb_stretches.specs.Totals.{total_of}
 use Rattle.mdb_text.specs.Text.{account_line}
@@ -9,11 +8,9 @@ use Rattle.mdb_survey_text.proofs.text.write_total_accounts.Goals as goal
 
 pub loop-name-preserved : goal.loop-name-preserved
 loop-name-preserved g c =
-    let i = c.loop-name.name-index in
     one_part_more (λ name. codes "total " ++ account_line name (total_of name c.args.totals.now)) _
-    _ _ [] ALL i CoinsIn _ c.loop-name-test.true c.loop-name.invariant
-    (ap (λ account. codes "total " ++ account_line (get_or ALL i CoinsIn) account)
-    c.account.ensures)
+    _ _ [] ALL _ _ _ c.loop-name-test.true c.loop-name.invariant
+    (ap (λ text. codes "total " ++ text) (ap (account_line _) c.account.ensures))
     (Appends-trans _ _ _ _ _ c.in_ok-write.ensures.bytes c.in_ok-write_account.ensures)
 
 pub returns : goal.returns

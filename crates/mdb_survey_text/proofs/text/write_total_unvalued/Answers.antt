@@ -1,6 +1,5 @@
-use Rattle.std.proofs.Common.{codes, ap, get_or}
+use Rattle.std.proofs.Common.{codes, ap}
 use Rattle.std.proofs.KnownBytes.{Appends-trans}
-use Rattle.mdb_msgs.specs.declared.command.Device.TheVariants.{Changer}
 use Rattle.mdb_follow.specs.declared.report.TheConstants.Report.{DEVICES}
 use Rattle.mdb_stretches.specs.Totals.{total_unvalued}
 use Rattle.mdb_text.specs.Text.{count_text}
@@ -12,11 +11,9 @@ loop-device-init g c = c.in_ok-write.ensures.bytes
 
 pub loop-device-preserved : goal.loop-device-preserved
 loop-device-preserved g c =
-    let i = c.loop-device.device-index in
     one_part_more (λ device. count_text device (total_unvalued device c.args.totals.now)) _ _ _
-    (codes "total unvalued") DEVICES i Changer _ c.loop-device-test.true c.loop-device.invariant
-    (ap (count_text (get_or DEVICES i Changer)) c.device_unvalued.ensures)
-    c.in_ok-write_count.ensures
+    (codes "total unvalued") DEVICES _ _ _ c.loop-device-test.true c.loop-device.invariant
+    (ap (count_text _) c.device_unvalued.ensures) c.in_ok-write_count.ensures
 
 pub returns : goal.returns
 returns g c =
