@@ -1,6 +1,6 @@
 -- How the lines of a survey come about, row by row, in whatever form. This file serves private
 -- functions and proofs: no public clause cites it.
-use Rattle.std.specs.Prelude.{◌≡◌, ◌⊎◌, ℕ, List, ◌++◌, length, Result, Ok, Err, IfErr, IfOk, OnOk}
+use Rattle.std.specs.Prelude.{◌≡◌, ◌⊎◌, ℕ, List, ◌++◌, length, Result, Err, IfErr, IfOk, OnOk}
 use Rattle.mdb_words.specs.declared.event.Event.{Event}
 use Rattle.mdb_bus.specs.declared.scope.Scope.{Scope}
 use Rattle.mdb_stretches.specs.declared.stretch.Ended.{Ended}
