@@ -1,15 +1,16 @@
 -- The lines of a survey have no float.
-use Rattle.std.proofs.Common.{refl, ◌≡◌, ◌==◌, Bool, true, false, codes, if◌then◌else◌}
-use Rattle.serde_json.specs.Data.{Data, null, object, member, no_members}
+use Rattle.std.proofs.Common.{[], ◌∷◌, refl, ◌≡◌, ◌==◌, Bool, true, false, codes, if◌then◌else◌}
+use Rattle.serde_json.specs.Data.{Data, null, object}
 use Rattle.serde_json.specs.Written.{has_float}
 use Rattle.mdb_msgs.specs.declared.command.Device.{Device}
-use Rattle.mdb_msgs.specs.declared.command.Device.TheVariants.{Changer, Bill, Reader}
-use Rattle.mdb_msgs.specs.declared.command.ReaderUnit.TheVariants.{First, Second}
 use Rattle.mdb_follow.specs.declared.offence.Offence.{Offence}
+use Rattle.mdb_follow.specs.declared.report.TheConstants.Report.{DEVICES}
+use Rattle.mdb_json.specs.Reports.{members}
 use Rattle.mdb_json.proofs.Floats.{of_accounts, of_yes}
+use Rattle.mdb_json.proofs.Objects.{without_float}
 use Rattle.mdb_stretches.specs.declared.stretch.Stretch.{Stretch}
 use Rattle.mdb_stretches.specs.declared.summary.Summary.{Summary}
-use Rattle.mdb_survey.specs.SurveyJson.{device_total, devices_total, fault_data, stretch_data, summary_data, total_data}
+use Rattle.mdb_survey.specs.SurveyJson.{device_member, device_total, devices_total, fault_data, stretch_data, summary_data, total_data}
 
 pub of_stretch : (stretch : Stretch) → has_float (stretch_data stretch) ≡ false
 of_stretch stretch = rw (of_yes stretch.scope stretch.report) refl
@@ -21,9 +22,7 @@ of_device : (summary : Summary) (which : Device) → has_float (device_total sum
 of_device summary which = rw (of_accounts summary.totals.accounts which) refl
 
 of_devices : (summary : Summary) → has_float (devices_total summary) ≡ false
-of_devices summary =
-    rw (of_device summary Bill) (rw (of_device summary (Reader First))
-    (rw (of_device summary (Reader Second)) (rw (of_device summary Changer) refl)))
+of_devices summary = without_float (device_member summary) DEVICES (of_device summary)
 
 or_null : (is_null : Bool) (given : Data) → has_float given ≡ false
     → has_float (if is_null then null else given) ≡ false
@@ -33,7 +32,7 @@ or_null false given none = none
 of_total : (summary : Summary) → has_float (total_data summary) ≡ false
 of_total summary =
     or_null (summary.totals.rows == 0)
-    (object (member (codes "devices") (devices_total summary) no_members))
+    (object (members ((codes "devices", devices_total summary) ∷ [])))
     (rw (of_devices summary) refl)
 
 pub of_summary : (summary : Summary) → has_float (summary_data summary) ≡ false

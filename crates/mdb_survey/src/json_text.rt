@@ -7,11 +7,11 @@ ghost use Rattle.serde_json.specs.Written.{compact_text, has_float};
 ghost use Rattle.mdb_survey.specs.SurveyJson.{device_total, devices_total, fault_data, faults_data, offence_data, stretch_data, stretch_json, summary_data, total_data};
 ghost use Rattle.mdb_text.specs.Text.{line};
 
-use mdb_follow::Offence;
+use mdb_follow::{Offence, Report};
 use mdb_json::{VERSION, accounts_of, report_value};
-use mdb_msgs::{Device, ReaderUnit};
+use mdb_msgs::Device;
 use mdb_stretches::{FaultCounts, Stretch, Summary};
-use serde_json::{Value, json};
+use serde_json::{Map, Value, json, put};
 use std::alloc::{AllocError, Global};
 
 /// Appends the line of a stretch: none where it has no row.
@@ -122,16 +122,12 @@ fn total_value(alloc: Global, summary: &Summary) -> Result<Value, AllocError>
 fn devices_value(alloc: Global, summary: &Summary) -> Result<Value, AllocError>
     ensures { IfOk result (λ value. view value ≡ devices_total summary.now) }
 {
-    let changer = device_value(alloc, summary, Device::Changer)?;
-    let bill = device_value(alloc, summary, Device::Bill)?;
-    let first = device_value(alloc, summary, Device::Reader(ReaderUnit::First))?;
-    let second = device_value(alloc, summary, Device::Reader(ReaderUnit::Second))?;
-    json!(in alloc; {
-        "changer": changer,
-        "bill": bill,
-        "cashless": first,
-        "cashless-2": second
-    })
+    let mut devices = Map::new(alloc);
+    for device in Report::DEVICES {
+        let value = device_value(alloc, summary, device)?;
+        put(&mut devices, alloc, device.word(), value)?;
+    }
+    Ok(Value::Object(devices))
 }
 
 /// What all stretches have of a device.

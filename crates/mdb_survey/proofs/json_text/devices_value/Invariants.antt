@@ -1,0 +1,11 @@
+use Rattle.std.proofs.Common.{◌≡◌, map, take}
+use Rattle.serde_json.specs.View.{members_view}
+use Rattle.mdb_json.specs.Reports.{members}
+use Rattle.mdb_survey.specs.SurveyJson.{device_member}
+use Rattle.mdb_survey.proofs.json_text.devices_value.Given as goal
+
+-- the devices so far are members
+abbrev pub invariant-loop-device : goal.invariant-loop-device
+invariant-loop-device l =
+    members_view l.devices.entries
+    ≡ members (map (device_member l.summary) (take l.device-index l.device-items))
