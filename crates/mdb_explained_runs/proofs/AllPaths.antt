@@ -1,6 +1,6 @@
 -- The paths of a device among those of all, whose chains share their links.
 use Rattle.std.proofs.Common.{arith, ap, sym, subst, Contains, ◌∙◌, ◌≡◌, ◌+◌, ◌^◌, ℕ, Bool, true, false, List, ◌∷◌, ◌++◌, length}
-use Rattle.std.proofs.Common.{Result, inl, inr, refl}
+use Rattle.std.proofs.Common.{Result, Ok, Err, inl, inr, refl, get_or, ◌<◌, ◌≤◌}
 use Rattle.std.specs.Bool.{OnFalse, OnTrue}
 use Rattle.std.specs.Prelude.{IfOk}
 use Rattle.std.proofs.lemmas.Bool.{false≢true}
@@ -19,13 +19,16 @@ use Rattle.mdb_explained_runs.specs.declared.explain.chains.Chains.{Chains}
 use Rattle.mdb_explained_runs.specs.declared.explain.chains.Link.{Link}
 use Rattle.mdb_explained_runs.specs.declared.explain.paths.Paths.{Paths}
 use Rattle.mdb_follow.specs.declared.goal.Goal.{Goal}
+use Rattle.mdb_follow.specs.declared.report.TheConstants.Report.{DEVICES}
+use Rattle.mdb_follow.specs.Devices.{device_place}
 use Rattle.mdb_explained_runs.specs.declared.mark.Mark.{Mark}
 use Rattle.mdb_follow.specs.Machines.{machine_of}
 use Rattle.mdb_explained_runs.specs.Marks.{own_marks}
 use Rattle.mdb_follow.specs.Sides.{FactsOf, code_of, codes_of, stands_for}
-use Rattle.mdb_explained_runs.specs.inner.AllPaths.{AreAllPaths, AreAllWithin, AreBestMarks}
-use Rattle.mdb_explained_runs.specs.inner.AllPaths.{ArePathsOf, AreWithinOf, HasNoWay, HasWay}
-use Rattle.mdb_explained_runs.specs.inner.AllPaths.{paths_in, weight_for}
+use Rattle.mdb_explained_runs.specs.inner.AllPaths.{AreAllFacts, AreAllPaths, AreAllWithin}
+use Rattle.mdb_explained_runs.specs.inner.AllPaths.{AreBestMarks, AreFactsOf, ArePathsOf, AreWithinOf}
+use Rattle.mdb_explained_runs.specs.inner.AllPaths.{HasNoWay, HasWay, LeadsPathsOf, OneLeadsPaths, paths_in}
+use Rattle.mdb_explained_runs.specs.inner.AllPaths.{weight_for}
 use Rattle.mdb_explained_runs.specs.inner.Chains.{Denotes, IsChain, KeepChains}
 use Rattle.mdb_explained_runs.specs.inner.Paths.{AreEntriesWithin, ArePaths, IsAsGood, IsBestOf}
 use Rattle.mdb_explained_runs.specs.inner.Weights.{weigh}
@@ -33,8 +36,8 @@ use Rattle.mdb_explained_runs.proofs.Bests.{as_good-then}
 use Rattle.mdb_explained_runs.proofs.Chains.{denotes-one}
 use Rattle.mdb_explained_runs.proofs.EntryLimits.{entries-within-kept}
 use Rattle.mdb_explained_runs.proofs.Paths.{paths-kept, paths-still}
-use Rattle.mdb_follow.proofs.ByDevice.{same_or_not}
-use Rattle.mdb_follow.proofs.Following.{if-ok, on-true}
+use Rattle.mdb_follow.proofs.ByDevice.{below, earlier, placed, same_or_not}
+use Rattle.mdb_follow.proofs.Following.{if-ok}
 use Rattle.mdb_follow.proofs.Machines.{is_machine_of}
 use Rattle.mdb_follow.proofs.Sided.{unmoved}
 
@@ -45,7 +48,7 @@ pub keep-then : (old mid new : List Link) → KeepChains old mid → KeepChains 
     → KeepChains old new
 keep-then old mid new first last chain marks is = last chain marks (first chain marks is)
 
-on-false : (b : Bool) (P Q : Type 0) → (P → Q) → OnFalse b P → OnFalse b Q
+pub on-false : (b : Bool) (P Q : Type 0) → (P → Q) → OnFalse b P → OnFalse b Q
 on-false true P Q weaker h = tt
 on-false false P Q weaker h = weaker h
 
@@ -65,54 +68,25 @@ relinked device weight old new pieces paths keep are = record {
       paths.entries.items keep are.best;
 }
 
--- what leading tells of a device's paths, where it may be that those of others were led before
--- them, and those of others after them
+-- what is of a device's paths is so with further links, where they stay
+moved : (device : Device) (goal : Goal) (pieces : List Piece) (old new : AllPaths)
+    → KeepChains old.chains.links.items new.chains.links.items
+    → paths_in new device ≡ paths_in old device → ArePathsOf goal pieces old device
+    → ArePathsOf goal pieces new device
+moved device goal pieces old new keep same are =
+    subst (PathsAt device (weight_for goal device) new.chains.links.items pieces) (sym same)
+    (relinked device (weight_for goal device) old.chains.links.items new.chains.links.items pieces
+    (paths_in old device) keep are)
 
-pub led-of : (device : Device) (goal : Goal) (weight : Weight) (act : Act) (row : ℕ)
-    (first old new last : List Link) (before after : Paths (FactsOf device) (codes_of device))
-    (goes : Bool) → weight ≡ weight_for goal device → goes ≡ true → KeepChains first old
-    → KeepChains new last
-    → OnTrue goes ((pieces : List Piece) (events : List Event)
-    → row ≡ length (events_of pieces ++ events) → PathsAt device weight old pieces before
-    → PathsAt device weight new (Whole act events ∷ pieces) after)
-    → (pieces : List Piece) (events : List Event) → row ≡ length (events_of pieces ++ events)
-    → PathsAt device (weight_for goal device) first pieces before
-    → PathsAt device (weight_for goal device) last (Whole act events ∷ pieces) after
-led-of device goal weight act row first old new last before after true is so earlier later led
-    pieces events at are =
-    subst (λ w. PathsAt device w last (Whole act events ∷ pieces) after) is
-    (relinked device weight new last (Whole act events ∷ pieces) after later
-    (led pieces events at (relinked device weight first old pieces before earlier
-    (subst (λ w. PathsAt device w first pieces before) (sym is) are))))
-led-of device goal weight act row first old new last before after false is so earlier later led
-    pieces events at are =
-    absurd (false≢true so)
-
-pub none-of : (device : Device) (goal : Goal) (weight : Weight) (act : Act)
-    (first old : List Link) (before : Paths (FactsOf device) (codes_of device)) (goes : Bool)
-    → weight ≡ weight_for goal device → goes ≡ false → KeepChains first old
-    → OnFalse goes ((pieces : List Piece) → PathsAt device weight old pieces before
-    → HasNoWay pieces act device)
-    → (pieces : List Piece) → PathsAt device (weight_for goal device) first pieces before
-    → (one : Device) × HasNoWay pieces act one
-none-of device goal weight act first old before true is so earlier none pieces are =
-    absurd (false≢true (sym so))
-none-of device goal weight act first old before false is so earlier none pieces are = (
-  device,
-  none pieces (relinked device weight first old pieces before earlier
-      (subst (λ w. PathsAt device w first pieces before) (sym is) are)),
-)
-
-pub within-of : (number : ℕ) (first old new last : List Link) (before after : List (ℕ × Best))
-    → KeepChains first old → KeepChains new last
-    → ((limit : ℕ) → AreEntriesWithin number limit old before
-    → AreEntriesWithin number (limit + 2 ^ 32) new after)
-    → (limit : ℕ) → AreEntriesWithin number limit first before
-    → AreEntriesWithin number (limit + 2 ^ 32) last after
-within-of number first old new last before after earlier later within limit are =
-    entries-within-kept number (limit + 2 ^ 32) (limit + 2 ^ 32) new last after (omega arith) later
-    (within limit (entries-within-kept number limit limit first old before (omega arith) earlier
-    are))
+within-moved : (device : Device) (limit : ℕ) (old new : AllPaths)
+    → KeepChains old.chains.links.items new.chains.links.items
+    → paths_in new device ≡ paths_in old device → AreWithinOf limit old device
+    → AreWithinOf limit new device
+within-moved device limit old new keep same are =
+    subst (λ (paths : Paths (FactsOf device) (codes_of device)).
+    AreEntriesWithin (codes_of device) limit new.chains.links.items paths.entries.items) (sym same)
+    (entries-within-kept (codes_of device) limit limit old.chains.links.items
+    new.chains.links.items (paths_in old device).entries.items (omega arith) keep are)
 
 -- Only the paths of one device are led, and those of the others stay.
 
@@ -174,89 +148,104 @@ of-device : (device : Device)
 of-device device P all chains paths same is holds =
     subst (P all.chains.links.items) is (subst (λ c. P c.links.items paths) same holds)
 
--- All paths go on where those of the only device that has a part in the act do.
-pub one-led : {E : Type 0} (r : Result Bool E) (goal : Goal) (device which : Device)
+-- The paths of the device of an arm were led.
+leads-which : (goal : Goal) (which : Device) (weight : Weight) (act : Act) (row : ℕ)
+    (old : AllPaths) (chains : Chains) (paths : Paths (FactsOf which) (codes_of which))
+    → weight ≡ weight_for goal which
+    → ((pieces : List Piece) (events : List Event) → row ≡ length (events_of pieces ++ events)
+    → PathsAt which weight old.chains.links.items pieces (paths_in old which)
+    → PathsAt which weight chains.links.items (Whole act events ∷ pieces) paths)
+    → ((limit : ℕ) → AreEntriesWithin (codes_of which) limit old.chains.links.items
+    (paths_in old which).entries.items
+    → AreEntriesWithin (codes_of which) (limit + 2 ^ 32) chains.links.items paths.entries.items)
+    → OneLeadsPaths which goal act row old (with_paths which chains paths old)
+leads-which goal which weight act row old chains paths is led within =
+    let new : AllPaths = with_paths which chains paths old in
+    let same_chains = chains-in which chains paths old in
+    let its_paths = its which chains paths old in
+    record {
+      own = record {
+        led = λ pieces events at are. of-device which
+            (λ links. PathsAt which (weight_for goal which) links (Whole act events ∷ pieces)) new
+            chains paths same_chains its_paths
+            (subst (λ w. PathsAt which w chains.links.items (Whole act events ∷ pieces) paths) is
+            (led pieces events at
+            (subst (λ w. PathsAt which w old.chains.links.items pieces (paths_in old which))
+            (sym is) are)));
+        within = λ limit are. of-device which
+            (λ links paths. AreEntriesWithin (codes_of which) (limit + 2 ^ 32) links
+            paths.entries.items)
+            new chains paths same_chains its_paths (within limit are);
+      };
+      others = λ other apart. sym (others which chains paths old other apart);
+    }
+
+pub one-leads : {E : Type 0} (r : Result Bool E) (goal : Goal) (device which : Device)
     (weight : Weight) (act : Act) (row : ℕ) (old : AllPaths) (chains : Chains)
     (paths : Paths (FactsOf which) (codes_of which)) → device ≡ which
-    → weight ≡ weight_for goal device → ((other : Device) → IsActOf other act → other ≡ device)
-    → KeepChains old.chains.links.items chains.links.items
+    → weight ≡ weight_for goal device
     → IfOk r (λ goes. OnTrue goes ((pieces : List Piece) (events : List Event)
     → row ≡ length (events_of pieces ++ events)
     → PathsAt which weight old.chains.links.items pieces (paths_in old which)
     → PathsAt which weight chains.links.items (Whole act events ∷ pieces) paths))
-    → IfOk r (λ goes. OnTrue goes ((pieces : List Piece) (events : List Event)
-    → row ≡ length (events_of pieces ++ events) → AreAllPaths goal pieces old
-    → AreAllPaths goal (Whole act events ∷ pieces) (with_paths which chains paths old)))
-one-led r goal device which weight act row old chains paths is weighs only keep =
-    if-ok r _ _ (λ goes. on-true goes _ _ (λ led pieces events at are other.
-    let new : AllPaths = with_paths which chains paths old in
-    let same_chains = chains-in which chains paths old in
-    let weight_is : weight ≡ weight_for goal which = weighs ∙ ap (weight_for goal) is in
-    elim (same_or_not other which) [
-      | inl same ↦ subst (ArePathsOf goal (Whole act events ∷ pieces) new) (sym same)
-          (of-device which
-          (λ links. PathsAt which (weight_for goal which) links (Whole act events ∷ pieces)) new
-          chains paths same_chains (its which chains paths old)
-          (subst (λ w. PathsAt which w chains.links.items (Whole act events ∷ pieces) paths)
-          weight_is
-          (led pieces events at
-          (subst (λ w. PathsAt which w old.chains.links.items pieces (paths_in old which))
-          (sym weight_is) (are which)))))
-      | inr apart ↦ of-device other
-          (λ links. PathsAt other (weight_for goal other) links (Whole act events ∷ pieces)) new
-          chains (paths_in old other) same_chains (others which chains paths old other apart)
-          (still-of other (weight_for goal other) old.chains.links.items chains.links.items pieces
-          act events (paths_in old other) (λ of. apart (only other of ∙ is)) keep (are other))
-    ]))
+    → IfOk r (λ _. (limit : ℕ)
+    → AreEntriesWithin (codes_of which) limit old.chains.links.items
+    (paths_in old which).entries.items
+    → AreEntriesWithin (codes_of which) (limit + 2 ^ 32) chains.links.items paths.entries.items)
+    → IfOk r (λ goes.
+    OnTrue goes (OneLeadsPaths device goal act row old (with_paths which chains paths old)))
+one-leads (Ok true) goal device which weight act row old chains paths is weighs led within =
+    subst (λ d. OneLeadsPaths d goal act row old (with_paths which chains paths old)) (sym is)
+    (leads-which goal which weight act row old chains paths (weighs ∙ ap (weight_for goal) is) led
+    within)
+one-leads (Ok false) goal device which weight act row old chains paths is weighs led within = tt
+one-leads (Err e) goal device which weight act row old chains paths is weighs led within = tt
 
--- Where it has no way, a device has none.
+-- Where it has no way, the device has none.
 pub one-none : {E : Type 0} (r : Result Bool E) (goal : Goal) (device which : Device)
     (weight : Weight) (act : Act) (old : AllPaths) → device ≡ which
     → weight ≡ weight_for goal device
     → IfOk r (λ goes. OnFalse goes ((pieces : List Piece)
     → PathsAt which weight old.chains.links.items pieces (paths_in old which)
     → HasNoWay pieces act which))
-    → IfOk r (λ goes. OnFalse goes ((pieces : List Piece) → AreAllPaths goal pieces old
-    → (one : Device) × HasNoWay pieces act one))
+    → IfOk r (λ goes. OnFalse goes ((pieces : List Piece) → ArePathsOf goal pieces old device
+    → HasNoWay pieces act device))
 one-none r goal device which weight act old is weighs =
-    if-ok r _ _ (λ goes. on-false goes _ _ (λ none pieces are. (
-      which,
-      none pieces
-          (subst (λ w. PathsAt which w old.chains.links.items pieces (paths_in old which))
-          (sym (weighs ∙ ap (weight_for goal) is)) (are which)),
-    )))
+    if-ok r _ _ (λ goes. on-false goes _ _ (λ none pieces are.
+    subst (HasNoWay pieces act) (sym is)
+    (none pieces (subst (λ w. PathsAt which w old.chains.links.items pieces (paths_in old which))
+    (sym (weighs ∙ ap (weight_for goal) is)) (subst (ArePathsOf goal pieces old) is are)))))
 
--- All entries stay as far from 0 where those of one device are led.
-pub one-within : {E : Type 0} (r : Result Bool E) (which : Device) (old : AllPaths)
-    (chains : Chains) (paths : Paths (FactsOf which) (codes_of which))
-    → KeepChains old.chains.links.items chains.links.items
-    → IfOk r (λ _. (limit : ℕ)
-    → AreEntriesWithin (codes_of which) limit old.chains.links.items
-    (paths_in old which).entries.items
-    → AreEntriesWithin (codes_of which) (limit + 2 ^ 32) chains.links.items paths.entries.items)
-    → IfOk r (λ goes. OnTrue goes ((limit : ℕ) → AreAllWithin limit old
-    → AreAllWithin (limit + 2 ^ 32) (with_paths which chains paths old)))
-one-within r which old chains paths keep =
-    if-ok r _ _ (λ goes within. always goes _ (λ limit are other.
-    let new : AllPaths = with_paths which chains paths old in
-    let same_chains = chains-in which chains paths old in
-    elim (same_or_not other which) [
+-- All go on where the paths of the only device that has a part in the act were led.
+pub all-led : (goal : Goal) (device : Device) (act : Act) (row : ℕ) (old new : AllPaths)
+    → ((other : Device) → IsActOf other act → other ≡ device)
+    → KeepChains old.chains.links.items new.chains.links.items
+    → OneLeadsPaths device goal act row old new → (pieces : List Piece) (events : List Event)
+    → row ≡ length (events_of pieces ++ events) → AreAllPaths goal pieces old
+    → AreAllPaths goal (Whole act events ∷ pieces) new
+all-led goal device act row old new only keep one pieces events at are other =
+    elim (same_or_not other device) [
+      | inl same ↦ subst (ArePathsOf goal (Whole act events ∷ pieces) new) (sym same)
+          (one.own.led pieces events at (are device))
+      | inr apart ↦ subst (PathsAt other (weight_for goal other) new.chains.links.items
+          (Whole act events ∷ pieces)) (sym (one.others other apart))
+          (still-of other (weight_for goal other) old.chains.links.items new.chains.links.items
+          pieces act events (paths_in old other) (λ of. apart (only other of)) keep (are other))
+    ]
+
+pub all-within : (goal : Goal) (device : Device) (act : Act) (row : ℕ) (old new : AllPaths)
+    → KeepChains old.chains.links.items new.chains.links.items
+    → OneLeadsPaths device goal act row old new → (limit : ℕ) → AreAllWithin limit old
+    → AreAllWithin (limit + 2 ^ 32) new
+all-within goal device act row old new keep one limit are other =
+    elim (same_or_not other device) [
       | inl same ↦ subst (AreWithinOf (limit + 2 ^ 32) new) (sym same)
-          (of-device which
-          (λ links paths. AreEntriesWithin (codes_of which) (limit + 2 ^ 32) links
-          paths.entries.items)
-          new chains paths same_chains (its which chains paths old) (within limit (are which)))
-      | inr apart ↦ of-device other
-          (λ links paths. AreEntriesWithin (codes_of other) (limit + 2 ^ 32) links
-          paths.entries.items)
-          new chains (paths_in old other) same_chains (others which chains paths old other apart)
+          (one.own.within limit (are device))
+      | inr apart ↦ within-moved other (limit + 2 ^ 32) old new keep (one.others other apart)
           (entries-within-kept (codes_of other) limit (limit + 2 ^ 32) old.chains.links.items
-          chains.links.items (paths_in old other).entries.items (omega arith) keep (are other))
-    ]))
-  where
-    always : (b : Bool) (P : Type 0) → P → OnTrue b P
-    always true P holds = holds
-    always false P holds = tt
+          old.chains.links.items (paths_in old other).entries.items (omega arith)
+          (keep-same old.chains.links.items) (are other))
+    ]
 
 -- All stay where the act is no device's.
 pub none-led : (goal : Goal) (act : Act) (all : AllPaths)
@@ -273,8 +262,112 @@ none-within all limit are device =
     all.chains.links.items (paths_in all device).entries.items (omega arith)
     (keep-same all.chains.links.items) (are device)
 
--- the best of a device's entries is of a best way, and its chain has the marks of this
+-- In a loop over the devices: the paths of those before a place were led, those of the others are
+-- what they were, and each chain has its marks.
+pub record FrontLeads (goal : Goal) (act : Act) (row count : ℕ) (old mid : AllPaths) : Type 0 where
+  pub gone : (device : Device) → device_place device < count
+      → LeadsPathsOf goal act row old mid device
+  pub waiting : (device : Device) → count ≤ device_place device
+      → paths_in mid device ≡ paths_in old device
+  pub kept : KeepChains old.chains.links.items mid.chains.links.items
 
+-- what holds if so, where it is so
+by-true : (b : Bool) (P : Type 0) → b ≡ true → OnTrue b P → P
+by-true true P is holds = holds
+by-true false P is holds = absurd (false≢true is)
+
+by-false : (b : Bool) (P : Type 0) → b ≡ false → OnFalse b P → P
+by-false false P is holds = holds
+by-false true P is holds = absurd (false≢true (sym is))
+
+pub front-starts : (goal : Goal) (act : Act) (row : ℕ) (all : AllPaths)
+    → FrontLeads goal act row 0 all all
+front-starts goal act row all = record {
+  gone = λ device less. absurd (omega (arith, less));
+  waiting = λ device above. refl;
+  kept = keep-same all.chains.links.items;
+}
+
+-- those of the next device are what they were
+next-waits : (goal : Goal) (act : Act) (row count : ℕ) (old mid : AllPaths) (d : Device)
+    → count < 4 → FrontLeads goal act row count old mid
+    → paths_in mid (get_or DEVICES count d) ≡ paths_in old (get_or DEVICES count d)
+next-waits goal act row count old mid d within front =
+    let at = placed count d within in front.waiting (get_or DEVICES count d) (omega (arith, at))
+
+pub front-more : (goal : Goal) (act : Act) (row count : ℕ) (old mid new : AllPaths) (d : Device)
+    → count < 4 → FrontLeads goal act row count old mid → (goes : Bool) → goes ≡ true
+    → OnTrue goes (OneLeadsPaths (get_or DEVICES count d) goal act row mid new)
+    → KeepChains mid.chains.links.items new.chains.links.items
+    → FrontLeads goal act row (count + 1) old new
+front-more goal act row count old mid new d within front goes so led keep =
+    let next : Device = get_or DEVICES count d in
+    let one = by-true goes (OneLeadsPaths next goal act row mid new) so led in
+    let at : device_place next ≡ count = placed count d within in
+    let waits = next-waits goal act row count old mid d within front in
+    record {
+      gone = λ device less. elim (same_or_not device next) [
+        | inl same ↦ subst (LeadsPathsOf goal act row old new) (sym same) (record {
+          led = λ pieces events is are. one.own.led pieces events is
+              (moved next goal pieces old mid front.kept waits are);
+          within = λ limit are. one.own.within limit
+              (within-moved next limit old mid front.kept waits are);
+        })
+        | inr apart ↦
+            let leads = front.gone device (earlier count next device at less apart) in record {
+              led = λ pieces events is are.
+                  moved device goal (Whole act events ∷ pieces) mid new keep
+                  (one.others device apart) (leads.led pieces events is are);
+              within = λ limit are. within-moved device (limit + 2 ^ 32) mid new keep
+                  (one.others device apart) (leads.within limit are);
+            }
+      ];
+      waiting = λ device above.
+          one.others device (λ same.
+          let is : device_place device ≡ device_place next = ap device_place same in
+          omega (arith, above, at, is))
+          ∙ front.waiting device (omega (arith, above));
+      kept = keep-then old.chains.links.items mid.chains.links.items new.chains.links.items
+          front.kept keep;
+    }
+
+-- the next device may be led
+pub front-stands : (goal : Goal) (act : Act) (row count : ℕ) (old mid : AllPaths) (d : Device)
+    (acts : List Act) → count < 4 → FrontLeads goal act row count old mid → AreAllFacts acts old
+    → AreFactsOf acts mid (get_or DEVICES count d)
+front-stands goal act row count old mid d acts within front are =
+    let next : Device = get_or DEVICES count d in
+    subst (λ (paths : Paths (FactsOf next) (codes_of next)). stands_for PowerOn next paths.facts
+    acts) (sym (next-waits goal act row count old mid d within front)) (are next)
+
+pub front-fits : (goal : Goal) (act : Act) (row count : ℕ) (old mid : AllPaths) (d : Device)
+    (limit : ℕ) → count < 4 → FrontLeads goal act row count old mid → AreAllWithin limit old
+    → AreWithinOf limit mid (get_or DEVICES count d)
+front-fits goal act row count old mid d limit within front are =
+    within-moved (get_or DEVICES count d) limit old mid front.kept
+    (next-waits goal act row count old mid d within front) (are (get_or DEVICES count d))
+
+-- and where it has no way, it had none
+pub front-none : (goal : Goal) (act : Act) (row count : ℕ) (old mid : AllPaths) (d : Device)
+    → count < 4 → FrontLeads goal act row count old mid → (goes : Bool) → goes ≡ false
+    → OnFalse goes ((pieces : List Piece) → ArePathsOf goal pieces mid (get_or DEVICES count d)
+    → HasNoWay pieces act (get_or DEVICES count d))
+    → (pieces : List Piece) → AreAllPaths goal pieces old → (one : Device) × HasNoWay pieces act one
+front-none goal act row count old mid d within front goes so none pieces are =
+    let next : Device = get_or DEVICES count d in (
+      next,
+      by-false goes _ so none pieces (moved next goal pieces old mid front.kept
+          (next-waits goal act row count old mid d within front) (are next)),
+    )
+
+-- in the end those of each device were led
+pub front-all : (goal : Goal) (act : Act) (row count : ℕ) (old new : AllPaths) → 4 ≤ count
+    → FrontLeads goal act row count old new → (device : Device)
+    → LeadsPathsOf goal act row old new device
+front-all goal act row count old new all front device =
+    front.gone device (omega (arith, all, below device))
+
+-- the best of a device's entries is of a best way, and its chain has the marks of this
 pub best-listed : (device : Device) (goal : Goal) (links : List Link) (pieces : List Piece)
     (paths : Paths (FactsOf device) (codes_of device)) (best : Best)
     → PathsAt device (weight_for goal device) links pieces paths → HasWay pieces device

@@ -60,6 +60,7 @@ pub(crate) fn lead<P: Pair>(
     ensures none { OnErr result ((acts : List Act) (chosen : Choices acts)
         → IsTrack (P.stands_for PowerOn) (P.machine PowerOn) (P.unvalued PowerOn) track.old acts
         chosen → HasNoStepFrom (P.machine PowerOn) acts act.now choice track.old.state) }
+    ensures same { OnErr result (track.new ≡ track.old) }
 {
     if !P::settles(&track.facts, act) {
         return Err(rule);

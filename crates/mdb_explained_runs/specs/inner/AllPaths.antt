@@ -1,11 +1,12 @@
 -- The best ways of each device, for a goal. This serves private functions.
-use Rattle.std.specs.Prelude.{◌≡◌, ◌<◌, ℕ, List, ◌∷◌, length, if◌then◌else◌}
+use Rattle.std.specs.Prelude.{◌≡◌, ◌<◌, ◌+◌, ◌^◌, ℕ, List, ◌∷◌, ◌++◌, length, if◌then◌else◌}
+use Rattle.mdb_words.specs.declared.event.Event.{Event}
 use Rattle.mdb_msgs.specs.declared.command.Device.{Device}
 use Rattle.mdb_msgs.specs.declared.command.Device.TheVariants as devices
 use Rattle.mdb_msgs.specs.declared.command.ReaderUnit.TheVariants as units
 use Rattle.mdb_bus.specs.declared.act.Act.{Act}
 use Rattle.mdb_bus.specs.declared.scope.Beginning.TheVariants.{PowerOn}
-use Rattle.mdb_bus.specs.ActLists.{Piece, acts_of}
+use Rattle.mdb_bus.specs.ActLists.{Piece, Whole, acts_of, events_of}
 use Rattle.mdb_follow.specs.declared.account_name.AccountName.{AccountName}
 use Rattle.mdb_explained_runs.specs.declared.explain.all_paths.AllPaths.{AllPaths}
 use Rattle.mdb_explained_runs.specs.declared.explain.best.Weight.{Weight}
@@ -66,10 +67,26 @@ AreWithinOf limit all device =
 abbrev pub AreAllWithin : ℕ → AllPaths → Type 0
 AreAllWithin limit all = (device : Device) → AreWithinOf limit all device
 
--- what is kept of the facts is what is known after acts
+-- what is kept of a device's facts is what is known after acts, and so it is of each device
+abbrev pub AreFactsOf : List Act → AllPaths → Device → Type 0
+AreFactsOf acts all device = stands_for PowerOn device (paths_in all device).facts acts
+
 abbrev pub AreAllFacts : List Act → AllPaths → Type 0
-AreAllFacts acts all =
-    (device : Device) → stands_for PowerOn device (paths_in all device).facts acts
+AreAllFacts acts all = (device : Device) → AreFactsOf acts all device
+
+-- The paths of a device were led over an act that ends at a row.
+pub record LeadsPathsOf (goal : Goal) (act : Act) (row : ℕ) (old new : AllPaths) (device : Device)
+    : Type 0 where
+  pub led : (pieces : List Piece) (events : List Event)
+      → row ≡ length (events_of pieces ++ events) → ArePathsOf goal pieces old device
+      → ArePathsOf goal (Whole act events ∷ pieces) new device
+  pub within : (limit : ℕ) → AreWithinOf limit old device → AreWithinOf (limit + 2 ^ 32) new device
+
+-- those of one device were, and those of each other are what they were
+pub record OneLeadsPaths (device : Device) (goal : Goal) (act : Act) (row : ℕ) (old new : AllPaths)
+    : Type 0 where
+  pub own : LeadsPathsOf goal act row old new device
+  pub others : (other : Device) → (other ≡ device → ⊥) → paths_in new other ≡ paths_in old other
 
 -- A device has no way over an act after pieces.
 abbrev pub HasNoWay : List Piece → Act → Device → Type 0

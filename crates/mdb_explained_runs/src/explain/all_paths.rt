@@ -6,9 +6,10 @@ ghost use Rattle.mdb_words.specs.declared.event.Event.{Event};
 ghost use Rattle.mdb_msgs.specs.declared.command.Device.{Device};
 ghost use Rattle.mdb_bus.specs.declared.act.Act.{Act};
 ghost use Rattle.mdb_bus.specs.ActLists.{Piece, Whole, events_of};
-ghost use Rattle.mdb_machine.specs.Pair.{IsActOf};
 ghost use Rattle.mdb_follow.specs.declared.goal.Goal.{Goal};
 ghost use Rattle.mdb_explained_runs.specs.inner.AllPaths.{AreAllFacts, AreAllPaths, AreAllWithin};
+ghost use Rattle.mdb_explained_runs.specs.inner.AllPaths.{AreFactsOf, ArePathsOf, AreWithinOf};
+ghost use Rattle.mdb_explained_runs.specs.inner.AllPaths.{OneLeadsPaths};
 ghost use Rattle.mdb_explained_runs.specs.declared.explain.best.Best.{Best};
 ghost use Rattle.mdb_explained_runs.specs.inner.AllPaths.{AreBestMarks, HasNoWay, HasWay, paths_in};
 ghost use Rattle.mdb_explained_runs.specs.inner.AllPaths.{weight_for};
@@ -22,7 +23,7 @@ use crate::Mark;
 use mdb_bus::Act;
 use mdb_cash::{Bill, BillKnown, Changer, ChangerKnown};
 use mdb_cashless::{Reader, ReaderKnown};
-use mdb_follow::{Goal, Owner, device_place, owner_of};
+use mdb_follow::{Goal, Owner, Report, device_place, owner_of};
 use mdb_msgs::{Device, ReaderUnit};
 use std::alloc::{AllocError, Global};
 
@@ -125,31 +126,16 @@ impl AllPaths {
             → AreAllWithin limit self.old → AreAllWithin (limit + 2 ^ 32) self.new)) }
         ensures kept { KeepChains self.old.chains.links.items self.new.chains.links.items }
     {
-        let weight = weight_of(goal, Device::Changer);
-        let chains = &mut self.chains;
-        if !paths::lead::<Changer, _>(&mut self.changer, chains, &weight, act, row)? {
-            return Ok(false);
-        }
-        let weight = weight_of(goal, Device::Bill);
-        let chains = &mut self.chains;
-        if !paths::lead::<Bill, _>(&mut self.bill, chains, &weight, act, row)? {
-            return Ok(false);
-        }
-        let weight = weight_of(goal, Device::Reader(ReaderUnit::First));
-        let chains = &mut self.chains;
-        if !paths::lead::<FirstReader, _>(&mut self.first_reader, chains, &weight, act, row)? {
-            return Ok(false);
-        }
-        let weight = weight_of(goal, Device::Reader(ReaderUnit::Second));
-        let chains = &mut self.chains;
-        if !paths::lead::<SecondReader, _>(&mut self.second_reader, chains, &weight, act, row)? {
-            return Ok(false);
+        for device in &Report::DEVICES {
+            if !self.lead_one(*device, goal, act, row)? {
+                return Ok(false);
+            }
         }
         Ok(true)
     }
 
-    /// Leads the paths of a device over an act that ends at a row, where no other device has a part
-    /// in it.
+    /// Leads the paths of a device over an act that ends at a row, and leaves those of the others.
+    /// Where no way leads over it, it answers `false`.
     ///
     /// # Errors
     ///
@@ -162,18 +148,12 @@ impl AllPaths {
         act: &Act,
         row: u64,
     ) -> Result<bool, AllocError>
-        requires own { (other : Device) → IsActOf other act.now → other ≡ device }
-        requires stands { (acts : List Act) × AreAllFacts acts self.old }
-        requires within { AreAllWithin (2 ^ 62) self.old }
-        ensures led { IfOk result (λ goes. OnTrue goes ((pieces : List Piece)
-            (events : List Event) → row ≡ length (events_of pieces ++ events)
-            → AreAllPaths goal.now pieces self.old
-            → AreAllPaths goal.now (Whole act.now events ∷ pieces) self.new)) }
+        requires stands { (acts : List Act) × AreFactsOf acts self.old device }
+        requires within { AreWithinOf (2 ^ 62) self.old device }
+        ensures led { IfOk result (λ goes.
+            OnTrue goes (OneLeadsPaths device goal.now act.now row self.old self.new)) }
         ensures none { IfOk result (λ goes. OnFalse goes ((pieces : List Piece)
-            → AreAllPaths goal.now pieces self.old
-            → (device : Device) × HasNoWay pieces act.now device)) }
-        ensures within { IfOk result (λ goes. OnTrue goes ((limit : ℕ)
-            → AreAllWithin limit self.old → AreAllWithin (limit + 2 ^ 32) self.new)) }
+            → ArePathsOf goal.now pieces self.old device → HasNoWay pieces act.now device)) }
         ensures kept { KeepChains self.old.chains.links.items self.new.chains.links.items }
     {
         let weight = weight_of(goal, device);

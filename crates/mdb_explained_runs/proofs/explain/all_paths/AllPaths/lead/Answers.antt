@@ -1,8 +1,32 @@
-use Rattle.mdb_explained_runs.proofs.AllPaths.{none-led, none-within}
+use Rattle.mdb_follow.proofs.Following.{if-ok, on-true}
+use Rattle.mdb_explained_runs.proofs.AllPaths.{all-led, all-within, none-led, none-within, on-false}
 use Rattle.mdb_explained_runs.proofs.explain.all_paths.AllPaths.lead.Goals as goal
 
-pub lead_one-requires-clause-own : goal.lead_one-requires-clause-own
-lead_one-requires-clause-own c = λ other. (c.in-One.ensures other).0
+pub lead_one-requires : goal.lead_one-requires
+lead_one-requires c = record {
+  stands = (c.requires.stands.0, c.requires.stands.1 c.in-One.device);
+  within = c.requires.within c.in-One.device;
+}
+
+pub returns-in-One-clause-led : goal.returns-in-One-clause-led
+returns-in-One-clause-led c =
+    if-ok c.lead_one.result _ _ (λ goes. on-true goes _ _
+    (all-led c.args.goal.now c.in-One.device c.args.act.now c.args.row c.args.self.now
+    c.lead_one.new.self (λ other. (c.in-One.ensures other).0) c.lead_one.ensures.kept))
+    c.lead_one.ensures.led
+
+pub returns-in-One-clause-none : goal.returns-in-One-clause-none
+returns-in-One-clause-none c =
+    if-ok c.lead_one.result _ _ (λ goes. on-false goes _ _
+    (λ none pieces are. (c.in-One.device, none pieces (are c.in-One.device))))
+    c.lead_one.ensures.none
+
+pub returns-in-One-clause-within : goal.returns-in-One-clause-within
+returns-in-One-clause-within c =
+    if-ok c.lead_one.result _ _ (λ goes. on-true goes _ _
+    (all-within c.args.goal.now c.in-One.device c.args.act.now c.args.row c.args.self.now
+    c.lead_one.new.self c.lead_one.ensures.kept))
+    c.lead_one.ensures.led
 
 pub returns-in-Nobody-clause-led : goal.returns-in-Nobody-clause-led
 returns-in-Nobody-clause-led c pieces events at are =
