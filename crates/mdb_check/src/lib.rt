@@ -11,7 +11,8 @@
 pub use mdb_bus::{Beginning, Blame, Levels, LinkFault, Rule, Scope};
 pub use mdb_explain::{MarkedFault, explain, explain_scoped, replay, replay_scoped};
 pub use mdb_follow::{
-    Account, AccountName, AccountSide, Bound, Goal, Offence, ROWS_MAX, Range, Report,
+    Account, AccountName, AccountSide, AskCounts, Bound, DeviceFacts, DeviceReport, Goal, Offence,
+    ROWS_MAX, Range, Report,
 };
 pub use mdb_json::json_of;
 pub use mdb_msgs::{BillSetup, ChangerSetup, Device, DeviceSet, ReaderConfig, ReaderUnit, Setups};

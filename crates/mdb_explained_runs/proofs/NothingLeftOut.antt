@@ -1,7 +1,7 @@
 -- A replay blames no device that is left out, and tells nothing of one.
 use Rattle.std.proofs.Common.{ap, refl, subst, sym, ◌∙◌, ◌≡◌, inl, inr, ℤ, ℕ, pos}
 use Rattle.std.specs.Prelude.{◌-ℤ◌}
-use Rattle.std.proofs.Common.{List, [], ◌∷◌, ◌++◌, Option, Some, None, All}
+use Rattle.std.proofs.Common.{List, [], ◌∷◌, ◌++◌, Option, Some, All}
 use Rattle.std.proofs.lemmas.List.Elements.{All-from_recursion}
 use Rattle.mdb_words.specs.declared.event.Event.{Event}
 use Rattle.mdb_msgs.specs.declared.command.Device.{Device}
@@ -21,14 +21,12 @@ use Rattle.mdb_follow.specs.declared.report.Report.{Report}
 use Rattle.mdb_follow.specs.AccountNames.{account_device, account_of, account_slot, sums_of}
 use Rattle.mdb_follow.specs.LeavingOut.{HasNothingLeftOut}
 use Rattle.mdb_follow.specs.Ranges.{IsAccount, IsRange, no_account, no_range}
-use Rattle.mdb_follow.specs.Report.{decimals_of, device_decimals, device_silences}
-use Rattle.mdb_follow.specs.Report.{device_unvalued, unvalued_of}
+use Rattle.mdb_follow.specs.Report.{device_report, device_report_of}
 use Rattle.mdb_follow.specs.Runs.{AllSums, Run}
-use Rattle.mdb_follow.specs.Silences.{silences}
 use Rattle.mdb_follow.specs.Sums.{AccountSums, no_sums}
 use Rattle.mdb_follow.proofs.OwnWays.{are_breaks}
 use Rattle.mdb_follow.proofs.ReportsWithout.{BreaksTellNothing, blamed_in}
-use Rattle.mdb_follow.proofs.SilencesWithout.{NamesFollowed, no_silences}
+use Rattle.mdb_follow.proofs.SilencesWithout.{NamesFollowed, nothing_counted}
 use Rattle.mdb_follow.proofs.Told.{listed}
 use Rattle.mdb_explained_runs.specs.declared.mark.Mark.{Mark}
 use Rattle.mdb_explained_runs.specs.Marks.{MarkedRun}
@@ -109,22 +107,23 @@ nothing_in_replay laws scope rows marks report is =
     subst (All IsBreak) (sym (laws.alone scope is.pieces device is.act_list.in_order left))
     (All-from_recursion IsBreak (breaks_among (acts_of is.pieces))
     (are_breaks (acts_of is.pieces))) in
+    let told : (device : Device)
+    → device_report device report ≡ device_report_of scope.begins device is.pieces = λ device.
+    ap (device_report device) is.telling
+    ∙ listed (λ d. device_report_of scope.begins d is.pieces) _ device in
     record {
       accounts = λ account left.
           account_of_none (MarkedRun scope rows marks) account (account_of account report)
           (λ sums marked. laws.adds scope rows sums marked.run (account_device account) left)
           (named_in_replay scope rows marks report is account);
       decimals = λ device left none.
-          ap (device_decimals device) is.telling
-          ∙ listed (λ d. decimals_of scope.begins d (acts_of is.pieces)) None device
+          ap (λ r. r.facts.decimals) (told device)
           ∙ laws.facts.decimals scope.begins device (acts_of is.pieces) (alone device left) none;
-      silences = λ device left.
-          ap (device_silences device) is.telling
-          ∙ listed (λ d. silences scope.begins d is.pieces) 0 device
-          ∙ no_silences scope.begins scope (laws.names scope) device left is.pieces
+      asks = λ device left.
+          ap (λ r. r.asks) (told device)
+          ∙ nothing_counted scope.begins scope (laws.names scope) device left is.pieces
           is.act_list.in_order;
       unvalued = λ device left.
-          ap (device_unvalued device) is.telling
-          ∙ listed (λ d. unvalued_of scope.begins d (acts_of is.pieces)) 0 device
+          ap (λ r. r.facts.unvalued) (told device)
           ∙ laws.facts.unvalued scope.begins device (acts_of is.pieces) (alone device left);
     }

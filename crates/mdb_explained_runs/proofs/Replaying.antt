@@ -38,6 +38,7 @@ use Rattle.mdb_follow.specs.Machines.{machine_of}
 use Rattle.mdb_explained_runs.specs.ReplayFaults.{IsMarkFault, IsReplayFault, IsReplayOffence}
 use Rattle.mdb_explained_runs.specs.ReplayFaults.{MayStandAt, MayStandOnNewest}
 use Rattle.mdb_explained_runs.specs.Replays.{IsReplayReport, StandsFor, scope_of}
+use Rattle.mdb_follow.specs.Ranges.{IsCell}
 use Rattle.mdb_follow.specs.Report.{report_of}
 use Rattle.mdb_follow.specs.Runs.{AllSums, IsWay, States}
 use Rattle.mdb_follow.specs.Senders.{sender_of}
@@ -505,12 +506,12 @@ not-may b P told is holds = let never : false ≡ true = sym is ∙ told.1 holds
 pub reported : JoinWithChoices → SplitWithChoices → MarksTell
     → ((scope : Scope) → OneActList scope) → (replay : Replay) (events : List Event)
     (marks : List (ℕ × Mark)) (report : Report) (on : StandsFor replay events marks)
-    → report ≡ report_of PowerOn replay.rows on.pieces
-    (account_by (λ device. (track_in replay.tracks device).cell))
+    (cells : Device → Cell)
+    → ((device : Device) → cells device ≡ (track_in replay.tracks device).cell)
+    → report ≡ report_of PowerOn replay.rows on.pieces (account_by cells)
     → IsReplayReport (scope_of replay) events marks report
-reported joins splits tell one replay events marks report on telling =
+reported joins splits tell one replay events marks report on cells are telling =
     let scope : Scope = scope_of replay in
-    let cells : Device → Cell = λ device. (track_in replay.tracks device).cell in
     let sums : AllSums = λ device. (on.tracks device).sums in
     let run : MarkedRun scope events marks sums = run-of joins replay events marks on in
     record {
@@ -527,7 +528,9 @@ reported joins splits tell one replay events marks report on telling =
             lift = λ other is. (sums, sym is, run);
             lower = λ other marked.
                 (only-run splits tell one replay events marks on other marked device).1;
-          }) (cells device) (on.tracks device).cell);
+          }) (cells device)
+          (subst (IsCell (λ other. other ≡ sums device)) (sym (are device))
+          (on.tracks device).cell));
       telling = telling
           ∙ ap (λ rows. report_of PowerOn rows on.pieces (account_by cells)) on.rows
           ∙ ap (λ begins. report_of begins (length events) on.pieces (account_by cells))

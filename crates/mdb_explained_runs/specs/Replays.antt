@@ -48,8 +48,8 @@ pub record StandsFor (replay : Replay) (events : List Event) (marks : List (ℕ 
   pub silences : AllStandForAsks replay.silences (λ device. asks_of PowerOn device pieces)
 
 -- The report on rows that have a run with these marks: both ends of each range are the value in
--- that run, and all such runs have the same sums. Decimals, silences and the amounts without a
--- value are those of the act list.
+-- that run, and all such runs have the same sums. What is reported of each device beside its
+-- accounts is of the act list.
 pub record IsReplayReport (scope : Scope) (events : List Event) (marks : List (ℕ × Mark))
     (report : Report) : Type 0 where
   pub sums : AllSums

@@ -13,12 +13,10 @@ ghost use Rattle.mdb_explained_runs.specs.ReplayFaults.{MayStandAt, row_of};
 ghost use Rattle.mdb_follow.specs.SilenceSteps.{AreFew};
 ghost use Rattle.mdb_explained_runs.specs.inner.TrackSteps.{AreTracksWithin};
 
-use crate::tracks::{Tracks, report_of};
+use crate::tracks::Tracks;
 use crate::{Mark, laws};
 use mdb_bus::{Act, Bus, LinkFault, Scope, laws as bus_laws};
-use mdb_follow::{
-    Offence, ROWS_MAX, Report, Silences, accounts_of, laws as follow_laws, sender_of,
-};
+use mdb_follow::{Offence, ROWS_MAX, Report, Silences, laws as follow_laws, sender_of};
 use mdb_machine::Choice;
 use mdb_msgs::DeviceSet;
 use mdb_words::{Event, Time};
@@ -141,14 +139,9 @@ impl Replay {
         if let Some(fault) = self.fault {
             return Err(fault);
         }
-        let tracks = &self.tracks;
-        let accounts = accounts_of(&[
-            tracks.changer.cell,
-            tracks.bill.cell,
-            tracks.first_reader.cell,
-            tracks.second_reader.cell,
-        ]);
-        Ok(report_of(self.rows, accounts, tracks, &self.silences))
+        let cells = self.tracks.cells();
+        let facts = self.tracks.facts();
+        Ok(Report::of(self.rows, &cells, &facts, &self.silences))
     }
 
     /// Takes the next row, after rows that can be. Answers whether it can be too: where it can't,

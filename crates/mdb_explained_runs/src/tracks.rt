@@ -5,13 +5,10 @@ ghost use Rattle.mdb_bus.specs.declared.act.Act.{Act};
 ghost use Rattle.mdb_bus.specs.declared.scope.Beginning.TheVariants.{PowerOn};
 ghost use Rattle.mdb_follow.specs.Choosing.{Choices};
 ghost use Rattle.std.specs.Prelude.{map};
-ghost use Rattle.mdb_bus.specs.ActLists.{Piece, acts_of};
-ghost use Rattle.mdb_follow.specs.declared.account_name.AccountName.{AccountName};
-ghost use Rattle.mdb_follow.specs.declared.account_name.TheConstants.AccountName.{ALL};
-ghost use Rattle.mdb_follow.specs.declared.account.Account.{Account};
-ghost use Rattle.mdb_follow.specs.Report.{report_of as told_of};
-ghost use Rattle.mdb_follow.specs.Silences.{asks_of};
-ghost use Rattle.mdb_follow.specs.SilencesKept.{AllStandForAsks};
+ghost use Rattle.mdb_msgs.specs.declared.command.Device.{Device};
+ghost use Rattle.mdb_follow.specs.declared.report.TheConstants.Report.{DEVICES};
+ghost use Rattle.mdb_follow.specs.Cells.{cell_in};
+ghost use Rattle.mdb_follow.specs.Report.{device_facts_of};
 ghost use Rattle.mdb_explained_runs.specs.Tracks.{AreTracks, track_in};
 ghost use Rattle.mdb_explained_runs.specs.inner.TrackSteps.{AreTracksWithin, IsTrackWithin};
 ghost use Rattle.mdb_explained_runs.specs.inner.TrackSteps.{OneLeads, TrackStops, TracksLead};
@@ -21,7 +18,7 @@ use crate::track::{self, Track};
 use mdb_bus::{Act, Rule};
 use mdb_cash::{Bill, BillKnown, BillState, Changer, ChangerKnown, ChangerState};
 use mdb_cashless::{Reader, ReaderKnown, ReaderState};
-use mdb_follow::{Account, Owner, Report, Silences, owner_of};
+use mdb_follow::{Cell, DeviceFacts, Owner, Report, owner_of};
 use mdb_machine::Choice;
 use mdb_msgs::{Device, ReaderUnit};
 
@@ -71,7 +68,7 @@ impl Tracks {
     ///
     /// # Errors
     ///
-    /// The rule of the first device that has no step by it.
+    /// The rule of a device that has no step by it.
     #[inline(never)]
     fn lead_all(&mut self, act: &Act, choice: Choice) -> Result<(), Rule>
         requires { AreTracksWithin (2 ^ 62) self.old }
@@ -110,42 +107,41 @@ impl Tracks {
             },
         }
     }
-}
 
-/// The report of so many rows of a replay, with what the accounts come to, in the order of
-/// `AccountName::ALL`.
-pub(crate) fn report_of(
-    rows: u64,
-    accounts: [Account; 7],
-    tracks: &Tracks,
-    silences: &Silences,
-) -> Report
-    ensures { (pieces : List Piece) (chosen : Choices (acts_of pieces))
-        (named : AccountName → Account) → AreTracks tracks.now (acts_of pieces) chosen
-        → AllStandForAsks silences.now (λ device. asks_of PowerOn device pieces)
-        → accounts ≡ map named ALL
-        → result ≡ told_of PowerOn rows pieces named }
-{
-    Report {
-        rows,
-        decimals: [
-            tracks.changer.facts.decimals(),
-            tracks.bill.facts.decimals(),
-            tracks.first_reader.facts.decimals(),
-            tracks.second_reader.facts.decimals(),
-        ],
-        accounts,
-        silences: [
-            silences.count(Device::Changer),
-            silences.count(Device::Bill),
-            silences.count(Device::Reader(ReaderUnit::First)),
-            silences.count(Device::Reader(ReaderUnit::Second)),
-        ],
-        unvalued: [
-            tracks.changer.unvalued,
-            tracks.bill.unvalued,
-            tracks.first_reader.unvalued,
-            tracks.second_reader.unvalued,
-        ],
+    /// What the acts so far show of each of `Report::DEVICES`.
+    pub(crate) fn facts(&self) -> [DeviceFacts; 4]
+        ensures { (acts : List Act) (chosen : Choices acts) → AreTracks self.now acts chosen
+            → result ≡ map (λ device. device_facts_of PowerOn device acts) DEVICES }
+    {
+        [
+            DeviceFacts {
+                decimals: self.changer.facts.decimals(),
+                unvalued: self.changer.unvalued,
+            },
+            DeviceFacts {
+                decimals: self.bill.facts.decimals(),
+                unvalued: self.bill.unvalued,
+            },
+            DeviceFacts {
+                decimals: self.first_reader.facts.decimals(),
+                unvalued: self.first_reader.unvalued,
+            },
+            DeviceFacts {
+                decimals: self.second_reader.facts.decimals(),
+                unvalued: self.second_reader.unvalued,
+            },
+        ]
+    }
+
+    /// The sums of the accounts of each of `Report::DEVICES`, as ranges of one value.
+    pub(crate) fn cells(&self) -> [Cell; 4]
+        ensures { (device : Device) → cell_in result device ≡ (track_in self.now device).cell }
+    {
+        [
+            self.changer.cell,
+            self.bill.cell,
+            self.first_reader.cell,
+            self.second_reader.cell,
+        ]
     }
 }

@@ -1,5 +1,5 @@
 -- The accounts one by one.
-use Rattle.std.proofs.Common.{◌≡◌, ℕ, ◌<◌, map, refl, arith}
+use Rattle.std.proofs.Common.{◌≡◌, ◌<◌, map, refl, arith}
 use Rattle.mdb_msgs.specs.declared.command.ReaderUnit.TheVariants.{First, Second}
 use Rattle.mdb_machine.specs.declared.gains.TheConstants.{SLOTS}
 use Rattle.mdb_follow.specs.declared.account.Account.{Account}

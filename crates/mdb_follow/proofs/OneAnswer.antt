@@ -62,7 +62,7 @@ one-account Kind account a b p q =
     ∙ ap (λ z. made b.device b.controller z) difference)
 
 -- two functions that agree make one list of another
-map-alike : {X Y : Type 0} (f g : X → Y) → ((x : X) → f x ≡ g x) → (xs : List X)
+pub map-alike : {X Y : Type 0} (f g : X → Y) → ((x : X) → f x ≡ g x) → (xs : List X)
     → map f xs ≡ map g xs
 map-alike f g alike [] = refl
 map-alike f g alike (x ∷ xs) =

@@ -1,5 +1,5 @@
 -- Reports, reached rows and offences where further devices are left out.
-use Rattle.std.proofs.Common.{ap, refl, subst, sym, ◌∙◌, ◌≡◌, inl, inr, ℤ, ◌≤ℤ◌, pos}
+use Rattle.std.proofs.Common.{ap, ap₂, refl, subst, sym, ◌∙◌, ◌≡◌, inl, inr, ℕ, ℤ, ◌≤ℤ◌, pos}
 use Rattle.std.specs.Prelude.{◌-ℤ◌}
 use Rattle.std.proofs.Common.{Bool, true, false, arith, length}
 use Rattle.std.proofs.Common.{List, [], ◌∷◌, ◌++◌, Option, Some, None, All}
@@ -27,24 +27,27 @@ use Rattle.mdb_follow.specs.declared.account.Account.{Account}
 use Rattle.mdb_follow.specs.declared.account_name.AccountName.{AccountName}
 use Rattle.mdb_follow.specs.declared.offence.Offence.{Offence}
 use Rattle.mdb_follow.specs.declared.range.Range.{Range}
+use Rattle.mdb_follow.specs.declared.report.DeviceReport.{DeviceReport}
 use Rattle.mdb_follow.specs.declared.report.Report.{Report}
+use Rattle.mdb_follow.specs.declared.report.DeviceFacts.{DeviceFacts}
+use Rattle.mdb_follow.specs.declared.silence.AskCounts.{AskCounts}
 use Rattle.mdb_follow.specs.AccountNames.{account_device, account_of, account_slot, sums_of}
 use Rattle.mdb_follow.specs.Devices.{spec_of}
 use Rattle.mdb_follow.specs.LeavingOut.{AreSumsWithout, HasNothingLeftOut, HaveSameFollowed}
 use Rattle.mdb_follow.specs.LeavingOut.{IsNotKnown}
 use Rattle.mdb_follow.specs.Offences.{IsOffence}
 use Rattle.mdb_follow.specs.Ranges.{IsAccount, IsRange, no_account}
-use Rattle.mdb_follow.specs.Report.{IsReport, decimals_of}
-use Rattle.mdb_follow.specs.Report.{report_of, unvalued_of}
+use Rattle.mdb_follow.specs.Report.{IsReport, decimals_of, device_report, device_report_of}
+use Rattle.mdb_follow.specs.Report.{report_of, device_facts_of, unvalued_of}
 use Rattle.mdb_follow.specs.Runs.{AllSums, IsReached, Run}
 use Rattle.mdb_follow.specs.Senders.{sender_of}
-use Rattle.mdb_follow.specs.Silences.{limit_of, silences}
+use Rattle.mdb_follow.specs.Silences.{limit_of}
 use Rattle.mdb_follow.specs.Sums.{AccountSums, no_sums}
 use Rattle.mdb_follow.proofs.Following.{OneActList}
 use Rattle.mdb_follow.proofs.OneAnswer.{named-account, one-account}
 use Rattle.mdb_follow.proofs.OwnWays.{are_breaks}
-use Rattle.mdb_follow.proofs.SilencesWithout.{NamesFollowed, no_silences, silences_stay}
-use Rattle.mdb_follow.proofs.Told.{decimals-told, silences-told, unvalued-told}
+use Rattle.mdb_follow.proofs.SilencesWithout.{NamesFollowed, counts_stay, nothing_counted}
+use Rattle.mdb_follow.proofs.Told.{device-told}
 
 -- what is known of devices, and the amounts without a value, are of their own acts
 pub record FactsAlike : Type 0 where
@@ -63,18 +66,22 @@ pub record BreaksTellNothing : Type 0 where
   pub unvalued : (begins : Beginning) (device : Device) (so_far : List Act)
       → All IsBreak (own_acts device so_far) → unvalued_of begins device so_far ≡ 0
 
--- a device's limit and decimals are those of its own acts
+-- a device's limit is that of its own acts
 limits_alike : FactsAlike → (begins : Beginning) (device : Device) (one other : List Act)
     → own_acts device one ≡ own_acts device other
     → limit_of begins device one ≡ limit_of begins device other
 limits_alike laws begins device one other same =
     ap (spec_of device).limit (laws.known begins device one other same)
 
-decimals_alike : FactsAlike → (begins : Beginning) (device : Device) (one other : List Act)
+-- and so is what acts show of it
+facts_alike : FactsAlike → (begins : Beginning) (device : Device) (one other : List Act)
     → own_acts device one ≡ own_acts device other
-    → decimals_of begins device one ≡ decimals_of begins device other
-decimals_alike laws begins device one other same =
-    ap (spec_of device).decimals (laws.known begins device one other same)
+    → device_facts_of begins device one ≡ device_facts_of begins device other
+facts_alike laws begins device one other same =
+    let made : Option ℕ → ℕ → DeviceFacts = λ decimals unvalued.
+    record { decimals = decimals; unvalued = unvalued } in
+    ap₂ made (ap (spec_of device).decimals (laws.known begins device one other same))
+    (laws.unvalued begins device one other same)
 
 -- what an account has come to in a run is of its device's sums there
 of_device : (account : AccountName) (one other : AllSums)
@@ -182,28 +189,20 @@ same_followed laws less more rows one other leaves is other_is =
       rows = ap (λ report. report.rows) is.telling
           ∙ sym (ap (λ report. report.rows) other_is.telling);
       accounts = same_account laws.runs less more rows one other leaves is other_is;
-      decimals = λ device followed.
-          decimals-told less (laws.one less) rows one is.pieces is is.act_list device
-          ∙ ap (λ b. decimals_of b device (acts_of is.pieces)) leaves.begins
-          ∙ sym (decimals_alike laws.facts more.begins device
-          (acts_of (leave_out more is.pieces)) (acts_of is.pieces) (own is.pieces device followed))
-          ∙ sym (decimals-told more (laws.one more) rows other (leave_out more is.pieces) other_is
-          list device);
-      silences = λ device followed.
-          silences-told less (laws.one less) rows one is.pieces is is.act_list device
-          ∙ ap (λ b. silences b device is.pieces) leaves.begins
-          ∙ sym (silences_stay more.begins more device followed
+      devices = λ device followed.
+          let stays = own is.pieces device followed in
+          let made : DeviceFacts → AskCounts → DeviceReport = λ facts asks.
+          record { facts = facts; asks = asks } in
+          device-told less (laws.one less) rows one is.pieces is is.act_list device
+          ∙ ap (λ b. device_report_of b device is.pieces) leaves.begins
+          ∙ sym (ap₂ made
+          (facts_alike laws.facts more.begins device (acts_of (leave_out more is.pieces))
+          (acts_of is.pieces) stays)
+          (counts_stay more.begins more device followed
           (λ pieces. limits_alike laws.facts more.begins device
           (acts_of (leave_out more pieces)) (acts_of pieces) (own pieces device followed))
-          is.pieces)
-          ∙ sym (silences-told more (laws.one more) rows other (leave_out more is.pieces) other_is
-          list device);
-      unvalued = λ device followed.
-          unvalued-told less (laws.one less) rows one is.pieces is is.act_list device
-          ∙ ap (λ b. unvalued_of b device (acts_of is.pieces)) leaves.begins
-          ∙ sym (laws.facts.unvalued more.begins device (acts_of (leave_out more is.pieces))
-          (acts_of is.pieces) (own is.pieces device followed))
-          ∙ sym (unvalued-told more (laws.one more) rows other (leave_out more is.pieces) other_is
+          is.pieces))
+          ∙ sym (device-told more (laws.one more) rows other (leave_out more is.pieces) other_is
           list device);
     }
 
@@ -338,20 +337,23 @@ nothing_left laws scope rows report is =
     subst (All IsBreak) (sym (laws.alone scope is.pieces device is.act_list.in_order left))
     (All-from_recursion IsBreak (breaks_among (acts_of is.pieces))
     (are_breaks (acts_of is.pieces))) in
+    let told : (device : Device)
+    → device_report device report ≡ device_report_of scope.begins device is.pieces =
+    device-told scope (laws.one scope) rows report is.pieces is is.act_list in
     record {
       accounts = λ account left.
           no_account_left scope rows account (account_of account report)
           (λ sums run. laws.adds scope rows sums run (account_device account) left)
           (named-account scope rows report is account);
       decimals = λ device left none.
-          decimals-told scope (laws.one scope) rows report is.pieces is is.act_list device
+          ap (λ r. r.facts.decimals) (told device)
           ∙ laws.facts.decimals scope.begins device (acts_of is.pieces) (alone device left) none;
-      silences = λ device left.
-          silences-told scope (laws.one scope) rows report is.pieces is is.act_list device
-          ∙ no_silences scope.begins scope (laws.names scope) device left is.pieces
+      asks = λ device left.
+          ap (λ r. r.asks) (told device)
+          ∙ nothing_counted scope.begins scope (laws.names scope) device left is.pieces
           is.act_list.in_order;
       unvalued = λ device left.
-          unvalued-told scope (laws.one scope) rows report is.pieces is is.act_list device
+          ap (λ r. r.facts.unvalued) (told device)
           ∙ laws.facts.unvalued scope.begins device (acts_of is.pieces) (alone device left);
     }
 

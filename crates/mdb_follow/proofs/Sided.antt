@@ -18,19 +18,14 @@ use Rattle.mdb_cash.specs.shared.BillWays as bill_ways
 use Rattle.mdb_cash.specs.shared.ChangerWays as changer_ways
 use Rattle.mdb_cashless.specs.ReaderValues as reader_values
 use Rattle.mdb_cashless.specs.shared.ReaderWays as reader_ways
-use Rattle.mdb_follow.specs.declared.cell.Cell.{Cell}
 use Rattle.mdb_follow.specs.declared.report.TheConstants.Report.{DEVICES}
 use Rattle.mdb_follow.specs.declared.sides.Sides.{Sides}
-use Rattle.mdb_follow.specs.Arrivals.{Arrives}
-use Rattle.mdb_follow.specs.Limits.{IsCellWithin}
 use Rattle.mdb_follow.specs.Devices.{spec_of}
 use Rattle.mdb_follow.specs.Machines.{machine_of}
 use Rattle.mdb_follow.specs.Offences.{HasNoStep, rule_of}
-use Rattle.mdb_follow.specs.Ranges.{IsCell}
 use Rattle.mdb_follow.specs.Report.{decimals_of, unvalued_of}
 use Rattle.mdb_follow.specs.Sides.{AreSides, FactsOf, IsSideOf, SideOf, code_of, kept_of}
 use Rattle.mdb_follow.specs.Sides.{side_in, stands_for}
-use Rattle.mdb_follow.specs.Tables.{ArrivesAnywhere}
 use Rattle.mdb_follow.specs.inner.SideSteps.{AreStanding, AreWithin, FollowsOf, IsSideWithin}
 use Rattle.mdb_follow.specs.inner.SideSteps.{IsWithin, OneFollows, SidesFollow, SidesStay}
 use Rattle.mdb_follow.specs.inner.SideSteps.{SidesStop, Stops}
@@ -220,42 +215,6 @@ pub decimals-are : (begins : Beginning) (device : Device) (facts : FactsOf devic
     → stands_for begins device facts acts
     → decimals_in device facts ≡ decimals_of begins device acts
 decimals-are begins device facts acts on = ap (spec_of device).decimals on
-
--- what is told of the device that an arm is of: its decimal places, the amounts without a value,
--- and the ranges of its sums
-pub decimals-at : (device which : Device) (sides : Sides) (found : Option ℕ) → device ≡ which
-    → found ≡ decimals_in which (side_in sides which).facts → (begins : Beginning)
-    (acts : List Act) → AreSides begins sides acts → found ≡ decimals_of begins device acts
-decimals-at device which sides found is known begins acts on =
-    known ∙ decimals-are begins which (side_in sides which).facts acts (on which).facts
-    ∙ ap (λ d. decimals_of begins d acts) (sym is)
-
-pub unvalued-at : (device which : Device) (sides : Sides) (count : ℕ) → device ≡ which
-    → count ≡ (side_in sides which).unvalued → (begins : Beginning) (acts : List Act)
-    → AreSides begins sides acts → count ≡ unvalued_of begins device acts
-unvalued-at device which sides count is known begins acts on =
-    known ∙ (on which).counted ∙ ap (λ d. unvalued_of begins d acts) (sym is)
-
-pub ranges-at : (device which : Device) (sides : Sides) (cell : Cell) → device ≡ which
-    → ((begins : Beginning) (acts : List Act) → IsSideOf begins which (side_in sides which) acts
-    → IsCell (ArrivesAnywhere (Arrives (machine_of begins which) acts)) cell)
-    → (begins : Beginning) (acts : List Act) → AreSides begins sides acts
-    → IsCell (ArrivesAnywhere (Arrives (machine_of begins device) acts)) cell
-ranges-at device which sides cell is known begins acts on =
-    subst (λ d. IsCell (ArrivesAnywhere (Arrives (machine_of begins d) acts)) cell) (sym is)
-    (known begins acts (on which))
-
--- its count as it is kept, and how far from 0 its ranges are
-pub kept-at : (device which : Device) (sides : Sides) (count : ℕ) → device ≡ which
-    → count ≡ (side_in sides which).unvalued → count ≡ (side_in sides device).unvalued
-kept-at device which sides count is known =
-    known ∙ ap (λ d. (side_in sides d).unvalued) (sym is)
-
-pub ranges-within-at : (device which : Device) (sides : Sides) (cell : Cell) → device ≡ which
-    → ((limit : ℕ) → IsSideWithin limit (side_in sides which) → IsCellWithin limit cell)
-    → (limit : ℕ) → IsWithin device limit sides → IsCellWithin limit cell
-ranges-within-at device which sides cell is known limit within =
-    known limit (within-at device which limit sides is within)
 
 -- what holds of sides that stand for acts holds of what they are then
 pub by-stay : (P : Sides → Type 0) (old new : Sides) → ∥ AreStanding old ∥₁ → SidesStay old new

@@ -18,8 +18,9 @@ use Rattle.mdb_bus.specs.ActLists.{piece_events}
 use Rattle.mdb_bus.specs.LeavingOut.{device_in, is_left_out, leave_out, with_foreign}
 use Rattle.mdb_bus.specs.Scopes.{IsFollowed, IsLeftOut}
 use Rattle.mdb_follow.specs.Devices.{device_place, same_device}
-use Rattle.mdb_follow.specs.Silences.{TimedAsk, asks, asks_of, ends_asking, is_silence, last_start}
-use Rattle.mdb_follow.specs.Silences.{limit_of, silences, with_ask}
+use Rattle.mdb_follow.specs.declared.silence.AskCounts.{AskCounts}
+use Rattle.mdb_follow.specs.Silences.{TimedAsk, asks, asks_of, counts_of, ends_asking, is_silence}
+use Rattle.mdb_follow.specs.Silences.{last_start, limit_of, no_counts, with_ask}
 use Rattle.mdb_follow.proofs.ByDevice.{one_place}
 
 -- devices of which a set has one and lacks the other are two
@@ -147,12 +148,13 @@ lists_stay begins scope device followed stay (piece ∷ pieces) =
     newest begins scope device piece pieces followed stay
     (lists_stay begins scope device followed stay pieces) (is_left_out scope piece) refl
 
--- and so are its silences
-pub silences_stay : (begins : Beginning) (scope : Scope) (device : Device) → IsFollowed scope device
+-- and so is what is counted of them
+pub counts_stay : (begins : Beginning) (scope : Scope) (device : Device) → IsFollowed scope device
     → LimitsStay begins scope device → (pieces : List Piece)
-    → silences begins device (leave_out scope pieces) ≡ silences begins device pieces
-silences_stay begins scope device followed stay pieces =
-    ap (count_by is_silence) (lists_stay begins scope device followed stay pieces)
+    → counts_of (asks_of begins device (leave_out scope pieces))
+    ≡ counts_of (asks_of begins device pieces)
+counts_stay begins scope device followed stay pieces =
+    ap counts_of (lists_stay begins scope device followed stay pieces)
 
 -- acts of pieces name devices that are followed
 abbrev pub NamesFollowed : Scope → Type 0
@@ -218,10 +220,11 @@ none_among (list ∷ lists) empty =
     let rest = none_among lists empty.1 in
     omega (arith, first, rest)
 
--- so a device that is left out has no silences
-pub no_silences : (begins : Beginning) (scope : Scope) → NamesFollowed scope → (device : Device)
-    → IsLeftOut scope device → (pieces : List Piece) → ArePieces scope pieces
-    → silences begins device pieces ≡ 0
-no_silences begins scope names device left pieces are =
-    none_among (asks_of begins device pieces)
-    (never_asked begins scope names device left pieces are)
+-- so nothing is counted of a device that is left out
+pub nothing_counted : (begins : Beginning) (scope : Scope) → NamesFollowed scope
+    → (device : Device) → IsLeftOut scope device → (pieces : List Piece) → ArePieces scope pieces
+    → counts_of (asks_of begins device pieces) ≡ no_counts
+nothing_counted begins scope names device left pieces are =
+    let counted : ℕ → AskCounts = λ silences. record { silences = silences } in
+    ap counted (none_among (asks_of begins device pieces)
+    (never_asked begins scope names device left pieces are))

@@ -4,6 +4,7 @@ use Rattle.std.proofs.Common.{false, nat_lt, ◌||◌, cond, List, [], ◌∷◌
 use Rattle.std.proofs.lemmas.Bool.{lt-ltb, le-ltb}
 use Rattle.std.proofs.lemmas.List.Sums.{sum_by-cons}
 use Rattle.std.specs.List.{count_by, list_any}
+use Rattle.mdb_follow.specs.declared.silence.AskCounts.{AskCounts}
 use Rattle.mdb_follow.specs.declared.silence.Silence.{Silence}
 use Rattle.mdb_follow.specs.declared.silence.Unanswered.TheVariants.{Until, Counted}
 use Rattle.mdb_follow.specs.Silences.{TimedAsk, first_ask, is_silence, with_ask}
@@ -68,6 +69,10 @@ count-more ask (list ∷ lists) some fine late =
     count-list list lists ∙ ap (λ b. cond b 1 0 + count_by is_silence lists) fine in
     omega (arith, after, before)
 
+-- what is counted, with so many silences
+abbrev counted : ℕ → AskCounts
+counted silences = record { silences = silences }
+
 some-ask : (ask : TimedAsk) (list : List TimedAsk) → (ask ∷ list) ≢ []
 some-ask ask list same = cc
 
@@ -83,7 +88,7 @@ counted-more silence lists ask is on =
       unanswered = subst (λ u. IsUnanswered u (newest_list (with_ask ask lists))) (sym is)
           (subst (λ list. IsUnanswered Counted list) (sym (newest-with ask lists))
           (some-ask ask (newest_list lists), yes));
-      count = on.count ∙ sym (count-same ask lists was.0 (yes ∙ sym was.1));
+      counts = on.counts ∙ sym (ap counted (count-same ask lists was.0 (yes ∙ sym was.1)));
     }
   where
     or-true : (b : Bool) → (b || true) ≡ true
@@ -107,13 +112,13 @@ in-time silence lists ask time is early on =
             was.1 ∙ sym (same-deadline ask (newest_list lists) was.0),
             no,
           ));
-      count = on.count ∙ sym (count-same ask lists was.0 (no ∙ sym was.2));
+      counts = on.counts ∙ sym (ap counted (count-same ask lists was.0 (no ∙ sym was.2)));
     }
 
 -- one that comes after the deadline makes a silence
 pub too-late : (silence new : Silence) (lists : List (List TimedAsk)) (ask : TimedAsk) (time : ℕ)
     → silence.unanswered ≡ Until time → time < ask.at → new.unanswered ≡ Counted
-    → new.count ≡ silence.count + 1 → StandsForAsks silence lists
+    → new.counts ≡ counted (silence.counts.silences + 1) → StandsForAsks silence lists
     → StandsForAsks new (with_ask ask lists)
 too-late silence new lists ask time is late counts one on =
     let was = subst (λ u. IsUnanswered u (newest_list lists)) is on.unanswered in
@@ -124,6 +129,6 @@ too-late silence new lists ask time is late counts one on =
       unanswered = subst (λ u. IsUnanswered u (newest_list (with_ask ask lists))) (sym counts)
           (subst (λ list. IsUnanswered Counted list) (sym (newest-with ask lists))
           (some-ask ask (newest_list lists), yes));
-      count = one ∙ ap (λ n. n + 1) on.count
-          ∙ sym (count-more ask lists was.0 was.2 yes);
+      counts = one ∙ ap (λ c. counted (c.silences + 1)) on.counts
+          ∙ sym (ap counted (count-more ask lists was.0 was.2 yes));
     }

@@ -1,5 +1,5 @@
 -- How cells are moved and joined, and which accounts they have. This serves private functions, and
--- `accounts_of`.
+-- `Report::of`.
 use Rattle.std.specs.Prelude.{ℕ, ℤ, pos, ◌+ℤ◌, ◌-ℤ◌, List, [], get_or, slice_index}
 use Rattle.std.specs.Int.{int_max, int_min}
 use Rattle.mdb_msgs.specs.declared.command.Device.{Device}

@@ -11,8 +11,9 @@ use Rattle.mdb_follow.specs.declared.account_name.AccountName.{AccountName}
 use Rattle.mdb_follow.specs.declared.report.Report.{Report}
 use Rattle.mdb_follow.specs.AccountNames.{account_device, account_of}
 use Rattle.mdb_follow.specs.Ranges.{no_account}
-use Rattle.mdb_follow.specs.Report.{device_decimals, device_silences, device_unvalued}
+use Rattle.mdb_follow.specs.Report.{device_decimals, device_report, device_unvalued}
 use Rattle.mdb_follow.specs.Runs.{AllSums}
+use Rattle.mdb_follow.specs.Silences.{no_counts}
 use Rattle.mdb_follow.specs.Sums.{no_sums}
 
 -- sums without the devices that a scope leaves out: the same of the others, and nothing of these
@@ -34,7 +35,8 @@ pub record HasNothingLeftOut (scope : Scope) (report : Report) : Type 0 where
       → account_of account report ≡ no_account
   pub decimals : (device : Device) → IsLeftOut scope device → IsNotKnown scope.begins device
       → device_decimals device report ≡ None
-  pub silences : (device : Device) → IsLeftOut scope device → device_silences device report ≡ 0
+  pub asks : (device : Device) → IsLeftOut scope device
+      → (device_report device report).asks ≡ no_counts
   pub unvalued : (device : Device) → IsLeftOut scope device → device_unvalued device report ≡ 0
 
 -- two reports have the same of the devices that a scope follows
@@ -42,9 +44,5 @@ pub record HaveSameFollowed (scope : Scope) (one other : Report) : Type 0 where
   pub rows : one.rows ≡ other.rows
   pub accounts : (account : AccountName) → IsFollowed scope (account_device account)
       → account_of account one ≡ account_of account other
-  pub decimals : (device : Device) → IsFollowed scope device
-      → device_decimals device one ≡ device_decimals device other
-  pub silences : (device : Device) → IsFollowed scope device
-      → device_silences device one ≡ device_silences device other
-  pub unvalued : (device : Device) → IsFollowed scope device
-      → device_unvalued device one ≡ device_unvalued device other
+  pub devices : (device : Device) → IsFollowed scope device
+      → device_report device one ≡ device_report device other

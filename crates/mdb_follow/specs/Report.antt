@@ -8,13 +8,15 @@ use Rattle.mdb_bus.specs.declared.scope.Beginning.{Beginning}
 use Rattle.mdb_follow.specs.declared.account_name.AccountName.{AccountName}
 use Rattle.mdb_follow.specs.declared.account_name.TheConstants.AccountName.{ALL}
 use Rattle.mdb_follow.specs.declared.account.Account.{Account}
+use Rattle.mdb_follow.specs.declared.report.DeviceReport.{DeviceReport}
 use Rattle.mdb_follow.specs.declared.report.Report.{Report}
+use Rattle.mdb_follow.specs.declared.report.DeviceFacts.{DeviceFacts}
 use Rattle.mdb_follow.specs.declared.report.TheConstants.Report.{DEVICES}
 use Rattle.mdb_follow.specs.AccountNames.{sums_of}
 use Rattle.mdb_follow.specs.Devices.{device_place, spec_of}
 use Rattle.mdb_follow.specs.Ranges.{IsAccount}
 use Rattle.mdb_follow.specs.Runs.{AllSums, IsReached, Run}
-use Rattle.mdb_follow.specs.Silences.{silences}
+use Rattle.mdb_follow.specs.Silences.{asks_of, counts_of, no_counts}
 use Rattle.mdb_bus.specs.declared.scope.Scope.{Scope}
 
 -- The accounts are those of sums of a kind.
@@ -31,31 +33,55 @@ decimals_of begins device acts = (spec_of device).decimals ((spec_of device).kno
 abbrev pub unvalued_of : Beginning → Device → List Act → ℕ
 unvalued_of begins device = (spec_of device).unvalued begins
 
--- the decimal places that a report has of a device
+-- what these acts show of a device
+abbrev pub device_facts_of : Beginning → Device → List Act → DeviceFacts
+device_facts_of begins device acts = record {
+  decimals = decimals_of begins device acts;
+  unvalued = unvalued_of begins device acts;
+}
+
+-- what is reported of a device beside its accounts, after these pieces
+abbrev pub device_report_of : Beginning → Device → List Piece → DeviceReport
+device_report_of begins device pieces = record {
+  facts = device_facts_of begins device (acts_of pieces);
+  asks = counts_of (asks_of begins device pieces);
+}
+
+-- what is shown of a device that isn't there
+abbrev pub no_facts : DeviceFacts
+no_facts = record { decimals = None; unvalued = 0 }
+
+-- the facts of a device, of those of all in the order of a report
+abbrev pub facts_in : List DeviceFacts → Device → DeviceFacts
+facts_in facts device = get_or facts (device_place device) no_facts
+
+-- what a report has of a device beside its accounts: its decimal places, how many amounts without a
+-- value, and how many silences
+abbrev pub device_report : Device → Report → DeviceReport
+device_report device report =
+    get_or report.devices (device_place device)
+    (record { facts = no_facts; asks = no_counts })
+
 abbrev pub device_decimals : Device → Report → Option ℕ
-device_decimals device report = get_or report.decimals (device_place device) None
+device_decimals device report = (device_report device report).facts.decimals
 
--- how many silences a report has of it
-abbrev pub device_silences : Device → Report → ℕ
-device_silences device report = get_or report.silences (device_place device) 0
-
--- how many amounts without a value a report has of it
 abbrev pub device_unvalued : Device → Report → ℕ
-device_unvalued device report = get_or report.unvalued (device_place device) 0
+device_unvalued device report = (device_report device report).facts.unvalued
+
+abbrev pub device_silences : Device → Report → ℕ
+device_silences device report = (device_report device report).asks.silences
 
 -- the report of so many rows, which are these pieces of a recording that begins so, with these
 -- accounts
 abbrev pub report_of : Beginning → ℕ → List Piece → (AccountName → Account) → Report
 report_of begins rows pieces accounts = record {
   rows = rows;
-  decimals = map (λ device. decimals_of begins device (acts_of pieces)) DEVICES;
+  devices = map (λ device. device_report_of begins device pieces) DEVICES;
   accounts = map accounts ALL;
-  silences = map (λ device. silences begins device pieces) DEVICES;
-  unvalued = map (λ device. unvalued_of begins device (acts_of pieces)) DEVICES;
 }
 
 -- The report on rows that are reached: each end of each range is the value of some run, and no
--- run's lies outside. Decimals, silences and the amounts without a value are those of the act list.
+-- run's lies outside. What is reported of each device beside its accounts is of the act list.
 pub record IsReport (scope : Scope) (events : List Event) (report : Report) : Type 0 where
   pub reached : IsReached scope events
   pub pieces : List Piece

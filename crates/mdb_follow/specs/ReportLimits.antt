@@ -5,11 +5,12 @@ use Rattle.mdb_msgs.specs.declared.command.Device.{Device}
 use Rattle.mdb_follow.specs.declared.account_name.AccountName.{AccountName}
 use Rattle.mdb_follow.specs.declared.report.Report.{Report}
 use Rattle.mdb_follow.specs.Limits.{IsAccountWithin}
-use Rattle.mdb_follow.specs.Report.{device_silences, device_unvalued}
+use Rattle.mdb_follow.specs.Report.{device_report, device_unvalued}
+use Rattle.mdb_follow.specs.SilencesKept.{AreAtMost}
 use Rattle.mdb_follow.specs.AccountNames.{account_of}
 
 -- all ends of a report's ranges are at most so far from 0, and so are its counts
 pub record IsReportWithin (limit : ℕ) (report : Report) : Type 0 where
   pub accounts : (account : AccountName) → IsAccountWithin limit (account_of account report)
-  pub silences : (device : Device) → device_silences device report ≤ limit
+  pub asks : (device : Device) → AreAtMost limit (device_report device report).asks
   pub unvalued : (device : Device) → device_unvalued device report ≤ limit

@@ -1,5 +1,5 @@
 -- How silences go on by an act. This serves `Follower` and private functions.
-use Rattle.std.specs.Prelude.{◌≤◌, ◌+◌, ℕ, option_map, List, [], ◌∷◌, if◌then◌else◌}
+use Rattle.std.specs.Prelude.{◌+◌, ℕ, option_map, List, [], ◌∷◌, if◌then◌else◌}
 use Rattle.mdb_msgs.specs.declared.command.Device.{Device}
 use Rattle.mdb_msgs.specs.declared.command.Device.TheVariants as devices
 use Rattle.mdb_msgs.specs.declared.command.ReaderUnit.TheVariants.{First, Second}
@@ -11,7 +11,7 @@ use Rattle.mdb_follow.specs.declared.silence.Silences.{Silences}
 use Rattle.mdb_follow.specs.declared.silence.TheConstants.{CHANGER_SILENCE_MAX, BILL_SILENCE_MAX}
 use Rattle.mdb_follow.specs.Devices.{reader_limit}
 use Rattle.mdb_follow.specs.Silences.{TimedAsk, asks, ends_asking, with_ask}
-use Rattle.mdb_follow.specs.SilencesKept.{StandsForAsks, silence_in}
+use Rattle.mdb_follow.specs.SilencesKept.{AreAtMost, StandsForAsks, silence_in}
 use Rattle.mdb_follow.specs.ByDevice.{OneGoes}
 
 -- how long a device may be silent, by what is known of the two readers
@@ -40,12 +40,12 @@ asks_after device act ask lists =
 abbrev pub ended : List (List TimedAsk) → List (List TimedAsk)
 ended lists = [] ∷ lists
 
--- What is kept of a device has gone on as its lists did, with at most one silence more.
+-- What is kept of a device has gone on as its lists did, with at most one more of each count.
 pub record SilenceGoesOn (further : List (List TimedAsk) → List (List TimedAsk))
     (old new : Silence) : Type 0 where
   pub stands : (lists : List (List TimedAsk)) → StandsForAsks old lists
       → StandsForAsks new (further lists)
-  pub few : new.count ≤ old.count + 1
+  pub few : (most : ℕ) → AreAtMost most old.counts → AreAtMost (most + 1) new.counts
 
 -- what is kept of one device has, and of each other it is what it was
 abbrev pub OneGoesOn : (Device → List (List TimedAsk) → List (List TimedAsk)) → Device
@@ -67,6 +67,6 @@ abbrev pub SilencesFollow : Silences → Act → ℕ → ReaderKnown → ReaderK
 SilencesFollow old act at first second new =
     AllGoOn (λ device. asks_after device act (ask_in first second at device)) old new
 
--- no device has more than so many
+-- no count of a device is more than so many
 abbrev pub AreFew : ℕ → Silences → Type 0
-AreFew most silences = (device : Device) → (silence_in silences device).count ≤ most
+AreFew most silences = (device : Device) → AreAtMost most (silence_in silences device).counts

@@ -13,6 +13,7 @@ use Rattle.mdb_bus.specs.declared.act.Act.{Act}
 use Rattle.mdb_bus.specs.declared.act.Act.TheVariants as acts
 use Rattle.mdb_bus.specs.ActLists.{Piece, Whole, acts_of, last_of}
 use Rattle.mdb_bus.specs.declared.scope.Beginning.{Beginning}
+use Rattle.mdb_follow.specs.declared.silence.AskCounts.{AskCounts}
 use Rattle.mdb_follow.specs.Devices.{same_device, spec_of}
 
 -- how long a device may be silent after these acts, in a recording that begins so, by what it has
@@ -79,6 +80,18 @@ is_silence list =
       | None ↦ false
     ]
 
+-- what is counted of lists of asks to a device: how many are silences
+abbrev pub counts_of : List (List TimedAsk) → AskCounts
+counts_of lists = record { silences = count_by is_silence lists }
+
+-- what is counted of no asks
+abbrev pub no_counts : AskCounts
+no_counts = record { silences = 0 }
+
+-- each count
+abbrev pub each_count : AskCounts → List ℕ
+each_count counts = counts.silences ∷ []
+
 -- how many silences of a device there are: each list counts once
 abbrev pub silences : Beginning → Device → List Piece → ℕ
-silences begins device pieces = count_by is_silence (asks_of begins device pieces)
+silences begins device pieces = (counts_of (asks_of begins device pieces)).silences

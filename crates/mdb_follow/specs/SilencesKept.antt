@@ -1,13 +1,16 @@
 -- What is kept of silences: of the asks of a device, what counts for those to come.
-use Rattle.std.specs.Prelude.{◌≡◌, ◌≢◌, ◌+◌, ℕ, count_by, true, false, List, [], ◌∷◌, Some, None}
+use Rattle.std.specs.Prelude.{◌≡◌, ◌≢◌, ◌+◌, ◌≤◌, ℕ, true, false, List, [], ◌∷◌, Some, None}
 use Rattle.std.specs.Prelude.{get_or}
+use Rattle.std.specs.List.{AllByRecursion}
 use Rattle.mdb_msgs.specs.declared.command.Device.{Device}
+use Rattle.mdb_follow.specs.declared.silence.AskCounts.{AskCounts}
 use Rattle.mdb_follow.specs.declared.silence.Silence.{Silence}
 use Rattle.mdb_follow.specs.declared.silence.Silences.{Silences}
 use Rattle.mdb_follow.specs.declared.silence.Unanswered.{Unanswered}
 use Rattle.mdb_follow.specs.declared.silence.Unanswered.TheVariants.{Nothing, Until, Counted}
 use Rattle.mdb_follow.specs.Devices.{device_place}
-use Rattle.mdb_follow.specs.Silences.{TimedAsk, first_ask, is_silence}
+use Rattle.mdb_follow.specs.Silences.{TimedAsk, counts_of, each_count, first_ask, is_silence}
+use Rattle.mdb_follow.specs.Silences.{no_counts}
 
 -- the newest list, or no asks
 abbrev pub newest_list : List (List TimedAsk) → List TimedAsk
@@ -25,16 +28,20 @@ IsUnanswered (Until time) list =
     (list ≢ []) × (time ≡ deadline_of list) × (is_silence list ≡ false)
 IsUnanswered Counted list = (list ≢ []) × (is_silence list ≡ true)
 
--- A device's silences stand for its lists of asks: what is kept of the newest, and how many of
--- them all are silences.
+-- What is kept of a device's asks stands for its lists of asks: what is kept of the newest, and
+-- what is counted of them all.
 pub record StandsForAsks (silence : Silence) (lists : List (List TimedAsk)) : Type 0 where
   pub unanswered : IsUnanswered silence.unanswered (newest_list lists)
-  pub count : silence.count ≡ count_by is_silence lists
+  pub counts : silence.counts ≡ counts_of lists
+
+-- no count is more than so many
+abbrev pub AreAtMost : ℕ → AskCounts → Type 0
+AreAtMost most counts = AllByRecursion (λ count. count ≤ most) (each_count counts)
 
 -- what is kept of a device
 abbrev pub silence_in : Silences → Device → Silence
 silence_in silences device =
-    get_or silences.of (device_place device) (record { unanswered = Nothing; count = 0 })
+    get_or silences.of (device_place device) (record { unanswered = Nothing; counts = no_counts })
 
 -- the silences of each device stand for its lists
 abbrev pub AllStandForAsks : Silences → (Device → List (List TimedAsk)) → Type 0

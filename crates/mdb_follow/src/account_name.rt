@@ -95,7 +95,7 @@ impl AccountName {
 }
 
 /// The accounts in the order of `AccountName::ALL`, of the cells of `Report::DEVICES`.
-pub fn accounts_of(cells: &[Cell; 4]) -> [Account; 7]
+pub(crate) fn accounts_of(cells: &[Cell; 4]) -> [Account; 7]
     ensures { result ≡ map (account_by (cell_in cells.now)) ALL }
 {
     [

@@ -1,6 +1,6 @@
 //! The follower of a recording.
 
-ghost use Rattle.std.specs.Prelude.{◌≡◌, ◌<◌, ◌≤◌, ◌+◌, ◌*◌, ◌^◌, List, [], ◌∷◌, ◌++◌, ℕ, length};
+ghost use Rattle.std.specs.Prelude.{◌≡◌, ◌<◌, ◌≤◌, ◌+◌, ◌*◌, ◌^◌, List, [], ◌∷◌, ◌++◌, length};
 ghost use Rattle.std.specs.Prelude.{Some, None, Err, IfSome, IfOk, IfErr, IsOk, IsSome, IsSomeAnd};
 ghost use Rattle.std.specs.Prelude.{OnErr, OnSome, take};
 ghost use Rattle.std.specs.Bool.{OnFalse, OnTrue};
@@ -13,9 +13,9 @@ ghost use Rattle.mdb_follow.specs.SilenceSteps.{AreFew};
 
 use crate::sides::Sides;
 use crate::silence::Silences;
-use crate::{Offence, Report, accounts_of, laws};
+use crate::{Offence, Report, laws};
 use mdb_bus::{Act, Blame, Bus, LinkFault, Scope, laws as bus_laws};
-use mdb_msgs::{Device, DeviceSet, ReaderUnit, Setups};
+use mdb_msgs::{DeviceSet, Setups};
 use mdb_words::{Event, Time};
 use std::mem;
 
@@ -341,12 +341,9 @@ impl Follower {
     {
         laws::ways_join();
         bus_laws::transcripts_have_one_act_list();
-        let changer = self.sides.ranges(Device::Changer);
-        let bill = self.sides.ranges(Device::Bill);
-        let first_reader = self.sides.ranges(Device::Reader(ReaderUnit::First));
-        let second_reader = self.sides.ranges(Device::Reader(ReaderUnit::Second));
-        let accounts = accounts_of(&[changer, bill, first_reader, second_reader]);
-        Report::of(self.rows, accounts, &self.sides, &self.silences)
+        let cells = self.sides.cells();
+        let facts = self.sides.facts();
+        Report::of(self.rows, &cells, &facts, &self.silences)
     }
 }
 

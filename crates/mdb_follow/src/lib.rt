@@ -5,8 +5,8 @@
 //! an [`Account`] for each [`AccountName`]. For the first impossible row it returns an [`Offence`]:
 //! the row's number, the rule that it breaks, and who is to blame.
 //!
-//! Sums are in the smallest unit of money of their device. [`Report::decimals`] has the decimal
-//! places of each device. Times are in microseconds. This crate allocates nothing.
+//! Sums are in the smallest unit of money of their device. [`Report::device_decimals`] has the
+//! decimal places of each device. Times are in microseconds. This crate allocates nothing.
 #![tactic(auto)]
 
 mod account;
@@ -27,7 +27,7 @@ mod silence;
 mod table;
 
 pub use account::Account;
-pub use account_name::{AccountName, accounts_of};
+pub use account_name::AccountName;
 pub use cell::Cell;
 pub use devices::device_place;
 pub use follower::{Follower, ROWS_MAX, sender_of};
@@ -35,8 +35,9 @@ pub use goal::{AccountSide, Bound, Goal};
 pub use offence::Offence;
 pub use owner::{Owner, owner_of};
 pub use range::Range;
-pub use report::Report;
+pub use report::{DeviceFacts, DeviceReport, Report};
 pub use silence::{
-    BILL_SILENCE_MAX, CHANGER_SILENCE_MAX, MICROS_PER_SECOND, READER_SILENCE_MAX, Silences,
+    AskCounts, BILL_SILENCE_MAX, CHANGER_SILENCE_MAX, MICROS_PER_SECOND, READER_SILENCE_MAX,
+    Silences,
 };
 pub use table::Table;

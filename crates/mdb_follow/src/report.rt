@@ -1,40 +1,58 @@
 //! The report on possible rows.
 
+ghost use Rattle.std.specs.Prelude.{◌≡◌};
+ghost use Rattle.mdb_follow.specs.Report.{facts_in};
+ghost use Rattle.mdb_follow.specs.SilencesKept.{silence_in};
+
+use crate::account_name::accounts_of;
 use crate::devices::device_place;
-use crate::sides::Sides;
-use crate::silence::Silences;
-use crate::{Account, AccountName};
+use crate::silence::{AskCounts, Silences};
+use crate::{Account, AccountName, Cell};
 use mdb_msgs::{Device, ReaderUnit};
+
+/// What the acts of a recording show of a device, or what is known of it from elsewhere, beside the
+/// sums of its accounts.
+#[derive(Clone, Copy, PartialEq, Eq, Debug)]
+pub struct DeviceFacts {
+    /// The decimal places of its money: those that it reported last, or that are known from
+    /// elsewhere. `None` if there are none.
+    pub decimals: Option<u8>,
+    /// How many amounts without a value it reported, or was asked for. An amount has no value if
+    /// nothing shows how the device is set up. It is in no sum.
+    pub unvalued: u64,
+}
+
+/// What is reported of a device, beside its accounts.
+#[derive(Clone, Copy, PartialEq, Eq, Debug)]
+pub struct DeviceReport {
+    /// What its acts show of it.
+    pub facts: DeviceFacts,
+    /// What was counted of the controller's commands to it.
+    pub asks: AskCounts,
+}
 
 /// The report on possible rows.
 #[derive(Clone, Copy, PartialEq, Eq, Debug)]
 pub struct Report {
     /// The number of rows.
     pub rows: u64,
-    /// The decimal places of each of `Report::DEVICES`: those that it reported last, or that are
-    /// known from elsewhere. `None` if there are none.
-    pub decimals: [Option<u8>; 4],
+    /// What is reported of each of `Report::DEVICES`, beside its accounts.
+    pub devices: [DeviceReport; 4],
     /// The bounds of each of `AccountName::ALL`, in the smallest unit of money.
     pub accounts: [Account; 7],
-    /// How often each of `Report::DEVICES` left the controller's commands unanswered for too long.
-    pub silences: [u64; 4],
-    /// How many amounts without a value each of `Report::DEVICES` reported, or was asked for. An
-    /// amount has no value if nothing shows how the device is set up. It is in no sum.
-    pub unvalued: [u64; 4],
 }
 
 impl Report {
-    ghost use Rattle.std.specs.Prelude.{◌≡◌, ◌<◌, List, map};
+    ghost use Rattle.std.specs.Prelude.{◌≡◌, List, map};
     ghost use Rattle.mdb_msgs.specs.declared.command.Device.{Device};
     ghost use Rattle.mdb_bus.specs.ActLists.{Piece, acts_of};
     ghost use Rattle.mdb_bus.specs.declared.scope.Beginning.{Beginning};
-    ghost use Rattle.mdb_follow.specs.declared.account_name.AccountName.{AccountName};
     ghost use Rattle.mdb_follow.specs.declared.account_name.TheConstants.AccountName.{ALL};
-    ghost use Rattle.mdb_follow.specs.declared.account.Account.{Account};
-    ghost use Rattle.mdb_follow.specs.Report.{device_decimals, device_silences};
+    ghost use Rattle.mdb_follow.specs.declared.report.TheConstants.Report.{DEVICES};
     ghost use Rattle.mdb_follow.specs.AccountNames.{account_of};
-    ghost use Rattle.mdb_follow.specs.Report.{device_unvalued, report_of};
-    ghost use Rattle.mdb_follow.specs.Sides.{AreSides, side_in};
+    ghost use Rattle.mdb_follow.specs.Cells.{account_by, cell_in};
+    ghost use Rattle.mdb_follow.specs.Report.{device_decimals, device_report, device_silences};
+    ghost use Rattle.mdb_follow.specs.Report.{device_unvalued, report_of, facts_in, device_facts_of};
     ghost use Rattle.mdb_follow.specs.Silences.{asks_of};
     ghost use Rattle.mdb_follow.specs.SilencesKept.{AllStandForAsks, silence_in};
 
@@ -46,49 +64,32 @@ impl Report {
         Device::Reader(ReaderUnit::Second),
     ];
 
-    /// The report of so many rows, with what the accounts come to, in the order of
-    /// `AccountName::ALL`.
-    pub(crate) fn of(
-        rows: u64,
-        accounts: [Account; 7],
-        sides: &Sides,
-        silences: &Silences,
-    ) -> Report
+    /// The report of so many rows: with the accounts of the devices' cells, what their acts show,
+    /// and what was counted of their asks. All are in the order of `DEVICES`.
+    pub fn of(rows: u64, cells: &[Cell; 4], facts: &[DeviceFacts; 4], silences: &Silences) -> Report
+        ensures has { result ≡ record {
+          rows = rows;
+          devices = map (λ device. record {
+            facts = facts_in facts.now device;
+            asks = (silence_in silences.now device).counts;
+          }) DEVICES;
+          accounts = map (account_by (cell_in cells.now)) ALL;
+        } }
         ensures telling { (begins : Beginning) (pieces : List Piece)
-            (named : AccountName → Account) → AreSides begins sides.now (acts_of pieces)
+            → facts.now ≡ map (λ device. device_facts_of begins device (acts_of pieces)) DEVICES
             → AllStandForAsks silences.now (λ device. asks_of begins device pieces)
-            → accounts ≡ map named ALL
-            → result ≡ report_of begins rows pieces named }
-        ensures rows { result.rows ≡ rows }
-        ensures accounts { result.accounts ≡ accounts }
-        ensures silences { (device : Device)
-            → device_silences device result ≡ (silence_in silences.now device).count }
-        ensures unvalued { (device : Device)
-            → device_unvalued device result ≡ (side_in sides.now device).unvalued }
+            → result ≡ report_of begins rows pieces (account_by (cell_in cells.now)) }
     {
-        let first = Device::Reader(ReaderUnit::First);
-        let second = Device::Reader(ReaderUnit::Second);
+        let [changer, bill, first, second] = Report::DEVICES;
         Report {
             rows,
-            decimals: [
-                sides.decimals(Device::Changer),
-                sides.decimals(Device::Bill),
-                sides.decimals(first),
-                sides.decimals(second),
+            devices: [
+                reported(facts, silences, changer),
+                reported(facts, silences, bill),
+                reported(facts, silences, first),
+                reported(facts, silences, second),
             ],
-            accounts,
-            silences: [
-                silences.count(Device::Changer),
-                silences.count(Device::Bill),
-                silences.count(first),
-                silences.count(second),
-            ],
-            unvalued: [
-                sides.unvalued(Device::Changer),
-                sides.unvalued(Device::Bill),
-                sides.unvalued(first),
-                sides.unvalued(second),
-            ],
+            accounts: accounts_of(cells),
         }
     }
 
@@ -99,24 +100,70 @@ impl Report {
         self.accounts[name.place()]
     }
 
+    /// What is reported of a device, beside its accounts.
+    pub fn device(&self, device: Device) -> DeviceReport
+        ensures { result ≡ device_report device self.now }
+    {
+        self.devices[device_place(device)]
+    }
+
     /// The decimal places of a device. `None` if there are none.
     pub fn device_decimals(&self, device: Device) -> Option<u8>
         ensures { result ≡ device_decimals device self.now }
     {
-        self.decimals[device_place(device)]
+        self.device(device).facts.decimals
     }
 
     /// How often a device left the controller's commands unanswered for too long.
     pub fn device_silences(&self, device: Device) -> u64
         ensures { result ≡ device_silences device self.now }
     {
-        self.silences[device_place(device)]
+        self.device(device).asks.silences
     }
 
     /// How many amounts without a value a device reported, or was asked for.
     pub fn device_unvalued(&self, device: Device) -> u64
         ensures { result ≡ device_unvalued device self.now }
     {
-        self.unvalued[device_place(device)]
+        self.device(device).facts.unvalued
+    }
+
+    /// How often each of `DEVICES` left the controller's commands unanswered for too long.
+    pub fn silences(&self) -> [u64; 4]
+        ensures { result ≡ map (λ device. device_silences device self.now) DEVICES }
+    {
+        let [changer, bill, first, second] = Report::DEVICES;
+        [
+            self.device_silences(changer),
+            self.device_silences(bill),
+            self.device_silences(first),
+            self.device_silences(second),
+        ]
+    }
+
+    /// How many amounts without a value each of `DEVICES` reported, or was asked for.
+    pub fn unvalued(&self) -> [u64; 4]
+        ensures { result ≡ map (λ device. device_unvalued device self.now) DEVICES }
+    {
+        let [changer, bill, first, second] = Report::DEVICES;
+        [
+            self.device_unvalued(changer),
+            self.device_unvalued(bill),
+            self.device_unvalued(first),
+            self.device_unvalued(second),
+        ]
+    }
+}
+
+/// What is reported of a device, by what there is of all.
+fn reported(facts: &[DeviceFacts; 4], silences: &Silences, device: Device) -> DeviceReport
+    ensures { result ≡ record {
+      facts = facts_in facts.now device;
+      asks = (silence_in silences.now device).counts;
+    } }
+{
+    DeviceReport {
+        facts: facts[device_place(device)],
+        asks: silences.counts(device),
     }
 }

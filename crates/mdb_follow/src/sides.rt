@@ -1,13 +1,16 @@
 //! The sides of a recording: each device and the controller.
 
-ghost use Rattle.std.specs.Prelude.{◌≡◌, ◌^◌, ℕ, List, [], IfOk, IfErr, OnErr};
+ghost use Rattle.std.specs.Prelude.{◌≡◌, ◌^◌, ℕ, List, [], map, IfOk, IfErr, OnErr};
+ghost use Rattle.mdb_msgs.specs.declared.command.Device.{Device};
 ghost use Rattle.mdb_bus.specs.declared.act.Act.{Act};
 ghost use Rattle.mdb_bus.specs.declared.scope.Beginning.{Beginning};
+ghost use Rattle.mdb_follow.specs.declared.report.TheConstants.Report.{DEVICES};
 ghost use Rattle.mdb_follow.specs.Arrivals.{Arrives};
+ghost use Rattle.mdb_follow.specs.Cells.{cell_in};
 ghost use Rattle.mdb_follow.specs.Limits.{IsCellWithin};
 ghost use Rattle.mdb_follow.specs.Machines.{machine_of};
 ghost use Rattle.mdb_follow.specs.Ranges.{IsCell};
-ghost use Rattle.mdb_follow.specs.Report.{decimals_of, unvalued_of};
+ghost use Rattle.mdb_follow.specs.Report.{facts_in, device_facts_of};
 ghost use Rattle.mdb_follow.specs.Tables.{ArrivesAnywhere};
 ghost use Rattle.mdb_follow.specs.Sides.{AreSides, side_in};
 ghost use Rattle.mdb_follow.specs.inner.SideSteps.{AreWithin, IsWithin, OneFollows, SidesFollow};
@@ -15,7 +18,7 @@ ghost use Rattle.mdb_follow.specs.inner.SideSteps.{SidesStay, SidesStop, Stops};
 
 use crate::owner::{Owner, owner_of};
 use crate::side::{self, Side};
-use crate::{Cell, Report};
+use crate::{Cell, DeviceFacts, Report};
 use mdb_bus::{Act, Beginning, Rule};
 use mdb_cash::{Bill, BillKnown, Changer, ChangerKnown};
 use mdb_cashless::{Reader, ReaderKnown};
@@ -116,51 +119,46 @@ impl Sides {
         }
     }
 
-    /// The decimal places of a device: those that it reported last, or that are known from
-    /// elsewhere. `None` if there are none.
-    pub(crate) fn decimals(&self, device: Device) -> Option<u8>
-        ensures { (begins : Beginning) (acts : List Act) → AreSides begins self.now acts
-            → result ≡ decimals_of begins device acts }
+    /// What the acts so far show of each of `Report::DEVICES`.
+    pub(crate) fn facts(&self) -> [DeviceFacts; 4]
+        ensures facts { (begins : Beginning) (acts : List Act) → AreSides begins self.now acts
+            → result ≡ map (λ device. device_facts_of begins device acts) DEVICES }
+        ensures kept { (device : Device)
+            → (facts_in result device).unvalued ≡ (side_in self.now device).unvalued }
     {
-        match device {
-            Device::Changer => self.changer.facts.decimals(),
-            Device::Bill => self.bill.facts.decimals(),
-            Device::Reader(unit) => match unit {
-                ReaderUnit::First => self.first_reader.facts.decimals(),
-                ReaderUnit::Second => self.second_reader.facts.decimals(),
+        [
+            DeviceFacts {
+                decimals: self.changer.facts.decimals(),
+                unvalued: self.changer.unvalued,
             },
-        }
+            DeviceFacts {
+                decimals: self.bill.facts.decimals(),
+                unvalued: self.bill.unvalued,
+            },
+            DeviceFacts {
+                decimals: self.first_reader.facts.decimals(),
+                unvalued: self.first_reader.unvalued,
+            },
+            DeviceFacts {
+                decimals: self.second_reader.facts.decimals(),
+                unvalued: self.second_reader.unvalued,
+            },
+        ]
     }
 
-    /// How many amounts without a value a device reported.
-    pub(crate) fn unvalued(&self, device: Device) -> u64
-        ensures counted { (begins : Beginning) (acts : List Act) → AreSides begins self.now acts
-            → result ≡ unvalued_of begins device acts }
-        ensures kept { result ≡ (side_in self.now device).unvalued }
-    {
-        match device {
-            Device::Changer => self.changer.unvalued,
-            Device::Bill => self.bill.unvalued,
-            Device::Reader(unit) => match unit {
-                ReaderUnit::First => self.first_reader.unvalued,
-                ReaderUnit::Second => self.second_reader.unvalued,
-            },
-        }
-    }
-
-    /// What the sums of a device's accounts may be, whatever its state is.
-    pub(crate) fn ranges(&self, device: Device) -> Cell
+    /// What the sums of the accounts of each of `Report::DEVICES` may be, whatever its state is.
+    pub(crate) fn cells(&self) -> [Cell; 4]
         ensures exact { (begins : Beginning) (acts : List Act) → AreSides begins self.now acts
-            → IsCell (ArrivesAnywhere (Arrives (machine_of begins device) acts)) result }
-        ensures within { (limit : ℕ) → IsWithin device limit self.now → IsCellWithin limit result }
+            → (device : Device) → IsCell (ArrivesAnywhere (Arrives (machine_of begins device) acts))
+            (cell_in result device) }
+        ensures within { (limit : ℕ) (device : Device) → IsWithin device limit self.now
+            → IsCellWithin limit (cell_in result device) }
     {
-        match device {
-            Device::Changer => side::ranges::<Changer, _>(&self.changer),
-            Device::Bill => side::ranges::<Bill, _>(&self.bill),
-            Device::Reader(unit) => match unit {
-                ReaderUnit::First => side::ranges::<FirstReader, _>(&self.first_reader),
-                ReaderUnit::Second => side::ranges::<SecondReader, _>(&self.second_reader),
-            },
-        }
+        [
+            side::ranges::<Changer, _>(&self.changer),
+            side::ranges::<Bill, _>(&self.bill),
+            side::ranges::<FirstReader, _>(&self.first_reader),
+            side::ranges::<SecondReader, _>(&self.second_reader),
+        ]
     }
 }

@@ -1,11 +1,12 @@
-//! Silences: how often a device left the controller's commands unanswered for too long.
+//! What is counted of the controller's commands to a device: its silences, which are how often it
+//! left them unanswered for too long.
 //!
 //! The limits are in microseconds. They count from the start of the last word of the first
 //! unanswered command to that of a later one.
 
-ghost use Rattle.std.specs.Prelude.{◌≡◌, ◌<◌, ◌≤◌, ◌+◌, ◌^◌, List};
+ghost use Rattle.std.specs.Prelude.{◌≡◌, ◌<◌, ◌+◌, ◌^◌, ℕ, List};
 ghost use Rattle.mdb_follow.specs.Silences.{TimedAsk, with_ask};
-ghost use Rattle.mdb_follow.specs.SilencesKept.{StandsForAsks, silence_in};
+ghost use Rattle.mdb_follow.specs.SilencesKept.{AreAtMost, StandsForAsks, silence_in};
 ghost use Rattle.mdb_follow.specs.SilenceSteps as spec;
 ghost use Rattle.mdb_follow.specs.SilenceSteps.{AllGoOn, AreFew, OneGoesOn, SilencesFollow};
 ghost use Rattle.mdb_follow.specs.SilenceSteps.{ask_in, ended, limit_by};
@@ -30,6 +31,18 @@ pub const READER_SILENCE_MAX: u64 = 5_000_000;
 /// A second, the unit of a reader's response time.
 pub const MICROS_PER_SECOND: u64 = 1_000_000;
 
+/// What is counted of the controller's commands to a device.
+#[derive(Clone, Copy, PartialEq, Eq, Debug)]
+pub struct AskCounts {
+    /// How often the device left them unanswered for too long.
+    pub silences: u64,
+}
+
+impl AskCounts {
+    /// Nothing was counted.
+    pub const NONE: AskCounts = AskCounts { silences: 0 };
+}
+
 /// The asks that a device has left without an answer since its last answer or the last break.
 #[derive(Clone, Copy, PartialEq, Eq, Debug)]
 enum Unanswered {
@@ -41,35 +54,36 @@ enum Unanswered {
     Counted,
 }
 
-/// The silences of a device.
+/// What is kept of the asks of a device.
 #[derive(Clone, Copy, PartialEq, Eq, Debug)]
 struct Silence {
     unanswered: Unanswered,
-    count: u64,
+    counts: AskCounts,
 }
 
 impl Silence {
     /// After no act.
     const NONE: Silence = Silence {
         unanswered: Unanswered::Nothing,
-        count: 0,
+        counts: AskCounts::NONE,
     };
 
     /// The device is asked, with so much time to answer if this is the first ask of its list.
     fn ask(&mut self, at: u64, limit: u64)
-        requires room { self.old.count < 2 ^ 63 }
+        requires room { AreAtMost (2 ^ 62) self.old.counts }
         requires at { at < 2 ^ 62 }
         requires limit { limit < 2 ^ 62 }
         ensures stands { (lists : List (List TimedAsk)) → StandsForAsks self.old lists
             → StandsForAsks self.new (with_ask (record { at = at; limit = limit }) lists) }
-        ensures few { self.new.count ≤ self.old.count + 1 }
+        ensures few { (most : ℕ) → AreAtMost most self.old.counts
+            → AreAtMost (most + 1) self.new.counts }
     {
         match self.unanswered {
             Unanswered::Nothing => self.unanswered = Unanswered::Until(at + limit),
             Unanswered::Until(end) => {
                 if end < at {
                     self.unanswered = Unanswered::Counted;
-                    self.count += 1;
+                    self.counts.silences += 1;
                 }
             }
             Unanswered::Counted => {}
@@ -80,21 +94,21 @@ impl Silence {
     fn end(&mut self)
         ensures stands { (lists : List (List TimedAsk)) → StandsForAsks self.old lists
             → StandsForAsks self.new (ended lists) }
-        ensures same { self.new.count ≡ self.old.count }
+        ensures same { self.new.counts ≡ self.old.counts }
     {
         self.unanswered = Unanswered::Nothing;
     }
 }
 
-/// The silences of all devices.
+/// What is kept of the asks of all devices.
 #[derive(Clone, Copy, PartialEq, Eq, Debug)]
 pub struct Silences {
-    /// Those of each of `Report::DEVICES`.
+    /// That of each of `Report::DEVICES`.
     of: [Silence; 4],
 }
 
 impl Silences {
-    /// The silences after no act.
+    /// After no act.
     pub const NONE: Silences = Silences {
         of: [Silence::NONE; 4],
     };
@@ -115,11 +129,11 @@ impl Silences {
         }
     }
 
-    /// How many silences of a device there were.
-    pub fn count(&self, device: Device) -> u64
-        ensures { result ≡ (silence_in self.now device).count }
+    /// What was counted of the commands to a device.
+    pub fn counts(&self, device: Device) -> AskCounts
+        ensures { result ≡ (silence_in self.now device).counts }
     {
-        self.of[device_place(device)].count
+        self.of[device_place(device)].counts
     }
 
     /// The controller asks a device, with what is known of the two readers after that.

@@ -92,9 +92,9 @@ impl Counted {
 
     /// Follows a command to a device, and answers whether it makes those before it a silence.
     fn makes_silence(&mut self, device: Device, act: &Act, at: Time) -> bool {
-        let before = self.silences.count(device);
+        let before = self.silences.counts(device).silences;
         self.follow(act, at);
-        self.silences.count(device) > before
+        self.silences.counts(device).silences > before
     }
 }
 

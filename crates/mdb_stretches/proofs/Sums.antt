@@ -1,9 +1,7 @@
 -- What totals come to with a report more.
-use Rattle.std.proofs.Common.{arith, refl, ◌≡◌, ◌+◌, ◌≤◌, ℕ}
+use Rattle.std.proofs.Common.{arith, ◌≡◌, ◌+◌, ◌≤◌, ℕ}
 use Rattle.std.proofs.lemmas.Int.{ints}
 use Rattle.mdb_msgs.specs.declared.command.Device.{Device}
-use Rattle.mdb_msgs.specs.declared.command.Device.TheVariants.{Changer, Bill, Reader}
-use Rattle.mdb_msgs.specs.declared.command.ReaderUnit.TheVariants.{First, Second}
 use Rattle.mdb_follow.specs.declared.account.Account.{Account}
 use Rattle.mdb_follow.specs.declared.account_name.AccountName.{AccountName}
 use Rattle.mdb_follow.specs.declared.range.Range.{Range}
@@ -13,6 +11,7 @@ use Rattle.mdb_follow.specs.ReportLimits.{IsReportWithin}
 use Rattle.mdb_follow.specs.Report.{device_silences, device_unvalued}
 use Rattle.mdb_follow.specs.AccountNames.{account_of}
 use Rattle.mdb_follow.proofs.Accounts.{listed}
+use Rattle.mdb_follow.proofs.Told.{listed as by-device}
 use Rattle.mdb_stretches.specs.declared.totals.Totals.{Totals}
 use Rattle.mdb_stretches.specs.Totals.{AreWithin, added_account, added_range, total_of, total_silences, total_unvalued, with_report}
 
@@ -26,18 +25,14 @@ account_sums totals report =
 pub silence_sums : (totals : Totals) (report : Report) (device : Device)
     → total_silences device (with_report totals report)
     ≡ total_silences device totals + device_silences device report
-silence_sums totals report Changer = refl
-silence_sums totals report Bill = refl
-silence_sums totals report (Reader First) = refl
-silence_sums totals report (Reader Second) = refl
+silence_sums totals report =
+    by-device (λ device. total_silences device totals + device_silences device report) 0
 
 pub unvalued_sums : (totals : Totals) (report : Report) (device : Device)
     → total_unvalued device (with_report totals report)
     ≡ total_unvalued device totals + device_unvalued device report
-unvalued_sums totals report Changer = refl
-unvalued_sums totals report Bill = refl
-unvalued_sums totals report (Reader First) = refl
-unvalued_sums totals report (Reader Second) = refl
+unvalued_sums totals report =
+    by-device (λ device. total_unvalued device totals + device_unvalued device report) 0
 
 -- how far from 0 they are then
 range_within : (limit more : ℕ) (one other : Range) → IsRangeWithin limit one
@@ -68,7 +63,7 @@ with_within limit more totals report within is few = record {
       (account_within limit more (total_of account totals) (account_of account report)
       (within.accounts account) (is.accounts account));
   silences = λ device. rw (silence_sums totals report device)
-      (omega (arith, within.silences device, is.silences device));
+      (omega (arith, within.silences device, (is.asks device).0));
   unvalued = λ device. rw (unvalued_sums totals report device)
       (omega (arith, within.unvalued device, is.unvalued device));
 }

@@ -6,7 +6,9 @@ use Rattle.mdb_follow.specs.declared.range.Range.{Range}
 use Rattle.mdb_follow.specs.declared.report.Report.{Report}
 use Rattle.mdb_follow.specs.Limits.{IsAccountWithin, IsRangeWithin}
 use Rattle.mdb_follow.specs.AccountNames.{account_of}
+use Rattle.mdb_follow.specs.Report.{device_report}
 use Rattle.mdb_follow.specs.ReportLimits.{IsReportWithin}
+use Rattle.mdb_follow.proofs.Kept.{at-most-weaker}
 use Rattle.mdb_stretches.specs.declared.counts.FaultCounts.{FaultCounts}
 use Rattle.mdb_stretches.specs.declared.totals.Totals.{Totals}
 use Rattle.mdb_stretches.specs.Counts.{AreFew}
@@ -45,7 +47,8 @@ report_weaker : (limit more : ℕ) (report : Report) → limit ≤ more → IsRe
 report_weaker limit more report le is = record {
   accounts =
       λ account. account_weaker limit more (account_of account report) le (is.accounts account);
-  silences = λ device. omega (arith, le, is.silences device);
+  asks = λ device. at-most-weaker (device_report device report).asks limit more le
+      (is.asks device);
   unvalued = λ device. omega (arith, le, is.unvalued device);
 }
 

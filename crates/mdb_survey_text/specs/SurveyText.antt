@@ -6,15 +6,14 @@ use Rattle.mdb_bus.specs.FaultWords.{blame_word, rule_word}
 use Rattle.mdb_bus.specs.Scopes.{joined}
 use Rattle.mdb_follow.specs.declared.account_name.TheConstants.AccountName.{ALL}
 use Rattle.mdb_follow.specs.declared.offence.Offence.{Offence}
-use Rattle.mdb_follow.specs.declared.report.TheConstants.Report.{DEVICES}
 use Rattle.mdb_stretches.specs.declared.counts.FaultCounts.{FaultCounts}
 use Rattle.mdb_stretches.specs.declared.stretch.Stretch.{Stretch}
 use Rattle.mdb_stretches.specs.declared.totals.Totals.{Totals}
 use Rattle.mdb_stretches.specs.Told.{setups_of}
-use Rattle.mdb_stretches.specs.Totals.{total_of, total_silences, total_unvalued}
+use Rattle.mdb_stretches.specs.Totals.{total_of}
 use Rattle.mdb_stretches.specs.declared.summary.Summary.{Summary}
 use Rattle.mdb_survey_text.specs.Lines.{LineForm}
-use Rattle.mdb_text.specs.Text.{account_line, count_text, devices_text, line, line_of_devices, report_lines}
+use Rattle.mdb_text.specs.Text.{account_line, counts_line, devices_text, line, line_of_devices, report_lines}
 
 -- the first line of a stretch: its number, its first row and its last
 abbrev pub stretch_line : Stretch → List ℕ
@@ -45,15 +44,11 @@ total_accounts_text totals =
 
 -- the sums of each device's silences
 abbrev pub total_silences_line : Totals → List ℕ
-total_silences_line totals =
-    line (codes "total silences"
-    ++ flat_map (λ device. count_text device (total_silences device totals)) DEVICES)
+total_silences_line totals = counts_line (codes "total silences") totals.silences
 
 -- those of its amounts without a value
 abbrev pub total_unvalued_line : Totals → List ℕ
-total_unvalued_line totals =
-    line (codes "total unvalued"
-    ++ flat_map (λ device. count_text device (total_unvalued device totals)) DEVICES)
+total_unvalued_line totals = counts_line (codes "total unvalued") totals.unvalued
 
 -- the totals, and which devices are left out at the end, if any
 abbrev pub totals_text : Summary → List ℕ

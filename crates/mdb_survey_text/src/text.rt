@@ -2,12 +2,12 @@
 
 ghost use Rattle.std.specs.Prelude.{◌≡◌, ◌<◌, ◌+◌, ◌++◌, OnOk};
 ghost use Rattle.std.specs.Io.KnownBytes.{Appends};
-ghost use Rattle.mdb_survey_text.specs.SurveyText.{fault_line, faults_line, rows_text, stretch_line, stretch_text, summary_text, total_accounts_text, total_silences_line, total_unvalued_line, totals_text};
+ghost use Rattle.mdb_survey_text.specs.SurveyText.{fault_line, faults_line, rows_text, stretch_line, stretch_text, summary_text, total_accounts_text, totals_text};
 
 use mdb_bus::Scope;
-use mdb_follow::{AccountName, Offence, Report};
+use mdb_follow::{AccountName, Offence};
 use mdb_stretches::{FaultCounts, Stretch, Summary, Totals, setups_of};
-use mdb_text::{write_account, write_count, write_devices, write_report_lines};
+use mdb_text::{write_account, write_counts, write_devices, write_report_lines};
 use std::io;
 use std::io::Write;
 
@@ -73,8 +73,8 @@ fn write_totals<W: Write>(writer: &mut W, summary: &Summary) -> io::Result<()>
         ..
     } = summary;
     write_total_accounts(writer, totals)?;
-    write_total_silences(writer, totals)?;
-    write_total_unvalued(writer, totals)?;
+    write_counts(writer, "total silences", &totals.silences)?;
+    write_counts(writer, "total unvalued", &totals.unvalued)?;
     write_devices(writer, "total without", *without)
 }
 
@@ -88,30 +88,6 @@ fn write_total_accounts<W: Write>(writer: &mut W, totals: &Totals) -> io::Result
         write_account(writer, name, &totals.account(name))?;
     }
     Ok(())
-}
-
-/// Writes the sums of each device's silences.
-fn write_total_silences<W: Write>(writer: &mut W, totals: &Totals) -> io::Result<()>
-    ensures { OnOk result (Appends (W.contents writer.old) (W.contents writer.new)
-        (total_silences_line totals.now)) }
-{
-    write!(writer, "total silences")?;
-    for device in Report::DEVICES {
-        write_count(writer, device, totals.device_silences(device))?;
-    }
-    write!(writer, "\n")
-}
-
-/// Writes the sums of each device's amounts without a value.
-fn write_total_unvalued<W: Write>(writer: &mut W, totals: &Totals) -> io::Result<()>
-    ensures { OnOk result (Appends (W.contents writer.old) (W.contents writer.new)
-        (total_unvalued_line totals.now)) }
-{
-    write!(writer, "total unvalued")?;
-    for device in Report::DEVICES {
-        write_count(writer, device, totals.device_unvalued(device))?;
-    }
-    write!(writer, "\n")
 }
 
 /// Writes how many faults there are.

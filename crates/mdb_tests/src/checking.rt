@@ -3,8 +3,8 @@
 use super::asserts::{check_gives, same, same_at};
 use super::streams::{ENDED, POLLS, Pieces, ROWS, Sheet, WRONG_SUM, polls};
 use mdb_check::{
-    Account, Blame, Device, DeviceSet, Offence, Outcome, Range, ReaderConfig, Report, Rule,
-    RunFault, Scope, Setups, check, text_of, text_scoped,
+    Account, AskCounts, Blame, Device, DeviceFacts, DeviceReport, DeviceSet, Offence, Outcome,
+    Range, ReaderConfig, Report, Rule, RunFault, Scope, Setups, check, text_of, text_scoped,
 };
 use mdb_words::RowFault;
 use std::io::ErrorKind;
@@ -94,11 +94,24 @@ fn account(ends: [i64; 6]) -> Account {
     }
 }
 
+/// What a report has of a device beside its accounts.
+fn device(decimals: Option<u8>, silences: u64, unvalued: u64) -> DeviceReport {
+    DeviceReport {
+        facts: DeviceFacts { decimals, unvalued },
+        asks: AskCounts { silences },
+    }
+}
+
 /// A report whose numbers all differ.
 fn each_number() -> Outcome {
     Outcome::Yes(Report {
         rows: 100_000_000,
-        decimals: [Some(2), None, Some(0), Some(255)],
+        devices: [
+            device(Some(2), 1, 3),
+            device(None, 22, 0),
+            device(Some(0), 0, 4_294_967_297),
+            device(Some(255), 4_294_967_296, 55),
+        ],
         accounts: [
             account([-100, -91, -99, -90, -98, -89]),
             account([-9, 0, -8, 1, -7, 2]),
@@ -108,8 +121,6 @@ fn each_number() -> Outcome {
             account([30, 39, 31, 40, 32, 41]),
             account([40, 49, 41, 50, 42, 51]),
         ],
-        silences: [1, 22, 0, 4_294_967_296],
-        unvalued: [3, 0, 4_294_967_297, 55],
     })
 }
 

@@ -1,5 +1,6 @@
 -- The text of an outcome.
 use Rattle.std.specs.Prelude.{ℕ, List, [], ◌∷◌, ◌++◌, Option, Some, None, codes, if◌then◌else◌}
+use Rattle.std.specs.Prelude.{get_or, map}
 use Rattle.std.specs.Fmt.{decimal, signed_decimal}
 use Rattle.std.specs.List.{flat_map}
 use Rattle.mdb_msgs.specs.declared.command.Device.{Device}
@@ -16,6 +17,7 @@ use Rattle.mdb_follow.specs.declared.range.Range.{Range}
 use Rattle.mdb_follow.specs.declared.report.Report.{Report}
 use Rattle.mdb_follow.specs.declared.report.TheConstants.Report.{DEVICES}
 use Rattle.mdb_follow.specs.AccountNames.{account_of, account_word}
+use Rattle.mdb_follow.specs.Devices.{device_place}
 use Rattle.mdb_follow.specs.Ends.{side_range}
 use Rattle.mdb_follow.specs.Report.{device_decimals, device_silences, device_unvalued}
 use Rattle.mdb_text.specs.declared.outcome.Outcome.{Outcome}
@@ -46,17 +48,21 @@ decimals_line report =
 abbrev pub count_text : Device → ℕ → List ℕ
 count_text device count = codes " " ++ device_word device ++ codes " " ++ decimal count
 
+-- a word, and after it a count of each device, of these in the order of a report
+abbrev pub counts_line : List ℕ → List ℕ → List ℕ
+counts_line word counts =
+    line (word ++ flat_map (λ device. count_text device (get_or counts (device_place device) 0))
+    DEVICES)
+
 -- how many silences each device had
 abbrev pub silences_line : Report → List ℕ
 silences_line report =
-    line (codes "silences"
-    ++ flat_map (λ device. count_text device (device_silences device report)) DEVICES)
+    counts_line (codes "silences") (map (λ device. device_silences device report) DEVICES)
 
 -- how many amounts each device told, or was asked for, that have no value
 abbrev pub unvalued_line : Report → List ℕ
 unvalued_line report =
-    line (codes "unvalued"
-    ++ flat_map (λ device. count_text device (device_unvalued device report)) DEVICES)
+    counts_line (codes "unvalued") (map (λ device. device_unvalued device report) DEVICES)
 
 -- what an account comes to on one side: the least and the greatest
 abbrev pub side_text : List ℕ → Range → List ℕ

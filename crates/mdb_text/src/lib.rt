@@ -12,4 +12,4 @@ mod text;
 pub use digits::hex_digit;
 pub use known::known_devices;
 pub use outcome::Outcome;
-pub use text::{write_account, write_count, write_devices, write_outcome, write_report_lines};
+pub use text::{write_account, write_counts, write_devices, write_outcome, write_report_lines};

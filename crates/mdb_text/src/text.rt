@@ -2,12 +2,12 @@
 
 ghost use Rattle.std.specs.Prelude.{OnOk};
 ghost use Rattle.std.specs.Io.KnownBytes.{Appends};
-ghost use Rattle.mdb_text.specs.Text.{account_line, accounts_text, beginning_text, count_text, decimals_line, head_text, devices_text, line_of_devices, offence_text, places_text, report_lines, report_text, side_text, silences_line, unvalued_line, word_in};
+ghost use Rattle.mdb_text.specs.Text.{account_line, accounts_text, beginning_text, count_text, counts_line, decimals_line, head_text, devices_text, line_of_devices, offence_text, places_text, report_lines, report_text, side_text, word_in};
 
 use super::known::known_devices;
 use super::outcome::Outcome;
 use mdb_bus::{Beginning, Scope};
-use mdb_follow::{Account, AccountName, Offence, Range, Report};
+use mdb_follow::{Account, AccountName, Offence, Range, Report, device_place};
 use mdb_msgs::{Device, DeviceSet};
 use std::io;
 use std::io::Write;
@@ -47,7 +47,7 @@ pub fn write_report_lines<W: Write>(
 {
     write_decimals(writer, report)?;
     write_accounts(writer, report)?;
-    write_silences(writer, report)?;
+    write_counts(writer, "silences", &report.silences())?;
     write_beginning(writer, &scope.begins, report)?;
     write_devices(writer, "without", scope.without)
 }
@@ -124,21 +124,21 @@ fn write_side<W: Write>(writer: &mut W, word: &str, range: Range) -> io::Result<
     write!(writer, " {word} {least}..{greatest}")
 }
 
-/// Writes how many silences each device had.
-fn write_silences<W: Write>(writer: &mut W, report: &Report) -> io::Result<()>
+/// Writes a word, and after it a count of each of `Report::DEVICES`.
+pub fn write_counts<W: Write>(writer: &mut W, word: &str, counts: &[u64; 4]) -> io::Result<()>
     ensures { OnOk result
         (Appends (W.contents writer.old)
-        (W.contents writer.new) (silences_line report.now)) }
+        (W.contents writer.new) (counts_line word.now counts.now)) }
 {
-    write!(writer, "silences")?;
+    write!(writer, "{word}")?;
     for device in Report::DEVICES {
-        write_count(writer, device, report.device_silences(device))?;
+        write_count(writer, device, counts[device_place(device)])?;
     }
     write!(writer, "\n")
 }
 
 /// Writes a count of a device after its word.
-pub fn write_count<W: Write>(writer: &mut W, device: Device, count: u64) -> io::Result<()>
+fn write_count<W: Write>(writer: &mut W, device: Device, count: u64) -> io::Result<()>
     ensures { OnOk result
         (Appends (W.contents writer.old)
         (W.contents writer.new) (count_text device count)) }
@@ -156,23 +156,10 @@ fn write_beginning<W: Write>(writer: &mut W, begins: &Beginning, report: &Report
     match begins {
         Beginning::PowerOn => Ok(()),
         Beginning::Joined(setups) => {
-            write_unvalued(writer, report)?;
+            write_counts(writer, "unvalued", &report.unvalued())?;
             write_devices(writer, "setup", known_devices(setups))
         }
     }
-}
-
-/// Writes how often money moved on each device whose value isn't known.
-fn write_unvalued<W: Write>(writer: &mut W, report: &Report) -> io::Result<()>
-    ensures { OnOk result
-        (Appends (W.contents writer.old)
-        (W.contents writer.new) (unvalued_line report.now)) }
-{
-    write!(writer, "unvalued")?;
-    for device in Report::DEVICES {
-        write_count(writer, device, report.device_unvalued(device))?;
-    }
-    write!(writer, "\n")
 }
 
 /// Writes a word and after it which devices are of a set, if one is.

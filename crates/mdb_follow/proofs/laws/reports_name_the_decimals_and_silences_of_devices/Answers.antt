@@ -1,14 +1,18 @@
-use Rattle.mdb_follow.proofs.Told.{decimals-told, silences-told, unvalued-told}
+use Rattle.std.proofs.Common.{ap}
+use Rattle.mdb_follow.proofs.Told.{device-told}
 use Rattle.mdb_follow.proofs.laws.reports_name_the_decimals_and_silences_of_devices.Goals as goal
 
 pub returns-clause-decimals : goal.returns-clause-decimals
-returns-clause-decimals c scope =
-    decimals-told scope (c.transcripts_have_one_act_list.ensures scope)
+returns-clause-decimals c scope rows report pieces is list device =
+    ap (λ r. r.facts.decimals) (device-told scope (c.transcripts_have_one_act_list.ensures scope)
+    rows report pieces is list device)
 
 pub returns-clause-silences : goal.returns-clause-silences
-returns-clause-silences c scope =
-    silences-told scope (c.transcripts_have_one_act_list.ensures scope)
+returns-clause-silences c scope rows report pieces is list device =
+    ap (λ r. r.asks.silences) (device-told scope (c.transcripts_have_one_act_list.ensures scope)
+    rows report pieces is list device)
 
 pub returns-clause-unvalued : goal.returns-clause-unvalued
-returns-clause-unvalued c scope = unvalued-told scope
-    (c.transcripts_have_one_act_list.ensures scope)
+returns-clause-unvalued c scope rows report pieces is list device =
+    ap (λ r. r.facts.unvalued) (device-told scope (c.transcripts_have_one_act_list.ensures scope)
+    rows report pieces is list device)

@@ -28,3 +28,7 @@ pub invariant_of-self-in-Err-clause-within : goal.invariant_of-self-in-Err-claus
 invariant_of-self-in-Err-clause-within c =
     by-stay (AreWithin (c.args.self.now.rows * 2 ^ 32)) c.args.self.now.sides c.lead.new.self
     c.args.self.now.standing c.in-Err.ensures.stay c.args.self.now.within
+
+pub invariant_of-self-clause-few_silences : goal.invariant_of-self-clause-few_silences
+invariant_of-self-clause-few_silences c device =
+    (c.follow.ensures device).few c.args.self.now.rows (c.args.self.now.few_silences device)

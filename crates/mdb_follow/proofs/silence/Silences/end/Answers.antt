@@ -1,10 +1,15 @@
-use Rattle.std.proofs.Common.{arith}
+use Rattle.std.proofs.Common.{arith, subst, sym}
 use Rattle.mdb_follow.specs.SilenceSteps.{ended}
-use Rattle.mdb_follow.proofs.Kept.{one-goes-on}
+use Rattle.mdb_follow.specs.SilencesKept.{AreAtMost}
+use Rattle.mdb_follow.proofs.Kept.{at-most-more, one-goes-on}
 use Rattle.mdb_follow.proofs.silence.Silences.end.Goals as goal
 
 pub returns : goal.returns
 returns c =
     one-goes-on (λ other. ended) c.args.device c.args.self.now c.device_place.result
     c.end.new.self c.device_place.ensures.place (omega arith)
-    (record { stands = c.end.ensures.stands; few = omega (arith, c.end.ensures.same) })
+    (record {
+      stands = c.end.ensures.stands;
+      few = λ most few. at-most-more c.end.new.self.counts most
+          (subst (AreAtMost most) (sym c.end.ensures.same) few);
+    })

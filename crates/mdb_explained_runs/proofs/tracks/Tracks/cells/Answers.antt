@@ -1,0 +1,12 @@
+use Rattle.std.proofs.Common.{refl, ◌≡◌, [], ◌∷◌}
+use Rattle.mdb_follow.specs.Cells.{cell_in}
+use Rattle.mdb_explained_runs.specs.Tracks.{track_in}
+use Rattle.mdb_follow.proofs.ByDevice.{each}
+use Rattle.mdb_explained_runs.proofs.tracks.Tracks.cells.Goals as goal
+
+pub returns : goal.returns
+returns c =
+    let tracks = c.args.self.now in
+    each (λ device. cell_in (tracks.changer.cell ∷ tracks.bill.cell ∷ tracks.first_reader.cell
+    ∷ tracks.second_reader.cell ∷ []) device ≡ (track_in tracks device).cell)
+    refl refl refl refl

@@ -1,0 +1,24 @@
+use Rattle.std.proofs.Common.{refl, ◌∙◌}
+use Rattle.mdb_msgs.specs.declared.command.Device.{Device}
+use Rattle.mdb_msgs.specs.declared.command.Device.TheVariants as devices
+use Rattle.mdb_msgs.specs.declared.command.ReaderUnit.TheVariants.{First, Second}
+use Rattle.mdb_bus.specs.declared.scope.Beginning.TheVariants.{PowerOn}
+use Rattle.mdb_explained_runs.specs.Tracks.{track_in}
+use Rattle.mdb_follow.proofs.Sided.{decimals-are}
+use Rattle.mdb_explained_runs.proofs.tracks.Tracks.facts.Goals as goal
+
+pub returns : goal.returns
+returns c acts chosen on =
+    let shown = λ (device : Device).
+    decimals-are PowerOn device (track_in c.args.self.now device).facts acts
+    (on device).facts in
+    rw (
+      c.decimals.ensures ∙ shown devices.Changer,
+      c.decimals-2.ensures ∙ shown devices.Bill,
+      c.decimals-3.ensures ∙ shown (devices.Reader First),
+      c.decimals-4.ensures ∙ shown (devices.Reader Second),
+      (on devices.Changer).counted,
+      (on devices.Bill).counted,
+      (on (devices.Reader First)).counted,
+      (on (devices.Reader Second)).counted,
+    ) refl

@@ -1,0 +1,37 @@
+use Rattle.std.proofs.Common.{refl, ◌∙◌, ◌≡◌, ℕ, List, [], ◌∷◌, Option}
+use Rattle.mdb_msgs.specs.declared.command.Device.{Device}
+use Rattle.mdb_msgs.specs.declared.command.Device.TheVariants as devices
+use Rattle.mdb_msgs.specs.declared.command.ReaderUnit.TheVariants.{First, Second}
+use Rattle.mdb_follow.specs.declared.report.DeviceFacts.{DeviceFacts}
+use Rattle.mdb_follow.specs.Report.{facts_in}
+use Rattle.mdb_follow.specs.Sides.{side_in}
+use Rattle.mdb_follow.proofs.ByDevice.{each}
+use Rattle.mdb_follow.proofs.Sided.{decimals-are}
+use Rattle.mdb_follow.proofs.sides.Sides.facts.Goals as goal
+
+pub returns-clause-facts : goal.returns-clause-facts
+returns-clause-facts c begins acts on =
+    let shown = λ (device : Device).
+    decimals-are begins device (side_in c.args.self.now device).facts acts (on device).facts in
+    rw (
+      c.decimals.ensures ∙ shown devices.Changer,
+      c.decimals-2.ensures ∙ shown devices.Bill,
+      c.decimals-3.ensures ∙ shown (devices.Reader First),
+      c.decimals-4.ensures ∙ shown (devices.Reader Second),
+      (on devices.Changer).counted,
+      (on devices.Bill).counted,
+      (on (devices.Reader First)).counted,
+      (on (devices.Reader Second)).counted,
+    ) refl
+
+pub returns-clause-kept : goal.returns-clause-kept
+returns-clause-kept c =
+    let of : Option ℕ → ℕ → DeviceFacts = λ decimals unvalued.
+    record { decimals = decimals; unvalued = unvalued } in
+    let sides = c.args.self.now in
+    let facts : List DeviceFacts = of c.decimals.result sides.changer.unvalued
+    ∷ of c.decimals-2.result sides.bill.unvalued
+    ∷ of c.decimals-3.result sides.first_reader.unvalued
+    ∷ of c.decimals-4.result sides.second_reader.unvalued ∷ [] in
+    each (λ device. (facts_in facts device).unvalued ≡ (side_in sides device).unvalued)
+    refl refl refl refl

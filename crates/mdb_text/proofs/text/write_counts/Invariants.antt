@@ -1,0 +1,13 @@
+use Rattle.std.proofs.Common.{◌++◌, get_or, take}
+use Rattle.std.specs.Io.KnownBytes.{Appends}
+use Rattle.std.specs.List.{flat_map}
+use Rattle.mdb_follow.specs.Devices.{device_place}
+use Rattle.mdb_text.specs.Text.{count_text}
+use Rattle.mdb_text.proofs.text.write_counts.Given as goal
+
+-- the devices so far have their counts
+abbrev pub invariant-loop-device : goal.invariant-loop-device
+invariant-loop-device g l =
+    Appends (g.W.Write.contents l.fn.writer) (g.W.Write.contents l.writer) (l.word
+    ++ flat_map (λ device. count_text device (get_or l.counts (device_place device) 0))
+    (take l.device-index l.device-items))
