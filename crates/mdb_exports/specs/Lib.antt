@@ -5,8 +5,10 @@ pub mod Names
 pub mod Numbers
 pub mod Order
 pub mod Part
+pub mod Places
 pub mod ReadBack
 pub mod Records
+pub mod Refusal
 pub mod Refusals
 pub mod Rows
 pub mod Times

@@ -1,0 +1,25 @@
+//! The end of what was written of a refused export.
+
+ghost use Rattle.std.specs.Prelude.{OnOk};
+ghost use Rattle.std.specs.Io.KnownBytes.{Appends};
+ghost use Rattle.mdb_exports.specs.Refusal.{refusal_line};
+ghost use Rattle.mdb_writing.specs.Written.{HasTaken};
+
+use mdb_writing::{WriteFailed, write_text};
+use std::io::Write;
+
+/// A line that is no row, so that no checker takes what was written of a refused export.
+const REFUSAL: &str = "mdbimport refused this export\n";
+
+/// Ends what was written of a refused export with a line that is no row.
+///
+/// # Errors
+///
+/// The writer failed. It took a front of the line.
+pub fn write_refusal<W: Write>(writer: &mut W) -> Result<(), WriteFailed>
+    ensures whole { OnOk result
+        (Appends (W.contents writer.old) (W.contents writer.new) refusal_line) }
+    ensures front { HasTaken (W.contents writer.old) (W.contents writer.new) refusal_line }
+{
+    write_text(writer, REFUSAL.as_bytes())
+}
