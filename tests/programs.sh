@@ -22,24 +22,3 @@ import=$(program_of mdbimport "${MDBIMPORT-}")
 want_program() {
     [ -x "$1" ] || fail "there is no $1: build it by tests/run, or name another with MDBCHECK or MDBIMPORT"
 }
-
-# Compiles tests/refuse_nth.c to a library that is loaded before a program: by the C compiler that CC names, else by the
-# system's, else by the toolchain's own. Where there is none, it says so and ends with status 77, which is a skip.
-build_refuse() {
-    local source=$top/tests/refuse_nth.c compiler
-    for compiler in ${CC-cc gcc clang}; do
-        if command -v "$compiler" > /dev/null; then
-            "$compiler" -O1 -fPIC -ffreestanding -shared -nostdlib "$source" -o "$1"
-            return
-        fi
-    done
-    if [ -z "${CC-}" ] && command -v rt > /dev/null; then
-        local tools
-        tools=$(dirname "$(rt doc)")/toolchain/bin
-        "$tools/clang" -O1 -fPIC -ffreestanding -c "$source" -o "$1.o"
-        "$tools/ld.lld" -shared "$1.o" -o "$1"
-        return
-    fi
-    echo "skipped: there is no C compiler"
-    exit 77
-}
