@@ -67,7 +67,8 @@ class Refusing(Runs):
             file_actions=[(os.POSIX_SPAWN_DUP2, file, n) for n, file in (files | streams).items()],
             setsigdef={signal.SIGPIPE, signal.SIGXFSZ} - set(ignored))  # (Python itself ignores them)
         if (ended := wait_for(child)) is None:
-            raise Wrong(f"{self.program.name} {' '.join(words)}, {kind or 'nothing'} {nth} refused: no end in {MOST_SECONDS} s")
+            told = f"{self.program.name} {' '.join(words)}, {kind or 'nothing'} {nth} refused"
+            raise Wrong(f"{told}: no end in {MOST_SECONDS} s")
         status = os.waitstatus_to_exitcode(ended)
         return Answer(status, contents(self.out), contents(self.err), len(contents(self.refused)))
 
@@ -130,14 +131,15 @@ class Case(NamedTuple):
 
 def refuse_each(kind, case, is_told, may_go_on):
     """Refuses each call of a kind in turn. A run with a refusal has to tell of it, or may go on and answer
-    what is wanted. The last run has none, and must answer that. Counts the refusals, and those told."""
+    what is wanted. The last run has none, and must answer that. Counts the refusals, and those told. Whether
+    one is told is asked with the case, the answer, and the number of the call."""
     told = 0
     for nth in range(1, MOST_CALLS):
         answer = case.runs.answer(case.words, case.given, kind, nth)
         may_be_right = may_go_on or not answer.refused
         if may_be_right and case.is_right(answer):
             pass
-        elif answer.refused and is_told(case, answer):
+        elif answer.refused and is_told(case, answer, nth):
             told += 1
         else:
             which = f"{kind} {nth} refused" if answer.refused else f"no {kind} refused"
