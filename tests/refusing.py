@@ -26,6 +26,7 @@ EXAMPLES = TOP / "examples"
 IN_MILLISECONDS = ("rows", "--unit", "ms", "--controller", "TX", "--peripheral", "RX")
 OF_SALEAE = ("saleae", "--controller", "MDB master", "--peripheral", "MDB slave")
 OF_EDGES = ("edges", "--controller", "Channel 0", "--peripheral", "Channel 1")
+REFUSAL = b"mdbimport refused this export\n"
 
 
 class Wrong(Exception):
@@ -215,3 +216,8 @@ def is_front(out, whole):
 
 def is_front_of_lines(out, whole):
     return whole.startswith(out) and out[-1:] in (b"", b"\n")
+
+
+def is_front_and_refusal(out, whole):
+    """A front of the rows, and then the line that ends what is written of a refused export."""
+    return out.endswith(REFUSAL) and is_front(out.removesuffix(REFUSAL), whole.removesuffix(REFUSAL))
