@@ -1,5 +1,5 @@
 -- How a trace goes on, as it is read from a reader whose bytes are known.
-use Rattle.std.proofs.Common.{◌≡◌, ◌⊎◌, inl, inr, ℕ, Bool, true, false, List, [], ◌∷◌, codes, Option, None, Some, Result, Ok, Err, IfSome, IfNone, IfErr, sym, subst}
+use Rattle.std.proofs.Common.{◌≡◌, ◌⊎◌, inl, inr, ℕ, Bool, true, false, List, [], ◌∷◌, codes, Option, None, Some, Result, Ok, Err, IfSome, IfNone, IfErr, subst}
 use Rattle.std.specs.Io.KnownBytes.{Keeps}
 use Rattle.mdb_words.specs.declared.event.Event.{Event}
 use Rattle.mdb_words.specs.declared.word.Line.TheVariants.{Controller, Peripheral}
@@ -20,7 +20,7 @@ use Rattle.mdb_sigrok.specs.inner.Fronts.{AreFirst, Leaves}
 use Rattle.mdb_sigrok.specs.inner.Pairs.{Bars, Ends, GoBy, IsNext, Moves, Stand, Stops, Tells, start}
 use Rattle.mdb_sigrok.proofs.Fronts.{first_alone, line_alone, one_line}
 use Rattle.mdb_sigrok.proofs.Moves.{all_told, barred_stops, moves_by, moves_none, moves_on, moves_stop, only_told, refutes_too, start_stops}
-use Rattle.std.proofs.KnownBytes.{Keeps-refl}
+use Rattle.mdb_sigrok.specs.inner.Closed.{IsClosed}
 use Rattle.mdb_sigrok.proofs.Traces.{imported_of, only_rows, partial_of, refused_of, refused_rows}
 
 -- pair by pair
@@ -208,16 +208,15 @@ partial_by options None rows fault before after are taken write = tt
 partial_by options (Some text) rows fault before after are taken write =
     partial_of options text rows fault before after are taken write
 
-pub refused_by : (options : SigrokOptions) (known : Option (List ℕ)) (fault : SigrokFault)
-    (held : Option (List ℕ))
+pub refused_by : (options : SigrokOptions) (known : Option (List ℕ)) (fault told : SigrokFault)
+    (before after : Option (List ℕ))
     → IfSome known (λ text. (fault ≡ Read)
     ⊎ ((rows : List Event) → Refutes fault (AreRowsOfTrace options.swap text rows)))
-    → IfSome known (λ text. IsRefused options text fault held held)
-refused_by options None fault held never = tt
-refused_by options (Some text) fault held never = elim never [
-  | inl read ↦ subst (λ f. IsRefused options text f held held) (sym read) (Keeps-refl held)
-  | inr refutes ↦ refused_of options text fault held refutes
-]
+    → IsClosed fault before after told
+    → IfSome known (λ text. IsRefused options text told before after)
+refused_by options None fault told before after never closed = tt
+refused_by options (Some text) fault told before after never closed =
+    refused_of options text fault told before after never closed
 
 pub err_too : {T : Type 0} (r : Result T SigrokFault) (P Q : SigrokFault → Type 0)
     → ((fault : SigrokFault) → P fault → Q fault) → IfErr r P → IfErr r Q

@@ -1,5 +1,5 @@
 -- The rows of a trace are those of both its lines.
-use Rattle.std.proofs.Common.{◌≡◌, Bool, List, ℕ, [], ◌∷◌, codes, sym, subst, ◌∙◌, Option}
+use Rattle.std.proofs.Common.{◌≡◌, ◌⊎◌, inl, inr, Bool, List, ℕ, [], ◌∷◌, codes, sym, subst, ◌∙◌, Option}
 use Rattle.std.specs.Io.KnownBytes.{Appends}
 use Rattle.mdb_writing.specs.Written.{HasTaken}
 use Rattle.mdb_sigrok.specs.Import.{IsImported, IsPartial, IsRefused}
@@ -7,7 +7,8 @@ use Rattle.mdb_sigrok.specs.Part.{IsTold}
 use Rattle.mdb_sigrok.specs.inner.Tallies.{part_text}
 use Rattle.mdb_sigrok.specs.declared.tally.SigrokRows.{SigrokRows}
 use Rattle.mdb_sigrok.specs.declared.options.SigrokOptions.{SigrokOptions}
-use Rattle.std.proofs.KnownBytes.{Keeps-refl}
+use Rattle.mdb_exports.specs.Refusal.{refusal_line}
+use Rattle.mdb_sigrok.specs.inner.Closed.{IsClosed}
 use Rattle.mdb_sigrok.proofs.Pages.{part_text_is}
 use Rattle.mdb_words.specs.declared.event.Event.{Event}
 use Rattle.mdb_sigrok.specs.declared.fault.SigrokFault.{SigrokFault}
@@ -53,15 +54,32 @@ refused_rows Read swap text first rest is never = λ rows. never [] []
 refused_rows Write swap text first rest is never = λ rows. never [] []
 refused_rows Memory swap text first rest is never = λ rows. tt
 
-pub refused_of : (options : SigrokOptions) (text : List ℕ) (fault : SigrokFault)
-    (held : Option (List ℕ))
+-- a trace that gives no rows, where the line that is no row was written
+closed_of : (options : SigrokOptions) (text : List ℕ) (fault : SigrokFault)
+    (before after : Option (List ℕ))
     → ((rows : List Event) → Refutes fault (AreRowsOfTrace options.swap text rows))
-    → IsRefused options text fault held held
-refused_of options text (Form number wrong) held never = (never, Keeps-refl held)
-refused_of options text (Order number micros line wrong) held never = (never, Keeps-refl held)
-refused_of options text Read held never = absurd (never [])
-refused_of options text Write held never = absurd (never [])
-refused_of options text Memory held never = Keeps-refl held
+    → Appends before after refusal_line → IsRefused options text fault before after
+closed_of options text (Form number wrong) before after never line = (never, line)
+closed_of options text (Order number micros wire wrong) before after never line = (never, line)
+closed_of options text Read before after never line = line
+closed_of options text Write before after never line = absurd (never [])
+closed_of options text Memory before after never line = line
+
+pub refused_of : (options : SigrokOptions) (text : List ℕ) (fault told : SigrokFault)
+    (before after : Option (List ℕ))
+    → (fault ≡ Read)
+    ⊎ ((rows : List Event) → Refutes fault (AreRowsOfTrace options.swap text rows))
+    → IsClosed fault before after told → IsRefused options text told before after
+refused_of options text fault told before after never closed = elim closed [
+  | inl done ↦
+      subst (λ f. IsRefused options text f before after) (sym done.0) (elim never [
+        | inl read ↦ subst (λ f. IsRefused options text f before after) (sym read) done.1
+        | inr refutes ↦ closed_of options text fault before after refutes done.1
+      ])
+  | inr failed ↦
+      let taken : IsRefused options text Write before after = inr failed.1 in
+      subst (λ f. IsRefused options text f before after) (sym failed.0) taken
+]
 
 -- the rows of the part are written, or a front of them
 pub imported_of : (options : SigrokOptions) (text : List ℕ) (rows : List Event) (told : SigrokRows)
@@ -86,4 +104,5 @@ partial_of options text rows fault before after are taken write =
       are = are;
       written = subst (HasTaken before after) (part_text_is options rows) taken;
     } in
-    subst (λ f. IsRefused options text f before after) (sym write) partial
+    let told : IsRefused options text Write before after = inl partial in
+    subst (λ f. IsRefused options text f before after) (sym write) told
