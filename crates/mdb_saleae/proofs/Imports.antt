@@ -12,7 +12,6 @@ use Rattle.mdb_words.specs.Event.{start_of}
 use Rattle.mdb_words.specs.declared.event.Event.{Event}
 use Rattle.mdb_exports.specs.Records.{HasFailed}
 use Rattle.mdb_exports.specs.Order.{IsAfter}
-use Rattle.mdb_exports.specs.declared.told.Imported.{Imported}
 use Rattle.mdb_writing.specs.Output.{Breaks, Output, Puts, begun}
 use Rattle.mdb_saleae.specs.Imports.{ImportedInPart, IsRefusedRow, IsTold, part_text}
 use Rattle.mdb_saleae.specs.Imports.{read_fault_of}
@@ -343,11 +342,11 @@ failed_behind remaining before middle after columns begins (inr most) = inr (λ 
     omega (arith, behind, split))
 
 pub answer_failed : {R : Type 0} (remaining : R → Option (List ℕ)) (before middle after : Records R)
-    (columns : Columns) (answer : Result Imported SaleaeFault)
+    (columns : Columns) (answer : Result Unit SaleaeFault)
     → ((all : List (List (List ℕ))) → ToCome remaining before all
     → Begins remaining middle all (Ok columns))
     → IfErr answer (λ fault. fault ≡ Read → HasFailedBehind remaining middle after)
     → IfErr answer (λ fault. fault ≡ Read → HasFailed remaining before after)
-answer_failed remaining before middle after columns (Ok imported) begins failed = tt
+answer_failed remaining before middle after columns (Ok done) begins failed = tt
 answer_failed remaining before middle after columns (Err fault) begins failed =
     λ is. failed_behind remaining before middle after columns begins (failed is)

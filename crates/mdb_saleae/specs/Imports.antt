@@ -10,9 +10,9 @@ use Rattle.mdb_records.specs.declared.ReadFault.TheVariants as reading
 use Rattle.mdb_exports.specs.Records.{export_records}
 use Rattle.mdb_exports.specs.Told.{is_controllers, is_marked, is_peripherals, told_count}
 use Rattle.mdb_exports.specs.Part.{is_from, is_until}
+use Rattle.mdb_exports.specs.Refusal.{IsAnswered}
 use Rattle.mdb_exports.specs.Rows.{rows_text}
 use Rattle.mdb_exports.specs.Order.{IsAfter}
-use Rattle.mdb_writing.specs.Written.{HasTaken}
 use Rattle.mdb_exports.specs.declared.told.Imported.{Imported}
 use Rattle.mdb_saleae.specs.Columns.{IsColumns, IsHeaderFault}
 use Rattle.mdb_saleae.specs.Refusals.{IsFault}
@@ -125,27 +125,18 @@ pub record IsTableImport (options : SaleaeOptions) (records : List (List (List �
   pub are : IsColumns header columns
   pub import : IsRowsImport options columns rows answer text
 
--- the answer to the records of a table, and the text that is written of them
+-- the answer to the records of a table, and the text of the rows that are written of them
 abbrev pub IsImport : SaleaeOptions → List (List (List ℕ)) → Result Imported SaleaeFault → List ℕ
     → Type 0
 IsImport options records answer text =
     IsTableImport options records answer text ⊎ (IsHeaderAnswer records answer × (text ≡ []))
 
--- the writer took a front of a text that is written of the records, with whatever answer
-pub record IsCutShort (options : SaleaeOptions) (records : List (List (List ℕ)))
-    (before after : Option (List ℕ)) : Type 0 where
-  pub answer : Result Imported SaleaeFault
-  pub text : List ℕ
-  pub import : IsImport options records answer text
-  pub taken : HasTaken before after text
-
--- The same of the bytes that a writer held before and after. It took the text of the answer; or the
--- answer is that it failed, and it took a front of a text.
+-- The bytes that a writer held before the answer to these records and after it. The text of the
+-- rows was written, and behind it, where the answer is a refusal, the line of one.
 abbrev pub Imports : SaleaeOptions → List (List (List ℕ)) → Option (List ℕ) → Option (List ℕ)
     → Result Imported SaleaeFault → Type 0
 Imports options records before after answer =
-    ((text : List ℕ) × IsImport options records answer text × Appends before after text)
-    ⊎ ((answer ≡ Err Write) × IsCutShort options records before after)
+    IsAnswered (IsImport options records) Write before after answer
 
 -- a table whose bytes are this text: all its rows are written, and nothing else
 abbrev pub IsImported : SaleaeOptions → List ℕ → Option (List ℕ) → Option (List ℕ) → Type 0

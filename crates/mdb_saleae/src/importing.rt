@@ -7,17 +7,18 @@ ghost use Rattle.mdb_records.specs.ToCome.{ToCome, fault_of};
 ghost use Rattle.mdb_words.specs.Event.{start_of};
 ghost use Rattle.mdb_exports.specs.Records.{HasFailed, export_records};
 ghost use Rattle.mdb_writing.specs.Output.{Breaks, Puts, begun, output};
+ghost use Rattle.mdb_exports.specs.shared.Closing.{Refuses, telling};
 ghost use Rattle.mdb_exports.specs.shared.Told.{IsKept, IsSaid};
 ghost use Rattle.mdb_saleae.specs.Imports.{Imports, IsImported, IsTold};
 ghost use Rattle.mdb_saleae.specs.inner.Steps.{Begins, HasFailedBehind, HasImported, IsNext};
-ghost use Rattle.mdb_saleae.specs.inner.Steps.{IsNoted, PutsRows};
+ghost use Rattle.mdb_saleae.specs.inner.Steps.{IsNoted, PutsRows, PutsTable};
 ghost use Rattle.mdb_saleae.specs.inner.Steps.{TakesOne, fault_at, part_line};
 
 use super::columns::{Columns, read_columns};
 use super::fault::{RowFault, SaleaeFault};
 use super::options::SaleaeOptions;
 use super::rows::{Refusal, event_in};
-use mdb_exports::{Imported, expect_after, line_of, records_of};
+use mdb_exports::{Imported, expect_after, line_of, records_of, write_refused};
 use mdb_records::{ReadFault, Record, Records};
 use mdb_words::{Event, Line};
 use mdb_writing::{Page, WriteFailed};
@@ -32,8 +33,9 @@ use std::io::{Read, Write};
 /// one twice. `BadRow`, or `BadRecord` where its time isn't known, for the first record behind it
 /// that is no row after the one before it: then the rows of all records before it were written.
 /// `Read` where the reader failed and `Memory` where memory was refused: then those of some first
-/// records were. `Write` where the writer failed: then it took a front of what is written where it
-/// doesn't fail.
+/// records were. After these rows, or where there are none, comes a line that is no row, so that no
+/// checker takes them for a whole recording. `Write` where the writer failed: then it took a front
+/// of what is written where it doesn't fail.
 pub fn import_table<R: Read + Drop, W: Write>(
     options: &SaleaeOptions,
     records: &mut Records<R>,
@@ -45,13 +47,14 @@ pub fn import_table<R: Read + Drop, W: Write>(
     ensures failed { IfErr result (λ fault. fault ≡ SaleaeFault.Read
         → HasFailed R.remaining records.old records.new) }
 {
-    let columns = columns_of(records)?;
     let mut importing = Importing::new();
-    let answer = importing.take_all(options, &columns, records, writer);
-    if answer != Err(SaleaeFault::Write) {
-        importing.page.write_out(writer)?;
+    match importing.take_table(options, records, writer) {
+        Ok(()) => {
+            importing.page.write_out(writer)?;
+            Ok(importing.tally)
+        }
+        Err(fault) => Err(importing.refuse(fault, writer)),
     }
-    answer
 }
 
 /// Imports the table that a reader has left, and writes the rows as it reads.
@@ -128,6 +131,26 @@ impl Importing {
         }
     }
 
+    /// Takes all records that are still to come, the header first.
+    fn take_table<R: Read + Drop, W: Write>(
+        &mut self,
+        options: &SaleaeOptions,
+        records: &mut Records<R>,
+        writer: &mut W,
+    ) -> Result<(), SaleaeFault>
+        requires last { self.old.last ≡ None }
+        requires told { IsTold options.now [] self.old.tally }
+        requires page { self.old.page ≡ [] }
+        ensures failed { IfErr result (λ fault. fault ≡ SaleaeFault.Read
+            → HasFailed R.remaining records.old records.new) }
+        ensures puts { (all : List (List (List ℕ))) → ToCome R.remaining records.old all
+            → PutsTable options.now all (begun (W.contents writer.old))
+            (output (W.contents writer.new) self.new.page) (telling self.new.tally result) }
+    {
+        let columns = columns_of(records)?;
+        self.take_all(options, &columns, records, writer)
+    }
+
     /// Takes all records that are still to come behind the header, after none.
     fn take_all<R: Read + Drop, W: Write>(
         &mut self,
@@ -135,7 +158,7 @@ impl Importing {
         columns: &Columns,
         records: &mut Records<R>,
         writer: &mut W,
-    ) -> Result<Imported, SaleaeFault>
+    ) -> Result<(), SaleaeFault>
         requires last { self.old.last ≡ None }
         requires told { IsTold options.now [] self.old.tally }
         requires page { self.old.page ≡ [] }
@@ -143,17 +166,31 @@ impl Importing {
             → HasFailedBehind R.remaining records.old records.new) }
         ensures puts { (all : List (List (List ℕ))) → ToCome R.remaining records.old all
             → PutsRows options.now columns.now all (begun (W.contents writer.old))
-            (output (W.contents writer.new) self.new.page) result }
+            (output (W.contents writer.new) self.new.page) (telling self.new.tally result) }
     {
         // The header was taken.
         for taken in 1..u64::MAX {
             let found = records.advance()?;
             if !found {
-                return Ok(self.tally);
+                return Ok(());
             }
             self.take(options, columns, taken + 1, &records.row(), writer)?;
         }
         Err(SaleaeFault::Read)
+    }
+
+    /// Ends what was written of a refused table, and says why it is refused.
+    fn refuse<W: Write>(&mut self, fault: SaleaeFault, writer: &mut W) -> SaleaeFault
+        ensures { Refuses SaleaeFault.Write (output (W.contents writer.old) self.old.page)
+            (W.contents writer.new) fault result }
+    {
+        if fault == SaleaeFault::Write {
+            return fault;
+        }
+        match write_refused(&mut self.page, writer) {
+            Ok(()) => fault,
+            Err(failed) => SaleaeFault::from(failed),
+        }
     }
 
     /// Takes the record of a number.

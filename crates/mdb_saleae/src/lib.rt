@@ -2,7 +2,8 @@
 //! [`import_saleae`] turns it into the rows that `mdbcheck` reads.
 //!
 //! The first record of a table is its header. Each other record is a row, or is refused. Nothing is
-//! guessed. The rows before a refused record are written. Times are in microseconds.
+//! guessed. The rows before a refused record are written, and after them a line that is no row.
+//! Times are in microseconds.
 #![tactic(auto)]
 
 mod cells;

@@ -9,11 +9,12 @@ use Rattle.mdb_records.specs.declared.Records.{Records}
 use Rattle.mdb_exports.specs.Rows.{row_line}
 use Rattle.mdb_exports.specs.Order.{IsAfter}
 use Rattle.mdb_writing.specs.Output.{Breaks, Output, Puts}
+use Rattle.mdb_exports.specs.shared.Closing.{IsSent}
 use Rattle.mdb_exports.specs.shared.Told.{IsKept, IsSaid, counted_more}
 use Rattle.mdb_exports.specs.declared.told.Imported.{Imported}
 use Rattle.mdb_saleae.specs.Columns.{IsColumns}
-use Rattle.mdb_saleae.specs.Imports.{IsHeaderAnswer, IsRefusedRow, IsRowsImport, IsTold, is_before}
-use Rattle.mdb_saleae.specs.Imports.{is_behind, is_taken, part_text}
+use Rattle.mdb_saleae.specs.Imports.{IsHeaderAnswer, IsImport, IsRefusedRow, IsRowsImport, IsTold}
+use Rattle.mdb_saleae.specs.Imports.{is_before, is_behind, is_taken, part_text}
 use Rattle.mdb_saleae.specs.Refusals.{IsFault}
 use Rattle.mdb_saleae.specs.Rows.{AreRows, IsTableRow, last_start}
 use Rattle.mdb_saleae.specs.declared.columns.Columns.{Columns}
@@ -92,17 +93,14 @@ TakesOne options columns importing before after done events row (Err Memory) =
     Puts before after (part_text options events)
 TakesOne options columns importing before after done events row (Err other) = ⊥
 
--- The writer failed with a front of a text that is written of the records.
-pub record IsBroken (options : SaleaeOptions) (columns : Columns) (rows : List (List (List ℕ)))
-    (before after : Output) : Type 0 where
-  pub answer : Result Imported SaleaeFault
-  pub text : List ℕ
-  pub import : IsRowsImport options columns rows answer text
-  pub broken : Breaks before after text
-
 -- the answer to the records behind a header, where some of the text may still be on its way
 abbrev pub PutsRows : SaleaeOptions → Columns → List (List (List ℕ)) → Output → Output
     → Result Imported SaleaeFault → Type 0
 PutsRows options columns rows before after answer =
-    ((text : List ℕ) × IsRowsImport options columns rows answer text × Puts before after text)
-    ⊎ ((answer ≡ Err Write) × IsBroken options columns rows before after)
+    IsSent (IsRowsImport options columns rows) Write before after answer
+
+-- the same of all records, the header first
+abbrev pub PutsTable : SaleaeOptions → List (List (List ℕ)) → Output → Output
+    → Result Imported SaleaeFault → Type 0
+PutsTable options records before after answer =
+    IsSent (IsImport options records) Write before after answer
