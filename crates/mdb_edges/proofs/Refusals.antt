@@ -6,9 +6,9 @@ use Rattle.mdb_edges.specs.Faults.{IsFirstFault}
 use Rattle.mdb_edges.specs.Import.{AreRefused}
 use Rattle.mdb_edges.specs.Table.{AreRowsOfTable}
 use Rattle.mdb_edges.specs.inner.Stops.{Refutes}
-use Rattle.mdb_edges.specs.inner.Waves.{BeginSame}
+use Rattle.mdb_edges.specs.inner.Reading.{BeginSame}
 use Rattle.mdb_edges.specs.declared.fault.EdgesFault.{EdgesFault}
-use Rattle.mdb_edges.specs.declared.fault.EdgesFault.TheVariants.{Form, Order, Line, Read, Write, Memory}
+use Rattle.mdb_edges.specs.declared.fault.EdgesFault.TheVariants.{Form, Order, Level, Line, Read, Write, Memory}
 use Rattle.mdb_edges.specs.declared.options.EdgesOptions.{EdgesOptions}
 
 pub refused_of : (options : EdgesOptions) (all : List (List (List ℕ))) (fault : EdgesFault)
@@ -19,6 +19,8 @@ pub refused_of : (options : EdgesOptions) (all : List (List (List ℕ))) (fault 
 refused_of options all (Form number fault) held first never =
     (first, λ others rows same table. never others rows (same, table), Keeps-refl held)
 refused_of options all (Order number micros fault) held first never =
+    (first, λ others rows same table. never others rows (same, table), Keeps-refl held)
+refused_of options all (Level number micros line) held first never =
     (first, λ others rows same table. never others rows (same, table), Keeps-refl held)
 refused_of options all (Line number micros line fault) held first never =
     (first, λ others rows same table. never others rows (same, table), Keeps-refl held)

@@ -7,12 +7,11 @@ ghost use Rattle.mdb_edges.specs.Table.{AreRowsOfTable};
 
 use super::fault::EdgesFault;
 use super::options::EdgesOptions;
-use super::part::{EdgesImported, part_of};
 use super::table::rows_of_records;
-use mdb_exports::{records_of, write_rows};
+use mdb_exports::records_of;
+use mdb_levels::{LevelsImported, PartFault, write_part};
 use mdb_records::Records;
 use mdb_words::Event;
-use mdb_writing::WriteFailed;
 use std::alloc::Global;
 use std::io::{Read, Write};
 
@@ -33,7 +32,7 @@ pub fn import_edge_records<R: Read + Drop, W: Write>(
     options: &EdgesOptions,
     records: &mut Records<R>,
     writer: &mut W,
-) -> Result<EdgesImported, EdgesFault>
+) -> Result<LevelsImported, EdgesFault>
     ensures written { IfOk result (λ told. (all : List (List (List ℕ))) →
         ToCome R.remaining records.old all →
         AreImported options.now all told (W.contents writer.old) (W.contents writer.new)) }
@@ -45,7 +44,7 @@ pub fn import_edge_records<R: Read + Drop, W: Write>(
         HasFailed R.remaining records.old records.new) }
 {
     let rows = rows_of_records(alloc, options, records)?;
-    write_part(alloc, options, rows.as_slice(), writer)
+    write_rows_of_table(alloc, options, rows.as_slice(), writer)
 }
 
 /// Reads the table of edges that a reader has left, and writes the same rows.
@@ -58,7 +57,7 @@ pub fn import_edges<R: Read + Drop, W: Write>(
     options: &EdgesOptions,
     reader: R,
     writer: &mut W,
-) -> Result<EdgesImported, EdgesFault>
+) -> Result<LevelsImported, EdgesFault>
     ensures written { IfOk result (λ told. IfSome (R.remaining reader) (λ text.
         IsImported options.now text told (W.contents writer.old) (W.contents writer.new))) }
     ensures refused { IfErr result (λ fault. IfSome (R.remaining reader) (λ text.
@@ -69,12 +68,12 @@ pub fn import_edges<R: Read + Drop, W: Write>(
 }
 
 /// Writes the rows of the part that is asked for.
-fn write_part<W: Write>(
+fn write_rows_of_table<W: Write>(
     alloc: Global,
     options: &EdgesOptions,
     rows: &[Event],
     writer: &mut W,
-) -> Result<EdgesImported, EdgesFault>
+) -> Result<LevelsImported, EdgesFault>
     ensures written { IfOk result (λ told. (all : List (List (List ℕ))) →
         AreRowsOfTable options.now all rows.now →
         AreImported options.now all told (W.contents writer.old) (W.contents writer.new)) }
@@ -83,12 +82,9 @@ fn write_part<W: Write>(
         AreRefused options.now all fault (W.contents writer.old) (W.contents writer.new)) }
     ensures read { IfErr result (λ fault. fault ≡ EdgesFault.Read → ⊥) }
 {
-    let part = match part_of(alloc, options, rows) {
-        Ok(part) => part,
-        Err(_) => return Err(EdgesFault::Memory),
-    };
-    match write_rows(part.0.as_slice(), writer) {
-        Ok(()) => Ok(part.1),
-        Err(WriteFailed) => Err(EdgesFault::Write),
+    match write_part(alloc, options.from, options.until, rows, writer) {
+        Ok(told) => Ok(told),
+        Err(PartFault::Memory) => Err(EdgesFault::Memory),
+        Err(PartFault::Write) => Err(EdgesFault::Write),
     }
 }

@@ -5,7 +5,7 @@ ghost use Rattle.std.specs.List.{AllPairs};
 ghost use Rattle.mdb_words.specs.declared.event.Event.{Event};
 ghost use Rattle.mdb_exports.specs.ReadBack.{AreReadBack};
 ghost use Rattle.mdb_exports.specs.Order.{Precedes};
-ghost use Rattle.mdb_edges.specs.Import.{part_of};
+ghost use Rattle.mdb_levels.specs.Told.{part_of};
 ghost use Rattle.mdb_edges.specs.Table.{AreRowsOfTable};
 ghost use Rattle.mdb_edges.specs.declared.options.EdgesOptions.{EdgesOptions};
 
@@ -25,5 +25,5 @@ pub fn rows_stand_in_order()
 /// What is written of a table is read as just the rows that were written.
 pub fn rows_are_read_back()
     ensures { (options : EdgesOptions) (records : List (List (List ℕ))) (rows : List Event) →
-        AreRowsOfTable options records rows → AreReadBack (part_of options rows) }
+        AreRowsOfTable options records rows → AreReadBack (part_of options.from options.until rows) }
 {}

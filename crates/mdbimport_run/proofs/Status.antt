@@ -7,7 +7,7 @@ use Rattle.mdb_saleae.specs.declared.options.SaleaeOptions.{SaleaeOptions}
 use Rattle.mdb_edges.specs.Import as edges
 use Rattle.mdb_edges.specs.declared.fault.EdgesFault.{EdgesFault}
 use Rattle.mdb_edges.specs.declared.options.EdgesOptions.{EdgesOptions}
-use Rattle.mdb_edges.specs.declared.part.EdgesImported.{EdgesImported}
+use Rattle.mdb_levels.specs.declared.part.LevelsImported.{LevelsImported}
 use Rattle.mdbimport_run.specs.Program.{IsEdgesAnswer, IsManualWritten, NameATask, NameManual, NamesManual, Says, no_memory}
 use Rattle.mdb_exports.specs.Records.{export_records}
 use Rattle.mdb_rows_import.specs.Imports.{Imports}
@@ -90,7 +90,7 @@ pub saleae_says : (words : List (List ℕ)) (options : SaleaeOptions) (before af
 saleae_says words options before after answer asks text imports = (options, asks, imports)
 
 pub edges_say : (words : List (List ℕ)) (options : EdgesOptions) (before after : Option (List ℕ))
-    (answer : Result EdgesImported EdgesFault) → AskFor words (Edges options) → (text : List ℕ)
+    (answer : Result LevelsImported EdgesFault) → AskFor words (Edges options) → (text : List ℕ)
     → IsEdgesAnswer options text before after answer
     → Says words text before after (ended.Edges answer)
 edges_say words options before after answer asks text answers = (options, asks, answers)
@@ -104,7 +104,7 @@ manual_says words page before after answer asks written (Some text) = (page, ask
 
 -- what is said of both answers to the records of a table of edges is said of the answer
 pub edges_answer : (Come : List (List (List ℕ)) → Type 0) (text : List ℕ) (options : EdgesOptions)
-    (before after : Option (List ℕ)) (answer : Result EdgesImported EdgesFault)
+    (before after : Option (List ℕ)) (answer : Result LevelsImported EdgesFault)
     → IfOk answer (λ told.
     (all : List (List (List ℕ))) → Come all → edges.AreImported options all told before after)
     → IfErr answer (λ fault.

@@ -21,7 +21,7 @@ use Rattle.mdb_saleae.specs.declared.options.SaleaeOptions.{SaleaeOptions}
 use Rattle.mdb_edges.specs.Import as edges
 use Rattle.mdb_edges.specs.declared.fault.EdgesFault.{EdgesFault}
 use Rattle.mdb_edges.specs.declared.options.EdgesOptions.{EdgesOptions}
-use Rattle.mdb_edges.specs.declared.part.EdgesImported.{EdgesImported}
+use Rattle.mdb_levels.specs.declared.part.LevelsImported.{LevelsImported}
 use Rattle.mdbimport_run.specs.declared.manual.TheConstants.{ABOUT, EDGES, MANUAL, REST, ROWS, SALEAE, SIGROK}
 use Rattle.mdbimport_run.specs.declared.ended.Ended.{Ended}
 use Rattle.mdbimport_run.specs.declared.ended.Ended.TheVariants.{Rows, Sigrok, Saleae, Edges}
@@ -267,7 +267,7 @@ IsAnswerTo words (Refused refusal) = NameATask words → refusal ≡ no_memory
 
 -- what the answer to a table of edges says of its text, and of the bytes that the writer held
 abbrev pub IsEdgesAnswer : EdgesOptions → List ℕ → Option (List ℕ) → Option (List ℕ)
-    → Result EdgesImported EdgesFault → Type 0
+    → Result LevelsImported EdgesFault → Type 0
 IsEdgesAnswer options text before after (Ok told) =
     edges.IsImported options text told before after
 IsEdgesAnswer options text before after (Err fault) =

@@ -1,8 +1,9 @@
 //! What standard error is told.
 
 use super::hint::hint_of;
-use mdb_edges::{EdgesFault, EdgesImported, EdgesOptions, LineFault};
+use mdb_edges::{EdgesFault, EdgesOptions};
 use mdb_exports::{Imported, RecordFault};
+use mdb_levels::LevelsImported;
 use mdb_records::{ReadCause, Record, Records};
 use mdb_rows_import::ImportFault;
 use mdb_saleae::SaleaeFault;
@@ -67,7 +68,7 @@ pub(crate) fn tell_of_table<R: Read + Drop, E: Write>(
 /// Tells the same of a table of edges, of the records that the answer was met with.
 pub(crate) fn tell_of_edges<R: Read + Drop, E: Write>(
     options: &EdgesOptions,
-    answer: Result<EdgesImported, EdgesFault>,
+    answer: Result<LevelsImported, EdgesFault>,
     records: &Records<R>,
     err: &mut E,
 ) {
@@ -195,11 +196,9 @@ fn complain_of_edges<R: Read + Drop, E: Write>(
         EdgesFault::Form { fault: form, .. } => {
             complain_of(&fault, Some(row), hint_of(options, form, row), err);
         }
-        EdgesFault::Order { .. }
-        | EdgesFault::Line {
-            fault: LineFault::BadLevel,
-            ..
-        } => complain_of(&fault, Some(row), "", err),
+        EdgesFault::Order { .. } | EdgesFault::Level { .. } => {
+            complain_of(&fault, Some(row), "", err);
+        }
         EdgesFault::Read => say(text_of_cause(records.cause()), err),
         EdgesFault::Line { .. } | EdgesFault::Write | EdgesFault::Memory => {
             complain_of(&fault, None, "", err);

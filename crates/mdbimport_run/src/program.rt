@@ -14,8 +14,9 @@ use super::complaint::{tell, tell_of_edges, tell_of_table, tell_of_trace};
 use super::ended::Ended;
 use super::refused::tell_refusal;
 use command_words::write_manual;
-use mdb_edges::{EdgesFault, EdgesImported, EdgesOptions, import_edge_records};
+use mdb_edges::{EdgesFault, EdgesOptions, import_edge_records};
 use mdb_exports::{Imported, records_of};
+use mdb_levels::LevelsImported;
 use mdb_rows_import::{ImportFault, RowsOptions, import_records};
 use mdb_saleae::{SaleaeFault, SaleaeOptions, import_table};
 use mdb_sigrok::{SigrokFault, SigrokOptions, SigrokRows, import_sigrok};
@@ -112,7 +113,7 @@ fn run_edges<R: Read + Drop, W: Write, E: Write>(
     reader: R,
     out: &mut W,
     err: &mut E,
-) -> Result<EdgesImported, EdgesFault>
+) -> Result<LevelsImported, EdgesFault>
     ensures { IfSome (R.remaining reader) (λ text. IsEdgesAnswer options.now text
         (W.contents out.old) (W.contents out.new) result) }
 {

@@ -14,19 +14,19 @@ returns-in_err-rows-clause-refused g c =
 
 pub returns-clause-written : goal.returns-clause-written
 returns-clause-written g c =
-    IfOk-weaker c.write_part.result _ _ (λ told written all to_come. written all
+    IfOk-weaker c.write_rows_of_table.result _ _ (λ told written all to_come. written all
     (subst (λ rows. AreRowsOfTable c.args.options.now all rows) (sym c.as_slice.ensures.value)
     (c.in_ok-rows.ensures.ok all to_come)))
-    c.write_part.ensures.written
+    c.write_rows_of_table.ensures.written
 
 pub returns-clause-refused : goal.returns-clause-refused
 returns-clause-refused g c =
-    IfErr-weaker c.write_part.result _ _ (λ fault refused all to_come. refused all
+    IfErr-weaker c.write_rows_of_table.result _ _ (λ fault refused all to_come. refused all
     (subst (λ rows. AreRowsOfTable c.args.options.now all rows) (sym c.as_slice.ensures.value)
     (c.in_ok-rows.ensures.ok all to_come)))
-    c.write_part.ensures.refused
+    c.write_rows_of_table.ensures.refused
 
 pub returns-clause-failed : goal.returns-clause-failed
 returns-clause-failed g c =
-    IfErr-weaker c.write_part.result _ _ (λ fault none is. absurd (none is))
-    c.write_part.ensures.read
+    IfErr-weaker c.write_rows_of_table.result _ _ (λ fault none is. absurd (none is))
+    c.write_rows_of_table.ensures.read
