@@ -7,6 +7,7 @@ use Rattle.std.specs.List.{list_any}
 use Rattle.mdb_words.specs.declared.event.Event.{Event}
 use Rattle.mdb_records.specs.declared.ReadFault.{ReadFault}
 use Rattle.mdb_records.specs.declared.ReadFault.TheVariants as reading
+use Rattle.mdb_exports.specs.Places.{AreNoted}
 use Rattle.mdb_exports.specs.Records.{export_records}
 use Rattle.mdb_exports.specs.Refusal.{IsAnswered}
 use Rattle.mdb_exports.specs.Rows.{rows_text}
@@ -102,7 +103,7 @@ pub record AreRead (options : RowsOptions) (records : List (List (List ℕ))) (e
   pub counted : IsCounted records events imported
 
 -- What is told of all events: how many were written, and how many are before and after the part,
--- whether there is a marked word, and one on each line.
+-- whether there is a marked word, and one on each line. No word of such an export is damaged.
 pub record IsTold (options : RowsOptions) (events : List Event) (imported : Imported) : Type 0 where
   pub rows : imported.rows ≡ told_count (is_taken options) events
   pub before : imported.before ≡ told_count (is_before options) events
@@ -110,6 +111,7 @@ pub record IsTold (options : RowsOptions) (events : List Event) (imported : Impo
   pub marked : imported.marked ≡ list_any is_marked events
   pub controller : imported.controller ≡ list_any is_controllers events
   pub peripheral : imported.peripheral ≡ list_any is_peripherals events
+  pub damaged : AreNoted imported.damaged []
 
 -- the answer to the records of an export, and the text of the rows that are written of them
 abbrev pub IsImport : RowsOptions → List (List (List ℕ)) → Result Imported ImportFault → List ℕ

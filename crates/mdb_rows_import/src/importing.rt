@@ -20,7 +20,9 @@ use super::fault::ImportFault;
 use super::fields::join;
 use super::options::RowsOptions;
 use super::rows::{event_in, is_header, time_in};
-use mdb_exports::{Imported, RecordFault, expect_after, line_of, records_of, write_refused};
+use mdb_exports::{
+    Imported, Places, RecordFault, expect_after, line_of, records_of, write_refused,
+};
 use mdb_records::{Record, Records};
 use mdb_words::{Event, Line};
 use mdb_writing::{Page, WriteFailed};
@@ -113,6 +115,7 @@ impl Importing {
                 marked: false,
                 controller: false,
                 peripheral: false,
+                damaged: Places::new(),
             },
             line: Vec::new(alloc),
             page: Page::new(),

@@ -65,11 +65,11 @@ pub imported_ok : (options : SaleaeOptions) (text : List ℕ) (before after : Op
     → IfOk answer (λ imported. IsImported options text before after)
 imported_ok options text before after (Ok imported) (inl (written, inl is, appends)) =
     let P : List ℕ → Type 0 = λ t. Appends before after t in
-    let Q : List (List (List ℕ)) → Type 0 = λ l. AreEvents options l is.import.0 in (
+    let Q : List (List (List ℕ)) → Type 0 = λ l. AreEvents options l is.import.0 is.import.1 in (
       is.import.0,
-      subst Q (sym is.split) (is.columns, is.are, is.import.1),
-      subst P is.import.3
-          appends,
+      is.import.1,
+      subst Q (sym is.split) (is.columns, is.are, is.import.2),
+      subst P is.import.4 appends,
     )
 imported_ok options text before after (Ok imported) (inl (written, inr is, appends)) = absurd is.0
 imported_ok options text before after (Ok imported) (inr cut) = absurd (let never = cut.0 in cc)

@@ -51,6 +51,7 @@ pub record TellsSame (old new : Imported) : Type 0 where
   pub marked : new.marked ≡ old.marked
   pub controller : new.controller ≡ old.controller
   pub peripheral : new.peripheral ≡ old.peripheral
+  pub damaged : new.damaged ≡ old.damaged
 
 -- fields that tell a time outside the part that was asked for
 pub record IsOutside (options : RowsOptions) (fields : List (List ℕ)) : Type 0 where

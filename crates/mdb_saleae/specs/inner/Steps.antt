@@ -11,12 +11,13 @@ use Rattle.mdb_exports.specs.Order.{IsAfter}
 use Rattle.mdb_writing.specs.Output.{Breaks, Output, Puts}
 use Rattle.mdb_exports.specs.shared.Closing.{IsSent}
 use Rattle.mdb_exports.specs.shared.Told.{IsKept, IsSaid, counted_more}
+use Rattle.mdb_exports.specs.declared.places.Place.{Place}
 use Rattle.mdb_exports.specs.declared.told.Imported.{Imported}
 use Rattle.mdb_saleae.specs.Columns.{IsColumns}
 use Rattle.mdb_saleae.specs.Imports.{IsHeaderAnswer, IsImport, IsRefusedRow, IsRowsImport, IsTold}
 use Rattle.mdb_saleae.specs.Imports.{is_before, is_behind, is_taken, part_text}
 use Rattle.mdb_saleae.specs.Refusals.{IsFault}
-use Rattle.mdb_saleae.specs.Rows.{AreRows, IsTableRow, last_start}
+use Rattle.mdb_saleae.specs.Rows.{AreRows, IsLeftOut, IsTableRow, last_start}
 use Rattle.mdb_saleae.specs.declared.columns.Columns.{Columns}
 use Rattle.mdb_saleae.specs.declared.fault.RowFault.{RowFault}
 use Rattle.mdb_saleae.specs.declared.fault.SaleaeFault.{SaleaeFault}
@@ -24,6 +25,8 @@ use Rattle.mdb_saleae.specs.declared.fault.SaleaeFault.TheVariants.{BadRecord, B
 use Rattle.mdb_saleae.specs.declared.fault.SaleaeFault.TheVariants.{Memory}
 use Rattle.mdb_saleae.specs.declared.importing.Importing.{Importing}
 use Rattle.mdb_saleae.specs.declared.options.SaleaeOptions.{SaleaeOptions}
+use Rattle.mdb_saleae.specs.declared.rows.Found.{Found}
+use Rattle.mdb_saleae.specs.declared.rows.Found.TheVariants.{Row, Damaged}
 use Rattle.mdb_saleae.specs.declared.rows.Refusal.{Refusal}
 
 -- the columns of the first of some records, behind which others come; or why there are none
@@ -40,13 +43,15 @@ abbrev pub HasFailedBehind : {R : Type 0} → (R → Option (List ℕ)) → Reco
 HasFailedBehind remaining before after = (fault_of after ≡ Some reading.Read)
     ⊎ ((rows : List (List (List ℕ))) → ToCome remaining before rows → 2 ^ 64 - 2 ≤ length rows)
 
--- the event of a record that comes after a time, or why there is none
-abbrev pub IsNext : SaleaeOptions → Columns → Option ℕ → List (List ℕ) → Result Event Refusal
+-- the row of a record, which comes after a time, or its damaged word; or why there is neither
+abbrev pub IsNext : SaleaeOptions → Columns → Option ℕ → List (List ℕ) → Result Found Refusal
     → Type 0
-IsNext options columns last fields (Ok event) =
+IsNext options columns last fields (Ok (Row event)) =
     IsTableRow options columns fields event × IsAfter last event
+IsNext options columns last fields (Ok (Damaged place)) = IsLeftOut options columns fields place
 IsNext options columns last fields (Err refusal) =
     ((event : Event) → IsTableRow options columns fields event → IsAfter last event → ⊥)
+    × ((place : Place) → IsLeftOut options columns fields place → ⊥)
     × IsFault options columns last fields refusal.at refusal.fault
 
 -- a refusal with the number of its record
@@ -66,20 +71,21 @@ pub record IsNoted (options : SaleaeOptions) (old new : Imported) (event : Event
   pub said : IsSaid old new event
   pub kept : IsKept old new
 
--- the records so far stand for these events, whose rows are on their way
+-- the records so far stand for these events, whose rows are on their way, but for damaged words
 pub record HasImported (options : SaleaeOptions) (columns : Columns) (importing : Importing)
-    (before after : Output) (done : List (List (List ℕ))) (events : List Event) : Type 0 where
-  pub are : AreRows options columns None done events
+    (before after : Output) (done : List (List (List ℕ))) (events : List Event)
+    (damaged : List Place) : Type 0 where
+  pub are : AreRows options columns None done events damaged
   pub last : importing.last ≡ last_start None events
-  pub told : IsTold options events importing.tally
+  pub told : IsTold options events damaged importing.tally
   pub written : Puts before after (part_text options events)
 
 -- what the taking of a record after others comes to
 abbrev pub TakesOne : SaleaeOptions → Columns → Importing → Output → Output
     → List (List (List ℕ)) → List Event → List (List ℕ) → Result Unit SaleaeFault → Type 0
 TakesOne options columns importing before after done events row (Ok taken) =
-    (more : List Event)
-    × HasImported options columns importing before after (done ++ row ∷ []) more
+    (more : List Event) × (damaged : List Place)
+    × HasImported options columns importing before after (done ++ row ∷ []) more damaged
 TakesOne options columns importing before after done events row (Err (BadRecord number fault)) =
     (number ≡ length done + 2) × IsRefusedRow options columns events row None fault
     × Puts before after (part_text options events)
@@ -87,7 +93,8 @@ TakesOne options columns importing before after done events row (Err (BadRow num
     (number ≡ length done + 2) × IsRefusedRow options columns events row (Some at) fault
     × Puts before after (part_text options events)
 TakesOne options columns importing before after done events row (Err Write) =
-    (more : List Event) × AreRows options columns None (done ++ row ∷ []) more
+    (more : List Event) × (damaged : List Place)
+    × AreRows options columns None (done ++ row ∷ []) more damaged
     × Breaks before after (part_text options more)
 TakesOne options columns importing before after done events row (Err Memory) =
     Puts before after (part_text options events)
