@@ -1,11 +1,12 @@
 -- A table from a reader, and its rows to a writer.
-use Rattle.std.specs.Prelude.{◌≡◌, ◌⊎◌, ◌≤◌, ◌-◌, ◌^◌, ℕ, List, Option, Some, length, take}
-use Rattle.std.specs.Io.KnownBytes.{Keeps}
+use Rattle.std.specs.Prelude.{⊤, ◌≡◌, ◌⊎◌, ◌≤◌, ◌-◌, ◌^◌, ℕ, List, Option, Some, length, take}
+use Rattle.std.specs.Io.KnownBytes.{Appends}
 use Rattle.mdb_words.specs.declared.event.Event.{Event}
 use Rattle.mdb_records.specs.ToCome.{ToCome, fault_of}
 use Rattle.mdb_records.specs.declared.ReadFault.TheVariants as reading
 use Rattle.mdb_records.specs.declared.Records.{Records}
 use Rattle.mdb_exports.specs.Records.{export_records}
+use Rattle.mdb_exports.specs.Refusal.{refusal_line}
 use Rattle.mdb_exports.specs.Rows.{rows_text}
 use Rattle.mdb_writing.specs.Written.{HasTaken}
 use Rattle.mdb_levels.specs.Told.{IsWritten, part_of}
@@ -36,29 +37,36 @@ abbrev pub HaveNoRows : EdgesOptions → ℕ → List (List (List ℕ)) → Type
 HaveNoRows options number records = (others : List (List (List ℕ))) (rows : List Event) →
     take number others ≡ take number records → AreRowsOfTable options others rows → ⊥
 
--- a fault of the table: it is the first, there are no rows, for the records up to the one of the
--- number, and nothing was written
-abbrev pub AreFaulty : EdgesOptions → List (List (List ℕ)) → EdgesFault → ℕ → Option (List ℕ) →
-    Option (List ℕ) → Type 0
-AreFaulty options records fault number before after =
-    IsFirstFault options records fault × HaveNoRows options number records × Keeps before after
+-- a fault of the table: it is the first, and there are no rows, for the records up to the one of the
+-- number
+abbrev pub AreFaulty : EdgesOptions → List (List (List ℕ)) → EdgesFault → ℕ → Type 0
+AreFaulty options records fault number =
+    IsFirstFault options records fault × HaveNoRows options number records
 
--- What a fault tells of records: where it is one of the table, what is wrong with that. Where
--- reading failed or memory was refused, nothing was written; where writing failed, a front of the
--- rows.
+-- What a fault tells of records, before anything was written: where it is one of the table, what is
+-- wrong with that.
+abbrev pub AreRefusedFor : EdgesOptions → List (List (List ℕ)) → EdgesFault → Type 0
+AreRefusedFor options records (Form number fault) =
+    AreFaulty options records (Form number fault) number
+AreRefusedFor options records (Order number micros fault) =
+    AreFaulty options records (Order number micros fault) number
+AreRefusedFor options records (Level number micros line) =
+    AreFaulty options records (Level number micros line) number
+AreRefusedFor options records (Line number micros line fault) =
+    AreFaulty options records (Line number micros line fault) number
+AreRefusedFor options records Read = ⊤
+AreRefusedFor options records Write = ⊥
+AreRefusedFor options records Memory = ⊤
+
+-- The same, and what was written: the line that no checker takes. Where writing failed, a front of
+-- the rows was taken, or one of that line.
 abbrev pub AreRefused : EdgesOptions → List (List (List ℕ)) → EdgesFault → Option (List ℕ) →
     Option (List ℕ) → Type 0
-AreRefused options records (Form number fault) before after =
-    AreFaulty options records (Form number fault) number before after
-AreRefused options records (Order number micros fault) before after =
-    AreFaulty options records (Order number micros fault) number before after
-AreRefused options records (Level number micros line) before after =
-    AreFaulty options records (Level number micros line) number before after
-AreRefused options records (Line number micros line fault) before after =
-    AreFaulty options records (Line number micros line fault) number before after
-AreRefused options records Read before after = Keeps before after
-AreRefused options records Write before after = ArePartial options records before after
-AreRefused options records Memory before after = Keeps before after
+AreRefused options records fault before after =
+    (AreRefusedFor options records fault × Appends before after refusal_line)
+    ⊎ ((fault ≡ Write) × (ArePartial options records before after
+    ⊎ ((cause : EdgesFault) × AreRefusedFor options records cause
+    × HasTaken before after refusal_line)))
 
 -- the same of the records of a text
 abbrev pub IsImported : EdgesOptions → List ℕ → LevelsImported → Option (List ℕ) → Option (List ℕ)

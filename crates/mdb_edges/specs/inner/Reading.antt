@@ -1,12 +1,16 @@
 -- How a table is read, record by record. This file serves private functions and proofs: no public
 -- clause cites it.
-use Rattle.std.specs.Prelude.{◌≡◌, ℕ, List, ◌∷◌, take}
+use Rattle.std.specs.Prelude.{◌≡◌, ◌⊎◌, ℕ, List, ◌∷◌, Option, take}
+use Rattle.std.specs.Io.KnownBytes.{Keeps}
 use Rattle.mdb_words.specs.declared.event.Event.{Event}
 use Rattle.mdb_levels.specs.Lines.{HaveEnded, HaveHeard}
 use Rattle.mdb_levels.specs.Moments.{AreRowsOfBus, end_of}
 use Rattle.mdb_levels.specs.declared.lines.Lines.{Lines}
 use Rattle.mdb_levels.specs.declared.moment.Moment.{Moment}
+use Rattle.mdb_edges.specs.Import.{ArePartial, AreRefusedFor}
 use Rattle.mdb_edges.specs.Table.{AreMoments, IsHeader}
+use Rattle.mdb_edges.specs.declared.fault.EdgesFault.{EdgesFault}
+use Rattle.mdb_edges.specs.declared.fault.EdgesFault.TheVariants.{Write}
 use Rattle.mdb_edges.specs.declared.columns.Columns.{Columns}
 use Rattle.mdb_edges.specs.declared.options.EdgesOptions.{EdgesOptions}
 
@@ -23,6 +27,13 @@ pub record HasEnded (options : EdgesOptions) (columns : Columns) (lines : Lines)
   pub moments : List Moment
   pub told : AreMoments options columns 0 body moments
   pub ended : HaveEnded lines moments
+
+-- what a fault tells of records, where nothing was written; where writing failed, a front of the rows
+abbrev pub AreUnclosed : EdgesOptions → List (List (List ℕ)) → EdgesFault → Option (List ℕ) →
+    Option (List ℕ) → Type 0
+AreUnclosed options records fault before after =
+    (AreRefusedFor options records fault × Keeps before after)
+    ⊎ ((fault ≡ Write) × ArePartial options records before after)
 
 -- records begin with a header of these columns, and these come behind it
 pub record IsHeaded (options : EdgesOptions) (all : List (List (List ℕ))) (columns : Columns)

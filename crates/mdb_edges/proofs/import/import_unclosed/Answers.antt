@@ -3,7 +3,7 @@ use Rattle.mdb_edges.specs.Table.{AreRowsOfTable}
 use Rattle.mdb_edges.proofs.Refusals.{refused_of}
 use Rattle.std.proofs.lemmas.Result.{IfErr-weaker, IfOk-weaker}
 use Rattle.mdb_exports.proofs.Handed.{handed_on}
-use Rattle.mdb_edges.proofs.import.import_edge_records.Goals as goal
+use Rattle.mdb_edges.proofs.import.import_unclosed.Goals as goal
 
 pub returns-in_err-rows-clause-refused : goal.returns-in_err-rows-clause-refused
 returns-in_err-rows-clause-refused g c =
