@@ -3,6 +3,7 @@ use Rattle.std.specs.Prelude.{◌⊎◌, ℕ, List, Option, Result, Ok, Err}
 use Rattle.std.specs.Io.KnownBytes.{Appends}
 use Rattle.mdb_writing.specs.Written.{HasTaken}
 use Rattle.mdb_words.specs.declared.event.Event.{Event}
+use Rattle.mdb_exports.specs.declared.places.Place.{Place}
 use Rattle.mdb_exports.specs.Refusal.{refusal_line}
 use Rattle.mdb_exports.specs.Rows.{rows_text}
 use Rattle.mdb_sigrok.specs.declared.fault.SigrokFault.{SigrokFault}
@@ -12,24 +13,29 @@ use Rattle.mdb_sigrok.specs.declared.tally.SigrokRows.{SigrokRows}
 use Rattle.mdb_sigrok.specs.Part.{IsTold, part_of}
 use Rattle.mdb_sigrok.specs.Trace.{AreRowsOfTrace}
 
--- the rows of the part that was asked for were written, and of all rows this is told
+-- the rows of the part that was asked for were written, and of the whole trace this is told
 pub record IsImported (options : SigrokOptions) (text : List ℕ) (told : SigrokRows)
     (before after : Option (List ℕ)) : Type 0 where
   pub rows : List Event
-  pub are : AreRowsOfTrace options.swap text rows
-  pub tally : IsTold options rows told
+  pub pulses : List Place
+  pub damaged : List Place
+  pub are : AreRowsOfTrace options text rows pulses damaged
+  pub tally : IsTold options rows pulses damaged told
   pub written : Appends before after (rows_text (part_of options rows))
 
 -- the trace has rows, of which a front of those of the part was written
 pub record IsPartial (options : SigrokOptions) (text : List ℕ) (before after : Option (List ℕ)) :
     Type 0 where
   pub rows : List Event
-  pub are : AreRowsOfTrace options.swap text rows
+  pub pulses : List Place
+  pub damaged : List Place
+  pub are : AreRowsOfTrace options text rows pulses damaged
   pub written : HasTaken before after (rows_text (part_of options rows))
 
 -- the trace has no rows
 abbrev pub HasNoRows : SigrokOptions → List ℕ → Type 0
-HasNoRows options text = (rows : List Event) → AreRowsOfTrace options.swap text rows → ⊥
+HasNoRows options text = (rows : List Event) (pulses damaged : List Place)
+    → AreRowsOfTrace options text rows pulses damaged → ⊥
 
 -- What a fault tells: where it is one of the trace, that this has no rows. Where reading failed or
 -- memory was refused, nothing of the trace. In each of these cases the line that is no row was

@@ -6,7 +6,7 @@ ghost use Rattle.mdb_sigrok.specs.inner.Closed.{IsClosed};
 
 use super::fault::SigrokFault;
 use super::options::SigrokOptions;
-use super::rows::rows_of_trace;
+use super::rows::{TraceRows, rows_of_trace};
 use super::tally::{SigrokRows, tally_of};
 use super::writing::write_part;
 use mdb_exports::write_refusal;
@@ -14,7 +14,8 @@ use std::alloc::Global;
 use std::io::{Read, Write};
 
 /// Reads the trace that sigrok-cli wrote of its decoder `uart`, and writes its rows, each with a
-/// line feed: those of the part that is asked for. It answers what is told of all rows.
+/// line feed: those of the part that is asked for. It answers what is told of the whole
+/// trace.
 ///
 /// Nothing is written before all is read. Where the trace is refused, one line is written that is
 /// no row, and so it is where reading failed or memory was refused. It takes the memory of the rows
@@ -35,12 +36,16 @@ pub fn import_sigrok<R: Read + Drop, W: Write>(
     ensures { IfSome (R.remaining reader) (λ text. AnswersTo options.now text
         (W.contents writer.old) (W.contents writer.new) result) }
 {
-    let rows = match rows_of_trace(alloc, options.swap, reader) {
-        Ok(rows) => rows,
+    let TraceRows {
+        rows,
+        pulses,
+        damaged,
+    } = match rows_of_trace(alloc, options, reader) {
+        Ok(found) => found,
         Err(fault) => return Err(closed(fault, writer)),
     };
     match write_part(options, rows.as_slice(), writer) {
-        Ok(()) => Ok(tally_of(options, rows.as_slice())),
+        Ok(()) => Ok(tally_of(options, rows.as_slice(), pulses, damaged)),
         Err(failed) => Err(SigrokFault::from(failed)),
     }
 }
