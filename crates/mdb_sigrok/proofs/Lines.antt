@@ -8,10 +8,10 @@ use Rattle.mdb_sigrok.specs.declared.pair.Pair.{Pair}
 use Rattle.mdb_sigrok.specs.declared.pair.What.{What}
 use Rattle.mdb_sigrok.specs.declared.pair.What.TheVariants.{Start, Data, FrameError, BreakEnd}
 use Rattle.mdb_sigrok.specs.Text.{micros_of}
-use Rattle.mdb_sigrok.specs.Rows.{IsBreak, IsErrorOf, IsLow, IsPulse, IsStart, IsWhole, LineRows, nothing, unfinished, pulse, word, broken, damaged, damaged_low, break_of, length_of}
+use Rattle.mdb_sigrok.specs.Rows.{IsBreak, IsErrorOf, IsLow, IsPulse, IsStart, HasNoError, LineRows, nothing, unfinished, pulse, word, broken, damaged, damaged_low, break_of, length_of}
 use Rattle.mdb_sigrok.specs.inner.Steps.{EndsWith, IsState, LowNote, of_break, of_damage}
 use Rattle.mdb_sigrok.specs.declared.line.State.{State}
-use Rattle.mdb_sigrok.specs.declared.line.Open.TheVariants.{Nothing, Started}
+use Rattle.mdb_sigrok.specs.declared.line.Open.TheVariants.{Nothing}
 use Rattle.mdb_sigrok.proofs.Pairs.{heads_same, tails_same}
 
 -- things seen are of one kind
@@ -45,7 +45,8 @@ first_seen (word start data_pair value pairs notes starts what whole rest) = inl
 first_seen (broken start data_pair frame end value pairs notes starts what error low breaks late
     rest) =
     inl starts
-first_seen (damaged start data_pair frame value pairs notes starts what error rest) = inl starts
+first_seen (damaged start data_pair frame value pairs notes starts what error single rest) =
+    inl starts
 first_seen (damaged_low start data_pair frame end value pairs notes starts what error low none
     rest) =
     inl starts
@@ -68,7 +69,7 @@ pulse_case wrong (word start data_pair value pairs notes starts what whole rest)
 pulse_case wrong (broken start data_pair frame end value pairs notes starts what error low breaks
     late rest) =
     absurd (start_no_frame _ starts.what wrong)
-pulse_case wrong (damaged start data_pair frame value pairs notes starts what error rest) =
+pulse_case wrong (damaged start data_pair frame value pairs notes starts what error single rest) =
     absurd (start_no_frame _ starts.what wrong)
 pulse_case wrong (damaged_low start data_pair frame end value pairs notes starts what error low none
     rest) =
@@ -78,7 +79,7 @@ pulse_case wrong (damaged_low start data_pair frame end value pairs notes starts
 pub record WordCase (skip : Bool) (line : Line) (s : Pair) (value : ℕ) (pairs : List Pair)
     (notes : List Note) : Type 0 where
   pub more : List Note
-  pub whole : IsWhole s pairs
+  pub whole : HasNoError s pairs
   pub told : notes ≡ Row (Word (micros_of s.from) line value) ∷ more
   pub rest : LineRows skip line (micros_of s.from + 1) pairs more
 
@@ -145,7 +146,7 @@ cases_of begins (broken start data_pair frame end value pairs notes starts what 
         rest = rest;
       }));
     }
-cases_of begins (damaged start data_pair frame value pairs notes starts what error rest) =
+cases_of begins (damaged start data_pair frame value pairs notes starts what error single rest) =
     record {
       value = value;
       what = what;
@@ -298,25 +299,14 @@ pub ends_damaged : (skip : Bool) (line : Line) (e : ℕ) (s d f : Pair) (w : ℕ
 ends_damaged skip line e s d f w skips starts what error =
     subst (λ k. EndsWith k line e (s ∷ d ∷ f ∷ []) (Damaged (micros_of s.from) ∷ [])) (sym skips)
     (record {
-      took = damaged s d f w [] [] starts what error nothing;
+      took = damaged s d f w [] [] starts what error tt nothing;
       only = λ notes told. elim (error_case s d f w [] notes starts.what what error told) [
         | inl one ↦ absurd (let parts = one.parts in cc)
         | inr one ↦ one.told ∙ ap (λ l. Damaged (micros_of s.from) ∷ l) (no_notes one.rest)
       ];
     })
 
--- where a line stands behind a start bit, and behind a pulse
-
-pub started_state : (skip : Bool) (line : Line) (e : ℕ) (p : Pair) → IsStart e p
-    → IsState skip line e (p ∷ []) [] (record { line = line; earliest = e; held = Started p })
-started_state skip line e p starts = record {
-  leads = record {
-    took = λ pairs notes told. told;
-    only = λ pairs notes told. (notes, refl, told);
-  };
-  apart = starts;
-  same = refl;
-}
+-- where a line stands behind a pulse
 
 passes : (skip : Bool) (line : Line) (e : ℕ) (p : Pair) → IsPulse e p
     → IsState skip line e (p ∷ []) (Pulse (micros_of p.from) ∷ [])
@@ -392,13 +382,13 @@ other_case s d f p w pairs notes begins what error other rows =
     ]
 
 damaged_leads : (line : Line) (e : ℕ) (s d f p : Pair) (w : ℕ) (told : List Note) (state : State)
-    → IsStart e s → d.what ≡ Data w → IsErrorOf s f → p.what ≢ BreakEnd
+    → IsStart e s → d.what ≡ Data w → IsErrorOf s f → p.what ≢ BreakEnd → (IsErrorOf s p → ⊥)
     → IsState true line (micros_of s.from + 1) (p ∷ []) told state
     → IsState true line e (s ∷ d ∷ f ∷ p ∷ []) (Damaged (micros_of s.from) ∷ told) state
-damaged_leads line e s d f p w told state starts what error other inner = record {
+damaged_leads line e s d f p w told state starts what error other single inner = record {
   leads = record {
     took = λ pairs notes rows.
-        damaged s d f w (p ∷ pairs) (told ++ notes) starts what error
+        damaged s d f w (p ∷ pairs) (told ++ notes) starts what error single
         (inner.leads.took pairs notes rows);
     only = λ pairs notes rows.
         let one = other_case s d f p w pairs notes starts.what what error other rows in
@@ -414,16 +404,16 @@ damaged_leads line e s d f p w told state starts what error other inner = record
 
 pub damaged_state : (skip : Bool) (line : Line) (e : ℕ) (s d f p : Pair) (w at next : ℕ)
     (told : List Note) (state : State) → skip ≡ true → IsStart e s → d.what ≡ Data w
-    → IsErrorOf s f → p.what ≢ BreakEnd → at ≡ micros_of s.from → next ≡ at
+    → IsErrorOf s f → p.what ≢ BreakEnd → (IsErrorOf s p → ⊥) → at ≡ micros_of s.from → next ≡ at
     → IsState skip line (next + 1) (p ∷ []) told state
     → IsState skip line e (s ∷ d ∷ f ∷ p ∷ []) (Damaged at ∷ told) state
-damaged_state true line e s d f p w at next told state skips starts what error other here same
-    inner =
+damaged_state true line e s d f p w at next told state skips starts what error other single
+    here same inner =
     subst (λ n. IsState true line e (s ∷ d ∷ f ∷ p ∷ []) (Damaged n ∷ told) state) (sym here)
-    (damaged_leads line e s d f p w told state starts what error other
+    (damaged_leads line e s d f p w told state starts what error other single
     (subst (λ n. IsState true line (n + 1) (p ∷ []) told state) (same ∙ here) inner))
-damaged_state false line e s d f p w at next told state skips starts what error other here same
-    inner =
+damaged_state false line e s d f p w at next told state skips starts what error other single
+    here same inner =
     absurd (let is = skips in cc)
 
 -- by a break condition

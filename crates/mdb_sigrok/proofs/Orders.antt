@@ -32,7 +32,7 @@ ordered_of (broken start data_pair frame end value pairs notes starts what error
     rest) =
     (late, sym breaks.sender, ordered_of rest)
 ordered_of {line = line} {e = e} (damaged start data_pair frame value pairs notes starts what error
-    rest) =
+    single rest) =
     ordered_from line e (micros_of start.from + 1) (rows_in notes)
     (let late = starts.late in omega (arith, late)) (ordered_of rest)
 ordered_of {line = line} {e = e} (damaged_low start data_pair frame end value pairs notes starts what

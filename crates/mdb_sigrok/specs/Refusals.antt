@@ -74,10 +74,13 @@ IsNoBreak skip earliest line word pair fault.Early =
     (pair.from ≤ pair.to) × IsBreak skip line word pair × (micros_of pair.from < earliest)
 IsNoBreak skip earliest line word pair other = ⊥
 
--- why a line can't go on behind the frame error of a word by what is no break condition
+-- Why a line can't go on behind the frame error of a word by what is no break condition: damaged
+-- words aren't left out, or that is one more frame error of it; or else it neither begins a later
+-- word nor is a pulse.
 abbrev pub IsNoneAfterError : Bool → Pair → Pair → OrderFault → Type 0
-IsNoneAfterError false start pair told = told ≡ fault.NoBreak
-IsNoneAfterError true start pair told = IsNoStart (micros_of start.from + 1) pair told
+IsNoneAfterError skip start pair told =
+    (((skip ≡ false) ⊎ IsErrorOf start pair) × (told ≡ fault.NoBreak))
+    ⊎ ((IsErrorOf start pair → ⊥) × IsNoStart (micros_of start.from + 1) pair told)
 
 -- why a line can't go on behind the frame error of a word
 abbrev pub IsNoLow : Bool → ℕ → Line → Pair → ℕ → Pair → OrderFault → Type 0

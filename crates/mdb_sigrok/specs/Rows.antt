@@ -29,10 +29,10 @@ pub record IsErrorOf (start pair : Pair) : Type 0 where
   pub what : pair.what ≡ FrameError
   pub near : pair.from * 3 < start.from * 3 + 3203125000
 
--- the stop bit of the word with this start bit was high: what comes next is no frame error of it
-abbrev pub IsWhole : Pair → List Pair → Type 0
-IsWhole start [] = Unit {0}
-IsWhole start (next ∷ pairs) = IsErrorOf start next → ⊥
+-- what comes next is no frame error of the word with this start bit
+abbrev pub HasNoError : Pair → List Pair → Type 0
+HasNoError start [] = Unit {0}
+HasNoError start (next ∷ pairs) = IsErrorOf start next → ⊥
 
 -- how long the line was low, as it is told where it is high again
 pub record IsLow (pair : Pair) : Type 0 where
@@ -63,7 +63,8 @@ break_of pair = Break (micros_of pair.from) (length_of pair)
 -- no word; words, each a start bit and its word, with no frame error; breaks, each a start bit, a
 -- word 000, its frame error and a break condition; at the end maybe a start bit whose word wasn't
 -- recorded whole, which tells nothing. Where damaged words are left out (`skip`), a start bit, any
--- word and its frame error are one, and so they are with a break condition that is of no break.
+-- word and one frame error of it are one, and so they are with a break condition that is of no
+-- break.
 pub data LineRows : Bool → Line → ℕ → List Pair → List Note → Type 0 where
   nothing : {skip : Bool} {line : Line} {earliest : ℕ} → LineRows skip line earliest [] []
   unfinished : {skip : Bool} {line : Line} {earliest : ℕ} (start : Pair) →
@@ -74,7 +75,7 @@ pub data LineRows : Bool → Line → ℕ → List Pair → List Note → Type 0
       LineRows skip line earliest (pair ∷ pairs) (Pulse (micros_of pair.from) ∷ notes)
   word : {skip : Bool} {line : Line} {earliest : ℕ} (start data_pair : Pair) (value : ℕ)
       (pairs : List Pair) (notes : List Note) →
-      IsStart earliest start → data_pair.what ≡ Data value → IsWhole start pairs →
+      IsStart earliest start → data_pair.what ≡ Data value → HasNoError start pairs →
       LineRows skip line (micros_of start.from + 1) pairs notes →
       LineRows skip line earliest (start ∷ data_pair ∷ pairs)
       (Row (Word (micros_of start.from) line value) ∷ notes)
@@ -88,7 +89,7 @@ pub data LineRows : Bool → Line → ℕ → List Pair → List Note → Type 0
   damaged : {line : Line} {earliest : ℕ} (start data_pair frame : Pair) (value : ℕ)
       (pairs : List Pair) (notes : List Note) →
       IsStart earliest start → data_pair.what ≡ Data value → IsErrorOf start frame →
-      LineRows true line (micros_of start.from + 1) pairs notes →
+      HasNoError start pairs → LineRows true line (micros_of start.from + 1) pairs notes →
       LineRows true line earliest (start ∷ data_pair ∷ frame ∷ pairs)
       (Damaged (micros_of start.from) ∷ notes)
   damaged_low : {line : Line} {earliest : ℕ} (start data_pair frame end : Pair) (value : ℕ)

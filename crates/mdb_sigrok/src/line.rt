@@ -313,7 +313,7 @@ fn next_damaged(
     ensures why { IfErr result (IsNoneAfterError skip start.now pair.now) }
     ensures kept { IfErr result (λ _. state.new ≡ state.old) }
 {
-    if !skip {
+    if !skip || is_error_of(start, pair) {
         return Err(OrderFault::NoBreak);
     }
     let at = start.from.time();
