@@ -183,12 +183,12 @@ impl Reading {
     }
 
     /// What is told of a word, or a parity error, that can't be read: maybe that it can't stand
-    /// there at all.
+    /// there at all. A damaged word that is left out is no reason for a word that comes after it.
     fn fault_before(&self, skip: bool, fault: SigrokFault) -> SigrokFault
         ensures { IsOfTrace fault → IsOfTrace result }
     {
         match self.state.held {
-            Open::Wrong(_, _, _, wrong) if !skip => order(
+            Open::Wrong(_, _, _, wrong) if !(skip && is_of_word(&fault)) => order(
                 self.number,
                 wrong.from,
                 fault_line(self.state.line),
@@ -198,6 +198,17 @@ impl Reading {
             _ => without_start(fault),
         }
     }
+}
+
+/// Whether a fault is that of a word that can't be read.
+fn is_of_word(fault: &SigrokFault) -> bool {
+    matches!(
+        *fault,
+        SigrokFault::Order {
+            fault: OrderFault::WordDigits | OrderFault::LargeWord,
+            ..
+        }
+    )
 }
 
 /// Notes where something was passed over.
