@@ -37,7 +37,7 @@ reached remaining now options columns earliest number lines all others header so
       counted = so_far.counted;
       named = named;
       moments_are = so_far.has.told;
-      fine = are_fine lines so_far.moments so_far.has.heard;
+      fine = are_fine options.skip_damaged lines so_far.moments so_far.has.heard;
     }
 
 -- what stops a reading is what is told
@@ -140,14 +140,14 @@ met_early (stop.Levels fault) options columns ms row others earliest m next is e
 pub met_lines : (fault : LevelsFault) (options : EdgesOptions) (columns : Columns)
     (ms : List Moment) (row : List (List ℕ)) (others : List (List (List ℕ))) (m : Moment)
     → IsMoment options columns row m → end_of 0 ms ≤ m.at
-    → Claims fault (IsShown (ms ++ m ∷ []) m.at)
+    → Claims fault (IsShown options.skip_damaged (ms ++ m ∷ []) m.at)
     → IsMet options columns ms (row ∷ others) (stop.Levels fault)
 met_lines (levels.Line line wrong) options columns ms row others m is later shows =
     record { moment = m; is = is; later = later; shown = shows }
 met_lines levels.Memory options columns ms row others m is later shows = tt
 
 pub met_end : (fault : LevelsFault) (options : EdgesOptions) (columns : Columns)
-    (ms : List Moment) → Claims fault (IsShownAtEnd ms)
+    (ms : List Moment) → Claims fault (IsShownAtEnd options.skip_damaged ms)
     → IsMet options columns ms [] (stop.Levels fault)
 met_end (levels.Line line wrong) options columns ms shows = shows
 met_end levels.Memory options columns ms shows = tt

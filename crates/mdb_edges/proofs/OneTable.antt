@@ -2,6 +2,7 @@
 use Rattle.std.proofs.Common.{◌≡◌, ℕ, List, sym, subst, ◌∙◌}
 use Rattle.std.specs.List.{AllPairs}
 use Rattle.mdb_words.specs.declared.event.Event.{Event}
+use Rattle.mdb_exports.specs.declared.places.Place.{Place}
 use Rattle.mdb_exports.specs.Order.{Precedes}
 use Rattle.mdb_levels.specs.Moments.{AreRowsOfBus}
 use Rattle.mdb_levels.proofs.OneBus.{bus_in_order, one_bus}
@@ -11,8 +12,11 @@ use Rattle.mdb_edges.proofs.Headers.{one_header}
 use Rattle.mdb_edges.proofs.Tables.{head_same, same_all}
 
 pub one_table : (options : EdgesOptions) (records : List (List (List ℕ))) (rows others : List Event)
-    → AreRowsOfTable options records rows → AreRowsOfTable options records others → others ≡ rows
-one_table options records rows others one other =
+    (pulses pulses2 damaged damaged2 : List Place)
+    → AreRowsOfTable options records rows pulses damaged
+    → AreRowsOfTable options records others pulses2 damaged2
+    → (others ≡ rows) × (pulses2 ≡ pulses) × (damaged2 ≡ damaged)
+one_table options records rows others pulses pulses2 damaged damaged2 one other =
     let parts =
     head_same other.header one.header other.body one.body (sym other.parts ∙ one.parts) in
     let columns =
@@ -23,9 +27,11 @@ one_table options records rows others one other =
     (subst (λ c. AreMoments options c 0 one.body other.moments) columns
     (subst (λ b. AreMoments options other.columns 0 b other.moments) parts.1
     other.told)) in
-    one_bus one.moments rows others one.bus
-    (subst (λ l. AreRowsOfBus l others) moments other.bus)
+    one_bus options.skip_damaged one.moments rows others pulses pulses2 damaged damaged2 one.bus
+    (subst (λ l. AreRowsOfBus options.skip_damaged l others pulses2 damaged2) moments other.bus)
 
 pub table_in_order : (options : EdgesOptions) (records : List (List (List ℕ))) (rows : List Event)
-    → AreRowsOfTable options records rows → AllPairs Precedes rows
-table_in_order options records rows table = bus_in_order table.moments rows table.bus
+    (pulses damaged : List Place) → AreRowsOfTable options records rows pulses damaged
+    → AllPairs Precedes rows
+table_in_order options records rows pulses damaged table =
+    bus_in_order options.skip_damaged table.moments rows pulses damaged table.bus

@@ -1,5 +1,5 @@
 -- How a table is read, record by record.
-use Rattle.std.proofs.Common.{◌≡◌, inl, inr, ◌<◌, ◌≤◌, ◌+◌, ◌++◌, append_assoc, append-nil, true, false, ℕ, zero, suc, take, drop, length, length-append, ◌-◌, List, [], ◌∷◌, refl, sym, ap, subst, ◌∙◌, Option, arith}
+use Rattle.std.proofs.Common.{◌≡◌, Bool, inl, inr, ◌<◌, ◌≤◌, ◌+◌, ◌++◌, append_assoc, append-nil, true, false, ℕ, zero, suc, take, drop, length, length-append, ◌-◌, List, [], ◌∷◌, refl, sym, ap, subst, ◌∙◌, Option, arith}
 use Rattle.std.proofs.Math.Seq.{take-append_seam}
 use Rattle.std.proofs.lemmas.List.{length-take, take-append-drop, take_all}
 use Rattle.mdb_records.specs.ToCome.{Advances, ToCome, current_fields}
@@ -17,9 +17,11 @@ use Rattle.mdb_levels.specs.declared.moment.Moment.{Moment}
 use Rattle.mdb_edges.specs.declared.options.EdgesOptions.{EdgesOptions}
 use Rattle.mdb_edges.specs.Table.{AreMoments, AreRowsOfTable, IsHeader, IsMoment}
 use Rattle.mdb_edges.specs.inner.Stops.{Denies, IsNumbered, IsOfTable, IsTellOf, Refutes}
-use Rattle.mdb_edges.specs.inner.Reading.{BeginSame, Comes, HasEnded, HasRead, IsHeaded}
+use Rattle.mdb_edges.specs.inner.Reading.{BeginSame, Comes, HasEnded, HasRead, IsBusOfTable, IsHeaded}
 use Rattle.mdb_levels.specs.Faults.{AreBarred, Claims, HaveNoRows}
-use Rattle.mdb_levels.specs.Lines.{HaveEnded, HaveHeard}
+use Rattle.mdb_exports.specs.declared.places.Place.{Place}
+use Rattle.mdb_levels.specs.Lines.{HaveEnded, HaveHeard, IsBus}
+use Rattle.mdb_levels.specs.declared.lines.Bus.{Bus}
 use Rattle.mdb_levels.specs.Moments.{AreRising, AreRowsOfBus, end_of}
 use Rattle.mdb_edges.proofs.Headers.{one_header}
 use Rattle.mdb_edges.proofs.Records.{moments_more, moments_rise, moments_split, one_moment}
@@ -103,7 +105,7 @@ not_later s options columns earliest lines body rest row ms rows m has is early 
 pub read_more : (options : EdgesOptions) (columns : Columns) (earliest : ℕ) (old lines : Lines)
     (body : List (List (List ℕ))) (row : List (List ℕ)) (ms : List Moment) (m : Moment)
     → HasRead options columns earliest old body ms → IsMoment options columns row m
-    → earliest ≤ m.at → HaveHeard lines (ms ++ m ∷ [])
+    → earliest ≤ m.at → HaveHeard options.skip_damaged lines (ms ++ m ∷ [])
     → HasRead options columns (m.at + 1) lines (body ++ row ∷ []) (ms ++ m ∷ [])
 read_more options columns earliest old lines body row ms m has is later heard = record {
   told = moments_more options columns 0 body ms row m has.told is (omega (arith, has.next, later));
@@ -113,20 +115,22 @@ read_more options columns earliest old lines body row ms m has is later heard = 
 
 barred_comes : (options : EdgesOptions) (columns : Columns) (body : List (List (List ℕ)))
     (rows : List Event) (front more : List Moment) (comes : Comes options columns body rows)
-    → comes.moments ≡ front ++ more → AreBarred front → ⊥
+    → comes.moments ≡ front ++ more → AreBarred options.skip_damaged front → ⊥
 barred_comes options columns body rows front more comes parts barred =
     barred more
     (subst (AreRising 0) parts (moments_rise options columns 0 body comes.moments comes.told)) rows
-    (subst (λ l. AreRowsOfBus l rows) parts comes.bus)
+    comes.pulses comes.damaged
+    (subst (λ l. AreRowsOfBus options.skip_damaged l rows comes.pulses comes.damaged) parts
+    comes.bus)
 
 pub barred_next : (fault : LevelsFault) (options : EdgesOptions) (columns : Columns)
     (earliest : ℕ) (lines : Lines) (body rest : List (List (List ℕ))) (row : List (List ℕ))
     (ms : List Moment) (rows : List Event) (m : Moment)
     → HasRead options columns earliest lines body ms → IsMoment options columns row m
-    → Claims fault (λ line start kind. AreBarred (ms ++ m ∷ []))
+    → Claims fault (λ line start kind. AreBarred options.skip_damaged (ms ++ m ∷ []))
     → Denies (stop.Levels fault) (Comes options columns (body ++ row ∷ rest) rows)
 barred_next fault options columns earliest lines body rest row ms rows m has is claims =
-    claims_deny fault (AreBarred (ms ++ m ∷ [])) (Comes options columns (body ++ row ∷ rest) rows)
+    claims_deny fault (AreBarred options.skip_damaged (ms ++ m ∷ [])) (Comes options columns (body ++ row ∷ rest) rows)
     (λ barred comes.
     let next = next_is options columns earliest lines body rest row ms rows has comes in
     let same = one_moment options columns row next.moment m next.is is in
@@ -196,7 +200,7 @@ pub record SoFar {R : Type 0} (remaining : R → Option (List ℕ)) (now : Recor
 
 pub so_far_none : {R : Type 0} (remaining : R → Option (List ℕ)) (now : Records R)
     (options : EdgesOptions) (columns : Columns) (lines : Lines) (all : List (List (List ℕ)))
-    → HaveHeard lines [] → ToCome remaining now all
+    → HaveHeard options.skip_damaged lines [] → ToCome remaining now all
     → SoFar remaining now options columns 0 2 lines all
 so_far_none remaining now options columns lines all heard to_come = record {
   done = [];
@@ -245,7 +249,7 @@ pub all_come : {R : Type 0} (remaining : R → Option (List ℕ)) (old now : Rec
     (all : List (List (List ℕ)))
     (so_far : SoFar remaining old options columns earliest number lines all)
     → Advances remaining now false so_far.rest
-    → ((ms : List Moment) → HaveHeard lines ms → HaveEnded ended ms)
+    → ((ms : List Moment) → HaveHeard options.skip_damaged lines ms → HaveEnded options.skip_damaged ended ms)
     → HasEnded options columns ended all
 all_come remaining old now options columns earliest number lines ended all so_far none ends =
     record {
@@ -276,14 +280,14 @@ pub none_come : {R : Type 0} (remaining : R → Option (List ℕ)) (old now : Re
     (others : List (List (List ℕ))) (rows : List Event)
     (so_far : SoFar remaining old options columns earliest number lines all)
     → Advances remaining now false so_far.rest
-    → ((ms : List Moment) → HaveHeard lines ms → Claims fault (λ line start kind. HaveNoRows ms))
+    → ((ms : List Moment) → HaveHeard options.skip_damaged lines ms → Claims fault (λ line start kind. HaveNoRows options.skip_damaged ms))
     → IsTellOf (stop.Levels fault) number e
     → Refutes e (λ n. BeginSame (n - 1) all others × Comes options columns others rows)
 none_come remaining old now options columns earliest number lines all fault e others rows so_far
     none ends tells =
     told_refutes (stop.Levels fault) number e
     (λ n. BeginSame (n - 1) all others × Comes options columns others rows) tells
-    (claims_deny fault (HaveNoRows so_far.moments)
+    (claims_deny fault (HaveNoRows options.skip_damaged so_far.moments)
     (BeginSame (number - 1) all others × Comes options columns others rows)
     (λ empty both.
     let done_is =
@@ -295,7 +299,9 @@ none_come remaining old now options columns earliest number lines all fault e ot
     same_all options columns others so_far.moments both.1.moments
     (subst (λ l. AreMoments options columns 0 l so_far.moments) (done_is ∙ sym whole)
     so_far.has.told) both.1.told in
-    empty rows (subst (λ l. AreRowsOfBus l rows) same both.1.bus))
+    empty rows both.1.pulses both.1.damaged
+    (subst (λ l. AreRowsOfBus options.skip_damaged l rows both.1.pulses both.1.damaged) same
+    both.1.bus))
     (ends so_far.moments so_far.has.heard))
 
 pub stops_come : {R : Type 0} (remaining : R → Option (List ℕ)) (old now : Records R)
@@ -364,27 +370,35 @@ no_records remaining now options columns all others rest none both =
     absurd (let parts = both.1.parts in cc)
 
 pub table_of : (options : EdgesOptions) (columns : Columns) (all rest : List (List (List ℕ)))
-    (lines : Lines) (rows : List Event) → IsHeaded options all columns rest
+    (lines : Lines) (bus : Bus) → IsHeaded options all columns rest
     → HasEnded options columns lines rest
-    → ((ms : List Moment) → HaveEnded lines ms → AreRowsOfBus ms rows)
-    → AreRowsOfTable options all rows
-table_of options columns all rest lines rows head ended bus = record {
-  header = head.header;
-  body = rest;
-  columns = columns;
-  moments = ended.moments;
-  parts = head.parts;
-  named = head.named;
-  told = ended.told;
-  bus = bus ended.moments ended.ended;
-}
+    → ((skip : Bool) (ms : List Moment) → HaveEnded skip lines ms → IsBus skip ms bus)
+    → IsBusOfTable options all bus
+table_of options columns all rest lines bus head ended buses =
+    let is = buses options.skip_damaged ended.moments ended.ended in
+    record {
+      pulses = is.pulses;
+      damaged = is.damaged;
+      of_table = record {
+        header = head.header;
+        body = rest;
+        columns = columns;
+        moments = ended.moments;
+        parts = head.parts;
+        named = head.named;
+        told = ended.told;
+        bus = is.are;
+      };
+      pulses_noted = is.pulses_noted;
+      damaged_noted = is.damaged_noted;
+    }
 
 parts_of_table : (options : EdgesOptions) (columns : Columns)
-    (all rest others : List (List (List ℕ))) (rows : List Event) (n : ℕ)
-    → IsHeaded options all columns rest → 1 ≤ n → BeginSame n all others
-    → (table : AreRowsOfTable options others rows)
+    (all rest others : List (List (List ℕ))) (rows : List Event) (pulses damaged : List Place)
+    (n : ℕ) → IsHeaded options all columns rest → 1 ≤ n → BeginSame n all others
+    → (table : AreRowsOfTable options others rows pulses damaged)
     → BeginSame (n - 1) rest table.body × Comes options columns table.body rows
-parts_of_table options columns all rest others rows n head some begins table =
+parts_of_table options columns all rest others rows pulses damaged n head some begins table =
     let fronts = ap (λ l. take n l) (sym table.parts) ∙ begins ∙ ap (λ l. take n l) head.parts in
     let same = fronts_split n table.header head.header table.body rest some fronts in
     let one =
@@ -394,6 +408,8 @@ parts_of_table options columns all rest others rows n head some begins table =
       record {
         moments = table.moments;
         told = subst (λ c. AreMoments options c 0 table.body table.moments) one table.told;
+        pulses = pulses;
+        damaged = damaged;
         bus = table.bus;
       },
     )
@@ -403,44 +419,46 @@ pub no_table : (e : EdgesFault) (options : EdgesOptions) (columns : Columns)
     → ((others : List (List (List ℕ))) (rows : List Event)
     → Refutes e
     (λ n. BeginSame (n - 1) rest others × Comes options columns others rows))
-    → (others : List (List (List ℕ))) (rows : List Event)
-    → Refutes e (λ n. BeginSame n all others × AreRowsOfTable options others rows)
-no_table (told.Form number fault) options columns all rest head some refuted others rows =
+    → (others : List (List (List ℕ))) (rows : List Event) (pulses damaged : List Place)
+    → Refutes e
+    (λ n. BeginSame n all others × AreRowsOfTable options others rows pulses damaged)
+no_table (told.Form number fault) options columns all rest head some refuted others rows pulses damaged =
     λ both. refuted both.1.body rows
-    (parts_of_table options columns all rest others rows number head some both.0 both.1)
-no_table (told.Order number micros fault) options columns all rest head some refuted others rows =
+    (parts_of_table options columns all rest others rows pulses damaged number head some both.0 both.1)
+no_table (told.Order number micros fault) options columns all rest head some refuted others rows pulses damaged =
     λ both. refuted both.1.body rows
-    (parts_of_table options columns all rest others rows number head some both.0 both.1)
-no_table (told.Level number micros line) options columns all rest head some refuted others rows =
+    (parts_of_table options columns all rest others rows pulses damaged number head some both.0 both.1)
+no_table (told.Level number micros line) options columns all rest head some refuted others rows pulses damaged =
     λ both. refuted both.1.body rows
-    (parts_of_table options columns all rest others rows number head some both.0 both.1)
+    (parts_of_table options columns all rest others rows pulses damaged number head some both.0 both.1)
 no_table (told.Line number micros line fault) options columns all rest head some refuted others
-    rows =
+    rows pulses damaged =
     λ both. refuted both.1.body rows
-    (parts_of_table options columns all rest others rows number head some both.0 both.1)
-no_table told.Read options columns all rest head some refuted others rows = tt
-no_table told.Write options columns all rest head some refuted others rows =
+    (parts_of_table options columns all rest others rows pulses damaged number head some both.0 both.1)
+no_table told.Read options columns all rest head some refuted others rows pulses damaged = tt
+no_table told.Write options columns all rest head some refuted others rows pulses damaged =
     absurd (refuted [] [])
-no_table told.Memory options columns all rest head some refuted others rows = tt
+no_table told.Memory options columns all rest head some refuted others rows pulses damaged = tt
 
 pub no_head_table : (e : EdgesFault) (options : EdgesOptions) (all others : List (List (List ℕ)))
     → ((rest : List (List (List ℕ))) (columns : Columns)
     → Refutes e (λ n. BeginSame n all others × IsHeaded options others columns rest))
-    → (rows : List Event)
-    → Refutes e (λ n. BeginSame n all others × AreRowsOfTable options others rows)
-no_head_table (told.Form number fault) options all others refuted rows = λ both.
+    → (rows : List Event) (pulses damaged : List Place)
+    → Refutes e
+    (λ n. BeginSame n all others × AreRowsOfTable options others rows pulses damaged)
+no_head_table (told.Form number fault) options all others refuted rows pulses damaged = λ both.
     refuted both.1.body both.1.columns
     (both.0, record { header = both.1.header; parts = both.1.parts; named = both.1.named })
-no_head_table (told.Order number micros fault) options all others refuted rows = λ both.
+no_head_table (told.Order number micros fault) options all others refuted rows pulses damaged = λ both.
     refuted both.1.body both.1.columns
     (both.0, record { header = both.1.header; parts = both.1.parts; named = both.1.named })
-no_head_table (told.Level number micros line) options all others refuted rows = λ both.
+no_head_table (told.Level number micros line) options all others refuted rows pulses damaged = λ both.
     refuted both.1.body both.1.columns
     (both.0, record { header = both.1.header; parts = both.1.parts; named = both.1.named })
-no_head_table (told.Line number micros line fault) options all others refuted rows = λ both.
+no_head_table (told.Line number micros line fault) options all others refuted rows pulses damaged = λ both.
     refuted both.1.body both.1.columns
     (both.0, record { header = both.1.header; parts = both.1.parts; named = both.1.named })
-no_head_table told.Read options all others refuted rows = tt
-no_head_table told.Write options all others refuted rows =
+no_head_table told.Read options all others refuted rows pulses damaged = tt
+no_head_table told.Write options all others refuted rows pulses damaged =
     absurd (refuted [] (record { width = 0; controller = 0; peripheral = 0 }))
-no_head_table told.Memory options all others refuted rows = tt
+no_head_table told.Memory options all others refuted rows pulses damaged = tt

@@ -29,7 +29,7 @@ pub record IsReached (options : EdgesOptions) (records : List (List (List ℕ)))
   pub counted : number ≡ length front + 2
   pub named : IsHeader options header columns
   pub moments_are : AreMoments options columns 0 front moments
-  pub fine : AreFine moments
+  pub fine : AreFine options.skip_damaged moments
 
 -- what is wrong with a first record that is no header: its first field is a number; or it is none,
 -- and the other fields don't name one column of each line
@@ -99,13 +99,14 @@ pub record IsShownBy (options : EdgesOptions) (columns : Columns) (moments : Lis
   pub moment : Moment
   pub is : IsMoment options columns row moment
   pub later : end_of 0 moments ≤ moment.at
-  pub shown : IsShown (moments ++ moment ∷ []) moment.at line start fault
+  pub shown : IsShown options.skip_damaged (moments ++ moment ∷ []) moment.at line start fault
 
 -- a record behind these moments, or the end of the table behind them, in which this is wrong with a
 -- line since an instant
 abbrev pub IsOfLine : EdgesOptions → Columns → List Moment → List (List (List ℕ)) → Line → ℕ →
     LineFault → Type 0
-IsOfLine options columns moments [] line at fault = IsShownAtEnd moments line at fault
+IsOfLine options columns moments [] line at fault =
+    IsShownAtEnd options.skip_damaged moments line at fault
 IsOfLine options columns moments (row ∷ others) line at fault =
     IsShownBy options columns moments row line at fault
 

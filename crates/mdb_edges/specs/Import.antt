@@ -5,6 +5,7 @@ use Rattle.mdb_words.specs.declared.event.Event.{Event}
 use Rattle.mdb_records.specs.ToCome.{ToCome, fault_of}
 use Rattle.mdb_records.specs.declared.ReadFault.TheVariants as reading
 use Rattle.mdb_records.specs.declared.Records.{Records}
+use Rattle.mdb_exports.specs.declared.places.Place.{Place}
 use Rattle.mdb_exports.specs.Records.{export_records}
 use Rattle.mdb_exports.specs.Refusal.{refusal_line}
 use Rattle.mdb_exports.specs.Rows.{rows_text}
@@ -21,21 +22,26 @@ use Rattle.mdb_edges.specs.declared.options.EdgesOptions.{EdgesOptions}
 pub record AreImported (options : EdgesOptions) (records : List (List (List ℕ)))
     (told : LevelsImported) (before after : Option (List ℕ)) : Type 0 where
   pub rows : List Event
-  pub of_table : AreRowsOfTable options records rows
-  pub written : IsWritten options.from options.until rows told before after
+  pub pulses : List Place
+  pub damaged : List Place
+  pub of_table : AreRowsOfTable options records rows pulses damaged
+  pub written : IsWritten options.from options.until rows pulses damaged told before after
 
 -- the table of these records has rows, and of those in the part a front was written
 pub record ArePartial (options : EdgesOptions) (records : List (List (List ℕ)))
     (before after : Option (List ℕ)) : Type 0 where
   pub rows : List Event
-  pub of_table : AreRowsOfTable options records rows
+  pub pulses : List Place
+  pub damaged : List Place
+  pub of_table : AreRowsOfTable options records rows pulses damaged
   pub written : HasTaken before after (rows_text (part_of options.from options.until rows))
 
 -- No table has rows that begins with the first of these records, so many, whatever comes behind
 -- them. (Where there are fewer, that is the table of these alone.)
 abbrev pub HaveNoRows : EdgesOptions → ℕ → List (List (List ℕ)) → Type 0
-HaveNoRows options number records = (others : List (List (List ℕ))) (rows : List Event) →
-    take number others ≡ take number records → AreRowsOfTable options others rows → ⊥
+HaveNoRows options number records = (others : List (List (List ℕ))) (rows : List Event)
+    (pulses damaged : List Place) → take number others ≡ take number records →
+    AreRowsOfTable options others rows pulses damaged → ⊥
 
 -- a fault of the table: it is the first, and there are no rows, for the records up to the one of the
 -- number

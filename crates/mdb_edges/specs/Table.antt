@@ -2,6 +2,7 @@
 use Rattle.std.specs.Prelude.{◌≡◌, ◌≢◌, ◌⊎◌, ⊤, ◌+◌, ◌*◌, ◌^◌, ◌<◌, ◌≤◌, Bool, true, false, ℕ, List, [], ◌∷◌, length, Option, Some, None, option_map, string_bytes}
 use Rattle.csv.specs.Records.{field_at}
 use Rattle.mdb_words.specs.declared.event.Event.{Event}
+use Rattle.mdb_exports.specs.declared.places.Place.{Place}
 use Rattle.mdb_exports.specs.Fields.{bare}
 use Rattle.mdb_exports.specs.Numbers.{IsNumber}
 use Rattle.mdb_exports.specs.Times.{per_second}
@@ -94,10 +95,10 @@ AreMoments options columns earliest (row ∷ rows) (moment ∷ moments) =
     IsMoment options columns row moment × (earliest ≤ moment.at)
     × AreMoments options columns (moment.at + 1) rows moments
 
--- The rows of a table: those of the moments that its records tell. What isn't known before the
--- first one counts as low.
+-- The rows of a table, and what was passed over: those of the moments that its records tell. What
+-- isn't known before the first one counts as low.
 pub record AreRowsOfTable (options : EdgesOptions) (records : List (List (List ℕ)))
-    (rows : List Event) : Type 0 where
+    (rows : List Event) (pulses damaged : List Place) : Type 0 where
   pub header : List (List ℕ)
   pub body : List (List (List ℕ))
   pub columns : Columns
@@ -105,4 +106,4 @@ pub record AreRowsOfTable (options : EdgesOptions) (records : List (List (List �
   pub parts : records ≡ header ∷ body
   pub named : IsHeader options header columns
   pub told : AreMoments options columns 0 body moments
-  pub bus : AreRowsOfBus moments rows
+  pub bus : AreRowsOfBus options.skip_damaged moments rows pulses damaged

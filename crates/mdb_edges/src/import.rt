@@ -3,17 +3,15 @@
 ghost use Rattle.std.specs.Prelude.{◌≡◌, List, ℕ, Option, IfErr, IfOk, IfSome};
 ghost use Rattle.mdb_records.specs.ToCome.{ToCome};
 ghost use Rattle.mdb_edges.specs.Import.{AreImported, AreRefused, HasFailed, IsImported, IsRefused};
-ghost use Rattle.mdb_edges.specs.Table.{AreRowsOfTable};
 ghost use Rattle.mdb_edges.specs.declared.options.EdgesOptions.{EdgesOptions};
-ghost use Rattle.mdb_edges.specs.inner.Reading.{AreUnclosed};
+ghost use Rattle.mdb_edges.specs.inner.Reading.{AreUnclosed, IsBusOfTable};
 
 use super::fault::EdgesFault;
 use super::options::EdgesOptions;
 use super::table::rows_of_records;
 use mdb_exports::{records_of, write_refusal};
-use mdb_levels::{LevelsImported, PartFault, write_part};
+use mdb_levels::{Bus, LevelsImported, PartFault, write_part};
 use mdb_records::Records;
-use mdb_words::Event;
 use mdb_writing::WriteFailed;
 use std::alloc::Global;
 use std::io::{Read, Write};
@@ -77,18 +75,18 @@ pub fn import_edges<R: Read + Drop, W: Write>(
 fn write_rows_of_table<W: Write>(
     alloc: Global,
     options: &EdgesOptions,
-    rows: &[Event],
+    bus: Bus,
     writer: &mut W,
 ) -> Result<LevelsImported, EdgesFault>
     ensures written { IfOk result (λ told. (all : List (List (List ℕ))) →
-        AreRowsOfTable options.now all rows.now →
+        IsBusOfTable options.now all bus →
         AreImported options.now all told (W.contents writer.old) (W.contents writer.new)) }
     ensures refused { IfErr result (λ fault. (all : List (List (List ℕ))) →
-        AreRowsOfTable options.now all rows.now →
+        IsBusOfTable options.now all bus →
         AreUnclosed options.now all fault (W.contents writer.old) (W.contents writer.new)) }
     ensures read { IfErr result (λ fault. fault ≡ EdgesFault.Read → ⊥) }
 {
-    match write_part(alloc, options.from, options.until, rows, writer) {
+    match write_part(alloc, options.from, options.until, bus, writer) {
         Ok(told) => Ok(told),
         Err(PartFault::Memory) => Err(EdgesFault::Memory),
         Err(PartFault::Write) => Err(EdgesFault::Write),
@@ -111,8 +109,8 @@ fn import_unclosed<R: Read + Drop, W: Write>(
     ensures failed { IfErr result (λ fault. fault ≡ EdgesFault.Read →
         HasFailed R.remaining records.old records.new) }
 {
-    let rows = rows_of_records(alloc, options, records)?;
-    write_rows_of_table(alloc, options, rows.as_slice(), writer)
+    let bus = rows_of_records(alloc, options, records)?;
+    write_rows_of_table(alloc, options, bus, writer)
 }
 
 /// Ends what was written of a table that is refused, and answers why it is.

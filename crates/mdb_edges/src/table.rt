@@ -12,7 +12,9 @@ ghost use Rattle.mdb_edges.specs.Faults.{IsFirstFault};
 ghost use Rattle.mdb_edges.specs.Import.{HasFailed, IsUnread};
 ghost use Rattle.mdb_edges.specs.inner.Stops.{Denies, IsEarly, IsMet, IsNumbered, IsOfTable};
 ghost use Rattle.mdb_edges.specs.inner.Stops.{Refutes};
-ghost use Rattle.mdb_edges.specs.inner.Reading.{BeginSame, Comes, HasEnded, HasRead, IsHeaded};
+ghost use Rattle.mdb_edges.specs.inner.Reading.{BeginSame, Comes, HasEnded, HasRead};
+ghost use Rattle.mdb_edges.specs.inner.Reading.{IsBusOfTable, IsHeaded};
+ghost use Rattle.mdb_exports.specs.declared.places.Place.{Place};
 ghost use Rattle.mdb_levels.specs.Lines.{HaveHeard};
 
 use super::columns::Columns;
@@ -20,33 +22,34 @@ use super::fault::{EdgesFault, FormFault, OrderFault, Stop};
 use super::header::columns_of;
 use super::options::EdgesOptions;
 use super::record::moment_of;
-use mdb_levels::{Instant, Lines, Moment};
+use mdb_levels::{Bus, Instant, Lines, Moment};
 use mdb_records::{ReadFault, Record, Records};
-use mdb_words::Event;
 use std::alloc::Global;
 use std::io::Read;
 
-/// The rows of both lines in the order of their times, by the records that are still to come.
+/// The rows of both lines in the order of their times, and what was passed over, by the records
+/// that are still to come.
 pub(crate) fn rows_of_records<R: Read + Drop>(
     alloc: Global,
     options: &EdgesOptions,
     records: &mut Records<R>,
-) -> Result<Vec<Event>, EdgesFault>
-    ensures ok { IfOk result (λ rows. (all : List (List (List ℕ))) →
-        ToCome R.remaining records.old all → AreRowsOfTable options.now all rows.items) }
+) -> Result<Bus, EdgesFault>
+    ensures ok { IfOk result (λ bus. (all : List (List (List ℕ))) →
+        ToCome R.remaining records.old all → IsBusOfTable options.now all bus) }
     ensures err { IfErr result (λ fault. (all : List (List (List ℕ))) →
-        ToCome R.remaining records.old all → (others : List (List (List ℕ))) (rows : List Event) →
-        Refutes fault (λ n. BeginSame n all others × AreRowsOfTable options.now others rows)) }
+        ToCome R.remaining records.old all → (others : List (List (List ℕ))) (rows : List Event)
+        (pulses damaged : List Place) → Refutes fault (λ n. BeginSame n all others
+        × AreRowsOfTable options.now others rows pulses damaged)) }
     ensures why { IfErr result (λ fault. (all : List (List (List ℕ))) →
         ToCome R.remaining records.old all → IsFirstFault options.now all fault) }
     ensures failed { IfErr result (λ fault. fault ≡ EdgesFault.Read →
         HasFailed R.remaining records.old records.new) }
 {
     let columns = read_header(options, records)?;
-    let mut lines = Lines::new(alloc);
+    let mut lines = Lines::new(alloc, options.skip_damaged);
     read_moments(options, &columns, records, &mut lines)?;
-    match lines.rows(alloc) {
-        Ok(rows) => Ok(rows),
+    match lines.bus(alloc) {
+        Ok(bus) => Ok(bus),
         Err(_) => Err(EdgesFault::Memory),
     }
 }
@@ -90,7 +93,7 @@ fn read_moments<R: Read + Drop>(
     lines: &mut Lines,
 ) -> Result<(), EdgesFault>
     requires there { AreThere columns.now }
-    requires heard { HaveHeard lines.old [] }
+    requires heard { HaveHeard options.now.skip_damaged lines.old [] }
     ensures ok { OnOk result ((all : List (List (List ℕ))) → ToCome R.remaining records.old all →
         HasEnded options.now columns.now lines.new all) }
     ensures err { IfErr result (λ fault. (all : List (List (List ℕ))) →

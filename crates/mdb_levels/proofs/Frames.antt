@@ -1,6 +1,6 @@
 -- How a frame goes on, bit by bit.
 use Rattle.std.proofs.Common.{◌≡◌, inl, inr, ◌<◌, ◌≤◌, ◌+◌, ◌-◌, ◌^◌, if◌then◌else◌, Bool, false, ℕ, suc, List, sym, ap, subst, ◌∙◌, arith}
-use Rattle.mdb_words.specs.declared.event.Event.{Event}
+use Rattle.mdb_levels.specs.declared.finding.Finding.{Finding}
 use Rattle.mdb_words.specs.declared.word.Line.{Line}
 use Rattle.mdb_levels.specs.declared.frame.Frame.{Frame}
 use Rattle.mdb_levels.specs.Levels.{Falls, bits_value, middle_of}
@@ -50,10 +50,10 @@ bits_read level f g more here before =
           (more.data_bit some))
     ]))
 
-pub read_on : (line : Line) (level : ℕ → Bool) (known : ℕ) (rows : List Event) (f g : Frame)
-    → IsReadOn f g → level f.next ≡ f.high → IsFramed line level known rows f
-    → IsFramed line level known rows g
-read_on line level known rows f g more here framed =
+pub read_on : (skip : Bool) (line : Line) (level : ℕ → Bool) (known : ℕ) (rows : List Finding) (f g : Frame)
+    → IsReadOn f g → level f.next ≡ f.high → IsFramed skip line level known rows f
+    → IsFramed skip line level known rows g
+read_on skip line level known rows f g more here framed =
     let one = next_is f in
     let two = next_is g in
     let later : f.next ≤ g.next = omega (arith, one, two, more.start, more.taken) in
@@ -78,9 +78,9 @@ read_on line level known rows f g more here framed =
     }
 
 -- the level at the next bit's middle
-pub at_next : (line : Line) (level : ℕ → Bool) (known at : ℕ) (rows : List Event) (f : Frame)
-    → IsFramed line level known rows f → Holds level known at f.high → f.next < at
+pub at_next : (skip : Bool) (line : Line) (level : ℕ → Bool) (known at : ℕ) (rows : List Finding) (f : Frame)
+    → IsFramed skip line level known rows f → Holds level known at f.high → f.next < at
     → level f.next ≡ f.high
-at_next line level known at rows f framed holds lt =
+at_next skip line level known at rows f framed holds lt =
     elim (compared f.next known)
     [ inl sooner ↦ framed.due f.next (omega arith) sooner | inr later ↦ holds f.next later lt ]

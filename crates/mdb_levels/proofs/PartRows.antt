@@ -5,13 +5,13 @@ use Rattle.std.proofs.lemmas.List.Elements.{filter-append}
 use Rattle.mdb_words.specs.declared.event.Event.{Event}
 use Rattle.mdb_exports.specs.Told.{is_controllers, is_marked, is_peripherals}
 use Rattle.mdb_exports.proofs.Tallies.{any_more, count_more}
-use Rattle.mdb_levels.specs.Told.{IsTold, is_before, is_behind, is_taken, part_of}
+use Rattle.mdb_levels.specs.Told.{IsCounted, is_before, is_behind, is_taken, part_of}
 use Rattle.mdb_levels.specs.inner.Parts.{IsNoted}
 use Rattle.mdb_levels.specs.declared.part.LevelsImported.{LevelsImported}
 
 pub told_more : (from until : Option ℕ) (rows : List Event) (row : Event)
-    (before after : LevelsImported) → IsTold from until rows before → IsNoted from until before after row
-    → IsTold from until (rows ++ row ∷ []) after
+    (before after : LevelsImported) → IsCounted from until rows before → IsNoted from until before after row
+    → IsCounted from until (rows ++ row ∷ []) after
 told_more from until rows row before after told noted = record {
   rows_are =
       count_more (is_taken from until) rows row before.rows after.rows told.rows_are noted.rows_are;

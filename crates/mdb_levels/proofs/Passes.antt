@@ -1,10 +1,10 @@
--- Over words and breaks, from where nothing is open.
+-- Over words, breaks and pulses, from where nothing is open.
 use Rattle.std.proofs.Common.{◌≡◌, ◌⊎◌, inl, inr, ◌<◌, ◌≤◌, ◌-◌, ◌^◌, Bool, true, false, ℕ, refl, sym, subst, arith}
 use Rattle.mdb_words.specs.declared.word.Line.{Line}
 use Rattle.mdb_words.specs.declared.word.Line.TheVariants.{Controller}
 use Rattle.mdb_levels.specs.declared.fault.LineFault.{LineFault}
-use Rattle.mdb_levels.specs.declared.fault.LineFault.TheVariants.{Glitch, Framing, DeviceBreak, LongBreak, Cut}
-use Rattle.mdb_levels.specs.Faults.{Begins, IsHeldLow, IsWrong, Passes, over_break, over_word, there}
+use Rattle.mdb_levels.specs.declared.fault.LineFault.TheVariants.{Framing, DeviceBreak, LongBreak, Cut}
+use Rattle.mdb_levels.specs.Faults.{Begins, IsHeldLow, IsWrong, Passes, over_break, over_pulse, over_word, there}
 use Rattle.mdb_levels.specs.Levels.{Falls, IsBreak, IsFrame, Rises, micros_of, middle_of}
 use Rattle.mdb_levels.specs.inner.Standing.{Holds}
 use Rattle.mdb_levels.proofs.Orders.{compared, differ}
@@ -40,7 +40,7 @@ one_end level start a b ale ble alow ahigh blow bhigh =
       ]
     ]
 
--- a word or a break more
+-- a word, a break or a pulse more
 
 pub passes_word : {line : Line} {level : ℕ → Bool} {from to : ℕ} → Passes line level from to
     → (start value : ℕ) → Falls level to start → IsFrame level start value
@@ -51,6 +51,8 @@ passes_word (over_word s v fell read rest) start value falls frame =
     over_word s v fell read (passes_word rest start value falls frame)
 passes_word (over_break s e controllers fell low rest) start value falls frame =
     over_break s e controllers fell low (passes_word rest start value falls frame)
+passes_word (over_pulse s fell high rest) start value falls frame =
+    over_pulse s fell high (passes_word rest start value falls frame)
 
 pub passes_break : {line : Line} {level : ℕ → Bool} {from to : ℕ} → Passes line level from to
     → (start end : ℕ) → line ≡ Controller → Falls level to start → IsBreak level start end
@@ -62,6 +64,20 @@ passes_break (over_word s v fell read rest) start end sender falls breaks =
     over_word s v fell read (passes_break rest start end sender falls breaks)
 passes_break (over_break s e controllers fell low rest) start end sender falls breaks =
     over_break s e controllers fell low (passes_break rest start end sender falls breaks)
+passes_break (over_pulse s fell high rest) start end sender falls breaks =
+    over_pulse s fell high (passes_break rest start end sender falls breaks)
+
+pub passes_pulse : {line : Line} {level : ℕ → Bool} {from to : ℕ} → Passes line level from to
+    → (start : ℕ) → Falls level to start → level (middle_of start 0) ≡ true
+    → Passes line level from (middle_of start 0)
+passes_pulse {level = level} (there same) start falls rise =
+    over_pulse start (subst (λ x. Falls level x start) (sym same) falls) rise (there refl)
+passes_pulse (over_word s v fell read rest) start falls rise =
+    over_word s v fell read (passes_pulse rest start falls rise)
+passes_pulse (over_break s e controllers fell low rest) start falls rise =
+    over_break s e controllers fell low (passes_pulse rest start falls rise)
+passes_pulse (over_pulse s fell high rest) start falls rise =
+    over_pulse s fell high (passes_pulse rest start falls rise)
 
 -- what is no word and no break
 
@@ -79,8 +95,6 @@ held_word level start end value held frame =
 
 pub wrong_word : (fault : LineFault) (line : Line) (level : ℕ → Bool) (start seen value : ℕ)
     → IsWrong fault line level start seen → IsFrame level start value → ⊥
-wrong_word Glitch line level start seen value wrong frame =
-    differ (level (middle_of start 0)) wrong.0 frame.start_bit
 wrong_word Framing line level start seen value wrong frame = elim wrong [
   | inl mixed ↦ differ (level (middle_of start 10)) frame.stop_bit mixed.0.stop_bit
   | inr held ↦ held_word level start seen value held.0 frame
@@ -99,9 +113,6 @@ ends_same level start seen end held breaks =
 
 pub wrong_break : (fault : LineFault) (line : Line) (level : ℕ → Bool) (start seen end : ℕ)
     → IsWrong fault line level start seen → line ≡ Controller → IsBreak level start end → ⊥
-wrong_break Glitch line level start seen end wrong sender breaks =
-    differ (level (middle_of start 0)) wrong.0
-    (breaks.low (middle_of start 0) (omega arith) (omega (arith, breaks.long)))
 wrong_break Framing line level start seen end wrong sender breaks = elim wrong [
   | inl mixed ↦
       differ (level mixed.0.at) mixed.0.high
@@ -117,10 +128,37 @@ wrong_break LongBreak line level start seen end wrong sender breaks =
     omega (arith, subst (λ x. 10 ^ 9 ≤ micros_of (x - start)) same wrong.1, breaks.short)
 wrong_break Cut line level start seen end wrong sender breaks = wrong
 
+held_pulse : (level : ℕ → Bool) (start end : ℕ) → IsHeldLow level start end
+    → level (middle_of start 0) ≡ true → ⊥
+held_pulse level start end held high =
+    differ (level (middle_of start 0)) high
+    (held.low (middle_of start 0) (omega arith) (omega (arith, held.past)))
+
+pub wrong_pulse : (fault : LineFault) (line : Line) (level : ℕ → Bool) (start seen : ℕ)
+    → IsWrong fault line level start seen → level (middle_of start 0) ≡ true → ⊥
+wrong_pulse Framing line level start seen wrong high = elim wrong [
+  | inl mixed ↦ differ (level (middle_of start 0)) high mixed.0.start_bit
+  | inr held ↦ held_pulse level start seen held.0 high
+]
+wrong_pulse DeviceBreak line level start seen wrong high = held_pulse level start seen wrong.0 high
+wrong_pulse LongBreak line level start seen wrong high = held_pulse level start seen wrong.0 high
+wrong_pulse Cut line level start seen wrong high = wrong
+
+pub pulse_no_word : (level : ℕ → Bool) (s start value : ℕ) → s ≡ start → level (middle_of s 0) ≡ true
+    → IsFrame level start value → ⊥
+pulse_no_word level s start value same high frame =
+    differ (level (middle_of start 0)) (subst (λ x. level (middle_of x 0) ≡ true) same high)
+    frame.start_bit
+
+pub pulse_no_break : (level : ℕ → Bool) (s start end : ℕ) → s ≡ start
+    → level (middle_of s 0) ≡ true → IsBreak level start end → ⊥
+pulse_no_break level s start end same high breaks =
+    differ (level (middle_of start 0)) (subst (λ x. level (middle_of x 0) ≡ true) same high)
+    (breaks.low (middle_of start 0) (omega arith) (omega (arith, breaks.long)))
+
 -- what is wrong is seen behind its start
 pub seen_late : (fault : LineFault) (line : Line) (level : ℕ → Bool) (start seen : ℕ)
     → IsWrong fault line level start seen → start < seen
-seen_late Glitch line level start seen wrong = omega (arith, wrong.1)
 seen_late Framing line level start seen wrong = elim wrong [
   | inl mixed ↦ omega (arith, mixed.1)
   | inr held ↦ omega (arith, held.0.past)
@@ -144,6 +182,9 @@ joined {level = level} {from = from} (over_word s v fell read rest)
     (over_break s' e' sender' fell' low' rest') =
     let same = one_fall level from s' s fell' fell in
     absurd (no_both level s v e' read (subst (λ x. IsBreak level x e') same low'))
+joined {level = level} {from = from} (over_word s v fell read rest)
+    (over_pulse s' fell' high' rest') =
+    absurd (pulse_no_word level s' s v (one_fall level from s' s fell' fell) high' read)
 joined {line = line} {level = level} {a = a} (over_break s e sender fell low rest) (there same) =
     inr (subst (λ x. Passes line level x a) same (over_break s e sender fell low rest))
 joined {level = level} {from = from} (over_break s e sender fell low rest)
@@ -157,6 +198,21 @@ joined {line = line} {level = level} {from = from} {b = b} (over_break s e sende
     one_end level s e' e (omega (arith, same, low'.long)) (omega (arith, low.long))
     (subst (λ x. Holds level x e' false) same low'.low) low'.high low.low low.high in
     joined rest (subst (λ x. Passes line level x b) ends rest')
+joined {level = level} {from = from} (over_break s e sender fell low rest)
+    (over_pulse s' fell' high' rest') =
+    absurd (pulse_no_break level s' s e (one_fall level from s' s fell' fell) high' low)
+joined {line = line} {level = level} {a = a} (over_pulse s fell high rest) (there same) =
+    inr (subst (λ x. Passes line level x a) same (over_pulse s fell high rest))
+joined {level = level} {from = from} (over_pulse s fell high rest)
+    (over_word s' v' fell' read' rest') =
+    absurd (pulse_no_word level s s' v' (sym (one_fall level from s' s fell' fell)) high read')
+joined {level = level} {from = from} (over_pulse s fell high rest)
+    (over_break s' e' sender' fell' low' rest') =
+    absurd (pulse_no_break level s s' e' (sym (one_fall level from s' s fell' fell)) high low')
+joined {line = line} {level = level} {from = from} {b = b} (over_pulse s fell high rest)
+    (over_pulse s' fell' high' rest') =
+    let same = one_fall level from s' s fell' fell in
+    joined rest (subst (λ x. Passes line level (middle_of x 0) b) same rest')
 
 -- where something is wrong nothing is passed
 stuck : {line : Line} {level : ℕ → Bool} {from to : ℕ} (fault : LineFault) (start seen : ℕ)
@@ -171,6 +227,10 @@ stuck {line = line} {level = level} {from = from} fault start seen falls wrong
     (over_break s e sender fell low rest) =
     absurd (wrong_break fault line level start seen e wrong sender
     (subst (λ x. IsBreak level x e) (one_fall level from s start fell falls) low))
+stuck {line = line} {level = level} {from = from} fault start seen falls wrong
+    (over_pulse s fell high rest) =
+    absurd (wrong_pulse fault line level start seen wrong
+    (subst (λ x. level (middle_of x 0) ≡ true) (one_fall level from s start fell falls) high))
 
 -- so what is wrong comes behind each instant at which nothing was open
 pub wrong_behind : (line : Line) (level : ℕ → Bool) (first from : ℕ) (fault : LineFault)

@@ -12,7 +12,9 @@ use Rattle.mdb_exports.specs.ReadBack.{AreReadBack, IsRowEvent}
 use Rattle.mdb_exports.proofs.Merges.{merged_all}
 use Rattle.mdb_exports.proofs.Part.{some_of}
 use Rattle.mdb_exports.proofs.PlainRows.{read_back, small_break, small_word}
-use Rattle.mdb_levels.specs.Levels.{AreRowsOfLine, Follows, bits_value, micros_of, middle_of, silent, word, broken}
+use Rattle.mdb_exports.specs.declared.places.Place.{Place}
+use Rattle.mdb_levels.specs.Levels.{AreFoundOn, Follows, bits_value, micros_of, middle_of, rows_in, silent, word, broken, pulsed, harmed, lost}
+use Rattle.mdb_levels.specs.declared.finding.Finding.{Finding}
 use Rattle.mdb_levels.specs.Moments.{AreRowsOfBus, AreSmall, level_at, level_of, level_on}
 use Rattle.mdb_levels.specs.Told.{is_taken, part_of}
 use Rattle.mdb_levels.specs.declared.moment.Moment.{Moment}
@@ -76,35 +78,41 @@ start_small level from start small begins high low later =
     (small last.0 (high last.0 last.2 (omega (arith, last.1)))
     (subst (λ n. level n ≡ false) last.1 low))
 
-follows_small : {line : Line} {level : ℕ → Bool} {from : ℕ} {rows : List Event}
-    → Follows line level from rows → FallsSmall level → level from ≡ true → All IsRowEvent rows
+follows_small : {skip : Bool} {line : Line} {level : ℕ → Bool} {from : ℕ}
+    {found : List Finding} → Follows skip line level from found → FallsSmall level
+    → level from ≡ true → All IsRowEvent (rows_in found)
 follows_small (silent always) small begins = All-nil IsRowEvent
-follows_small {line = line} {level = level} {from = from} (word start value rows falls frame rest)
+follows_small {line = line} {level = level} {from = from} (word start value found falls frame rest)
     small begins =
-    All-cons IsRowEvent (Word (micros_of start) line value) rows
+    All-cons IsRowEvent (Word (micros_of start) line value) (rows_in found)
     (small_word (micros_of start) line value
     (start_small level from start small begins falls.high falls.low falls.later)
     (subst (λ v. v < 512) (sym frame.data_bits) (bits_small level start 9)))
     (follows_small rest small frame.stop_bit)
-follows_small {line = line} {level = level} {from = from}
-    (broken start end rows controllers falls breaks rest) small begins =
-    All-cons IsRowEvent (Break (micros_of start) (micros_of (end - start))) rows
+follows_small {level = level} {from = from}
+    (broken start end found controllers falls breaks rest) small begins =
+    All-cons IsRowEvent (Break (micros_of start) (micros_of (end - start))) (rows_in found)
     (small_break (micros_of start) (micros_of (end - start))
     (start_small level from start small begins falls.high falls.low falls.later) breaks.short)
     (follows_small rest small breaks.high)
+follows_small (pulsed start found falls rise rest) small begins = follows_small rest small rise
+follows_small (harmed start again found skips falls harm back rest) small begins =
+    follows_small rest small back.high
+follows_small (lost start skips falls harm never) small begins = All-nil IsRowEvent
 
-line_small : (line : Line) (level : ℕ → Bool) (rows : List Event) → FallsSmall level
-    → AreRowsOfLine line level rows → All IsRowEvent rows
-line_small line level rows small (inl never) =
-    subst (All IsRowEvent) (sym never.1) (All-nil IsRowEvent)
-line_small line level rows small (inr some) = follows_small some.2 small some.1.high
+line_small : (skip : Bool) (line : Line) (level : ℕ → Bool) (found : List Finding)
+    → FallsSmall level → AreFoundOn skip line level found → All IsRowEvent (rows_in found)
+line_small skip line level found small (inl never) =
+    subst (λ f. All IsRowEvent (rows_in f)) (sym never.1) (All-nil IsRowEvent)
+line_small skip line level found small (inr some) = follows_small some.2 small some.1.high
 
-pub part_read_back : (from until : Option ℕ) (moments : List Moment) (rows : List Event)
-    → AreSmall moments → AreRowsOfBus moments rows → AreReadBack (part_of from until rows)
-part_read_back from until moments rows small bus =
+pub part_read_back : (skip : Bool) (from until : Option ℕ) (moments : List Moment)
+    (rows : List Event) (pulses damaged : List Place) → AreSmall moments
+    → AreRowsOfBus skip moments rows pulses damaged → AreReadBack (part_of from until rows)
+part_read_back skip from until moments rows pulses damaged small bus =
     read_back (part_of from until rows) (some_of IsRowEvent (is_taken from until) rows
     (merged_all IsRowEvent bus.both
-    (line_small Controller (level_of Controller moments) bus.sent
+    (line_small skip Controller (level_of Controller moments) bus.sent
     (fall_small moments small Controller false) bus.controller)
-    (line_small Peripheral (level_of Peripheral moments) bus.answered
+    (line_small skip Peripheral (level_of Peripheral moments) bus.answered
     (fall_small moments small Peripheral false) bus.peripheral)))

@@ -1,5 +1,5 @@
 -- How the levels of a line go on, moment by moment.
-use Rattle.std.proofs.Common.{◌≡◌, ◌<◌, ◌≤◌, ◌+◌, ◌++◌, if◌then◌else◌, nat_le, Bool, false, ℕ, List, [], ◌∷◌, refl, sym, ap, subst, ◌∙◌, arith}
+use Rattle.std.proofs.Common.{◌≡◌, ◌<◌, ◌≤◌, ◌+◌, ◌++◌, append_assoc, if◌then◌else◌, nat_le, Bool, false, ℕ, List, [], ◌∷◌, refl, sym, ap, subst, ◌∙◌, arith}
 use Rattle.std.proofs.lemmas.Bool.Decides.{nat_tests}
 use Rattle.mdb_words.specs.declared.word.Line.{Line}
 use Rattle.mdb_levels.specs.declared.lines.Wave.{Wave}
@@ -7,8 +7,15 @@ use Rattle.mdb_levels.specs.declared.moment.Moment.{Moment}
 use Rattle.mdb_levels.specs.declared.receiver.State.TheVariants.{Unknown}
 use Rattle.mdb_levels.specs.Moments.{AreRising, end_of, level_at, level_of, level_on}
 use Rattle.mdb_levels.specs.declared.fault.Wrong.{Wrong}
+use Rattle.mdb_exports.specs.Places.{AreNoted}
+use Rattle.mdb_exports.specs.declared.places.Place.{Place}
+use Rattle.mdb_exports.specs.declared.places.Places.{Places}
+use Rattle.mdb_levels.specs.Levels.{AreFoundOn, damaged_in, pulses_in, rows_in}
+use Rattle.mdb_levels.specs.declared.finding.Finding.{Finding}
+use Rattle.mdb_levels.specs.declared.finding.Finding.TheVariants.{Row, Pulse, Damaged}
+use Rattle.mdb_levels.specs.declared.passed.Passed.{Passed}
 use Rattle.mdb_levels.specs.inner.Standing.{HasNone, Holds, IsWrongBy, IsWrongInEnd, Stands, held_of}
-use Rattle.mdb_levels.specs.inner.Waves.{Fits, HasHeard, IsFineBy, IsNow, Shows, last_of}
+use Rattle.mdb_levels.specs.inner.Waves.{AreAdded, Fits, HasHeard, HasStopped, HasTurned, IsFineBy, IsNow, IsPassed, Shows, last_of}
 use Rattle.mdb_levels.proofs.Wrongs.{fine_where}
 
 pub shown_more : (line : Line) (level : ℕ → Bool) (b : Bool) (from : ℕ) (ms : List Moment)
@@ -35,32 +42,38 @@ pub last_more : (line : Line) (b : Bool) (ms : List Moment) (m : Moment)
 last_more line b [] m = refl
 last_more line b (x ∷ ms) m = last_more line (level_on line x) ms m
 
-pub heard_none : (wave : Wave) (line : Line) → wave.line ≡ line → wave.state ≡ Unknown
-    → wave.rows.items ≡ [] → HasHeard wave line []
-heard_none wave line same state rows = record {
+pub heard_none : (skip : Bool) (wave : Wave) (line : Line) → wave.line ≡ line
+    → wave.skip ≡ skip → wave.state ≡ Unknown → wave.rows.items ≡ []
+    → HasHeard skip wave line [] []
+heard_none skip wave line same skips state rows = record {
   same = same;
+  skips = skips;
   held = ap held_of state;
+  rows = rows;
   stands = λ level shows.
-      subst (λ s. Stands line level 0 s wave.rows.items) (sym state)
-      (rows, λ t le lt. absurd (omega (arith, lt)));
+      subst (λ s. Stands skip line level 0 s []) (sym state)
+      (refl, λ t le lt. absurd (omega (arith, lt)));
 }
 
 -- what a line knows when it takes a moment
-pub record Ready (wave : Wave) (level : ℕ → Bool) (known at : ℕ) (high : Bool) : Type 0 where
-  pub stands : Stands wave.line level known wave.state wave.rows.items
+pub record Ready (wave : Wave) (level : ℕ → Bool) (known at : ℕ) (high : Bool)
+    (found : List Finding) : Type 0 where
+  pub stands : Stands wave.skip wave.line level known wave.state found
   pub before : known ≤ at
   pub holds : Holds level known at (held_of wave.state)
   pub now : level at ≡ high
 
-pub ready : (wave : Wave) (line : Line) (ms : List Moment) (m : Moment) (at : ℕ) (high : Bool)
-    → HasHeard wave line ms → IsNow line ms m at high → (level : ℕ → Bool)
-    → Shows line level false 0 (ms ++ m ∷ []) → Ready wave level (end_of 0 ms) at high
-ready wave line ms m at high heard now level shows =
+pub ready : (skip : Bool) (wave : Wave) (line : Line) (ms : List Moment) (m : Moment) (at : ℕ)
+    (high : Bool) (found : List Finding) → HasHeard skip wave line ms found
+    → IsNow line ms m at high → (level : ℕ → Bool) → Shows line level false 0 (ms ++ m ∷ [])
+    → Ready wave level (end_of 0 ms) at high found
+ready skip wave line ms m at high found heard now level shows =
     let parts = shown_more line level false 0 ms m shows in
     record {
       stands =
-          subst (λ l. Stands l level (end_of 0 ms) wave.state wave.rows.items) (sym heard.same)
-          (heard.stands level parts.0);
+          subst (λ s. Stands s wave.line level (end_of 0 ms) wave.state found) (sym heard.skips)
+          (subst (λ l. Stands skip l level (end_of 0 ms) wave.state found) (sym heard.same)
+          (heard.stands level parts.0));
       before = now.later;
       holds =
           subst (λ b. Holds level (end_of 0 ms) at b) (sym heard.held)
@@ -69,37 +82,118 @@ ready wave line ms m at high heard now level shows =
       now = ap level (sym now.instant) ∙ parts.2 ∙ now.level;
     }
 
-pub heard_more : (old wave : Wave) (line : Line) (ms : List Moment) (m : Moment) (at : ℕ)
-    (high : Bool) → HasHeard old line ms → IsNow line ms m at high → wave.line ≡ old.line
-    → held_of wave.state ≡ high
-    → ((level : ℕ → Bool) → Ready old level (end_of 0 ms) at high
-    → Stands old.line level (at + 1) wave.state wave.rows.items)
-    → HasHeard wave line (ms ++ m ∷ [])
-heard_more old wave line ms m at high heard now same held stands = record {
-  same = same ∙ heard.same;
-  held = held ∙ sym now.level ∙ sym (last_more line false ms m);
-  stands = λ level shows.
-      subst (λ l. Stands l level (end_of 0 (ms ++ m ∷ [])) wave.state wave.rows.items) heard.same
-      (subst (λ t. Stands old.line level t wave.state wave.rows.items)
-      (ap (λ t. t + 1) (sym now.instant) ∙ sym (end_more 0 ms m))
-      (stands level (ready old line ms m at high heard now level shows)));
+-- what is passed over on two steps
+added_more : (a b c : Places) (x y : List Place) → AreAdded a b x → AreAdded b c y
+    → AreAdded a c (x ++ y)
+added_more a b c x y one two = record {
+  are = λ all noted.
+      subst (AreNoted c) (append_assoc all x y) (two.are (all ++ x) (one.are all noted));
 }
 
-pub none_on : (wave : Wave) (line : Line) (ms : List Moment) (level : ℕ → Bool)
-    → HasHeard wave line ms → HasNone wave.line level → HasNone line level
-none_on wave line ms level heard none = subst (λ l. HasNone l level) heard.same none
+pub rows_more : (a b : List Finding) → rows_in (a ++ b) ≡ rows_in a ++ rows_in b
+rows_more [] b = refl
+rows_more (Row row ∷ a) b = ap (λ l. row ∷ l) (rows_more a b)
+rows_more (Pulse place ∷ a) b = rows_more a b
+rows_more (Damaged place ∷ a) b = rows_more a b
 
-pub still_held : (wave : Wave) (line : Line) (ms : List Moment) (level : ℕ → Bool)
-    → HasHeard wave line ms → Fits line level ms → (t : ℕ) → end_of 0 ms ≤ t
-    → level t ≡ held_of wave.state
-still_held wave line ms level heard fits t le = fits.stays t le ∙ sym heard.held
+pub pulses_more : (a b : List Finding) → pulses_in (a ++ b) ≡ pulses_in a ++ pulses_in b
+pulses_more [] b = refl
+pulses_more (Row row ∷ a) b = pulses_more a b
+pulses_more (Pulse place ∷ a) b = ap (λ l. place ∷ l) (pulses_more a b)
+pulses_more (Damaged place ∷ a) b = pulses_more a b
 
-pub stands_on : (wave : Wave) (line : Line) (ms : List Moment) (level : ℕ → Bool)
-    → HasHeard wave line ms → Fits line level ms
-    → Stands wave.line level (end_of 0 ms) wave.state wave.rows.items
-stands_on wave line ms level heard fits =
-    subst (λ l. Stands l level (end_of 0 ms) wave.state wave.rows.items) (sym heard.same)
-    (heard.stands level fits.shows)
+pub damaged_more : (a b : List Finding) → damaged_in (a ++ b) ≡ damaged_in a ++ damaged_in b
+damaged_more [] b = refl
+damaged_more (Row row ∷ a) b = damaged_more a b
+damaged_more (Pulse place ∷ a) b = damaged_more a b
+damaged_more (Damaged place ∷ a) b = ap (λ l. place ∷ l) (damaged_more a b)
+
+pub passed_more : (a b c : Passed) (x y : List Finding) → IsPassed a b x → IsPassed b c y
+    → IsPassed a c (x ++ y)
+passed_more a b c x y one two = record {
+  pulses =
+      subst (AreAdded a.pulses c.pulses) (sym (pulses_more x y))
+      (added_more a.pulses b.pulses c.pulses (pulses_in x) (pulses_in y) one.pulses two.pulses);
+  damaged =
+      subst (AreAdded a.damaged c.damaged) (sym (damaged_more x y))
+      (added_more a.damaged b.damaged c.damaged (damaged_in x) (damaged_in y) one.damaged
+      two.damaged);
+}
+
+-- a line that has taken a moment more
+pub turned_more : (skip : Bool) (old wave : Wave) (line : Line) (ms : List Moment) (m : Moment)
+    (at : ℕ) (high : Bool) (found first second : List Finding) (a b c : Passed)
+    → HasHeard skip old line ms found → IsNow line ms m at high → wave.line ≡ old.line
+    → wave.skip ≡ old.skip → held_of wave.state ≡ high
+    → wave.rows.items ≡ (old.rows.items ++ rows_in first) ++ rows_in second
+    → IsPassed a b first → IsPassed b c second
+    → ((level : ℕ → Bool) → Ready old level (end_of 0 ms) at high found
+    → Stands old.skip old.line level (at + 1) wave.state ((found ++ first) ++ second))
+    → HasTurned skip wave line (ms ++ m ∷ []) found a c
+turned_more skip old wave line ms m at high found first second a b c heard now same skips held rows
+    one two stands =
+    record {
+      more = first ++ second;
+      heard = record {
+        same = same ∙ heard.same;
+        skips = skips ∙ heard.skips;
+        held = held ∙ sym now.level ∙ sym (last_more line false ms m);
+        rows =
+            rows ∙ ap (λ l. (l ++ rows_in first) ++ rows_in second) heard.rows
+            ∙ append_assoc (rows_in found) (rows_in first) (rows_in second)
+            ∙ ap (λ l. rows_in found ++ l) (sym (rows_more first second))
+            ∙ sym (rows_more found (first ++ second));
+        stands = λ level shows.
+            subst (λ f. Stands skip line level (end_of 0 (ms ++ m ∷ [])) wave.state f)
+            (append_assoc found first second)
+            (subst
+            (λ l. Stands skip l level (end_of 0 (ms ++ m ∷ [])) wave.state ((found ++ first) ++ second))
+            heard.same
+            (subst
+            (λ s. Stands s old.line level (end_of 0 (ms ++ m ∷ [])) wave.state ((found ++ first) ++ second))
+            heard.skips
+            (subst (λ t. Stands old.skip old.line level t wave.state ((found ++ first) ++ second))
+            (ap (λ t. t + 1) (sym now.instant) ∙ sym (end_more 0 ms m))
+            (stands level (ready skip old line ms m at high found heard now level shows)))));
+      };
+      noted = passed_more a b c first second one two;
+    }
+
+pub none_on : (skip : Bool) (wave : Wave) (line : Line) (ms : List Moment) (level : ℕ → Bool)
+    (found : List Finding) → HasHeard skip wave line ms found
+    → HasNone wave.skip wave.line level → HasNone skip line level
+none_on skip wave line ms level found heard none =
+    subst (λ s. HasNone s line level) heard.skips
+    (subst (λ l. HasNone wave.skip l level) heard.same none)
+
+pub still_held : (skip : Bool) (wave : Wave) (line : Line) (ms : List Moment) (level : ℕ → Bool)
+    (found : List Finding) → HasHeard skip wave line ms found → Fits line level ms → (t : ℕ)
+    → end_of 0 ms ≤ t → level t ≡ held_of wave.state
+still_held skip wave line ms level found heard fits t le = fits.stays t le ∙ sym heard.held
+
+pub stands_on : (skip : Bool) (wave : Wave) (line : Line) (ms : List Moment) (level : ℕ → Bool)
+    (found : List Finding) → HasHeard skip wave line ms found → Fits line level ms
+    → Stands wave.skip wave.line level (end_of 0 ms) wave.state found
+stands_on skip wave line ms level found heard fits =
+    subst (λ s. Stands s wave.line level (end_of 0 ms) wave.state found) (sym heard.skips)
+    (subst (λ l. Stands skip l level (end_of 0 ms) wave.state found) (sym heard.same)
+    (heard.stands level fits.shows))
+
+-- a line that has taken its end
+pub stopped_more : (skip : Bool) (old wave : Wave) (line : Line) (ms : List Moment)
+    (found more : List Finding) (a b : Passed) → HasHeard skip old line ms found
+    → wave.rows.items ≡ old.rows.items ++ rows_in more → IsPassed a b more
+    → ((level : ℕ → Bool) → Fits line level ms
+    → AreFoundOn old.skip old.line level (found ++ more))
+    → HasStopped skip wave line ms found a b
+stopped_more skip old wave line ms found more a b heard rows noted whole = record {
+  more = more;
+  whole = λ level fits.
+      subst (λ s. AreFoundOn s line level (found ++ more)) heard.skips
+      (subst (λ l. AreFoundOn old.skip l level (found ++ more)) heard.same (whole level fits));
+  rows = rows ∙ ap (λ l. l ++ rows_in more) heard.rows ∙ sym (rows_more found more);
+  noted = noted;
+}
 
 -- the levels of moments
 
@@ -160,18 +254,15 @@ fits_at line ms rising = record {
   stays = stays_at line false 0 ms rising;
 }
 
-pub fine_by : (wave : Wave) (line : Line) (ms : List Moment) → HasHeard wave line ms
-    → IsFineBy line ms
-fine_by wave line ms heard level shows =
-    fine_where line level (end_of 0 ms) wave.state wave.rows.items (heard.stands level shows)
+pub fine_by : (skip : Bool) (wave : Wave) (line : Line) (ms : List Moment)
+    (found : List Finding) → skip ≡ false → HasHeard skip wave line ms found → IsFineBy line ms
+fine_by skip wave line ms found strict heard level shows =
+    fine_where skip line level (end_of 0 ms) wave.state found strict (heard.stands level shows)
 
-pub wrong_on : (wave : Wave) (line : Line) (ms : List Moment) (level : ℕ → Bool) (at : ℕ)
-    (wrong : Wrong) → HasHeard wave line ms → IsWrongBy wave.line level at wrong
-    → IsWrongBy line level at wrong
-wrong_on wave line ms level at wrong heard is =
-    subst (λ l. IsWrongBy l level at wrong) heard.same is
+pub wrong_on : (wave : Wave) (line : Line) (level : ℕ → Bool) (at : ℕ) (wrong : Wrong)
+    → wave.line ≡ line → IsWrongBy wave.line level at wrong → IsWrongBy line level at wrong
+wrong_on wave line level at wrong same is = subst (λ l. IsWrongBy l level at wrong) same is
 
-pub wrong_in_end : (wave : Wave) (line : Line) (ms : List Moment) (level : ℕ → Bool) (wrong : Wrong)
-    → HasHeard wave line ms → IsWrongInEnd wave.line level wrong → IsWrongInEnd line level wrong
-wrong_in_end wave line ms level wrong heard is =
-    subst (λ l. IsWrongInEnd l level wrong) heard.same is
+pub wrong_in_end : (wave : Wave) (line : Line) (level : ℕ → Bool) (wrong : Wrong)
+    → wave.line ≡ line → IsWrongInEnd wave.line level wrong → IsWrongInEnd line level wrong
+wrong_in_end wave line level wrong same is = subst (λ l. IsWrongInEnd l level wrong) same is

@@ -1,9 +1,12 @@
--- What the levels of a line tell: words in frames, and breaks.
+-- What the levels of a line tell: words in frames, breaks, and what is passed over.
 use Rattle.std.specs.Prelude.{◌≡◌, ◌⊎◌, ◌+◌, ◌-◌, ◌*◌, ◌/◌, ◌^◌, ◌<◌, ◌≤◌, Bool, true, false, ℕ, zero, suc, List, [], ◌∷◌, if◌then◌else◌}
 use Rattle.mdb_words.specs.declared.event.Event.{Event}
 use Rattle.mdb_words.specs.declared.event.Event.TheVariants.{Word, Break}
 use Rattle.mdb_words.specs.declared.word.Line.{Line}
 use Rattle.mdb_words.specs.declared.word.Line.TheVariants.{Controller}
+use Rattle.mdb_exports.specs.declared.places.Place.{Place}
+use Rattle.mdb_levels.specs.declared.finding.Finding.{Finding}
+use Rattle.mdb_levels.specs.declared.finding.Finding.TheVariants.{Row, Pulse, Damaged}
 
 -- Time is counted in parts: thirds of 10^-24 of a second. So the microsecond and the half of a bit
 -- at 9600 baud are whole numbers.
@@ -50,24 +53,75 @@ pub record IsBreak (level : ℕ → Bool) (start end : ℕ) : Type 0 where
   pub long : 100000 ≤ micros_of (end - start)
   pub short : micros_of (end - start) < 10 ^ 9
 
--- The rows of a line that has nothing open at an instant: it stays high; or it falls, and that is
--- the start of a frame, after the middle of whose stop bit it goes on so; or, on the controller's
--- line, that of a break, after which it goes on so.
-pub data Follows : Line → (ℕ → Bool) → ℕ → List Event → Type 0 where
-  silent : {line : Line} {level : ℕ → Bool} {from : ℕ} →
-      ((t : ℕ) → from ≤ t → level t ≡ true) → Follows line level from []
-  word : {line : Line} {level : ℕ → Bool} {from : ℕ} (start value : ℕ) (rows : List Event) →
-      Falls level from start → IsFrame level start value →
-      Follows line level (middle_of start 10) rows →
-      Follows line level from (Word (micros_of start) line value ∷ rows)
-  broken : {line : Line} {level : ℕ → Bool} {from : ℕ} (start end : ℕ) (rows : List Event) →
-      line ≡ Controller → Falls level from start → IsBreak level start end →
-      Follows line level end rows →
-      Follows line level from (Break (micros_of start) (micros_of (end - start)) ∷ rows)
+-- A damaged word: the start bit is low and the stop bit too, and it is no break of the controller.
+pub record IsDamaged (line : Line) (level : ℕ → Bool) (start : ℕ) : Type 0 where
+  pub start_bit : level (middle_of start 0) ≡ false
+  pub stop_bit : level (middle_of start 10) ≡ false
+  pub no_break : (end : ℕ) → line ≡ Controller → IsBreak level start end → ⊥
 
--- The rows of a line. Until it is high for the first time, what is low is neither a start bit nor a
--- break.
-abbrev pub AreRowsOfLine : Line → (ℕ → Bool) → List Event → Type 0
-AreRowsOfLine line level rows =
-    (((t : ℕ) → level t ≡ false) × (rows ≡ []))
-    ⊎ ((from : ℕ) × Rises level from × Follows line level from rows)
+-- the first instant from one on at which the line is high
+pub record IsHighAgain (level : ℕ → Bool) (from again : ℕ) : Type 0 where
+  pub later : from ≤ again
+  pub low : (t : ℕ) → from ≤ t → t < again → level t ≡ false
+  pub high : level again ≡ true
+
+-- where something is passed over
+abbrev pub place_at : Line → ℕ → Place
+place_at line start = record { at = micros_of start; line = line }
+
+-- What is found on a line that has nothing open at an instant. It stays high. Or it falls, and that
+-- is the start of a frame, after the middle of whose stop bit it goes on so; or, on the controller's
+-- line, that of a break, after which it goes on so. Or it is a pulse: the line is high at the middle
+-- of what would be the start bit, and goes on so from there. Or, where damage is skipped, it is a
+-- damaged word: it goes on so where the line is high again after the middle of the stop bit, or
+-- never is.
+pub data Follows : Bool → Line → (ℕ → Bool) → ℕ → List Finding → Type 0 where
+  silent : {skip : Bool} {line : Line} {level : ℕ → Bool} {from : ℕ} →
+      ((t : ℕ) → from ≤ t → level t ≡ true) → Follows skip line level from []
+  word : {skip : Bool} {line : Line} {level : ℕ → Bool} {from : ℕ} (start value : ℕ)
+      (found : List Finding) → Falls level from start → IsFrame level start value →
+      Follows skip line level (middle_of start 10) found →
+      Follows skip line level from (Row (Word (micros_of start) line value) ∷ found)
+  broken : {skip : Bool} {line : Line} {level : ℕ → Bool} {from : ℕ} (start end : ℕ)
+      (found : List Finding) → line ≡ Controller → Falls level from start →
+      IsBreak level start end → Follows skip line level end found →
+      Follows skip line level from
+      (Row (Break (micros_of start) (micros_of (end - start))) ∷ found)
+  pulsed : {skip : Bool} {line : Line} {level : ℕ → Bool} {from : ℕ} (start : ℕ)
+      (found : List Finding) → Falls level from start → level (middle_of start 0) ≡ true →
+      Follows skip line level (middle_of start 0) found →
+      Follows skip line level from (Pulse (place_at line start) ∷ found)
+  harmed : {skip : Bool} {line : Line} {level : ℕ → Bool} {from : ℕ} (start again : ℕ)
+      (found : List Finding) → skip ≡ true → Falls level from start →
+      IsDamaged line level start → IsHighAgain level (middle_of start 10) again →
+      Follows skip line level again found →
+      Follows skip line level from (Damaged (place_at line start) ∷ found)
+  lost : {skip : Bool} {line : Line} {level : ℕ → Bool} {from : ℕ} (start : ℕ) →
+      skip ≡ true → Falls level from start → IsDamaged line level start →
+      ((t : ℕ) → middle_of start 10 ≤ t → level t ≡ false) →
+      Follows skip line level from (Damaged (place_at line start) ∷ [])
+
+-- What is found on a line. Until it is high for the first time, what is low is nothing of all this.
+abbrev pub AreFoundOn : Bool → Line → (ℕ → Bool) → List Finding → Type 0
+AreFoundOn skip line level found =
+    (((t : ℕ) → level t ≡ false) × (found ≡ []))
+    ⊎ ((from : ℕ) × Rises level from × Follows skip line level from found)
+
+-- the rows of what was found, the pulses and the damaged words
+abbrev pub rows_in : List Finding → List Event
+rows_in [] = []
+rows_in (Row row ∷ found) = row ∷ rows_in found
+rows_in (Pulse place ∷ found) = rows_in found
+rows_in (Damaged place ∷ found) = rows_in found
+
+abbrev pub pulses_in : List Finding → List Place
+pulses_in [] = []
+pulses_in (Row row ∷ found) = pulses_in found
+pulses_in (Pulse place ∷ found) = place ∷ pulses_in found
+pulses_in (Damaged place ∷ found) = pulses_in found
+
+abbrev pub damaged_in : List Finding → List Place
+damaged_in [] = []
+damaged_in (Row row ∷ found) = damaged_in found
+damaged_in (Pulse place ∷ found) = damaged_in found
+damaged_in (Damaged place ∷ found) = place ∷ damaged_in found

@@ -1,10 +1,12 @@
 -- The levels of both lines, moment by moment, and the rows that they tell.
-use Rattle.std.specs.Prelude.{⊤, ◌+◌, ◌^◌, ◌<◌, ◌≤◌, Bool, false, nat_le, if◌then◌else◌, ℕ, List, [], ◌∷◌}
+use Rattle.std.specs.Prelude.{⊤, ◌≡◌, ◌++◌, ◌+◌, ◌^◌, ◌<◌, ◌≤◌, Bool, false, nat_le, if◌then◌else◌, ℕ, List, [], ◌∷◌}
 use Rattle.mdb_words.specs.declared.event.Event.{Event}
 use Rattle.mdb_words.specs.declared.word.Line.{Line}
 use Rattle.mdb_words.specs.declared.word.Line.TheVariants.{Controller, Peripheral}
 use Rattle.mdb_exports.specs.Order.{Merges}
-use Rattle.mdb_levels.specs.Levels.{AreRowsOfLine, micros_of}
+use Rattle.mdb_exports.specs.declared.places.Place.{Place}
+use Rattle.mdb_levels.specs.declared.finding.Finding.{Finding}
+use Rattle.mdb_levels.specs.Levels.{AreFoundOn, damaged_in, micros_of, pulses_in, rows_in}
 use Rattle.mdb_levels.specs.declared.moment.Moment.{Moment}
 
 -- moments of which the first isn't before an instant, and each is later than the one before it
@@ -38,10 +40,14 @@ level_at line before (moment ∷ moments) t =
 abbrev pub level_of : Line → List Moment → ℕ → Bool
 level_of line moments = level_at line false moments
 
--- The rows of the bus by its moments: those of both lines in the order of their times.
-pub record AreRowsOfBus (moments : List Moment) (rows : List Event) : Type 0 where
-  pub sent : List Event
-  pub answered : List Event
-  pub controller : AreRowsOfLine Controller (level_of Controller moments) sent
-  pub peripheral : AreRowsOfLine Peripheral (level_of Peripheral moments) answered
-  pub both : Merges sent answered rows
+-- The rows of the bus by its moments: those of both lines in the order of their times. And what was
+-- passed over on the way, on the controller's line and then on the other one.
+pub record AreRowsOfBus (skip : Bool) (moments : List Moment) (rows : List Event)
+    (pulses damaged : List Place) : Type 0 where
+  pub sent : List Finding
+  pub answered : List Finding
+  pub controller : AreFoundOn skip Controller (level_of Controller moments) sent
+  pub peripheral : AreFoundOn skip Peripheral (level_of Peripheral moments) answered
+  pub both : Merges (rows_in sent) (rows_in answered) rows
+  pub pulses_are : pulses ≡ pulses_in sent ++ pulses_in answered
+  pub damaged_are : damaged ≡ damaged_in sent ++ damaged_in answered

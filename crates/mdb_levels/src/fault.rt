@@ -31,11 +31,9 @@ impl Wire {
     }
 }
 
-/// What is wrong with the levels of a line.
+/// What is wrong with the levels of a line, where nothing damaged is left out.
 #[derive(Clone, Copy, PartialEq, Eq, Debug)]
 pub enum LineFault {
-    /// The line falls, and is high again half a bit later: a glitch.
-    Glitch,
     /// The line is low at the middle of a stop bit, and it isn't low for 100 milliseconds from the
     /// start bit on.
     Framing,
@@ -51,19 +49,22 @@ impl LineFault {
     /// What is told of it.
     fn text(self) -> &'static str {
         match self {
-            LineFault::Glitch => {
-                "wanted a start bit that is low at its middle, and it is high there"
-            }
             LineFault::Framing => {
-                "wanted a high stop bit, or a break of 100 ms or more, and the stop bit is low"
+                "wanted a high stop bit, or a break of 100 ms or more, and the stop bit is low; \
+                 --skip-damaged leaves out what is damaged"
             }
             LineFault::DeviceBreak => {
-                "wanted words alone on the line of the peripherals, and it is low for a break"
+                "wanted words alone on the line of the peripherals, and it is low for a break; \
+                 --skip-damaged leaves out what is damaged"
             }
             LineFault::LongBreak => {
-                "wanted a break of at most 999999999 microseconds, and it is longer"
+                "wanted a break of at most 999999999 microseconds, and it is longer; \
+                 --skip-damaged leaves out what is damaged"
             }
-            LineFault::Cut => "wanted a line that is high at the end of the table, and it is low",
+            LineFault::Cut => {
+                "wanted a line that is high at the end of the table, and it is low; \
+                 --skip-damaged leaves out what is damaged"
+            }
         }
     }
 }

@@ -2,14 +2,15 @@
 
 ghost use Rattle.std.specs.Prelude.{◌≡◌, [], ℕ, Option, IfOk};
 ghost use Rattle.mdb_words.specs.declared.event.Event.{Event};
-ghost use Rattle.mdb_levels.specs.Told.{IsTold, is_taken, part_of as rows_of_part};
+ghost use Rattle.mdb_levels.specs.Told.{IsCounted, is_taken, part_of as rows_of_part};
 ghost use Rattle.mdb_levels.specs.inner.Parts.{IsNoted, IsSaid};
 
+use mdb_exports::Places;
 use mdb_words::{Event, Line};
 use std::alloc::{AllocError, Global};
 
 /// What an import reports in addition to the rows.
-#[derive(Clone, Copy, PartialEq, Eq, Debug)]
+#[derive(Debug, Drop)]
 pub struct LevelsImported {
     /// The number of rows that were written.
     pub rows: u64,
@@ -23,14 +24,21 @@ pub struct LevelsImported {
     pub controller: bool,
     /// Whether a peripheral sent a word.
     pub peripheral: bool,
+    /// Where a line was low for half a bit at most, and no start bit began: in the part or not.
+    pub pulses: Places,
+    /// Where a damaged word began that was left out: in the part or not.
+    pub damaged: Places,
 }
 
 impl LevelsImported {
-    /// Of no rows.
-    fn new() -> LevelsImported
-        ensures { (from until : Option ℕ) → IsTold from until [] result }
+    /// Of no rows, where these were passed over.
+    fn new(pulses: Places, damaged: Places) -> LevelsImported
+        ensures none { (from until : Option ℕ) → IsCounted from until [] result }
+        ensures kept { (result.pulses ≡ pulses) × (result.damaged ≡ damaged) }
     {
         LevelsImported {
+            pulses,
+            damaged,
             rows: 0,
             before: 0,
             after: 0,
@@ -44,7 +52,8 @@ impl LevelsImported {
     fn note(&mut self, event: &Event)
         ensures said { IsSaid self.old self.new event.now }
         ensures counts { (self.new.rows ≡ self.old.rows) × (self.new.before ≡ self.old.before)
-            × (self.new.after ≡ self.old.after) }
+            × (self.new.after ≡ self.old.after) × (self.new.pulses ≡ self.old.pulses)
+            × (self.new.damaged ≡ self.old.damaged) }
     {
         if let Event::Word { line, word, .. } = *event {
             self.marked = self.marked || word.marked();
@@ -81,11 +90,15 @@ pub(crate) fn part_of(
     from: Option<u64>,
     until: Option<u64>,
     rows: &[Event],
+    pulses: Places,
+    damaged: Places,
 ) -> Result<(Vec<Event>, LevelsImported), AllocError>
     ensures part { IfOk result (λ part. part.0.items ≡ rows_of_part from until rows.now) }
-    ensures told { IfOk result (λ part. IsTold from until rows.now part.1) }
+    ensures told { IfOk result (λ part. IsCounted from until rows.now part.1) }
+    ensures kept { IfOk result (λ part.
+        (part.1.pulses ≡ pulses) × (part.1.damaged ≡ damaged)) }
 {
-    let mut told = LevelsImported::new();
+    let mut told = LevelsImported::new(pulses, damaged);
     let mut part = Vec::new(alloc);
     for row in rows {
         if told.count(from, until, row) {

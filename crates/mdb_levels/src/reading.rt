@@ -2,14 +2,17 @@
 
 ghost use Rattle.std.specs.Prelude.{◌≡◌, ◌⊎◌, ◌+◌, ◌-◌, ◌^◌, ◌<◌, ◌≤◌, ◌&&◌, not, Bool, ℕ, List};
 ghost use Rattle.std.specs.Prelude.{true, false, IfOk, IfErr};
-ghost use Rattle.mdb_words.specs.declared.event.Event.{Event};
 ghost use Rattle.mdb_words.specs.declared.word.Line.{Line};
-ghost use Rattle.mdb_levels.specs.inner.Standing.{HasNone, Holds, IsFramed, IsGlitch, IsReadOn};
+ghost use Rattle.mdb_levels.specs.Levels.{place_at};
+ghost use Rattle.mdb_levels.specs.declared.finding.Finding.{Finding};
+ghost use Rattle.mdb_levels.specs.inner.Standing.{Holds, IsFramed, IsPulse, IsReadOn};
 
 use super::fault::{LineFault, Wrong};
+use super::finding::place_of;
 use super::frame::Frame;
 use super::instant::Instant;
-use mdb_words::Word;
+use mdb_exports::Place;
+use mdb_words::{Line, Word};
 
 /// The half of a bit at 9600 baud, in parts of an instant.
 const HALF_BIT: u128 = 156_250_000_000_000_000_000;
@@ -38,25 +41,28 @@ impl Frame {
     }
 
     /// The frame with all bits read whose middle is before an instant, but for the stop bit.
-    pub(crate) fn read_until(self, at: u128) -> Result<Frame, Wrong>
-        ensures ok { IfOk result (λ frame. (line : Line) (level : ℕ → Bool) (known : ℕ)
-            (rows : List Event) → IsFramed line level known rows self
-            → Holds level known at self.high → IsFramed line level known rows frame) }
+    ///
+    /// # Errors
+    ///
+    /// Where it began, on a line, if its start bit is a pulse.
+    pub(crate) fn read_until(self, line: Line, at: u128) -> Result<Frame, Place>
+        ensures ok { IfOk result (λ frame. (skip : Bool) (line : Line) (level : ℕ → Bool)
+            (known : ℕ) (found : List Finding) → IsFramed skip line level known found self
+            → Holds level known at self.high → IsFramed skip line level known found frame) }
         ensures high { IfOk result (λ frame. frame.high ≡ self.high) }
         ensures whole { IfOk result (λ frame. (frame.taken ≡ 10) ⊎ (at ≤ frame.next)) }
-        ensures err { IfErr result (λ _. (line : Line) (level : ℕ → Bool) (known : ℕ)
-            (rows : List Event) → IsFramed line level known rows self
-            → Holds level known at self.high → HasNone line level) }
-        ensures glitch { IfErr result (λ wrong. (line : Line) (level : ℕ → Bool) (known : ℕ)
-            (rows : List Event) → IsFramed line level known rows self
-            → Holds level known at self.high → IsGlitch line level at wrong) }
+        ensures err { IfErr result (λ _. (skip : Bool) (line : Line) (level : ℕ → Bool)
+            (known : ℕ) (found : List Finding) → IsFramed skip line level known found self
+            → Holds level known at self.high → IsPulse level self.start at) }
+        ensures rise { IfErr result (λ _. self.high ≡ true) }
+        ensures place { IfErr result (λ place. place ≡ place_at line self.start) }
     {
         let mut frame = self;
         while frame.taken < STOP_BIT && frame.next < at {
             if frame.taken > 0 {
                 frame = frame.with_data_bit();
             } else if frame.high {
-                return Err(frame.wrong(LineFault::Glitch));
+                return Err(frame.place(line));
             } else {
                 frame = frame.with_start_bit();
             }
@@ -72,6 +78,13 @@ impl Frame {
             start: self.start,
             fault,
         }
+    }
+
+    /// Where it began, on a line.
+    pub(crate) fn place(self, line: Line) -> Place
+        ensures { result ≡ place_at line self.start }
+    {
+        place_of(line, self.start)
     }
 
     /// The frame with its start bit read, which is low.

@@ -1,14 +1,16 @@
 //! A line of the bus, whose levels are read one after the other.
 
 ghost use Rattle.std.specs.Prelude.{◌≡◌, ◌+◌, ◌-◌, ◌<◌, ◌≤◌, ◌++◌, ◌↔◌, Bool, ℕ, List, true, false};
-ghost use Rattle.std.specs.Prelude.{None, IfOk, IfErr, IsTrue};
+ghost use Rattle.std.specs.Prelude.{None, Some, IfOk, IfErr, IsTrue};
 ghost use Rattle.mdb_words.specs.declared.event.Event.{Event};
-ghost use Rattle.mdb_levels.specs.Levels.{AreRowsOfLine, micros_of};
+ghost use Rattle.mdb_levels.specs.Levels.{AreFoundOn, micros_of, place_at};
+ghost use Rattle.mdb_levels.specs.declared.finding.Finding.{Finding};
 ghost use Rattle.mdb_levels.specs.inner.Standing.{HasNone, Holds, IsBreakRow, IsDue, IsFramed};
 ghost use Rattle.mdb_levels.specs.inner.Standing.{IsLow, IsNoBreak, IsWrongBy, IsWrongInEnd};
 ghost use Rattle.mdb_levels.specs.inner.Standing.{Stands, held_of, told_by};
 
 use super::fault::{LineFault, Wrong};
+use super::finding::{Finding, place_of};
 use super::frame::Frame;
 use super::instant::Instant;
 use mdb_words::{Event, Line};
@@ -27,121 +29,148 @@ pub(crate) enum State {
     Framed(Frame),
     /// It is low since an instant, and was so at the middle of the stop bit of a frame from there.
     Low(Instant),
+    /// It is low since the middle of the stop bit of a damaged word, which began at an instant.
+    Waiting(Instant),
 }
 
-/// Where a line stands, and the row that was found on the way there.
+/// Where a line stands, and what was found on the way there.
 #[derive(Clone, Copy)]
 pub(crate) struct Step {
     /// Where it stands.
     pub(crate) state: State,
-    /// The row.
-    pub(crate) row: Option<Event>,
+    /// What was found.
+    pub(crate) found: Option<Finding>,
 }
 
 /// Reads what is before an instant up to which the line stays as it is.
-pub(crate) fn wait_until(line: Line, state: State, at: Instant) -> Result<Step, Wrong>
-    ensures ok { IfOk result (λ step. (level : ℕ → Bool) (known : ℕ) (rows : List Event) →
-        Stands line level known state rows → known ≤ at → Holds level known at (held_of state) →
-        Stands line level at step.state (rows ++ told_by step.row)) }
+pub(crate) fn wait_until(line: Line, skip: bool, state: State, at: Instant) -> Result<Step, Wrong>
+    ensures ok { IfOk result (λ step. (level : ℕ → Bool) (known : ℕ) (found : List Finding) →
+        Stands skip line level known state found → known ≤ at →
+        Holds level known at (held_of state) →
+        Stands skip line level at step.state (found ++ told_by step.found)) }
     ensures due { IfOk result (λ step. IsDue at step.state) }
-    ensures err { IfErr result (λ _. (level : ℕ → Bool) (known : ℕ) (rows : List Event) →
-        Stands line level known state rows → known ≤ at → Holds level known at (held_of state) →
-        HasNone line level) }
-    ensures wrong { IfErr result (λ wrong. (level : ℕ → Bool) (known : ℕ) (rows : List Event) →
-        Stands line level known state rows → known ≤ at → Holds level known at (held_of state) →
+    ensures strict { IfErr result (λ _. skip ≡ false) }
+    ensures err { IfErr result (λ _. (level : ℕ → Bool) (known : ℕ) (found : List Finding) →
+        Stands skip line level known state found → known ≤ at →
+        Holds level known at (held_of state) →
+        HasNone skip line level) }
+    ensures wrong { IfErr result (λ wrong. (level : ℕ → Bool) (known : ℕ) (found : List Finding) →
+        Stands skip line level known state found → known ≤ at →
+        Holds level known at (held_of state) →
         IsWrongBy line level at wrong) }
 {
     let State::Framed(frame) = state else {
         return Ok(silent(state));
     };
-    let frame = frame.read_until(at.parts())?;
-    if frame.next >= at.parts() {
-        return Ok(silent(State::Framed(frame)));
+    let read = match frame.read_until(line, at.parts()) {
+        Ok(read) => read,
+        Err(place) => {
+            return Ok(Step {
+                state: State::Idle,
+                found: Some(Finding::Pulse(place)),
+            });
+        }
+    };
+    if read.next >= at.parts() {
+        return Ok(silent(State::Framed(read)));
     }
-    stop(line, frame)
+    stop(line, skip, read)
 }
 
 /// Reads the stop bit of a frame.
-fn stop(line: Line, frame: Frame) -> Result<Step, Wrong>
+fn stop(line: Line, skip: bool, frame: Frame) -> Result<Step, Wrong>
     requires { frame.taken ≡ 10 }
-    ensures ok { IfOk result (λ step. (level : ℕ → Bool) (known at : ℕ) (rows : List Event) →
-        IsFramed line level known rows frame → known ≤ at → frame.next < at →
+    ensures ok { IfOk result (λ step. (level : ℕ → Bool) (known at : ℕ) (found : List Finding) →
+        IsFramed skip line level known found frame → known ≤ at → frame.next < at →
         Holds level known at frame.high →
-        Stands line level at step.state (rows ++ told_by step.row)) }
+        Stands skip line level at step.state (found ++ told_by step.found)) }
     ensures due { IfOk result (λ step. (at : ℕ) → IsDue at step.state) }
     ensures idle { IfOk result (λ step. frame.high ≡ true → step.state ≡ State.Idle) }
-    ensures err { IfErr result (λ _. (level : ℕ → Bool) (known at : ℕ) (rows : List Event) →
-        IsFramed line level known rows frame → known ≤ at → frame.next < at →
-        Holds level known at frame.high → HasNone line level) }
-    ensures wrong { IfErr result (λ wrong. (level : ℕ → Bool) (known at : ℕ) (rows : List Event) →
-        IsFramed line level known rows frame → known ≤ at → frame.next < at →
+    ensures strict { IfErr result (λ _. skip ≡ false) }
+    ensures err { IfErr result (λ _. (level : ℕ → Bool) (known at : ℕ) (found : List Finding) →
+        IsFramed skip line level known found frame → known ≤ at → frame.next < at →
+        Holds level known at frame.high → HasNone skip line level) }
+    ensures wrong { IfErr result (λ wrong. (level : ℕ → Bool) (known at : ℕ) (found : List Finding) →
+        IsFramed skip line level known found frame → known ≤ at → frame.next < at →
         Holds level known at frame.high → IsWrongBy line level at wrong) }
     ensures low { IfErr result (λ _. frame.high ≡ false) }
 {
     if frame.high {
         return Ok(Step {
             state: State::Idle,
-            row: Some(Event::Word {
+            found: Some(Finding::Row(Event::Word {
                 at: frame.start.time(),
                 line,
                 word: frame.word(),
-            }),
+            })),
         });
     }
     if frame.steady {
         Ok(silent(State::Low(frame.start)))
+    } else if skip {
+        Ok(silent(State::Waiting(frame.start)))
     } else {
         Err(frame.wrong(LineFault::Framing))
     }
 }
 
 /// Takes the level that the line has from an instant on, where what is before it was read.
-pub(crate) fn turn(line: Line, state: State, at: Instant, high: bool) -> Result<Step, Wrong>
+pub(crate) fn turn(
+    line: Line,
+    skip: bool,
+    state: State,
+    at: Instant,
+    high: bool,
+) -> Result<Step, Wrong>
     requires { IsDue at state }
-    ensures ok { IfOk result (λ step. (level : ℕ → Bool) (rows : List Event) →
-        Stands line level at state rows → level at ≡ high →
-        Stands line level (at + 1) step.state (rows ++ told_by step.row)) }
+    ensures ok { IfOk result (λ step. (level : ℕ → Bool) (found : List Finding) →
+        Stands skip line level at state found → level at ≡ high →
+        Stands skip line level (at + 1) step.state (found ++ told_by step.found)) }
     ensures held { IfOk result (λ step. held_of step.state ≡ high) }
-    ensures err { IfErr result (λ _. (level : ℕ → Bool) (rows : List Event) →
-        Stands line level at state rows → level at ≡ high → HasNone line level) }
-    ensures wrong { IfErr result (λ wrong. (level : ℕ → Bool) (rows : List Event) →
-        Stands line level at state rows → level at ≡ high → IsWrongBy line level at wrong) }
+    ensures strict { IfErr result (λ _. skip ≡ false) }
+    ensures err { IfErr result (λ _. (level : ℕ → Bool) (found : List Finding) →
+        Stands skip line level at state found → level at ≡ high → HasNone skip line level) }
+    ensures wrong { IfErr result (λ wrong. (level : ℕ → Bool) (found : List Finding) →
+        Stands skip line level at state found → level at ≡ high → IsWrongBy line level at wrong) }
 {
     match state {
         State::Unknown if high => Ok(silent(State::Idle)),
         State::Idle if !high => Ok(silent(State::Framed(Frame::new(at)))),
         State::Framed(frame) => Ok(silent(State::Framed(frame.turned(high)))),
-        State::Low(start) if high => match rise(line, start, at) {
+        State::Low(start) if high => match rise(line, skip, start, at) {
             Ok(step) => Ok(step),
             Err(wrong) => Err(wrong),
         },
-        State::Unknown | State::Idle | State::Low(_) => Ok(silent(state)),
+        State::Waiting(start) if high => Ok(mended(line, start)),
+        State::Unknown | State::Idle | State::Low(_) | State::Waiting(_) => Ok(silent(state)),
     }
 }
 
-/// A step on which no row is found.
+/// A step on which nothing is found.
 fn silent(state: State) -> Step
-    ensures { result ≡ record { state = state; row = None } }
+    ensures { result ≡ record { state = state; found = None } }
 {
-    Step { state, row: None }
+    Step { state, found: None }
 }
 
 /// Ends what was low since before the middle of a stop bit.
-fn rise(line: Line, start: Instant, at: Instant) -> Result<Step, Wrong>
-    ensures ok { IfOk result (λ step. (level : ℕ → Bool) (rows : List Event) →
-        IsLow line level at rows start → level at ≡ true →
-        Stands line level (at + 1) step.state (rows ++ told_by step.row)) }
+fn rise(line: Line, skip: bool, start: Instant, at: Instant) -> Result<Step, Wrong>
+    ensures ok { IfOk result (λ step. (level : ℕ → Bool) (found : List Finding) →
+        IsLow skip line level at found start → level at ≡ true →
+        Stands skip line level (at + 1) step.state (found ++ told_by step.found)) }
     ensures held { IfOk result (λ step. step.state ≡ State.Idle) }
-    ensures err { IfErr result (λ _. (level : ℕ → Bool) (rows : List Event) →
-        IsLow line level at rows start → level at ≡ true → HasNone line level) }
-    ensures wrong { IfErr result (λ wrong. (level : ℕ → Bool) (rows : List Event) →
-        IsLow line level at rows start → level at ≡ true → IsWrongBy line level at wrong) }
+    ensures strict { IfErr result (λ _. skip ≡ false) }
+    ensures err { IfErr result (λ _. (level : ℕ → Bool) (found : List Finding) →
+        IsLow skip line level at found start → level at ≡ true → HasNone skip line level) }
+    ensures wrong { IfErr result (λ wrong. (level : ℕ → Bool) (found : List Finding) →
+        IsLow skip line level at found start → level at ≡ true → IsWrongBy line level at wrong) }
 {
     match break_of(line, start, at) {
         Ok(row) => Ok(Step {
             state: State::Idle,
-            row: Some(row),
+            found: Some(Finding::Row(row)),
         }),
+        Err(_) if skip => Ok(mended(line, start)),
         Err(fault) => Err(Wrong { start, fault }),
     }
 }
@@ -175,47 +204,74 @@ fn is_long(start: Instant, end: Instant) -> bool
 }
 
 /// Ends the reading of a line, which stays as it is.
-pub(crate) fn finish(line: Line, state: State) -> Result<Option<Event>, Wrong>
-    ensures ok { IfOk result (λ row. (level : ℕ → Bool) (known : ℕ) (rows : List Event) →
-        Stands line level known state rows →
+pub(crate) fn finish(line: Line, skip: bool, state: State) -> Result<Option<Finding>, Wrong>
+    ensures ok { IfOk result (λ more. (level : ℕ → Bool) (known : ℕ) (found : List Finding) →
+        Stands skip line level known state found →
         ((t : ℕ) → known ≤ t → level t ≡ held_of state) →
-        AreRowsOfLine line level (rows ++ told_by row)) }
-    ensures err { IfErr result (λ _. (level : ℕ → Bool) (known : ℕ) (rows : List Event) →
-        Stands line level known state rows →
-        ((t : ℕ) → known ≤ t → level t ≡ held_of state) → HasNone line level) }
-    ensures wrong { IfErr result (λ wrong. (level : ℕ → Bool) (known : ℕ) (rows : List Event) →
-        Stands line level known state rows →
+        AreFoundOn skip line level (found ++ told_by more)) }
+    ensures strict { IfErr result (λ _. skip ≡ false) }
+    ensures err { IfErr result (λ _. (level : ℕ → Bool) (known : ℕ) (found : List Finding) →
+        Stands skip line level known state found →
+        ((t : ℕ) → known ≤ t → level t ≡ held_of state) → HasNone skip line level) }
+    ensures wrong { IfErr result (λ wrong. (level : ℕ → Bool) (known : ℕ) (found : List Finding) →
+        Stands skip line level known state found →
         ((t : ℕ) → known ≤ t → level t ≡ held_of state) → IsWrongInEnd line level wrong) }
 {
     match state {
         State::Unknown | State::Idle => Ok(None),
-        State::Framed(frame) => last_row(line, frame),
-        State::Low(start) => Err(Wrong {
-            start,
-            fault: LineFault::Cut,
-        }),
+        State::Framed(frame) => last_finding(line, skip, frame),
+        State::Waiting(start) => Ok(Some(Finding::Damaged(place_of(line, start)))),
+        State::Low(start) => {
+            if skip {
+                Ok(Some(Finding::Damaged(place_of(line, start))))
+            } else {
+                Err(Wrong {
+                    start,
+                    fault: LineFault::Cut,
+                })
+            }
+        }
     }
 }
 
-/// The row of a frame in which the table ends.
-fn last_row(line: Line, frame: Frame) -> Result<Option<Event>, Wrong>
-    ensures ok { IfOk result (λ row. (level : ℕ → Bool) (known : ℕ) (rows : List Event) →
-        IsFramed line level known rows frame →
+/// What is found in a frame in which the levels end.
+fn last_finding(line: Line, skip: bool, frame: Frame) -> Result<Option<Finding>, Wrong>
+    ensures ok { IfOk result (λ more. (level : ℕ → Bool) (known : ℕ) (found : List Finding) →
+        IsFramed skip line level known found frame →
         ((t : ℕ) → known ≤ t → level t ≡ frame.high) →
-        AreRowsOfLine line level (rows ++ told_by row)) }
-    ensures err { IfErr result (λ _. (level : ℕ → Bool) (known : ℕ) (rows : List Event) →
-        IsFramed line level known rows frame →
-        ((t : ℕ) → known ≤ t → level t ≡ frame.high) → HasNone line level) }
-    ensures wrong { IfErr result (λ wrong. (level : ℕ → Bool) (known : ℕ) (rows : List Event) →
-        IsFramed line level known rows frame →
+        AreFoundOn skip line level (found ++ told_by more)) }
+    ensures strict { IfErr result (λ _. skip ≡ false) }
+    ensures err { IfErr result (λ _. (level : ℕ → Bool) (known : ℕ) (found : List Finding) →
+        IsFramed skip line level known found frame →
+        ((t : ℕ) → known ≤ t → level t ≡ frame.high) → HasNone skip line level) }
+    ensures wrong { IfErr result (λ wrong. (level : ℕ → Bool) (known : ℕ) (found : List Finding) →
+        IsFramed skip line level known found frame →
         ((t : ℕ) → known ≤ t → level t ≡ frame.high) → IsWrongInEnd line level wrong) }
 {
     if !frame.high {
-        return Err(frame.wrong(LineFault::Cut));
+        return if skip {
+            Ok(Some(Finding::Damaged(frame.place(line))))
+        } else {
+            Err(frame.wrong(LineFault::Cut))
+        };
     }
-    let whole = frame.read_until(u128::MAX)?;
-    match stop(line, whole) {
-        Ok(step) => Ok(step.row),
+    let whole = match frame.read_until(line, u128::MAX) {
+        Ok(whole) => whole,
+        Err(place) => return Ok(Some(Finding::Pulse(place))),
+    };
+    match stop(line, skip, whole) {
+        Ok(step) => Ok(step.found),
         Err(wrong) => Err(wrong),
+    }
+}
+
+/// A line that is high again after a damaged word.
+fn mended(line: Line, start: Instant) -> Step
+    ensures state { result.state ≡ State.Idle }
+    ensures found { result.found ≡ Some (Finding.Damaged (place_at line start)) }
+{
+    Step {
+        state: State::Idle,
+        found: Some(Finding::Damaged(place_of(line, start))),
     }
 }

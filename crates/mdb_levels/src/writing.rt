@@ -1,11 +1,13 @@
 //! Rows to a writer, and what is told of them.
 
-ghost use Rattle.std.specs.Prelude.{IfErr, IfOk};
+ghost use Rattle.std.specs.Prelude.{List, IfErr, IfOk};
+ghost use Rattle.mdb_exports.specs.Places.{AreNoted};
+ghost use Rattle.mdb_exports.specs.declared.places.Place.{Place};
 ghost use Rattle.mdb_levels.specs.Told.{IsUnwritten, IsWritten};
 
+use super::lines::Bus;
 use super::part::{LevelsImported, part_of};
 use mdb_exports::write_rows;
-use mdb_words::Event;
 use mdb_writing::WriteFailed;
 use std::alloc::Global;
 use std::io::Write;
@@ -28,15 +30,22 @@ pub fn write_part<W: Write>(
     alloc: Global,
     from: Option<u64>,
     until: Option<u64>,
-    rows: &[Event],
+    bus: Bus,
     writer: &mut W,
 ) -> Result<LevelsImported, PartFault>
-    ensures written { IfOk result (λ told. IsWritten from until rows.now told
+    ensures written { IfOk result (λ told. (pulses damaged : List Place) →
+        AreNoted bus.pulses pulses → AreNoted bus.damaged damaged →
+        IsWritten from until bus.rows.items pulses damaged told
         (W.contents writer.old) (W.contents writer.new)) }
-    ensures refused { IfErr result (λ fault. IsUnwritten from until rows.now fault
+    ensures refused { IfErr result (λ fault. IsUnwritten from until bus.rows.items fault
         (W.contents writer.old) (W.contents writer.new)) }
 {
-    let part = match part_of(alloc, from, until, rows) {
+    let Bus {
+        rows,
+        pulses,
+        damaged,
+    } = bus;
+    let part = match part_of(alloc, from, until, rows.as_slice(), pulses, damaged) {
         Ok(part) => part,
         Err(_) => return Err(PartFault::Memory),
     };

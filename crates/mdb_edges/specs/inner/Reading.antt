@@ -3,12 +3,15 @@
 use Rattle.std.specs.Prelude.{◌≡◌, ◌⊎◌, ℕ, List, ◌∷◌, Option, take}
 use Rattle.std.specs.Io.KnownBytes.{Keeps}
 use Rattle.mdb_words.specs.declared.event.Event.{Event}
+use Rattle.mdb_exports.specs.declared.places.Place.{Place}
 use Rattle.mdb_levels.specs.Lines.{HaveEnded, HaveHeard}
 use Rattle.mdb_levels.specs.Moments.{AreRowsOfBus, end_of}
 use Rattle.mdb_levels.specs.declared.lines.Lines.{Lines}
 use Rattle.mdb_levels.specs.declared.moment.Moment.{Moment}
 use Rattle.mdb_edges.specs.Import.{ArePartial, AreRefusedFor}
-use Rattle.mdb_edges.specs.Table.{AreMoments, IsHeader}
+use Rattle.mdb_levels.specs.declared.lines.Bus.{Bus}
+use Rattle.mdb_exports.specs.Places.{AreNoted}
+use Rattle.mdb_edges.specs.Table.{AreMoments, AreRowsOfTable, IsHeader}
 use Rattle.mdb_edges.specs.declared.fault.EdgesFault.{EdgesFault}
 use Rattle.mdb_edges.specs.declared.fault.EdgesFault.TheVariants.{Write}
 use Rattle.mdb_edges.specs.declared.columns.Columns.{Columns}
@@ -19,14 +22,25 @@ pub record Comes (options : EdgesOptions) (columns : Columns) (body : List (List
     (rows : List Event) : Type 0 where
   pub moments : List Moment
   pub told : AreMoments options columns 0 body moments
-  pub bus : AreRowsOfBus moments rows
+  pub pulses : List Place
+  pub damaged : List Place
+  pub bus : AreRowsOfBus options.skip_damaged moments rows pulses damaged
 
 -- both lines have taken the moments of the records below a header, and their end
 pub record HasEnded (options : EdgesOptions) (columns : Columns) (lines : Lines)
     (body : List (List (List ℕ))) : Type 0 where
   pub moments : List Moment
   pub told : AreMoments options columns 0 body moments
-  pub ended : HaveEnded lines moments
+  pub ended : HaveEnded options.skip_damaged lines moments
+
+-- the rows of the table of these records, and what was passed over
+pub record IsBusOfTable (options : EdgesOptions) (records : List (List (List ℕ))) (bus : Bus) :
+    Type 0 where
+  pub pulses : List Place
+  pub damaged : List Place
+  pub of_table : AreRowsOfTable options records bus.rows.items pulses damaged
+  pub pulses_noted : AreNoted bus.pulses pulses
+  pub damaged_noted : AreNoted bus.damaged damaged
 
 -- what a fault tells of records, where nothing was written; where writing failed, a front of the rows
 abbrev pub AreUnclosed : EdgesOptions → List (List (List ℕ)) → EdgesFault → Option (List ℕ) →
@@ -50,5 +64,5 @@ BeginSame number records others = take number others ≡ take number records
 pub record HasRead (options : EdgesOptions) (columns : Columns) (earliest : ℕ) (lines : Lines)
     (body : List (List (List ℕ))) (moments : List Moment) : Type 0 where
   pub told : AreMoments options columns 0 body moments
-  pub heard : HaveHeard lines moments
+  pub heard : HaveHeard options.skip_damaged lines moments
   pub next : earliest ≡ end_of 0 moments

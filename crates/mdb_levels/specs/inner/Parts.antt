@@ -20,3 +20,5 @@ pub record IsNoted (from until : Option ℕ) (old new : LevelsImported) (event :
   pub before : new.before ≡ counted_more old.before (is_before from event)
   pub after : new.after ≡ counted_more old.after (is_behind from until event)
   pub said : IsSaid old new event
+  pub pulses : new.pulses ≡ old.pulses
+  pub damaged : new.damaged ≡ old.damaged

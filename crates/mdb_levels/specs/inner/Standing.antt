@@ -6,46 +6,49 @@ use Rattle.mdb_words.specs.declared.event.Event.TheVariants.{Break}
 use Rattle.mdb_words.specs.declared.word.Line.{Line}
 use Rattle.mdb_words.specs.declared.word.Line.TheVariants.{Controller, Peripheral}
 use Rattle.mdb_levels.specs.Faults.{Begins, IsWrong, IsWrongAtEnd, Passes}
-use Rattle.mdb_levels.specs.Levels.{AreRowsOfLine, Falls, Follows, Rises, bits_value, micros_of, middle_of}
+use Rattle.mdb_levels.specs.Levels.{AreFoundOn, Falls, Follows, IsDamaged, Rises, bits_value, micros_of, middle_of}
 use Rattle.mdb_levels.specs.declared.fault.LineFault.{LineFault}
-use Rattle.mdb_levels.specs.declared.fault.LineFault.TheVariants.{Glitch, Framing, DeviceBreak, LongBreak, Cut}
+use Rattle.mdb_levels.specs.declared.fault.LineFault.TheVariants.{Framing, DeviceBreak, LongBreak, Cut}
 use Rattle.mdb_levels.specs.declared.fault.Wrong.{Wrong}
+use Rattle.mdb_levels.specs.declared.finding.Finding.{Finding}
 use Rattle.mdb_levels.specs.declared.frame.Frame.{Frame}
 use Rattle.mdb_levels.specs.declared.receiver.State.{State}
-use Rattle.mdb_levels.specs.declared.receiver.State.TheVariants.{Unknown, Idle, Framed, Low}
+use Rattle.mdb_levels.specs.declared.receiver.State.TheVariants.{Unknown, Idle, Framed, Low, Waiting}
 
--- a row, or none
-abbrev pub told_by : Option Event → List Event
+-- what was found, or nothing
+abbrev pub told_by : Option Finding → List Finding
 told_by None = []
-told_by (Some row) = row ∷ []
+told_by (Some finding) = finding ∷ []
 
--- the rows of the line are these, and those of what comes from an instant on
-pub record Leads (line : Line) (level : ℕ → Bool) (rows : List Event) (from : ℕ) : Type 0 where
+-- what is found on the line is this, and what comes from an instant on
+pub record Leads (skip : Bool) (line : Line) (level : ℕ → Bool) (found : List Finding)
+    (from : ℕ) : Type 0 where
   pub first : ℕ
   pub rises : Rises level first
-  pub passes : Passes line level first from
-  pub took : (more : List Event) → Follows line level from more →
-      AreRowsOfLine line level (rows ++ more)
-  pub only : (all : List Event) → AreRowsOfLine line level all →
-      (more : List Event) × (all ≡ rows ++ more) × Follows line level from more
+  pub passes : skip ≡ false → Passes line level first from
+  pub took : (more : List Finding) → Follows skip line level from more →
+      AreFoundOn skip line level (found ++ more)
+  pub only : (all : List Finding) → AreFoundOn skip line level all →
+      (more : List Finding) × (all ≡ found ++ more) × Follows skip line level from more
 
 -- from one instant up to another one the line is at a level
 abbrev pub Holds : (ℕ → Bool) → ℕ → ℕ → Bool → Type 0
 Holds level from to high = (t : ℕ) → from ≤ t → t < to → level t ≡ high
 
 -- nothing is open, and the line is high
-pub record IsIdle (line : Line) (level : ℕ → Bool) (known : ℕ) (rows : List Event) : Type 0 where
+pub record IsIdle (skip : Bool) (line : Line) (level : ℕ → Bool) (known : ℕ)
+    (found : List Finding) : Type 0 where
   pub from : ℕ
-  pub leads : Leads line level rows from
+  pub leads : Leads skip line level found from
   pub before : from ≤ known
   pub high : Holds level from known true
 
 -- A frame is open. The bits whose middle is known were read, but that at the last instant which is
 -- known.
-pub record IsFramed (line : Line) (level : ℕ → Bool) (known : ℕ) (rows : List Event)
-    (frame : Frame) : Type 0 where
+pub record IsFramed (skip : Bool) (line : Line) (level : ℕ → Bool) (known : ℕ)
+    (found : List Finding) (frame : Frame) : Type 0 where
   pub from : ℕ
-  pub leads : Leads line level rows from
+  pub leads : Leads skip line level found from
   pub falls : Falls level from frame.start
   pub begun : frame.start < known
   pub near : known ≤ frame.next + 1
@@ -68,20 +71,37 @@ pub record IsReadOn (frame more : Frame) : Type 0 where
       more.value ≡ frame.value + (if frame.high then 2 ^ (frame.taken - 1) else 0)
 
 -- the line is low since an instant, and was so at the middle of the stop bit
-pub record IsLow (line : Line) (level : ℕ → Bool) (known : ℕ) (rows : List Event) (start : ℕ) :
-    Type 0 where
+pub record IsLow (skip : Bool) (line : Line) (level : ℕ → Bool) (known : ℕ)
+    (found : List Finding) (start : ℕ) : Type 0 where
   pub from : ℕ
-  pub leads : Leads line level rows from
+  pub leads : Leads skip line level found from
   pub falls : Falls level from start
   pub late : middle_of start 10 < known
   pub low : Holds level start known false
 
--- where a line stands whose levels are known up to an instant, and its rows so far
-abbrev pub Stands : Line → (ℕ → Bool) → ℕ → State → List Event → Type 0
-Stands line level known Unknown rows = (rows ≡ []) × Holds level 0 known false
-Stands line level known Idle rows = IsIdle line level known rows
-Stands line level known (Framed frame) rows = IsFramed line level known rows frame
-Stands line level known (Low start) rows = IsLow line level known rows start
+-- a damaged word is passed over, and the line is low since the middle of its stop bit
+pub record IsWaiting (skip : Bool) (line : Line) (level : ℕ → Bool) (known : ℕ)
+    (found : List Finding) (start : ℕ) : Type 0 where
+  pub from : ℕ
+  pub leads : Leads skip line level found from
+  pub falls : Falls level from start
+  pub skips : skip ≡ true
+  pub damaged : IsDamaged line level start
+  pub late : middle_of start 10 < known
+  pub low : Holds level (middle_of start 10) known false
+
+-- a pulse: the line is high from the middle of a start bit up to an instant behind it
+pub record IsPulse (level : ℕ → Bool) (start at : ℕ) : Type 0 where
+  pub before : middle_of start 0 < at
+  pub high : Holds level (middle_of start 0) at true
+
+-- where a line stands whose levels are known up to an instant, and what was found so far
+abbrev pub Stands : Bool → Line → (ℕ → Bool) → ℕ → State → List Finding → Type 0
+Stands skip line level known Unknown found = (found ≡ []) × Holds level 0 known false
+Stands skip line level known Idle found = IsIdle skip line level known found
+Stands skip line level known (Framed frame) found = IsFramed skip line level known found frame
+Stands skip line level known (Low start) found = IsLow skip line level known found start
+Stands skip line level known (Waiting start) found = IsWaiting skip line level known found start
 
 -- the level of a line from where it is known on
 abbrev pub held_of : State → Bool
@@ -89,6 +109,7 @@ held_of Unknown = false
 held_of Idle = true
 held_of (Framed frame) = frame.high
 held_of (Low start) = false
+held_of (Waiting start) = false
 
 -- the bits whose middle is before an instant were read
 abbrev pub IsDue : ℕ → State → Type 0
@@ -96,10 +117,11 @@ IsDue at Unknown = Unit {0}
 IsDue at Idle = Unit {0}
 IsDue at (Framed frame) = at ≤ frame.next
 IsDue at (Low start) = Unit {0}
+IsDue at (Waiting start) = Unit {0}
 
--- the line has no rows
-abbrev pub HasNone : Line → (ℕ → Bool) → Type 0
-HasNone line level = (all : List Event) → AreRowsOfLine line level all → ⊥
+-- nothing is found on the line, not even nothing
+abbrev pub HasNone : Bool → Line → (ℕ → Bool) → Type 0
+HasNone skip line level = (all : List Finding) → AreFoundOn skip line level all → ⊥
 
 -- the row of a break of a line, from one instant to another one
 pub record IsBreakRow (line : Line) (start end : ℕ) (row : Event) : Type 0 where
@@ -113,15 +135,7 @@ abbrev pub IsNoBreak : Line → ℕ → LineFault → Type 0
 IsNoBreak line length Framing = length < 100000
 IsNoBreak line length DeviceBreak = (100000 ≤ length) × (line ≡ Peripheral)
 IsNoBreak line length LongBreak = (10 ^ 9 ≤ length) × (line ≡ Controller)
-IsNoBreak line length Glitch = ⊥
 IsNoBreak line length Cut = ⊥
-
--- a start bit that is high at its middle, which is before an instant
-pub record IsGlitch (line : Line) (level : ℕ → Bool) (at : ℕ) (wrong : Wrong) : Type 0 where
-  pub fault : wrong.fault ≡ Glitch
-  pub begins : Begins line level wrong.start
-  pub high : level (middle_of wrong.start 0) ≡ true
-  pub before : middle_of wrong.start 0 < at
 
 -- what is wrong, as the levels up to an instant show
 pub record IsWrongBy (line : Line) (level : ℕ → Bool) (at : ℕ) (wrong : Wrong) : Type 0 where

@@ -1,9 +1,13 @@
 -- How both lines go on, moment by moment. This file serves private functions and proofs: no public
 -- clause cites it.
-use Rattle.std.specs.Prelude.{◌≡◌, ◌+◌, ◌≤◌, Bool, false, ℕ, List, [], ◌∷◌}
-use Rattle.mdb_words.specs.declared.event.Event.{Event}
+use Rattle.std.specs.Prelude.{◌≡◌, ◌+◌, ◌≤◌, ◌++◌, Bool, false, ℕ, List, [], ◌∷◌}
 use Rattle.mdb_words.specs.declared.word.Line.{Line}
-use Rattle.mdb_levels.specs.Levels.{AreRowsOfLine}
+use Rattle.mdb_exports.specs.Places.{AreNoted}
+use Rattle.mdb_exports.specs.declared.places.Place.{Place}
+use Rattle.mdb_exports.specs.declared.places.Places.{Places}
+use Rattle.mdb_levels.specs.Levels.{AreFoundOn, damaged_in, pulses_in, rows_in}
+use Rattle.mdb_levels.specs.declared.finding.Finding.{Finding}
+use Rattle.mdb_levels.specs.declared.passed.Passed.{Passed}
 use Rattle.mdb_levels.specs.Moments.{end_of, level_on}
 use Rattle.mdb_levels.specs.declared.lines.Wave.{Wave}
 use Rattle.mdb_levels.specs.declared.moment.Moment.{Moment}
@@ -25,16 +29,36 @@ abbrev pub last_of : Line → Bool → List Moment → Bool
 last_of line before [] = before
 last_of line before (moment ∷ moments) = last_of line (level_on line moment) moments
 
--- a line has taken the levels of moments
-pub record HasHeard (wave : Wave) (line : Line) (moments : List Moment) : Type 0 where
+-- a line has taken the levels of moments, and this was found
+pub record HasHeard (skip : Bool) (wave : Wave) (line : Line) (moments : List Moment)
+    (found : List Finding) : Type 0 where
   pub same : wave.line ≡ line
+  pub skips : wave.skip ≡ skip
   pub held : held_of wave.state ≡ last_of line false moments
+  pub rows : wave.rows.items ≡ rows_in found
   pub stands : (level : ℕ → Bool) → Shows line level false 0 moments →
-      Stands line level (end_of 0 moments) wave.state wave.rows.items
+      Stands skip line level (end_of 0 moments) wave.state found
 
--- it has no rows, whatever moments come behind these
-abbrev pub IsBarred : Line → List Moment → Type 0
-IsBarred line moments = (level : ℕ → Bool) → Shows line level false 0 moments → HasNone line level
+-- places were noted in addition
+pub record AreAdded (old new : Places) (more : List Place) : Type 0 where
+  pub are : (all : List Place) → AreNoted old all → AreNoted new (all ++ more)
+
+-- what was found more was noted, where it is passed over
+pub record IsPassed (old new : Passed) (more : List Finding) : Type 0 where
+  pub pulses : AreAdded old.pulses new.pulses (pulses_in more)
+  pub damaged : AreAdded old.damaged new.damaged (damaged_in more)
+
+-- a line has taken a moment more, and what was found there was noted
+pub record HasTurned (skip : Bool) (wave : Wave) (line : Line) (moments : List Moment)
+    (found : List Finding) (old new : Passed) : Type 0 where
+  pub more : List Finding
+  pub heard : HasHeard skip wave line moments (found ++ more)
+  pub noted : IsPassed old new more
+
+-- nothing more is found, whatever moments come behind these
+abbrev pub IsBarred : Bool → Line → List Moment → Type 0
+IsBarred skip line moments =
+    (level : ℕ → Bool) → Shows line level false 0 moments → HasNone skip line level
 
 -- a moment that comes behind others, of which a line takes this level at this instant
 pub record IsNow (line : Line) (moments : List Moment) (moment : Moment) (at : ℕ) (high : Bool) :
@@ -48,14 +72,23 @@ pub record Fits (line : Line) (level : ℕ → Bool) (moments : List Moment) : T
   pub shows : Shows line level false 0 moments
   pub stays : (t : ℕ) → end_of 0 moments ≤ t → level t ≡ last_of line false moments
 
--- these are the rows of a line, by all its moments
-abbrev pub IsWhole : Line → List Moment → List Event → Type 0
-IsWhole line moments rows =
-    (level : ℕ → Bool) → Fits line level moments → AreRowsOfLine line level rows
+-- this is what is found on a line, by all its moments
+abbrev pub IsWhole : Bool → Line → List Moment → List Finding → Type 0
+IsWhole skip line moments found =
+    (level : ℕ → Bool) → Fits line level moments → AreFoundOn skip line level found
 
--- it has no rows, by all its moments
-abbrev pub IsEmpty : Line → List Moment → Type 0
-IsEmpty line moments = (level : ℕ → Bool) → Fits line level moments → HasNone line level
+-- a line has taken its end, and what was found there was noted
+pub record HasStopped (skip : Bool) (wave : Wave) (line : Line) (moments : List Moment)
+    (found : List Finding) (old new : Passed) : Type 0 where
+  pub more : List Finding
+  pub whole : IsWhole skip line moments (found ++ more)
+  pub rows : wave.rows.items ≡ rows_in (found ++ more)
+  pub noted : IsPassed old new more
+
+-- nothing is, by all its moments
+abbrev pub IsEmpty : Bool → Line → List Moment → Type 0
+IsEmpty skip line moments =
+    (level : ℕ → Bool) → Fits line level moments → HasNone skip line level
 
 -- what is so of a line where it takes no more
 abbrev pub IsStopOf : Line → (Wrong → Type 0) → LevelsFault → Type 0

@@ -20,7 +20,7 @@ returns-in-Ok-clause-ok g c all to_come =
     c.args.columns.now c.loop-number.earliest c.loop-number.number c.loop-number.lines
     c.end.new.self all so_far
     (subst P c.in-Ok-false.field-0-test (c.in-Ok-false.ensures.next so_far.rest so_far.to_come))
-    c.in-Ok.ensures.ok
+    (c.in-Ok.ensures.ok c.args.options.now.skip_damaged)
 
 pub returns-in-Err-end-clause-err : goal.returns-in-Err-end-clause-err
 returns-in-Err-end-clause-err g c all to_come others rows =
@@ -30,7 +30,7 @@ returns-in-Err-end-clause-err g c all to_come others rows =
     c.args.columns.now c.loop-number.earliest c.loop-number.number c.loop-number.lines all
     c.in-Err-end.fault c.at.result others rows so_far
     (subst P c.in-Ok-false.field-0-test (c.in-Ok-false.ensures.next so_far.rest so_far.to_come))
-    c.in-Err-end.ensures.err c.at.ensures
+    (c.in-Err-end.ensures.err c.args.options.now.skip_damaged) c.at.ensures
 
 pub returns-in-Err-take_record-clause-err : goal.returns-in-Err-take_record-clause-err
 returns-in-Err-take_record-clause-err g c all to_come others rows =
@@ -73,7 +73,7 @@ returns-in-Err-end-clause-why g c header all named to_come =
     c.loop-number.earliest c.loop-number.number c.loop-number.lines all [] header so_far none
     named)
     (met_end c.in-Err-end.fault c.args.options.now c.args.columns.now so_far.moments
-    (c.in-Err-end.ensures.wrong so_far.moments so_far.has.heard)) c.at.ensures
+    (c.in-Err-end.ensures.wrong c.args.options.now.skip_damaged so_far.moments so_far.has.heard)) c.at.ensures
 
 pub returns-in-Err-take_record-clause-why : goal.returns-in-Err-take_record-clause-why
 returns-in-Err-take_record-clause-why g c header all named to_come =
