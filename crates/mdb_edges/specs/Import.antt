@@ -43,8 +43,8 @@ HaveNoRows options number records = (others : List (List (List ℕ))) (rows : Li
     (pulses damaged : List Place) → take number others ≡ take number records →
     AreRowsOfTable options others rows pulses damaged → ⊥
 
--- a fault of the table: it is the first, and there are no rows, for the records up to the one of the
--- number
+-- a fault of the table: it is the first, and there are no rows, for the records up to the one of
+-- the number
 abbrev pub AreFaulty : EdgesOptions → List (List (List ℕ)) → EdgesFault → ℕ → Type 0
 AreFaulty options records fault number =
     IsFirstFault options records fault × HaveNoRows options number records

@@ -19,9 +19,9 @@ use std::io::{Read, Write};
 /// Reads the table of edges whose records are still to come, and writes the rows of its words and
 /// breaks, each with a line feed.
 ///
-/// No row is written before all is read, so where the table is refused none is. What is written then
-/// is one line, which is no row, so that no checker takes it. The table's text isn't kept, but its
-/// rows are, up to three times: 200,000 rows of a table of 17 MB take 14 MB.
+/// No row is written before all is read, so where the table is refused none is. Then one line is
+/// written, which is no row, so that no checker takes it. The table's text isn't kept, but its rows
+/// are, up to three times: 200,000 rows of a table of 17 MB take 14 MB.
 ///
 /// # Errors
 ///

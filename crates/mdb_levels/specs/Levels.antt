@@ -69,12 +69,13 @@ pub record IsHighAgain (level : ℕ → Bool) (from again : ℕ) : Type 0 where
 abbrev pub place_at : Line → ℕ → Place
 place_at line start = record { at = micros_of start; line = line }
 
--- What is found on a line that has nothing open at an instant. It stays high. Or it falls, and that
--- is the start of a frame, after the middle of whose stop bit it goes on so; or, on the controller's
--- line, that of a break, after which it goes on so. Or it is a pulse: the line is high at the middle
--- of what would be the start bit, and goes on so from there. Or, where damage is skipped, it is a
--- damaged word: it goes on so where the line is high again after the middle of the stop bit, or
--- never is.
+-- What is found on a line that has nothing open at an instant. It stays high, and that is nothing.
+-- Or it falls, and that is one of these:
+--   * a frame: it goes on so after the middle of the stop bit
+--   * on the controller's line a break: it goes on so after that
+--   * a pulse, as the line is high at the middle of what would be the start bit: it goes on so there
+--   * where damage is skipped, a damaged word: it goes on so where the line is high again after the
+--     middle of the stop bit; where it never is, nothing more is found
 pub data Follows : Bool → Line → (ℕ → Bool) → ℕ → List Finding → Type 0 where
   silent : {skip : Bool} {line : Line} {level : ℕ → Bool} {from : ℕ} →
       ((t : ℕ) → from ≤ t → level t ≡ true) → Follows skip line level from []

@@ -90,7 +90,8 @@ fn stop(line: Line, skip: bool, frame: Frame) -> Result<Step, Wrong>
     ensures err { IfErr result (λ _. (level : ℕ → Bool) (known at : ℕ) (found : List Finding) →
         IsFramed skip line level known found frame → known ≤ at → frame.next < at →
         Holds level known at frame.high → HasNone skip line level) }
-    ensures wrong { IfErr result (λ wrong. (level : ℕ → Bool) (known at : ℕ) (found : List Finding) →
+    ensures wrong { IfErr result (λ wrong. (level : ℕ → Bool) (known at : ℕ)
+        (found : List Finding) →
         IsFramed skip line level known found frame → known ≤ at → frame.next < at →
         Holds level known at frame.high → IsWrongBy line level at wrong) }
     ensures low { IfErr result (λ _. frame.high ≡ false) }

@@ -42,7 +42,8 @@ pub record IsBusOfTable (options : EdgesOptions) (records : List (List (List ℕ
   pub pulses_noted : AreNoted bus.pulses pulses
   pub damaged_noted : AreNoted bus.damaged damaged
 
--- what a fault tells of records, where nothing was written; where writing failed, a front of the rows
+-- what a fault tells of records, where nothing was written; where writing failed, a front of the
+-- rows was
 abbrev pub AreUnclosed : EdgesOptions → List (List (List ℕ)) → EdgesFault → Option (List ℕ) →
     Option (List ℕ) → Type 0
 AreUnclosed options records fault before after =
