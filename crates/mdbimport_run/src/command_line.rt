@@ -11,8 +11,9 @@ ghost use Rattle.mdb_exports.specs.declared.units.Unit.{Unit};
 ghost use Rattle.mdb_sigrok.specs.declared.options.SigrokOptions.{SigrokOptions};
 ghost use Rattle.mdb_saleae.specs.declared.options.SaleaeOptions.{SaleaeOptions};
 ghost use Rattle.mdb_edges.specs.declared.options.EdgesOptions.{EdgesOptions};
-ghost use Rattle.mdbimport_run.specs.Program.{AreApart, IsLength, IsLineName, IsUnit, TellNames};
-ghost use Rattle.mdbimport_run.specs.Program.{TellsOnce, letters, mdbimport_manual, no_memory};
+ghost use Rattle.mdbimport_run.specs.Program.{AreApart, Common, IsLength, IsLineName, IsUnit};
+ghost use Rattle.mdbimport_run.specs.Program.{TellCommon, TellNames, TellsOnce, common_of, letters};
+ghost use Rattle.mdbimport_run.specs.Program.{mdbimport_manual, no_memory};
 ghost use Rattle.mdbimport_run.specs.inner.CommandLine.{AskFor, FindEdges, FindRows, FindSaleae};
 ghost use Rattle.mdbimport_run.specs.inner.CommandLine.{FindSigrok, FindTask, names};
 
@@ -189,15 +190,13 @@ fn rows_options(alloc: Global, found: &Named<'_>) -> Result<RowsOptions, Refusal
         → FindRows found.now options → refusal ≡ no_memory) }
 {
     let unit = unit_in(found)?;
-    let names = names_in(alloc, found)?;
-    let from = time_in(found, FROM)?;
-    let until = time_in(found, UNTIL)?;
+    let common = common_in(alloc, found)?;
     Ok(RowsOptions {
         unit,
-        controller: names.controller,
-        peripheral: names.peripheral,
-        from,
-        until,
+        controller: common.controller,
+        peripheral: common.peripheral,
+        from: common.from,
+        until: common.until,
     })
 }
 
@@ -219,16 +218,14 @@ fn saleae_options(alloc: Global, found: &Named<'_>) -> Result<SaleaeOptions, Ref
     ensures refused { IfErr result (λ refusal. (options : SaleaeOptions)
         → FindSaleae found.now options → refusal ≡ no_memory) }
 {
-    let names = names_in(alloc, found)?;
     let break_length = length_in(found)?;
-    let from = time_in(found, FROM)?;
-    let until = time_in(found, UNTIL)?;
+    let common = common_in(alloc, found)?;
     Ok(SaleaeOptions {
-        controller: names.controller,
-        peripheral: names.peripheral,
+        controller: common.controller,
+        peripheral: common.peripheral,
         break_length,
-        from,
-        until,
+        from: common.from,
+        until: common.until,
     })
 }
 
@@ -239,17 +236,15 @@ fn edges_options(alloc: Global, found: &Named<'_>) -> Result<EdgesOptions, Refus
         → FindEdges found.now options → refusal ≡ no_memory) }
 {
     let told = unit_in(found)?;
-    let names = names_in(alloc, found)?;
-    let from = time_in(found, FROM)?;
-    let until = time_in(found, UNTIL)?;
+    let common = common_in(alloc, found)?;
     let invert = found.is_used(INVERT);
     Ok(EdgesOptions {
         unit: told.unwrap_or(Unit::Seconds),
-        controller: names.controller,
-        peripheral: names.peripheral,
+        controller: common.controller,
+        peripheral: common.peripheral,
         invert,
-        from,
-        until,
+        from: common.from,
+        until: common.until,
     })
 }
 
@@ -296,6 +291,34 @@ fn unit_of(word: &str) -> Option<Unit>
     }
 }
 
+/// What the options of all imports of tables tell: what the lines are called, and the ends of the
+/// part.
+#[derive(Drop)]
+struct CommonOptions {
+    controller: Option<String>,
+    peripheral: Option<String>,
+    from: Option<u64>,
+    until: Option<u64>,
+}
+
+/// What these options tell.
+fn common_in(alloc: Global, found: &Named<'_>) -> Result<CommonOptions, Refusal>
+    ensures told { IfOk result (λ common. TellCommon (values_in found.now)
+        (common_of common.controller common.peripheral common.from common.until)) }
+    ensures refused { IfErr result (λ refusal. (common : Common)
+        → TellCommon (values_in found.now) common → refusal ≡ no_memory) }
+{
+    let names = names_in(alloc, found)?;
+    let from = time_in(found, FROM)?;
+    let until = time_in(found, UNTIL)?;
+    Ok(CommonOptions {
+        controller: names.controller,
+        peripheral: names.peripheral,
+        from,
+        until,
+    })
+}
+
 /// The names of both lines, as far as they were told.
 #[derive(Drop)]
 struct Names {
@@ -305,14 +328,8 @@ struct Names {
 
 /// The names of both lines that were told.
 fn names_in(alloc: Global, found: &Named<'_>) -> Result<Names, Refusal>
-    ensures controller { IfOk result (λ names. TellsOnce IsLineName
-        (values_in found.now (codes "controller"))
-        (option_map string_bytes names.controller)) }
-    ensures peripheral { IfOk result (λ names. TellsOnce IsLineName
-        (values_in found.now (codes "peripheral"))
-        (option_map string_bytes names.peripheral)) }
-    ensures apart { IfOk result (λ names. AreApart (option_map string_bytes names.controller)
-        (option_map string_bytes names.peripheral)) }
+    ensures told { IfOk result (λ names. TellNames (values_in found.now)
+        (option_map string_bytes names.controller) (option_map string_bytes names.peripheral)) }
     ensures refused { IfErr result (λ refusal. (controller peripheral : Option (List ℕ))
         → TellNames (values_in found.now) controller peripheral
         → refusal ≡ no_memory) }
