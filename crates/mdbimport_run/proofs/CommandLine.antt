@@ -61,7 +61,7 @@ module _ (words : List Text) (found : Named) (read : IsReadFrom commands words f
     read.uses,
     named_as commands words found read saleae_command refl is,
     asked_by found
-        read.uses read.has (λ values used. AskForSaleae values options) finds,
+        read.uses read.has (λ values used. AskForSaleae values used options) finds,
   )
   asked (Edges options) (is, finds) = (
     read.uses,
@@ -86,7 +86,7 @@ module _ (words : List Text) (found : Named) (read : IsReadFrom commands words f
       (is, found_by found uses has (λ values used. AskForSigrok values used options) asks)
   finds (Saleae options) (uses, names, asks) =
       let (is, has) = found_as commands words found read saleae_command uses refl names in
-      (is, found_by found uses has (λ values used. AskForSaleae values options) asks)
+      (is, found_by found uses has (λ values used. AskForSaleae values used options) asks)
   finds (Edges options) (uses, names, asks) =
       let (is, has) = found_as commands words found read edges_command uses refl names in
       (is, found_by found uses has (λ values used. AskForEdges values used options) asks)
@@ -248,13 +248,15 @@ module _ (one : WordsNameOneCommand) where
   one_sigrok words a b (uses, named, asks) (other, also, asks_too) =
       let alike = alike_in words of_sigrok uses other named also in
       let swap : a.swap ≡ b.swap = sym asks.swap ∙ alike.flags (codes "swap") ∙ asks_too.swap in
+      let skips : a.skip_damaged ≡ b.skip_damaged =
+      sym asks.skips ∙ alike.flags (codes "skip-damaged") ∙ asks_too.skips in
       let from = one_time (chosen (codes "from") other) a.from b.from
       (subst (λ v. TellsOnce (IsDecimal 15) v a.from) (alike.values (codes "from")) asks.from)
       asks_too.from in
       let until = one_time (chosen (codes "until") other) a.until b.until
       (subst (λ v. TellsOnce (IsDecimal 15) v a.until) (alike.values (codes "until")) asks.until)
       asks_too.until in
-      λ i. record { swap = swap i; from = from i; until = until i }
+      λ i. record { swap = swap i; skip_damaged = skips i; from = from i; until = until i }
 
   pub one_saleae : (words : List Text) (a b : SaleaeOptions) → NameSaleae words a
       → NameSaleae words b → AskTheSameOfTable a b
@@ -263,6 +265,7 @@ module _ (one : WordsNameOneCommand) where
         length = one_length (chosen (codes "break") other) a.break_length b.break_length
             (subst (λ v. TellsOnce IsLength v a.break_length) (alike.values (codes "break"))
             asks.length) asks_too.length;
+        skips = sym asks.skips ∙ alike.flags (codes "skip-damaged") ∙ asks_too.skips;
         common = common_same (λ name. chosen name uses) (λ name. chosen name other) alike.values
             (common_of_saleae a) (common_of_saleae b) asks.common asks_too.common;
       }
@@ -274,6 +277,7 @@ module _ (one : WordsNameOneCommand) where
         unit = one_unit_told (chosen (codes "unit") other) a.unit b.unit
             (subst (λ v. TellsUnit v a.unit) (alike.values (codes "unit")) asks.unit) asks_too.unit;
         invert = sym asks.invert ∙ alike.flags (codes "invert") ∙ asks_too.invert;
+        skips = sym asks.skips ∙ alike.flags (codes "skip-damaged") ∙ asks_too.skips;
         common = common_same (λ name. chosen name uses) (λ name. chosen name other) alike.values
             (common_of_edges a) (common_of_edges b) asks.common asks_too.common;
       }

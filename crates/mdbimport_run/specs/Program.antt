@@ -48,7 +48,7 @@ abbrev pub sigrok_command : Command
 sigrok_command = record {
   name = codes "sigrok";
   options = codes "from" ∷ codes "until" ∷ [];
-  flags = codes "swap" ∷ [];
+  flags = codes "swap" ∷ codes "skip-damaged" ∷ [];
   words = [];
   further = [];
 }
@@ -59,14 +59,17 @@ saleae_command = record {
   name = codes "saleae";
   options = codes "controller" ∷ codes "peripheral" ∷ codes "break" ∷ codes "from"
       ∷ codes "until" ∷ [];
-  flags = [];
+  flags = codes "skip-damaged" ∷ [];
   words = [];
   further = [];
 }
 
 -- what `edges` knows
 abbrev pub edges_command : Command
-edges_command = record rows_command { name = codes "edges"; flags = codes "invert" ∷ [] }
+edges_command = record rows_command {
+  name = codes "edges";
+  flags = codes "invert" ∷ codes "skip-damaged" ∷ [];
+}
 
 -- what `manual` knows: the name of a command, which may be missing
 abbrev pub manual_command : Command
@@ -195,24 +198,27 @@ pub record AskForRows (values : List ℕ → List (List ℕ)) (options : RowsOpt
   pub unit : TellsOnce IsUnit (values (codes "unit")) options.unit
   pub common : TellCommon values (common_of_rows options)
 
--- Those of `sigrok`, and whether its flag was used, ask for an import with these.
+-- Those of `sigrok`, and whether each flag was used, ask for an import with these.
 pub record AskForSigrok (values : List ℕ → List (List ℕ)) (used : List ℕ → Bool)
     (options : SigrokOptions) : Type 0 where
   pub swap : used (codes "swap") ≡ options.swap
+  pub skips : used (codes "skip-damaged") ≡ options.skip_damaged
   pub from : TellsOnce (IsDecimal 15) (values (codes "from")) options.from
   pub until : TellsOnce (IsDecimal 15) (values (codes "until")) options.until
 
--- Those of `saleae` ask for an import with these.
-pub record AskForSaleae (values : List ℕ → List (List ℕ)) (options : SaleaeOptions)
-    : Type 0 where
+-- Those of `saleae`, and whether its flag was used, ask for an import with these.
+pub record AskForSaleae (values : List ℕ → List (List ℕ)) (used : List ℕ → Bool)
+    (options : SaleaeOptions) : Type 0 where
   pub length : TellsOnce IsLength (values (codes "break")) options.break_length
+  pub skips : used (codes "skip-damaged") ≡ options.skip_damaged
   pub common : TellCommon values (common_of_saleae options)
 
--- Those of `edges`, and whether its flag was used, ask for an import with these.
+-- Those of `edges`, and whether each flag was used, ask for an import with these.
 pub record AskForEdges (values : List ℕ → List (List ℕ)) (used : List ℕ → Bool)
     (options : EdgesOptions) : Type 0 where
   pub unit : TellsUnit (values (codes "unit")) options.unit
   pub invert : used (codes "invert") ≡ options.invert
+  pub skips : used (codes "skip-damaged") ≡ options.skip_damaged
   pub common : TellCommon values (common_of_edges options)
 
 -- Two ways of importing rows that are told by the same.
@@ -223,12 +229,14 @@ pub record AskTheSame (a b : RowsOptions) : Type 0 where
 -- two ways of importing an analyser's table that are told by the same
 pub record AskTheSameOfTable (a b : SaleaeOptions) : Type 0 where
   pub length : a.break_length ≡ b.break_length
+  pub skips : a.skip_damaged ≡ b.skip_damaged
   pub common : common_of_saleae a ≡ common_of_saleae b
 
 -- two ways of importing a table of edges that are told by the same
 pub record AskTheSameOfEdges (a b : EdgesOptions) : Type 0 where
   pub unit : a.unit ≡ b.unit
   pub invert : a.invert ≡ b.invert
+  pub skips : a.skip_damaged ≡ b.skip_damaged
   pub common : common_of_edges a ≡ common_of_edges b
 
 -- ---- what words name
@@ -246,7 +254,7 @@ NameSigrok words options = (uses : Uses) × NameCommand words sigrok_command use
 -- they name `saleae` with these options
 abbrev pub NameSaleae : List (List ℕ) → SaleaeOptions → Type 0
 NameSaleae words options = (uses : Uses) × NameCommand words saleae_command uses
-    × AskForSaleae (λ name. chosen name uses) options
+    × AskForSaleae (λ name. chosen name uses) (λ name. is_used name uses) options
 
 -- they name `edges` with these options
 abbrev pub NameEdges : List (List ℕ) → EdgesOptions → Type 0

@@ -4,7 +4,7 @@ ghost use Rattle.std.specs.Prelude.{◌≡◌, ◌≢◌, ◌↔◌, List, ℕ, 
 ghost use Rattle.std.specs.Prelude.{IsTrue, codes, map, option_map, option_to_list, string_bytes};
 ghost use Rattle.command_words.specs.Grammar.{IsOneOf};
 ghost use Rattle.command_words.specs.Manual.{AskForManual, manual_text};
-ghost use Rattle.command_words.specs.Named.{name_in, values_in};
+ghost use Rattle.command_words.specs.Named.{name_in, used_in, values_in};
 ghost use Rattle.mdb_words.specs.Digits.{IsDecimal};
 ghost use Rattle.mdb_rows_import.specs.declared.options.RowsOptions.{RowsOptions};
 ghost use Rattle.mdb_exports.specs.declared.units.Unit.{Unit};
@@ -56,6 +56,9 @@ pub(crate) const BREAK: &str = "break";
 /// The option that takes the levels of a table of edges upside down.
 const INVERT: &str = "invert";
 
+/// The option that leaves damaged words out.
+const SKIP_DAMAGED: &str = "skip-damaged";
+
 /// The word that names the command whose part of the manual is asked for.
 pub(crate) const COMMAND: &str = "COMMAND";
 
@@ -77,29 +80,29 @@ pub(crate) const PROGRAM: Program<'static> = Program {
         CommandRow {
             name: "sigrok",
             options: &[FROM, UNTIL],
-            flags: &[SWAP],
+            flags: &[SWAP, SKIP_DAMAGED],
             words: &[],
             further: &[],
-            usage: "sigrok [--swap] [--from T] [--until T] < TRACE",
+            usage: "sigrok [--swap] [--skip-damaged] [--from T] [--until T] < TRACE",
             manual: manual::SIGROK,
         },
         CommandRow {
             name: "saleae",
             options: &[CONTROLLER, PERIPHERAL, BREAK, FROM, UNTIL],
-            flags: &[],
+            flags: &[SKIP_DAMAGED],
             words: &[],
             further: &[],
-            usage: "saleae [--controller NAME] [--peripheral NAME] [--break T] [--from T] \
-[--until T] < CSV",
+            usage: "saleae [--controller NAME] [--peripheral NAME] [--break T] [--skip-damaged] \
+[--from T] [--until T] < CSV",
             manual: manual::SALEAE,
         },
         CommandRow {
             name: "edges",
             options: &[UNIT, CONTROLLER, PERIPHERAL, FROM, UNTIL],
-            flags: &[INVERT],
+            flags: &[INVERT, SKIP_DAMAGED],
             words: &[],
             further: &[],
-            usage: "edges [--unit s|ms|us|ns] [--controller NAME] [--peripheral NAME] [--invert] \
+            usage: "edges [--unit U] [--controller N] [--peripheral N] [--invert] [--skip-damaged] \
 [--from T] [--until T] < CSV",
             manual: manual::EDGES,
         },
@@ -209,7 +212,13 @@ fn sigrok_options(found: &Named<'_>) -> Result<SigrokOptions, Refusal>
     let from = time_in(found, FROM)?;
     let until = time_in(found, UNTIL)?;
     let swap = found.is_used(SWAP);
-    Ok(SigrokOptions { swap, from, until })
+    let skip_damaged = skips_in(found);
+    Ok(SigrokOptions {
+        swap,
+        skip_damaged,
+        from,
+        until,
+    })
 }
 
 /// What the options of `saleae` ask for.
@@ -220,10 +229,12 @@ fn saleae_options(alloc: Global, found: &Named<'_>) -> Result<SaleaeOptions, Ref
 {
     let break_length = length_in(found)?;
     let common = common_in(alloc, found)?;
+    let skip_damaged = skips_in(found);
     Ok(SaleaeOptions {
         controller: common.controller,
         peripheral: common.peripheral,
         break_length,
+        skip_damaged,
         from: common.from,
         until: common.until,
     })
@@ -238,14 +249,23 @@ fn edges_options(alloc: Global, found: &Named<'_>) -> Result<EdgesOptions, Refus
     let told = unit_in(found)?;
     let common = common_in(alloc, found)?;
     let invert = found.is_used(INVERT);
+    let skip_damaged = skips_in(found);
     Ok(EdgesOptions {
         unit: told.unwrap_or(Unit::Seconds),
         controller: common.controller,
         peripheral: common.peripheral,
         invert,
+        skip_damaged,
         from: common.from,
         until: common.until,
     })
+}
+
+/// Whether damaged words are to be left out.
+fn skips_in(found: &Named<'_>) -> bool
+    ensures { used_in found.now (codes "skip-damaged") ≡ result }
+{
+    found.is_used(SKIP_DAMAGED)
 }
 
 /// The value of an option, if it has one.

@@ -19,7 +19,7 @@ const DONE: u8 = 0;
 const NOT_DONE: u8 = 2;
 
 /// How a run of the program ended.
-#[derive(Clone, Copy, Debug)]
+#[derive(Debug, Drop)]
 pub enum Ended {
     /// The words name `rows`, and that import returned this.
     Rows(Result<Imported, ImportFault>),

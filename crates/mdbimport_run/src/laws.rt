@@ -4,6 +4,7 @@
 ghost use Rattle.std.specs.Prelude.{◌≡◌, List, ℕ};
 ghost use Rattle.mdb_words.specs.declared.event.Event.{Event};
 ghost use Rattle.mdb_exports.specs.ReadBack.{AreReadBack};
+ghost use Rattle.mdb_exports.specs.declared.places.Place.{Place};
 ghost use Rattle.mdb_rows_import.specs.declared.options.RowsOptions.{RowsOptions};
 ghost use Rattle.mdb_sigrok.specs.Part.{part_of};
 ghost use Rattle.mdb_sigrok.specs.Trace.{AreRowsOfTrace};
@@ -40,5 +41,6 @@ pub fn command_lines_name_one_task()
 /// an export or a table.
 pub fn rows_of_traces_are_read_back()
     ensures { (options : SigrokOptions) (text : List ℕ) (rows : List Event)
-        → AreRowsOfTrace options.swap text rows → AreReadBack (part_of options rows) }
+        (pulses damaged : List Place) → AreRowsOfTrace options text rows pulses damaged
+        → AreReadBack (part_of options rows) }
 {}

@@ -69,7 +69,7 @@ fn run_rows<R: Read + Drop, W: Write, E: Write>(
 {
     let mut records = records_of(alloc, reader);
     let answer = import_records(alloc, options, &mut records, out);
-    tell(answer, &records, err);
+    tell(&answer, &records, err);
     answer
 }
 
@@ -85,7 +85,7 @@ fn run_sigrok<R: Read + Drop, W: Write, E: Write>(
         (W.contents out.old) (W.contents out.new) result) }
 {
     let answer = import_sigrok(alloc, options, reader, out);
-    tell_of_trace(answer, err);
+    tell_of_trace(&answer, err);
     answer
 }
 
@@ -102,7 +102,7 @@ fn run_saleae<R: Read + Drop, W: Write, E: Write>(
 {
     let mut records = records_of(alloc, reader);
     let answer = import_table(options, &mut records, out);
-    tell_of_table(answer, &records, err);
+    tell_of_table(&answer, &records, err);
     answer
 }
 
@@ -119,7 +119,7 @@ fn run_edges<R: Read + Drop, W: Write, E: Write>(
 {
     let mut records = records_of(alloc, reader);
     let answer = import_edge_records(alloc, options, &mut records, out);
-    tell_of_edges(options, answer, &records, err);
+    tell_of_edges(options, &answer, &records, err);
     answer
 }
 

@@ -24,5 +24,6 @@ pub returns-clause-asked : goal.returns-clause-asked
 returns-clause-asked c = record {
   unit = (c.in_ok-told.told, c.in_ok-told.ensures.told, c.unwrap_or.ensures);
   invert = sym c.is_used-invert.ensures;
+  skips = c.skips_in-skip_damaged.ensures;
   common = c.in_ok-common.ensures.told;
 }

@@ -18,3 +18,10 @@ returns-in_err-common-clause-refused c =
     (λ refusal. (options : SaleaeOptions) → FindSaleae c.args.found.now options → refusal ≡ no_memory)
     c.from_residual-in_err-common.ensures.1
     (λ options asks. c.in_err-common.ensures.refused _ asks.common)
+
+pub returns-clause-asked : goal.returns-clause-asked
+returns-clause-asked c = record {
+  length = c.in_ok-break_length.ensures.told;
+  skips = c.skips_in-skip_damaged.ensures;
+  common = c.in_ok-common.ensures.told;
+}
