@@ -13,10 +13,10 @@ _mdbimport() {
         --controller | --peripheral | --break | --from | --until) ;;
         *)
             case ${COMP_WORDS[1]} in
-                sigrok) words='--swap --from --until' ;;
+                sigrok) words='--swap --skip-damaged --from --until' ;;
                 rows) words='--unit --controller --peripheral --from --until' ;;
-                saleae) words='--controller --peripheral --break --from --until' ;;
-                edges) words='--unit --controller --peripheral --invert --from --until' ;;
+                saleae) words='--controller --peripheral --break --skip-damaged --from --until' ;;
+                edges) words='--unit --controller --peripheral --invert --skip-damaged --from --until' ;;
                 manual) [ "$COMP_CWORD" -gt 2 ] || words='sigrok rows saleae edges manual' ;;
                 *) words='sigrok rows saleae edges manual' ;;
             esac

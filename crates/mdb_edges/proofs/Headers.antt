@@ -5,7 +5,7 @@ use Rattle.mdb_exports.specs.Fields.{bare}
 use Rattle.mdb_edges.specs.declared.columns.Columns.{Columns}
 use Rattle.mdb_edges.specs.declared.options.EdgesOptions.{EdgesOptions}
 use Rattle.mdb_edges.specs.Table.{IsColumn, IsField, IsHeader, IsName}
-use Rattle.mdb_edges.proofs.Orders.{compared}
+use Rattle.mdb_levels.proofs.Orders.{compared}
 
 -- the columns of a name below a place
 abbrev pub IsFoundBelow : Option (List ℕ) → ℕ → ℕ → List (List ℕ) → ℕ → Option ℕ → Type 0

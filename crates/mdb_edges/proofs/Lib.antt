@@ -1,17 +1,9 @@
-pub mod Orders
 pub mod Parts
-pub mod Passes
-pub mod Frames
-pub mod Standings
-pub mod Wrongs
-pub mod Waves
 pub mod Stops
 pub mod Headers
 pub mod Records
-pub mod Shown
 pub mod Tables
 pub mod Faults
-pub mod PartRows
 pub mod Refusals
 pub mod OneTable
 pub mod ReadBack

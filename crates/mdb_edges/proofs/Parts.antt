@@ -8,7 +8,7 @@ use Rattle.mdb_exports.specs.declared.units.Unit.{Unit}
 use Rattle.mdb_exports.specs.declared.units.Unit.TheVariants as units
 use Rattle.mdb_exports.proofs.Readings.{number_same}
 use Rattle.mdb_edges.specs.Table.{AreParts, IsInstant}
-use Rattle.mdb_edges.proofs.Orders.{compared}
+use Rattle.mdb_levels.proofs.Orders.{compared}
 
 tens : (p : ℕ) → p ≤ 15 → 10 ^ (15 - p) * 10 ^ p ≡ 1000000000000000
 tens p few =

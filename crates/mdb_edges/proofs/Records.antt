@@ -1,12 +1,12 @@
 -- The records of a table.
 use Rattle.std.proofs.Common.{◌≡◌, ◌≤◌, ◌+◌, ◌++◌, Bool, true, false, ℕ, List, [], ◌∷◌, refl, ap, subst, ◌∙◌, arith}
 use Rattle.mdb_edges.specs.declared.columns.Columns.{Columns}
-use Rattle.mdb_edges.specs.declared.moment.Moment.{Moment}
+use Rattle.mdb_levels.specs.declared.moment.Moment.{Moment}
 use Rattle.mdb_edges.specs.declared.options.EdgesOptions.{EdgesOptions}
-use Rattle.mdb_edges.specs.Table.{AreMoments, IsInstant, IsMoment, end_of, level_digit}
+use Rattle.mdb_edges.specs.Table.{AreMoments, IsInstant, IsMoment, level_digit}
 use Rattle.mdb_edges.proofs.Headers.{one_field}
 use Rattle.mdb_edges.proofs.Parts.{one_instant, per_some}
-use Rattle.mdb_edges.proofs.Waves.{IsRising}
+use Rattle.mdb_levels.specs.Moments.{AreRising, AreSmall, end_of}
 
 one_digit : (invert a b : Bool) → level_digit invert a ≡ level_digit invert b → a ≡ b
 one_digit false false false h = refl
@@ -84,9 +84,18 @@ moments_split options columns from (r ∷ body) rest (x ∷ ms) (y ∷ all) are 
 
 pub moments_rise : (options : EdgesOptions) (columns : Columns) (from : ℕ)
     (body : List (List (List ℕ))) (ms : List Moment) → AreMoments options columns from body ms
-    → IsRising from ms
+    → AreRising from ms
 moments_rise options columns from [] [] are = tt
 moments_rise options columns from [] (x ∷ ms) are = absurd are
 moments_rise options columns from (r ∷ body) [] are = absurd are
 moments_rise options columns from (r ∷ body) (x ∷ ms) are =
     (are.1, moments_rise options columns (x.at + 1) body ms are.2)
+
+pub moments_small : (options : EdgesOptions) (columns : Columns) (from : ℕ)
+    (body : List (List (List ℕ))) (ms : List Moment) → AreMoments options columns from body ms
+    → AreSmall ms
+moments_small options columns from [] [] are = tt
+moments_small options columns from [] (x ∷ ms) are = absurd are
+moments_small options columns from (r ∷ body) [] are = absurd are
+moments_small options columns from (r ∷ body) (x ∷ ms) are =
+    (are.0.instant.small, moments_small options columns (x.at + 1) body ms are.2)

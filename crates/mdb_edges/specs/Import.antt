@@ -1,95 +1,81 @@
 -- A table from a reader, and its rows to a writer.
-use Rattle.std.specs.Prelude.{◌≡◌, ◌⊎◌, ◌≤◌, ◌-◌, ◌^◌, ◌&&◌, not, Bool, ℕ, List, Option, Some, filter, length, take}
-use Rattle.std.specs.List.{list_any}
-use Rattle.std.specs.Io.KnownBytes.{Appends, Keeps}
-use Rattle.mdb_words.specs.Event.{start_of}
+use Rattle.std.specs.Prelude.{⊤, ◌≡◌, ◌⊎◌, ◌≤◌, ◌-◌, ◌^◌, ℕ, List, Option, Some, length, take}
+use Rattle.std.specs.Io.KnownBytes.{Appends}
 use Rattle.mdb_words.specs.declared.event.Event.{Event}
 use Rattle.mdb_records.specs.ToCome.{ToCome, fault_of}
 use Rattle.mdb_records.specs.declared.ReadFault.TheVariants as reading
 use Rattle.mdb_records.specs.declared.Records.{Records}
+use Rattle.mdb_exports.specs.declared.places.Place.{Place}
 use Rattle.mdb_exports.specs.Records.{export_records}
-use Rattle.mdb_exports.specs.Told.{is_controllers, is_marked, is_peripherals, told_count}
-use Rattle.mdb_exports.specs.Part.{is_from, is_until}
+use Rattle.mdb_exports.specs.Refusal.{refusal_line}
 use Rattle.mdb_exports.specs.Rows.{rows_text}
 use Rattle.mdb_writing.specs.Written.{HasTaken}
+use Rattle.mdb_levels.specs.Told.{IsWritten, part_of}
+use Rattle.mdb_levels.specs.declared.part.LevelsImported.{LevelsImported}
 use Rattle.mdb_edges.specs.Faults.{IsFirstFault}
 use Rattle.mdb_edges.specs.Table.{AreRowsOfTable}
 use Rattle.mdb_edges.specs.declared.fault.EdgesFault.{EdgesFault}
-use Rattle.mdb_edges.specs.declared.fault.EdgesFault.TheVariants.{Form, Order, Line, Read, Write, Memory}
+use Rattle.mdb_edges.specs.declared.fault.EdgesFault.TheVariants.{Form, Order, Level, Line, Read, Write, Memory}
 use Rattle.mdb_edges.specs.declared.options.EdgesOptions.{EdgesOptions}
-use Rattle.mdb_edges.specs.declared.part.EdgesImported.{EdgesImported}
-
--- whether a row is in the part that was asked for, before it, and after it
-abbrev pub is_taken : EdgesOptions → Event → Bool
-is_taken options event =
-    is_from options.from (start_of event) && is_until options.until (start_of event)
-
-abbrev pub is_before : EdgesOptions → Event → Bool
-is_before options event = not (is_from options.from (start_of event))
-
-abbrev pub is_behind : EdgesOptions → Event → Bool
-is_behind options event =
-    is_from options.from (start_of event) && not (is_until options.until (start_of event))
-
--- the rows of the part that was asked for
-abbrev pub part_of : EdgesOptions → List Event → List Event
-part_of options rows = filter (is_taken options) rows
-
--- What is told of all rows: how many are in the part, before it and after it, whether there is a
--- marked word, and one on each line.
-pub record IsTold (options : EdgesOptions) (rows : List Event) (told : EdgesImported) : Type 0 where
-  pub rows_are : told.rows ≡ told_count (is_taken options) rows
-  pub before : told.before ≡ told_count (is_before options) rows
-  pub after : told.after ≡ told_count (is_behind options) rows
-  pub marked : told.marked ≡ list_any is_marked rows
-  pub controller : told.controller ≡ list_any is_controllers rows
-  pub peripheral : told.peripheral ≡ list_any is_peripherals rows
 
 -- the rows of the table of these records that are in the part were written
 pub record AreImported (options : EdgesOptions) (records : List (List (List ℕ)))
-    (told : EdgesImported) (before after : Option (List ℕ)) : Type 0 where
+    (told : LevelsImported) (before after : Option (List ℕ)) : Type 0 where
   pub rows : List Event
-  pub of_table : AreRowsOfTable options records rows
-  pub counted : IsTold options rows told
-  pub written : Appends before after (rows_text (part_of options rows))
+  pub pulses : List Place
+  pub damaged : List Place
+  pub of_table : AreRowsOfTable options records rows pulses damaged
+  pub written : IsWritten options.from options.until rows pulses damaged told before after
 
 -- the table of these records has rows, and of those in the part a front was written
 pub record ArePartial (options : EdgesOptions) (records : List (List (List ℕ)))
     (before after : Option (List ℕ)) : Type 0 where
   pub rows : List Event
-  pub of_table : AreRowsOfTable options records rows
-  pub written : HasTaken before after (rows_text (part_of options rows))
+  pub pulses : List Place
+  pub damaged : List Place
+  pub of_table : AreRowsOfTable options records rows pulses damaged
+  pub written : HasTaken before after (rows_text (part_of options.from options.until rows))
 
 -- No table has rows that begins with the first of these records, so many, whatever comes behind
 -- them. (Where there are fewer, that is the table of these alone.)
 abbrev pub HaveNoRows : EdgesOptions → ℕ → List (List (List ℕ)) → Type 0
-HaveNoRows options number records = (others : List (List (List ℕ))) (rows : List Event) →
-    take number others ≡ take number records → AreRowsOfTable options others rows → ⊥
+HaveNoRows options number records = (others : List (List (List ℕ))) (rows : List Event)
+    (pulses damaged : List Place) → take number others ≡ take number records →
+    AreRowsOfTable options others rows pulses damaged → ⊥
 
--- a fault of the table: it is the first, there are no rows, for the records up to the one of the
--- number, and nothing was written
-abbrev pub AreFaulty : EdgesOptions → List (List (List ℕ)) → EdgesFault → ℕ → Option (List ℕ) →
-    Option (List ℕ) → Type 0
-AreFaulty options records fault number before after =
-    IsFirstFault options records fault × HaveNoRows options number records × Keeps before after
+-- a fault of the table: it is the first, and there are no rows, for the records up to the one of
+-- the number
+abbrev pub AreFaulty : EdgesOptions → List (List (List ℕ)) → EdgesFault → ℕ → Type 0
+AreFaulty options records fault number =
+    IsFirstFault options records fault × HaveNoRows options number records
 
--- What a fault tells of records: where it is one of the table, what is wrong with that. Where
--- reading failed or memory was refused, nothing was written; where writing failed, a front of the
--- rows.
+-- What a fault tells of records, before anything was written: where it is one of the table, what is
+-- wrong with that.
+abbrev pub AreRefusedFor : EdgesOptions → List (List (List ℕ)) → EdgesFault → Type 0
+AreRefusedFor options records (Form number fault) =
+    AreFaulty options records (Form number fault) number
+AreRefusedFor options records (Order number micros fault) =
+    AreFaulty options records (Order number micros fault) number
+AreRefusedFor options records (Level number micros line) =
+    AreFaulty options records (Level number micros line) number
+AreRefusedFor options records (Line number micros line fault) =
+    AreFaulty options records (Line number micros line fault) number
+AreRefusedFor options records Read = ⊤
+AreRefusedFor options records Write = ⊥
+AreRefusedFor options records Memory = ⊤
+
+-- The same, and what was written: the line that no checker takes. Where writing failed, a front of
+-- the rows was taken, or one of that line.
 abbrev pub AreRefused : EdgesOptions → List (List (List ℕ)) → EdgesFault → Option (List ℕ) →
     Option (List ℕ) → Type 0
-AreRefused options records (Form number fault) before after =
-    AreFaulty options records (Form number fault) number before after
-AreRefused options records (Order number micros fault) before after =
-    AreFaulty options records (Order number micros fault) number before after
-AreRefused options records (Line number micros line fault) before after =
-    AreFaulty options records (Line number micros line fault) number before after
-AreRefused options records Read before after = Keeps before after
-AreRefused options records Write before after = ArePartial options records before after
-AreRefused options records Memory before after = Keeps before after
+AreRefused options records fault before after =
+    (AreRefusedFor options records fault × Appends before after refusal_line)
+    ⊎ ((fault ≡ Write) × (ArePartial options records before after
+    ⊎ ((cause : EdgesFault) × AreRefusedFor options records cause
+    × HasTaken before after refusal_line)))
 
 -- the same of the records of a text
-abbrev pub IsImported : EdgesOptions → List ℕ → EdgesImported → Option (List ℕ) → Option (List ℕ)
+abbrev pub IsImported : EdgesOptions → List ℕ → LevelsImported → Option (List ℕ) → Option (List ℕ)
     → Type 0
 IsImported options text told before after =
     AreImported options (export_records text) told before after

@@ -1,17 +1,16 @@
 -- A table of edges: its columns, its records, and its rows.
-use Rattle.std.specs.Prelude.{◌≡◌, ◌≢◌, ◌⊎◌, ⊤, ◌+◌, ◌*◌, ◌^◌, ◌<◌, ◌≤◌, Bool, true, false, nat_le, if◌then◌else◌, ℕ, List, [], ◌∷◌, length, Option, Some, None, option_map, string_bytes}
+use Rattle.std.specs.Prelude.{◌≡◌, ◌≢◌, ◌⊎◌, ⊤, ◌+◌, ◌*◌, ◌^◌, ◌<◌, ◌≤◌, Bool, true, false, ℕ, List, [], ◌∷◌, length, Option, Some, None, option_map, string_bytes}
 use Rattle.csv.specs.Records.{field_at}
 use Rattle.mdb_words.specs.declared.event.Event.{Event}
-use Rattle.mdb_words.specs.declared.word.Line.{Line}
-use Rattle.mdb_words.specs.declared.word.Line.TheVariants.{Controller, Peripheral}
+use Rattle.mdb_exports.specs.declared.places.Place.{Place}
 use Rattle.mdb_exports.specs.Fields.{bare}
 use Rattle.mdb_exports.specs.Numbers.{IsNumber}
 use Rattle.mdb_exports.specs.Times.{per_second}
 use Rattle.mdb_exports.specs.declared.units.Unit.{Unit}
-use Rattle.mdb_exports.specs.Order.{Merges}
-use Rattle.mdb_edges.specs.Levels.{AreRowsOfLine, micros_of}
+use Rattle.mdb_levels.specs.Levels.{micros_of}
+use Rattle.mdb_levels.specs.Moments.{AreRowsOfBus}
 use Rattle.mdb_edges.specs.declared.columns.Columns.{Columns}
-use Rattle.mdb_edges.specs.declared.moment.Moment.{Moment}
+use Rattle.mdb_levels.specs.declared.moment.Moment.{Moment}
 use Rattle.mdb_edges.specs.declared.options.EdgesOptions.{EdgesOptions}
 
 -- a field of a record, without the blanks and quotation marks around it
@@ -96,36 +95,15 @@ AreMoments options columns earliest (row ∷ rows) (moment ∷ moments) =
     IsMoment options columns row moment × (earliest ≤ moment.at)
     × AreMoments options columns (moment.at + 1) rows moments
 
--- the first instant behind moments, the first of which isn't before an instant
-abbrev pub end_of : ℕ → List Moment → ℕ
-end_of from [] = from
-end_of from (moment ∷ moments) = end_of (moment.at + 1) moments
-
--- whether a line is high from a moment on
-abbrev pub level_on : Line → Moment → Bool
-level_on Controller moment = moment.controller
-level_on Peripheral moment = moment.peripheral
-
--- the level of a line at an instant: that of the last moment which isn't later; before the first
--- one as is said
-abbrev pub level_at : Line → Bool → List Moment → ℕ → Bool
-level_at line before [] t = before
-level_at line before (moment ∷ moments) t =
-    if nat_le moment.at t then level_at line (level_on line moment) moments t else before
-
--- The rows of a table: those of both lines in the order of their times. What isn't known before the
--- first moment counts as low.
+-- The rows of a table, and what was passed over: those of the moments that its records tell. What
+-- isn't known before the first one counts as low.
 pub record AreRowsOfTable (options : EdgesOptions) (records : List (List (List ℕ)))
-    (rows : List Event) : Type 0 where
+    (rows : List Event) (pulses damaged : List Place) : Type 0 where
   pub header : List (List ℕ)
   pub body : List (List (List ℕ))
   pub columns : Columns
   pub moments : List Moment
-  pub sent : List Event
-  pub answered : List Event
   pub parts : records ≡ header ∷ body
   pub named : IsHeader options header columns
   pub told : AreMoments options columns 0 body moments
-  pub controller : AreRowsOfLine Controller (level_at Controller false moments) sent
-  pub peripheral : AreRowsOfLine Peripheral (level_at Peripheral false moments) answered
-  pub both : Merges sent answered rows
+  pub bus : AreRowsOfBus options.skip_damaged moments rows pulses damaged

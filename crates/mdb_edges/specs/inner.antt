@@ -1,4 +1,2 @@
-pub mod Parts
-pub mod Standing
+pub mod Reading
 pub mod Stops
-pub mod Waves

@@ -2,7 +2,7 @@
 
 ghost use Rattle.mdb_edges.specs.inner.Stops.{IsTellOf};
 
-use super::instant::Instant;
+use mdb_levels::{LevelsFault, LineFault, Wire};
 use mdb_words::Line;
 use std::fmt;
 use thiserror::Error;
@@ -28,6 +28,16 @@ pub enum EdgesFault {
         /// What is wrong with it.
         fault: OrderFault,
     },
+    /// A field that is no level.
+    #[error("record {number} at {micros} on {line}: wanted a level, 0 or 1")]
+    Level {
+        /// The number of its record, counted from 1.
+        number: u64,
+        /// The time of that record in whole microseconds.
+        micros: u64,
+        /// Of which line.
+        line: Wire,
+    },
     /// Levels of a line that are no words and breaks.
     #[error("record {number} at {micros} on {line}: {fault}")]
     Line {
@@ -50,17 +60,6 @@ pub enum EdgesFault {
     /// Memory was refused.
     #[error("out of memory")]
     Memory,
-}
-
-/// A line of the bus, in a fault.
-#[derive(Clone, Copy, PartialEq, Eq, Debug, Error)]
-pub enum Wire {
-    /// The controller's line.
-    #[error("line M")]
-    Controller,
-    /// The peripherals' line.
-    #[error("line S")]
-    Peripheral,
 }
 
 /// What is wrong with a record by itself.
@@ -112,74 +111,17 @@ pub enum OrderFault {
     EarlierTime,
 }
 
-/// What is wrong with the levels of a line.
-#[derive(Clone, Copy, PartialEq, Eq, Debug)]
-pub enum LineFault {
-    /// A field that is no level, in a record of that time.
-    BadLevel,
-    /// The line falls, and is high again half a bit later: a glitch.
-    Glitch,
-    /// The line is low at the middle of a stop bit, and it isn't low for 100 milliseconds from the
-    /// start bit on.
-    Framing,
-    /// A break on the line of the peripherals.
-    DeviceBreak,
-    /// A break of more than 999,999,999 microseconds.
-    LongBreak,
-    /// The line is low at the end of the table.
-    Cut,
-}
-
-impl LineFault {
-    /// What is told of it.
-    fn text(self) -> &'static str {
-        match self {
-            LineFault::BadLevel => "wanted a level, 0 or 1",
-            LineFault::Glitch => {
-                "wanted a start bit that is low at its middle, and it is high there"
-            }
-            LineFault::Framing => {
-                "wanted a high stop bit, or a break of 100 ms or more, and the stop bit is low"
-            }
-            LineFault::DeviceBreak => {
-                "wanted words alone on the line of the peripherals, and it is low for a break"
-            }
-            LineFault::LongBreak => {
-                "wanted a break of at most 999999999 microseconds, and it is longer"
-            }
-            LineFault::Cut => "wanted a line that is high at the end of the table, and it is low",
-        }
-    }
-}
-
-impl fmt::Display for LineFault {
-    fn fmt<W: fmt::Write>(&self, f: &mut fmt::Formatter<W>) -> fmt::Result {
-        f.write_str(self.text())
-    }
-}
-
-impl std::error::Error for LineFault {}
-
-/// Why a line's levels are no words and breaks.
-#[derive(Clone, Copy)]
-pub(crate) struct Wrong {
-    /// When that began.
-    pub(crate) start: Instant,
-    /// What is wrong.
-    pub(crate) fault: LineFault,
-}
-
 /// Why the reading of a table stops.
 #[derive(Clone, Copy)]
 pub(crate) enum Stop {
     /// A record that isn't what should stand there.
     Form(FormFault),
-    /// A record that can't stand where it does.
-    Order(Instant, OrderFault),
-    /// Levels of a line that are no words and breaks.
-    Line(Line, Wrong),
-    /// Memory was refused.
-    Memory,
+    /// A record that can't stand where it does, and its time in whole microseconds.
+    Order(u64, OrderFault),
+    /// A field of a line that is no level, and the time of its record in whole microseconds.
+    Level(Line, u64),
+    /// Levels of a line that are no words and breaks, or memory was refused.
+    Levels(LevelsFault),
 }
 
 impl Stop {
@@ -189,21 +131,23 @@ impl Stop {
     {
         match self {
             Stop::Form(fault) => EdgesFault::Form { number, fault },
-            Stop::Order(at, fault) => EdgesFault::Order {
+            Stop::Order(micros, fault) => EdgesFault::Order {
                 number,
-                micros: at.time().value(),
+                micros,
                 fault,
             },
-            Stop::Line(line, wrong) => EdgesFault::Line {
+            Stop::Level(line, micros) => EdgesFault::Level {
+                number,
+                micros,
+                line: Wire::new(line),
+            },
+            Stop::Levels(LevelsFault::Line(line, wrong)) => EdgesFault::Line {
                 number,
                 micros: wrong.start.time().value(),
-                line: match line {
-                    Line::Controller => Wire::Controller,
-                    Line::Peripheral => Wire::Peripheral,
-                },
+                line: Wire::new(line),
                 fault: wrong.fault,
             },
-            Stop::Memory => EdgesFault::Memory,
+            Stop::Levels(LevelsFault::Memory) => EdgesFault::Memory,
         }
     }
 }

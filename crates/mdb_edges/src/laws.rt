@@ -4,26 +4,31 @@ ghost use Rattle.std.specs.Prelude.{◌≡◌, ℕ, List};
 ghost use Rattle.std.specs.List.{AllPairs};
 ghost use Rattle.mdb_words.specs.declared.event.Event.{Event};
 ghost use Rattle.mdb_exports.specs.ReadBack.{AreReadBack};
+ghost use Rattle.mdb_exports.specs.declared.places.Place.{Place};
 ghost use Rattle.mdb_exports.specs.Order.{Precedes};
-ghost use Rattle.mdb_edges.specs.Import.{part_of};
+ghost use Rattle.mdb_levels.specs.Told.{part_of};
 ghost use Rattle.mdb_edges.specs.Table.{AreRowsOfTable};
 ghost use Rattle.mdb_edges.specs.declared.options.EdgesOptions.{EdgesOptions};
 
-/// A table has no other rows than its rows.
+/// A table has no other rows than its rows, and nothing else is passed over.
 pub fn rows_are_the_only_ones()
-    ensures { (options : EdgesOptions) (records : List (List (List ℕ))) (rows others : List Event) →
-        AreRowsOfTable options records rows → AreRowsOfTable options records others →
-        others ≡ rows }
+    ensures { (options : EdgesOptions) (records : List (List (List ℕ))) (rows others : List Event)
+        (pulses pulses2 damaged damaged2 : List Place) →
+        AreRowsOfTable options records rows pulses damaged →
+        AreRowsOfTable options records others pulses2 damaged2 →
+        (others ≡ rows) × (pulses2 ≡ pulses) × (damaged2 ≡ damaged) }
 {}
 
 /// The rows of a table stand in the order of their times, at one time that of the controller first.
 pub fn rows_stand_in_order()
-    ensures { (options : EdgesOptions) (records : List (List (List ℕ))) (rows : List Event) →
-        AreRowsOfTable options records rows → AllPairs Precedes rows }
+    ensures { (options : EdgesOptions) (records : List (List (List ℕ))) (rows : List Event)
+        (pulses damaged : List Place) →
+        AreRowsOfTable options records rows pulses damaged → AllPairs Precedes rows }
 {}
 
 /// What is written of a table is read as just the rows that were written.
 pub fn rows_are_read_back()
-    ensures { (options : EdgesOptions) (records : List (List (List ℕ))) (rows : List Event) →
-        AreRowsOfTable options records rows → AreReadBack (part_of options rows) }
+    ensures { (options : EdgesOptions) (records : List (List (List ℕ))) (rows : List Event)
+        (pulses damaged : List Place) → AreRowsOfTable options records rows pulses damaged →
+        AreReadBack (part_of options.from options.until rows) }
 {}

@@ -1,9 +1,8 @@
 //! Imports a table of edges, which a logic analyser exports if it decodes nothing. [`import_edges`]
 //! turns it into the rows that `mdbcheck` reads.
 //!
-//! A table has a record for each change: its time, and the level of each channel from then on. This
-//! crate decodes the words and breaks of both lines of the bus, at 9600 baud and nine data bits.
-//! Nothing is guessed.
+//! A table has a record for each change: its time, and the level of each channel from then on. The
+//! words and breaks of both lines come from `mdb_levels`. Nothing is guessed.
 //!
 //! - A line counts as low until it is high for the first time. That it is low until then is no row,
 //!   and isn't reported.
@@ -16,21 +15,13 @@
 mod columns;
 mod fault;
 mod fields;
-mod frame;
 mod header;
 mod import;
-mod instant;
 pub mod laws;
-mod lines;
-mod moment;
 mod options;
-mod part;
-mod reading;
-mod receiver;
 mod record;
 mod table;
 
-pub use fault::{EdgesFault, FormFault, LineFault, OrderFault, Wire};
+pub use fault::{EdgesFault, FormFault, OrderFault};
 pub use import::{import_edge_records, import_edges};
 pub use options::EdgesOptions;
-pub use part::EdgesImported;

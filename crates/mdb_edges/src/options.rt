@@ -13,6 +13,8 @@ pub struct EdgesOptions {
     pub peripheral: Option<String>,
     /// Whether the levels are inverted, so that 0 is high.
     pub invert: bool,
+    /// Whether damaged words are left out, and not refused.
+    pub skip_damaged: bool,
     /// The first microsecond of the part that is asked for. `None`: from the beginning.
     pub from: Option<u64>,
     /// The last microsecond of the part that is asked for. `None`: to the end.

@@ -3,19 +3,18 @@
 ghost use Rattle.std.specs.Prelude.{◌≡◌, ◌≢◌, ◌*◌, ◌≤◌, ◌∷◌, [], Bool, ℕ, IfOk, IfErr, IfSome};
 ghost use Rattle.std.specs.Prelude.{IfNone};
 ghost use Rattle.mdb_records.specs.Fields.{fields_of};
-ghost use Rattle.mdb_edges.specs.declared.moment.Moment.{Moment};
+ghost use Rattle.mdb_levels.specs.declared.moment.Moment.{Moment};
 ghost use Rattle.mdb_edges.specs.Table.{AreParts, AreThere, IsInstant, IsMoment, level_digit};
 ghost use Rattle.mdb_edges.specs.Faults.{IsNoInstant};
-ghost use Rattle.mdb_edges.specs.inner.Stops.{Denies, IsOfRecord, IsOfTable};
+ghost use Rattle.mdb_edges.specs.inner.Stops.{Denies, IsOfRecord};
 ghost use Rattle.mdb_exports.specs.Times.{per_second};
 
 use super::columns::Columns;
-use super::fault::{FormFault, LineFault, Stop, Wrong};
+use super::fault::{FormFault, Stop};
 use super::fields::field_of;
-use super::instant::Instant;
-use super::moment::Moment;
 use super::options::EdgesOptions;
 use mdb_exports::{Number, Unit, power, read_number};
+use mdb_levels::{Instant, Moment};
 use mdb_records::Record;
 use mdb_words::Line;
 
@@ -42,30 +41,16 @@ pub(crate) fn moment_of(
         Err(fault) => return Err(Stop::Form(fault)),
     };
     let Some(controller) = level_of(options.invert, field_of(row, columns.controller)) else {
-        return Err(no_level(Line::Controller, at));
+        return Err(Stop::Level(Line::Controller, at.time().value()));
     };
     let Some(peripheral) = level_of(options.invert, field_of(row, columns.peripheral)) else {
-        return Err(no_level(Line::Peripheral, at));
+        return Err(Stop::Level(Line::Peripheral, at.time().value()));
     };
     Ok(Moment {
         at,
         controller,
         peripheral,
     })
-}
-
-/// A field that is no level.
-fn no_level(line: Line, at: Instant) -> Stop
-    ensures of_table { IsOfTable result }
-    ensures is { result ≡ Stop.Line line (record { start = at; fault = LineFault.BadLevel }) }
-{
-    Stop::Line(
-        line,
-        Wrong {
-            start: at,
-            fault: LineFault::BadLevel,
-        },
-    )
 }
 
 /// Whether a field tells that the line is high; `None` where it tells no level.

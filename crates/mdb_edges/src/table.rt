@@ -7,52 +7,49 @@ ghost use Rattle.mdb_records.specs.ToCome.{ToCome, fault_of};
 ghost use Rattle.mdb_words.specs.declared.event.Event.{Event};
 ghost use Rattle.mdb_edges.specs.Table.{AreRowsOfTable, AreThere, IsHeader};
 ghost use Rattle.mdb_edges.specs.declared.columns.Columns.{Columns};
-ghost use Rattle.mdb_edges.specs.declared.moment.Moment.{Moment};
+ghost use Rattle.mdb_levels.specs.declared.moment.Moment.{Moment};
 ghost use Rattle.mdb_edges.specs.Faults.{IsFirstFault};
 ghost use Rattle.mdb_edges.specs.Import.{HasFailed, IsUnread};
 ghost use Rattle.mdb_edges.specs.inner.Stops.{Denies, IsEarly, IsMet, IsNumbered, IsOfTable};
 ghost use Rattle.mdb_edges.specs.inner.Stops.{Refutes};
-ghost use Rattle.mdb_edges.specs.inner.Waves.{BeginSame, Comes, HasRead, HaveHeard, IsHeaded};
+ghost use Rattle.mdb_edges.specs.inner.Reading.{BeginSame, Comes, HasEnded, HasRead};
+ghost use Rattle.mdb_edges.specs.inner.Reading.{IsBusOfTable, IsHeaded};
+ghost use Rattle.mdb_exports.specs.declared.places.Place.{Place};
+ghost use Rattle.mdb_levels.specs.Lines.{HaveHeard};
 
 use super::columns::Columns;
 use super::fault::{EdgesFault, FormFault, OrderFault, Stop};
 use super::header::columns_of;
-use super::instant::Instant;
-use super::lines::Lines;
-use super::moment::Moment;
 use super::options::EdgesOptions;
 use super::record::moment_of;
-use mdb_exports::merged;
+use mdb_levels::{Bus, Instant, Lines, Moment};
 use mdb_records::{ReadFault, Record, Records};
-use mdb_words::Event;
 use std::alloc::Global;
 use std::io::Read;
 
-/// The rows of both lines in the order of their times, by the records that are still to come.
+/// The rows of both lines in the order of their times, and what was passed over, by the records
+/// that are still to come.
 pub(crate) fn rows_of_records<R: Read + Drop>(
     alloc: Global,
     options: &EdgesOptions,
     records: &mut Records<R>,
-) -> Result<Vec<Event>, EdgesFault>
-    ensures ok { IfOk result (λ rows. (all : List (List (List ℕ))) →
-        ToCome R.remaining records.old all → AreRowsOfTable options.now all rows.items) }
+) -> Result<Bus, EdgesFault>
+    ensures ok { IfOk result (λ bus. (all : List (List (List ℕ))) →
+        ToCome R.remaining records.old all → IsBusOfTable options.now all bus) }
     ensures err { IfErr result (λ fault. (all : List (List (List ℕ))) →
-        ToCome R.remaining records.old all → (others : List (List (List ℕ))) (rows : List Event) →
-        Refutes fault (λ n. BeginSame n all others × AreRowsOfTable options.now others rows)) }
+        ToCome R.remaining records.old all → (others : List (List (List ℕ))) (rows : List Event)
+        (pulses damaged : List Place) → Refutes fault (λ n. BeginSame n all others
+        × AreRowsOfTable options.now others rows pulses damaged)) }
     ensures why { IfErr result (λ fault. (all : List (List (List ℕ))) →
         ToCome R.remaining records.old all → IsFirstFault options.now all fault) }
     ensures failed { IfErr result (λ fault. fault ≡ EdgesFault.Read →
         HasFailed R.remaining records.old records.new) }
 {
     let columns = read_header(options, records)?;
-    let mut lines = Lines::new(alloc);
+    let mut lines = Lines::new(alloc, options.skip_damaged);
     read_moments(options, &columns, records, &mut lines)?;
-    match merged(
-        alloc,
-        lines.controller.rows.as_slice(),
-        lines.peripheral.rows.as_slice(),
-    ) {
-        Ok(rows) => Ok(rows),
+    match lines.bus(alloc) {
+        Ok(bus) => Ok(bus),
         Err(_) => Err(EdgesFault::Memory),
     }
 }
@@ -96,14 +93,13 @@ fn read_moments<R: Read + Drop>(
     lines: &mut Lines,
 ) -> Result<(), EdgesFault>
     requires there { AreThere columns.now }
-    requires heard { HaveHeard lines.old [] }
+    requires heard { HaveHeard options.now.skip_damaged lines.old [] }
     ensures ok { OnOk result ((all : List (List (List ℕ))) → ToCome R.remaining records.old all →
-        Comes options.now columns.now all lines.new.controller.rows.items
-        lines.new.peripheral.rows.items) }
+        HasEnded options.now columns.now lines.new all) }
     ensures err { IfErr result (λ fault. (all : List (List (List ℕ))) →
         ToCome R.remaining records.old all →
-        (others : List (List (List ℕ))) (sent answered : List Event) → Refutes fault
-        (λ n. BeginSame (n - 1) all others × Comes options.now columns.now others sent answered)) }
+        (others : List (List (List ℕ))) (rows : List Event) → Refutes fault
+        (λ n. BeginSame (n - 1) all others × Comes options.now columns.now others rows)) }
     ensures numbered { IfErr result IsNumbered }
     ensures why { IfErr result (λ fault. (header : List (List ℕ)) (all : List (List (List ℕ))) →
         IsHeader options.now header columns.now → ToCome R.remaining records.old all →
@@ -118,7 +114,7 @@ fn read_moments<R: Read + Drop>(
             Ok(false) => {
                 return match lines.end() {
                     Ok(()) => Ok(()),
-                    Err(stop) => Err(stop.at(number)),
+                    Err(fault) => Err(Stop::Levels(fault).at(number)),
                 };
             }
             Err(fault) => return Err(fault_of_reading(fault)),
@@ -145,10 +141,9 @@ fn take_record(
         (more : List Moment) × HasRead options.now columns.now (at + 1) lines.new
         (body ++ fields_of row.now ∷ []) more) }
     ensures err { IfErr result (λ stop. (body rest : List (List (List ℕ))) (moments : List Moment)
-        (sent answered : List Event) →
+        (rows : List Event) →
         HasRead options.now columns.now earliest lines.old body moments →
-        Denies stop (Comes options.now columns.now (body ++ fields_of row.now ∷ rest) sent
-        answered)) }
+        Denies stop (Comes options.now columns.now (body ++ fields_of row.now ∷ rest) rows)) }
     ensures why { IfErr result (λ stop. (body rest : List (List (List ℕ))) (moments : List Moment)
         → HasRead options.now columns.now earliest lines.old body moments →
         IsMet options.now columns.now moments (fields_of row.now ∷ rest) stop) }
@@ -157,8 +152,10 @@ fn take_record(
     if moment.at.parts() < earliest {
         return Err(early(&moment, earliest));
     }
-    lines.take(&moment)?;
-    Ok(moment.at)
+    match lines.take(&moment) {
+        Ok(()) => Ok(moment.at),
+        Err(fault) => Err(Stop::Levels(fault)),
+    }
 }
 
 /// A moment that isn't later than the one before it.
@@ -172,7 +169,7 @@ fn early(moment: &Moment, earliest: u128) -> Stop
     } else {
         OrderFault::EarlierTime
     };
-    Stop::Order(moment.at, fault)
+    Stop::Order(moment.at.time().value(), fault)
 }
 
 /// Why the records can't be read.

@@ -1,5 +1,6 @@
 pub mod Decodings
 pub mod Bytes
+pub mod Closing
 pub mod FirstPlaces
 pub mod Handed
 pub mod HexDigits

@@ -31,7 +31,7 @@ pub use numbers::{Number, power, read_number};
 pub use order::expect_after;
 pub use places::{Place, Places};
 pub use reading::records_of;
-pub use refusal::write_refusal;
+pub use refusal::{write_refusal, write_refused};
 pub use times::{is_time_form, read_length, read_time};
 pub use told::Imported;
 pub use units::Unit;

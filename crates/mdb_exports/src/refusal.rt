@@ -1,11 +1,11 @@
 //! The end of what was written of a refused export.
 
-ghost use Rattle.std.specs.Prelude.{OnOk};
+ghost use Rattle.std.specs.Prelude.{◌++◌, OnOk};
 ghost use Rattle.std.specs.Io.KnownBytes.{Appends};
 ghost use Rattle.mdb_exports.specs.Refusal.{refusal_line};
 ghost use Rattle.mdb_writing.specs.Written.{HasTaken};
 
-use mdb_writing::{WriteFailed, write_text};
+use mdb_writing::{Page, WriteFailed, write_text};
 use std::io::Write;
 
 /// A line that is no row, so that no checker takes what was written of a refused export.
@@ -22,4 +22,19 @@ pub fn write_refusal<W: Write>(writer: &mut W) -> Result<(), WriteFailed>
     ensures front { HasTaken (W.contents writer.old) (W.contents writer.new) refusal_line }
 {
     write_text(writer, REFUSAL.as_bytes())
+}
+
+/// Writes what waits on a page of a refused export, and then that line.
+///
+/// # Errors
+///
+/// The writer failed. It took a front of these.
+pub fn write_refused<W: Write>(page: &mut Page, writer: &mut W) -> Result<(), WriteFailed>
+    ensures whole { OnOk result (Appends (W.contents writer.old) (W.contents writer.new)
+        (page.old ++ refusal_line)) }
+    ensures front { HasTaken (W.contents writer.old) (W.contents writer.new)
+        (page.old ++ refusal_line) }
+{
+    page.write_out(writer)?;
+    write_refusal(writer)
 }

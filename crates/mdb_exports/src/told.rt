@@ -1,7 +1,9 @@
 //! What an import reports.
 
+use super::places::Places;
+
 /// What an import reports in addition to the rows.
-#[derive(Clone, Copy, PartialEq, Eq, Debug)]
+#[derive(Debug, Drop)]
 pub struct Imported {
     /// Whether the first record was a header.
     pub header: bool,
@@ -19,4 +21,6 @@ pub struct Imported {
     pub controller: bool,
     /// Whether a peripheral sent a word.
     pub peripheral: bool,
+    /// The damaged words that were left out, whatever part was asked for.
+    pub damaged: Places,
 }

@@ -16,6 +16,7 @@ use Rattle.mdb_exports.proofs.Tallies.{any_more, count_more}
 use Rattle.mdb_rows_import.specs.Part.{is_before, is_behind, is_in, is_taken}
 use Rattle.mdb_rows_import.specs.Imports.{AreRead, IsCounted, IsTold, weight, ImportedInPart}
 use Rattle.mdb_rows_import.specs.Imports.{import_fault_of, last_start, taken_of}
+use Rattle.mdb_exports.specs.Places.{AreNoted}
 use Rattle.mdb_exports.specs.Told.{is_controllers, is_marked, is_peripherals}
 use Rattle.mdb_exports.specs.Rows.{rows_text}
 use Rattle.mdb_rows_import.specs.Fields.{record_fields, line_fields}
@@ -142,6 +143,7 @@ told_more options events event before after told noted = record {
       ∙ sym (any_more is_controllers events event));
   peripheral = noted.said.peripheral ∙ (ap (λ b. b || is_peripherals event) told.peripheral
       ∙ sym (any_more is_peripherals events event));
+  damaged = subst (λ places. AreNoted places []) (sym noted.kept.damaged) told.damaged;
 }
 
 -- an event more
@@ -222,6 +224,7 @@ told_same options events before after told same = record {
   marked = same.marked ∙ told.marked;
   controller = same.controller ∙ told.controller;
   peripheral = same.peripheral ∙ told.peripheral;
+  damaged = subst (λ places. AreNoted places []) (sym same.damaged) told.damaged;
 }
 
 -- fields whose time is in the part

@@ -1,5 +1,5 @@
 -- What the import of an export answers, and what it writes.
-use Rattle.std.specs.Prelude.{◌≡◌, ◌⊎◌, ◌+◌, ℕ, List, [], ◌∷◌, ◌++◌, length, filter, Bool, true, false}
+use Rattle.std.specs.Prelude.{◌≡◌, ◌+◌, ℕ, List, [], ◌∷◌, ◌++◌, length, filter, Bool, true, false}
 use Rattle.std.specs.Prelude.{IfSome, IfNone, Option, Some, None, ⊤, Result, Ok, Err}
 use Rattle.std.specs.Io.KnownBytes.{Appends}
 use Rattle.mdb_words.specs.Event.{start_of}
@@ -7,7 +7,9 @@ use Rattle.std.specs.List.{list_any}
 use Rattle.mdb_words.specs.declared.event.Event.{Event}
 use Rattle.mdb_records.specs.declared.ReadFault.{ReadFault}
 use Rattle.mdb_records.specs.declared.ReadFault.TheVariants as reading
+use Rattle.mdb_exports.specs.Places.{AreNoted}
 use Rattle.mdb_exports.specs.Records.{export_records}
+use Rattle.mdb_exports.specs.Refusal.{IsAnswered}
 use Rattle.mdb_exports.specs.Rows.{rows_text}
 use Rattle.mdb_exports.specs.Told.{is_controllers, is_marked, is_peripherals, told_count}
 use Rattle.mdb_rows_import.specs.Fields.{record_fields}
@@ -17,7 +19,6 @@ use Rattle.mdb_rows_import.specs.Part.{is_before, is_behind, is_in, is_taken}
 use Rattle.mdb_exports.specs.Order.{IsAfter}
 use Rattle.mdb_rows_import.specs.Rows.{AreEvents, AreEventsWith, StandsForRow, IsHeader}
 use Rattle.mdb_rows_import.specs.Rows.{TellsTime, last_with}
-use Rattle.mdb_writing.specs.Written.{HasTaken}
 use Rattle.mdb_rows_import.specs.declared.options.RowsOptions.{RowsOptions}
 use Rattle.mdb_rows_import.specs.declared.fault.ImportFault.{ImportFault}
 use Rattle.mdb_rows_import.specs.declared.fault.ImportFault.TheVariants.{BadRecord, Read, Write, Memory}
@@ -102,7 +103,7 @@ pub record AreRead (options : RowsOptions) (records : List (List (List ℕ))) (e
   pub counted : IsCounted records events imported
 
 -- What is told of all events: how many were written, and how many are before and after the part,
--- whether there is a marked word, and one on each line.
+-- whether there is a marked word, and one on each line. No word of such an export is damaged.
 pub record IsTold (options : RowsOptions) (events : List Event) (imported : Imported) : Type 0 where
   pub rows : imported.rows ≡ told_count (is_taken options) events
   pub before : imported.before ≡ told_count (is_before options) events
@@ -110,8 +111,9 @@ pub record IsTold (options : RowsOptions) (events : List Event) (imported : Impo
   pub marked : imported.marked ≡ list_any is_marked events
   pub controller : imported.controller ≡ list_any is_controllers events
   pub peripheral : imported.peripheral ≡ list_any is_peripherals events
+  pub damaged : AreNoted imported.damaged []
 
--- the answer to the records of an export, and the text that is written of them
+-- the answer to the records of an export, and the text of the rows that are written of them
 abbrev pub IsImport : RowsOptions → List (List (List ℕ)) → Result Imported ImportFault → List ℕ
     → Type 0
 IsImport options records (Ok imported) text =
@@ -123,21 +125,12 @@ IsImport options records (Err Read) text = ImportedInPart options records text
 IsImport options records (Err Memory) text = ImportedInPart options records text
 IsImport options records (Err Write) text = ⊥
 
--- the writer took a front of a text that is written of the records, with whatever answer
-pub record IsCutShort (options : RowsOptions) (records : List (List (List ℕ)))
-    (before after : Option (List ℕ)) : Type 0 where
-  pub answer : Result Imported ImportFault
-  pub text : List ℕ
-  pub import : IsImport options records answer text
-  pub taken : HasTaken before after text
-
--- The same of the bytes that a writer held before and after. It took the text of the answer; or the
--- answer is that it failed, and it took a front of a text.
+-- The bytes that a writer held before the answer to these records and after it. The text of the
+-- rows was written, and behind it, where the answer is a refusal, the line of one.
 abbrev pub Imports : RowsOptions → List (List (List ℕ)) → Option (List ℕ) → Option (List ℕ)
     → Result Imported ImportFault → Type 0
 Imports options records before after answer =
-    ((text : List ℕ) × IsImport options records answer text × Appends before after text)
-    ⊎ ((answer ≡ Err Write) × IsCutShort options records before after)
+    IsAnswered (IsImport options records) Write before after answer
 
 -- an export whose bytes are this text: all its rows are written, and nothing else
 abbrev pub IsImported : RowsOptions → List ℕ → Option (List ℕ) → Option (List ℕ) → Type 0

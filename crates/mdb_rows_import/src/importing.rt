@@ -10,6 +10,7 @@ ghost use Rattle.mdb_rows_import.specs.Imports.{AreRead, Imports, IsImported, Is
 ghost use Rattle.mdb_rows_import.specs.Fields.{line_fields};
 ghost use Rattle.mdb_writing.specs.Output.{Breaks, Puts, begun, output};
 ghost use Rattle.mdb_rows_import.specs.Rows.{last_with};
+ghost use Rattle.mdb_exports.specs.shared.Closing.{Refuses, telling};
 ghost use Rattle.mdb_exports.specs.shared.Told.{IsKept, IsSaid, counted_more};
 ghost use Rattle.mdb_rows_import.specs.inner.Steps.{HasImported, IsNext, IsNoted, IsOutside};
 ghost use Rattle.mdb_rows_import.specs.inner.Steps.{IsRefusalFor, PutsImport};
@@ -19,7 +20,9 @@ use super::fault::ImportFault;
 use super::fields::join;
 use super::options::RowsOptions;
 use super::rows::{event_in, is_header, time_in};
-use mdb_exports::{Imported, RecordFault, expect_after, line_of, records_of};
+use mdb_exports::{
+    Imported, Places, RecordFault, expect_after, line_of, records_of, write_refused,
+};
 use mdb_records::{Record, Records};
 use mdb_words::{Event, Line};
 use mdb_writing::{Page, WriteFailed};
@@ -32,7 +35,8 @@ use std::io::{Read, Write};
 ///
 /// `BadRecord` for the first record that is neither a row after the one before it nor, as the first
 /// of all, a header: then the rows of all records before it were written. `Read` where the reader
-/// failed and `Memory` where memory was refused: then those of some first records were. `Write`
+/// failed and `Memory` where memory was refused: then those of some first records were. After these
+/// rows comes a line that is no row, so that no checker takes them for a whole recording. `Write`
 /// where the writer failed: then it took a front of what is written where it doesn't fail.
 pub fn import_records<R: Read + Drop, W: Write>(
     alloc: Global,
@@ -47,11 +51,13 @@ pub fn import_records<R: Read + Drop, W: Write>(
         → HasFailed R.remaining records.old records.new) }
 {
     let mut importing = Importing::new(alloc);
-    let answer = importing.take_all(options, records, writer);
-    if answer != Err(ImportFault::Write) {
-        importing.page.write_out(writer)?;
+    match importing.take_all(options, records, writer) {
+        Ok(()) => {
+            importing.page.write_out(writer)?;
+            Ok(importing.tally)
+        }
+        Err(fault) => Err(importing.refuse(fault, writer)),
     }
-    answer
 }
 
 /// Imports the text that a reader has left, and writes the rows as it reads.
@@ -109,6 +115,7 @@ impl Importing {
                 marked: false,
                 controller: false,
                 peripheral: false,
+                damaged: Places::new(),
             },
             line: Vec::new(alloc),
             page: Page::new(),
@@ -121,7 +128,7 @@ impl Importing {
         options: &RowsOptions,
         records: &mut Records<R>,
         writer: &mut W,
-    ) -> Result<Imported, ImportFault>
+    ) -> Result<(), ImportFault>
         requires last { self.old.last ≡ None }
         requires told { IsTold options.now [] self.old.tally }
         requires read { AreRead options.now [] [] self.old.tally }
@@ -130,7 +137,7 @@ impl Importing {
             → HasFailed R.remaining records.old records.new) }
         ensures puts { (all : List (List (List ℕ))) → ToCome R.remaining records.old all
             → PutsImport options.now all (begun (W.contents writer.old))
-            (output (W.contents writer.new) self.new.page) result }
+            (output (W.contents writer.new) self.new.page) (telling self.new.tally result) }
     {
         for done in 0..u64::MAX {
             let found = match records.advance() {
@@ -138,13 +145,27 @@ impl Importing {
                 Err(fault) => return Err(ImportFault::from(fault)),
             };
             if !found {
-                return Ok(self.tally);
+                return Ok(());
             }
             if let Err(fault) = self.take(options, done, &records.row(), writer) {
                 return Err(fault);
             }
         }
         Err(ImportFault::Read)
+    }
+
+    /// Ends what was written of a refused export, and says why it is refused.
+    fn refuse<W: Write>(&mut self, fault: ImportFault, writer: &mut W) -> ImportFault
+        ensures { Refuses ImportFault.Write (output (W.contents writer.old) self.old.page)
+            (W.contents writer.new) fault result }
+    {
+        if fault == ImportFault::Write {
+            return fault;
+        }
+        match write_refused(&mut self.page, writer) {
+            Ok(()) => fault,
+            Err(failed) => ImportFault::from(failed),
+        }
     }
 
     /// Takes a record after so many.

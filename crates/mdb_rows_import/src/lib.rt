@@ -3,7 +3,7 @@
 //!
 //! Each record of an export is a row, a header, or refused. Outside the part that is asked for, a
 //! bad record may also be passed over, and is counted. Nothing is guessed. The rows before a
-//! refused record are written. Times are in microseconds.
+//! refused record are written, and after them a line that is no row. Times are in microseconds.
 #![tactic(auto)]
 
 mod fault;

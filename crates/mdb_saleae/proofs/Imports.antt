@@ -12,12 +12,15 @@ use Rattle.mdb_words.specs.Event.{start_of}
 use Rattle.mdb_words.specs.declared.event.Event.{Event}
 use Rattle.mdb_exports.specs.Records.{HasFailed}
 use Rattle.mdb_exports.specs.Order.{IsAfter}
+use Rattle.mdb_exports.specs.Places.{AreNoted}
+use Rattle.mdb_exports.specs.declared.places.Place.{Place}
+use Rattle.mdb_exports.specs.declared.places.Places.{Places}
 use Rattle.mdb_exports.specs.declared.told.Imported.{Imported}
 use Rattle.mdb_writing.specs.Output.{Breaks, Output, Puts, begun}
 use Rattle.mdb_saleae.specs.Imports.{ImportedInPart, IsRefusedRow, IsTold, part_text}
 use Rattle.mdb_saleae.specs.Imports.{read_fault_of}
 use Rattle.mdb_saleae.specs.Refusals.{IsFault}
-use Rattle.mdb_saleae.specs.Rows.{AreRows, IsTableRow, last_start}
+use Rattle.mdb_saleae.specs.Rows.{AreRows, IsLeftOut, IsTableRow, last_start}
 use Rattle.mdb_saleae.specs.inner.Steps.{Begins, HasFailedBehind, HasImported, IsNext, IsNoted}
 use Rattle.mdb_saleae.specs.inner.Steps.{PutsRows, TakesOne, fault_at, part_line}
 use Rattle.mdb_saleae.specs.declared.columns.Columns.{Columns}
@@ -29,19 +32,19 @@ use Rattle.mdb_saleae.specs.declared.importing.Importing.{Importing}
 use Rattle.mdb_saleae.specs.declared.options.SaleaeOptions.{SaleaeOptions}
 use Rattle.mdb_saleae.specs.declared.rows.Refusal.{Refusal}
 use Rattle.mdb_writing.proofs.Outputs.{break_both, put_both, put_none}
-use Rattle.mdb_saleae.proofs.Taken.{last_more, rows_more, text_more, told_more}
+use Rattle.mdb_saleae.proofs.Taken.{last_more, left_out_more, rows_more, text_more, told_more}
 
 -- before the first record
 pub none_imported : (options : SaleaeOptions) (columns : Columns) (importing : Importing)
     (contents : Option (List ℕ)) (waiting : List ℕ) → importing.last ≡ None
-    → IsTold options [] importing.tally → waiting ≡ []
+    → IsTold options [] [] importing.tally → waiting ≡ []
     → HasImported options columns importing (begun contents)
-    (record { held = contents; waiting = waiting }) [] []
+    (record { held = contents; waiting = waiting }) [] [] []
 none_imported options columns importing contents waiting last told empty =
     let P : List ℕ → Type 0 = λ w. Puts (begun contents) (record { held = contents; waiting = w })
     [] in
     record {
-      are = refl;
+      are = (refl, refl);
       last = last;
       told = told;
       written = subst P (sym empty) (put_none (begun contents));
@@ -50,46 +53,86 @@ none_imported options columns importing contents waiting last told empty =
 -- an event more
 pub added_one : (options : SaleaeOptions) (columns : Columns) (old new : Importing)
     (before now later : Output) (done : List (List (List ℕ))) (events : List Event)
-    (row : List (List ℕ)) (event : Event)
-    → HasImported options columns old before now done events → IsTableRow options columns row event
+    (damaged : List Place) (row : List (List ℕ)) (event : Event)
+    → HasImported options columns old before now done events damaged
+    → IsTableRow options columns row event
     → IsAfter old.last event → new.last ≡ Some (start_of event)
     → IsNoted options old.tally new.tally event → Puts now later (part_line options event)
     → TakesOne options columns new before later done events row (Ok tt)
-added_one options columns old new before now later done events row event has is after last noted
-    puts =
+added_one options columns old new before now later done events damaged row event has is after last
+    noted puts =
     let P : Option ℕ → Type 0 = λ o. IsAfter o event in
     let Q : List ℕ → Type 0 = λ text. Puts before later text in (
       events ++ event ∷ [],
+      damaged,
       record {
-        are = rows_more options columns None done events row event has.are is
+        are = rows_more options columns None done events row event damaged has.are is
             (subst P has.last after);
         last = last ∙ sym (last_more None events event);
-        told = told_more options events event old.tally new.tally has.told noted;
+        told = told_more options events damaged event old.tally new.tally has.told noted;
         written = subst Q (sym (text_more options events event))
             (put_both before now later (part_text options events) (part_line options event)
             has.written puts);
       },
     )
 
+-- a damaged word more
+pub left_out_one : (options : SaleaeOptions) (columns : Columns) (old new : Importing)
+    (before now : Output) (done : List (List (List ℕ))) (events : List Event)
+    (damaged : List Place) (row : List (List ℕ)) (place : Place)
+    → HasImported options columns old before now done events damaged
+    → IsLeftOut options columns row place → new.last ≡ old.last
+    → IsTold options events (damaged ++ place ∷ []) new.tally
+    → TakesOne options columns new before now done events row (Ok tt)
+left_out_one options columns old new before now done events damaged row place has is same told = (
+  events,
+  damaged ++ place ∷ [],
+  record {
+    are = left_out_more options columns None done events damaged row place has.are is;
+    last = same ∙ has.last;
+    told = told;
+    written = has.written;
+  },
+)
+
+-- what is told with one more
+pub told_out : (options : SaleaeOptions) (events : List Event) (damaged more : List Place)
+    (before : Imported) (places : Places) → IsTold options events damaged before
+    → AreNoted places more → IsTold options events more (record before { damaged = places })
+told_out options events damaged more before places told noted = record {
+  header = told.header;
+  passed = told.passed;
+  rows = told.rows;
+  before = told.before;
+  after = told.after;
+  marked = told.marked;
+  controller = told.controller;
+  peripheral = told.peripheral;
+  left_out = noted;
+}
+
 -- the writer fails at its row
 pub broken_one : (options : SaleaeOptions) (columns : Columns) (old new : Importing)
     (before now later : Output) (done : List (List (List ℕ))) (events : List Event)
-    (row : List (List ℕ)) (event : Event)
-    → HasImported options columns old before now done events → IsTableRow options columns row event
+    (damaged : List Place) (row : List (List ℕ)) (event : Event)
+    → HasImported options columns old before now done events damaged
+    → IsTableRow options columns row event
     → IsAfter old.last event → Breaks now later (part_line options event)
     → (r : Result Unit SaleaeFault) → IsErrAnd r (λ told. told ≡ Write)
     → TakesOne options columns new before later done events row r
-broken_one options columns old new before now later done events row event has is after broken
-    (Ok taken) told = absurd told
-broken_one options columns old new before now later done events row event has is after broken
-    (Err fault) told =
+broken_one options columns old new before now later done events damaged row event has is after
+    broken (Ok taken) told = absurd told
+broken_one options columns old new before now later done events damaged row event has is after
+    broken (Err fault) told =
     let P : Option ℕ → Type 0 = λ o. IsAfter o event in
     let Q : List ℕ → Type 0 = λ text. Breaks before later text in
     let R : SaleaeFault → Type 0 =
     λ f. TakesOne options columns new before later done events row (Err f) in
     subst R (sym told) (
       events ++ event ∷ [],
-      rows_more options columns None done events row event has.are is (subst P has.last after),
+      damaged,
+      rows_more options columns None done events row event damaged has.are is
+          (subst P has.last after),
       subst Q (sym (text_more options events event))
           (break_both before now later (part_text options events) (part_line options event)
           has.written broken),
@@ -104,7 +147,7 @@ refused_row options columns events row last refusal is next =
     let P : Option ℕ → Type 0 = λ o. (event : Event) → IsTableRow options columns row event
     → IsAfter o event → ⊥ in
     let Q : Option ℕ → Type 0 = λ o. IsFault options columns o row refusal.at refusal.fault in
-    record { no_row = subst P is next.0; why = subst Q is next.1 }
+    record { no_row = subst P is next.0; not_left_out = next.1; why = subst Q is next.2 }
 
 at_time : (options : SaleaeOptions) (columns : Columns) (importing : Importing)
     (before now : Output) (done : List (List (List ℕ))) (events : List Event) (row : List (List ℕ))
@@ -118,13 +161,15 @@ at_time options columns importing before now done events row number (Some at) fa
     written = (counted, refused, written)
 
 pub refused_one : (options : SaleaeOptions) (columns : Columns) (old : Importing)
-    (before now : Output) (done : List (List (List ℕ))) (events : List Event) (row : List (List ℕ))
+    (before now : Output) (done : List (List (List ℕ))) (events : List Event)
+    (damaged : List Place) (row : List (List ℕ))
     (number : ℕ) (refusal : Refusal) (told : SaleaeFault) → length done + 2 ≡ number
-    → HasImported options columns old before now done events
+    → HasImported options columns old before now done events damaged
     → IsNext options columns old.last row (Err refusal)
     → told ≡ fault_at number refusal.at refusal.fault
     → TakesOne options columns old before now done events row (Err told)
-refused_one options columns old before now done events row number refusal told counted has next is =
+refused_one options columns old before now done events damaged row number refusal told counted has
+    next is =
     let P : SaleaeFault → Type 0 = λ f. TakesOne options columns old before now done events row
     (Err f) in
     subst P (sym is) (at_time options columns old before now done events row number refusal.at
@@ -137,11 +182,12 @@ pub record SoFar {R : Type 0} (remaining : R → Option (List ℕ)) (now : Recor
     (count : ℕ) (all : List (List (List ℕ))) : Type 0 where
   pub done : List (List (List ℕ))
   pub events : List Event
+  pub damaged : List Place
   pub rest : List (List (List ℕ))
   pub split : all ≡ done ++ rest
   pub counted : length done + 1 ≡ count
   pub to_come : ToCome remaining now rest
-  pub has : HasImported options columns importing before after done events
+  pub has : HasImported options columns importing before after done events damaged
 
 -- a record is taken
 pub one_further : {R : Type 0} (remaining : R → Option (List ℕ)) (old now : Records R)
@@ -149,18 +195,20 @@ pub one_further : {R : Type 0} (remaining : R → Option (List ℕ)) (old now : 
     (before middle after : Output) (count : ℕ) (all : List (List (List ℕ))) (row : List (List ℕ))
     (so_far : SoFar remaining old options columns first before middle count all)
     → (rest : List (List (List ℕ))) → so_far.rest ≡ row ∷ rest → ToCome remaining now rest
-    → (more : List Event) × HasImported options columns next before after (so_far.done ++ row ∷ [])
-    more → SoFar remaining now options columns next before after (count + 1) all
+    → (more : List Event) × (damaged : List Place)
+    × HasImported options columns next before after (so_far.done ++ row ∷ []) more damaged
+    → SoFar remaining now options columns next before after (count + 1) all
 one_further remaining old now options columns first next before middle after count all row so_far
     rest is to_come taken = record {
       done = so_far.done ++ row ∷ [];
       events = taken.0;
+      damaged = taken.1;
       rest = rest;
       split = so_far.split ∙ (ap (λ l. so_far.done ++ l) is
           ∙ sym (append_assoc so_far.done (row ∷ []) rest));
       counted = omega (arith, length-append so_far.done (row ∷ []), so_far.counted);
       to_come = to_come;
-      has = taken.1;
+      has = taken.2;
     }
 
 -- a record isn't taken
@@ -184,6 +232,7 @@ not_taken remaining old options columns first next before middle after count all
         named = row;
         rest = rest;
         before = record {
+          damaged = so_far.damaged;
           split = so_far.split ∙ ap (λ l. so_far.done ++ l) is;
           are = so_far.has.are;
           lines = refl;
@@ -202,6 +251,7 @@ not_taken remaining old options columns first next before middle after count all
         named = row;
         rest = rest;
         before = record {
+          damaged = so_far.damaged;
           split = so_far.split ∙ ap (λ l. so_far.done ++ l) is;
           are = so_far.has.are;
           lines = refl;
@@ -224,14 +274,14 @@ not_taken remaining old options columns first next before middle after count all
           events = taken.0;
           rest = rest;
           are = record {
+            damaged = taken.1;
             split = so_far.split
                 ∙ (ap (λ l. so_far.done ++ l) is ∙ sym (append_assoc so_far.done (row ∷ []) rest));
-            are =
-                taken.1;
+            are = taken.2;
             lines = refl;
           };
         };
-        broken = taken.2;
+        broken = taken.3;
       },
     )
 not_taken remaining old options columns first next before middle after count all row so_far rest is
@@ -242,6 +292,7 @@ not_taken remaining old options columns first next before middle after count all
         events = so_far.events;
         rest = row ∷ rest;
         are = record {
+          damaged = so_far.damaged;
           split = so_far.split ∙ ap (λ l. so_far.done ++ l) is;
           are = so_far.has.are;
           lines = refl;
@@ -260,7 +311,12 @@ in_part remaining now options columns importing before after count all so_far = 
   done = so_far.done;
   events = so_far.events;
   rest = so_far.rest;
-  are = record { split = so_far.split; are = so_far.has.are; lines = refl };
+  are = record {
+    damaged = so_far.damaged;
+    split = so_far.split;
+    are = so_far.has.are;
+    lines = refl;
+  };
 }
 
 pub not_read : {R : Type 0} (remaining : R → Option (List ℕ)) (now : Records R)
@@ -292,10 +348,11 @@ pub all_taken : {R : Type 0} (remaining : R → Option (List ℕ)) (now : Record
 all_taken remaining now options columns importing before after count all so_far none =
     let whole : so_far.done ≡ all =
     sym (so_far.split ∙ (ap (λ l. so_far.done ++ l) none ∙ append-nil so_far.done)) in
-    let P : List (List (List ℕ)) → Type 0 = λ l. AreRows options columns None l so_far.events in
+    let P : List (List (List ℕ)) → Type 0 =
+    λ l. AreRows options columns None l so_far.events so_far.damaged in
     inl (
       part_text options so_far.events,
-      (so_far.events, subst P whole so_far.has.are, so_far.has.told, refl),
+      (so_far.events, so_far.damaged, subst P whole so_far.has.are, so_far.has.told, refl),
       so_far.has.written,
     )
 
@@ -343,11 +400,11 @@ failed_behind remaining before middle after columns begins (inr most) = inr (λ 
     omega (arith, behind, split))
 
 pub answer_failed : {R : Type 0} (remaining : R → Option (List ℕ)) (before middle after : Records R)
-    (columns : Columns) (answer : Result Imported SaleaeFault)
+    (columns : Columns) (answer : Result Unit SaleaeFault)
     → ((all : List (List (List ℕ))) → ToCome remaining before all
     → Begins remaining middle all (Ok columns))
     → IfErr answer (λ fault. fault ≡ Read → HasFailedBehind remaining middle after)
     → IfErr answer (λ fault. fault ≡ Read → HasFailed remaining before after)
-answer_failed remaining before middle after columns (Ok imported) begins failed = tt
+answer_failed remaining before middle after columns (Ok done) begins failed = tt
 answer_failed remaining before middle after columns (Err fault) begins failed =
     λ is. failed_behind remaining before middle after columns begins (failed is)

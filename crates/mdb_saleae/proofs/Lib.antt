@@ -3,8 +3,8 @@ pub mod Places
 pub mod Words
 pub mod Decimals
 pub mod Nearest
+pub mod OneTable
 pub mod Refused
 pub mod Taken
 pub mod Outputs
 pub mod Imports
-pub mod OneTable

@@ -12,6 +12,7 @@ use Rattle.mdb_words.specs.declared.word.Line.{Line}
 use Rattle.mdb_words.specs.declared.word.Line.TheVariants.{Controller, Peripheral}
 use Rattle.mdb_exports.specs.ReadBack.{AreReadBack, IsRowEvent}
 use Rattle.mdb_exports.specs.Hex.{IsPrefixed}
+use Rattle.mdb_exports.specs.declared.places.Place.{Place}
 use Rattle.mdb_exports.specs.declared.units.Unit.TheVariants.{Seconds}
 use Rattle.mdb_exports.proofs.Part.{some_of}
 use Rattle.mdb_exports.proofs.PlainRows.{read_back, small_break, small_word}
@@ -20,7 +21,7 @@ use Rattle.mdb_saleae.specs.Cells.{cell}
 use Rattle.mdb_saleae.specs.Columns.{IsColumns, IsOnly}
 use Rattle.mdb_saleae.specs.Imports.{is_taken}
 use Rattle.mdb_saleae.specs.Frames.{TellsFrame}
-use Rattle.mdb_saleae.specs.Rows.{AreEvents, AreRows, IsEventAt, IsLine, IsTableRow}
+use Rattle.mdb_saleae.specs.Rows.{AreEvents, AreRows, IsEventAt, IsLeftOut, IsLine, IsTableRow}
 use Rattle.mdb_saleae.specs.Seconds.{IsSeconds, shortened}
 use Rattle.mdb_saleae.specs.Values.{AreBits, IsMark, IsNumberOf}
 use Rattle.mdb_saleae.specs.declared.columns.Column.{Column}
@@ -67,7 +68,7 @@ seconds_same : (field : List ℕ) (a b : ℕ) → IsSeconds field a → IsSecond
 seconds_same field a b one two =
     time_same (Some Seconds) (shortened field) a b one.time two.time
 
-line_same : (options : SaleaeOptions) (field : List ℕ) (a b : Line) → IsLine options field a
+pub line_same : (options : SaleaeOptions) (field : List ℕ) (a b : Line) → IsLine options field a
     → IsLine options field b → a ≡ b
 line_same options field Controller Controller one two = refl
 line_same options field Controller Peripheral one two = absurd (two.1 one)
@@ -96,7 +97,7 @@ mark_same text false true (inl one) two = let same : codes "true" ≡ codes "fal
 mark_same text false true (inr one) two = let same : codes "true" ≡ [] = sym two ∙ one in
     absurd (cc)
 
-bits_same : (address : Option ℕ) (fields : List (List ℕ)) (text : List ℕ) (a b : ℕ)
+pub bits_same : (address : Option ℕ) (fields : List (List ℕ)) (text : List ℕ) (a b : ℕ)
     → AreBits address fields text a → AreBits address fields text b → a ≡ b
 bits_same None fields text a b one two = number_same text a b one.0 two.0
 bits_same (Some place) fields text a b one two =
@@ -105,7 +106,7 @@ bits_same (Some place) fields text a b one two =
     one.5 ∙ (ap (λ m. if m then one.1 + 256 else one.1) marked
     ∙ (ap (λ n. if two.0 then n + 256 else n) low ∙ sym two.5))
 
-frame_apart : (error parity framing : List ℕ) → TellsFrame error parity framing false
+pub frame_apart : (error parity framing : List ℕ) → TellsFrame error parity framing false
     → TellsFrame error parity framing true → ⊥
 frame_apart error parity framing whole (none, inl broken) =
     let same : [] ≡ codes "framing" = sym whole.0 ∙ broken in absurd (cc)
@@ -147,24 +148,74 @@ row_same options columns fields a b one two =
     at_same options columns fields (start_of b) a b
     (subst (λ t. IsEventAt options columns fields t a) time one.are) two.are
 
+-- or one damaged word, and no event beside it
+
+out_same : (options : SaleaeOptions) (columns : Columns) (fields : List (List ℕ)) (a b : Place)
+    → IsLeftOut options columns fields a → IsLeftOut options columns fields b → a ≡ b
+out_same options columns fields a b one two =
+    let at : a.at ≡ b.at = seconds_same (cell fields columns.time) a.at b.at one.time two.time in
+    let line : a.line ≡ b.line = line_same options (cell fields columns.name) a.line b.line
+    one.damaged.name two.damaged.name in
+    λ i. record { at = at i; line = line i }
+
+pub out_apart : (options : SaleaeOptions) (columns : Columns) (fields : List (List ℕ))
+    (event : Event) (place : Place) → IsTableRow options columns fields event
+    → IsLeftOut options columns fields place → ⊥
+out_apart options columns fields (Word at on word) place row out =
+    frame_apart _ _ _ row.are.3 out.damaged.framed
+out_apart options columns fields (Break at length) place row out =
+    out.damaged.no_break
+    (line_same options (cell fields columns.name) place.line Controller out.damaged.name row.are.2)
+    (bits_same columns.address fields (cell fields columns.data) out.damaged.word 0
+    out.damaged.value row.are.4)
+
 rows_same : (options : SaleaeOptions) (columns : Columns) (last : Option ℕ)
-    (records : List (List (List ℕ))) (a b : List Event) → AreRows options columns last records a
-    → AreRows options columns last records b → a ≡ b
-rows_same options columns last [] a b one two = one ∙ sym two
-rows_same options columns last (row ∷ records) a b one two =
+    (records : List (List (List ℕ))) (a b : List Event) (p q : List Place)
+    → AreRows options columns last records a p → AreRows options columns last records b q
+    → (a ≡ b) × (p ≡ q)
+rows_same options columns last [] a b p q one two = (one.0 ∙ sym two.0, one.1 ∙ sym two.1)
+rows_same options columns last (row ∷ records) a b p q (inl one) (inl two) =
     let first : one.0 ≡ two.0 = row_same options columns row one.0 two.0 one.3 two.3 in
-    let rest : one.1 ≡ two.1 = rows_same options columns (Some (start_of two.0)) records one.1 two.1
-    (subst (λ e. AreRows options columns (Some (start_of e)) records one.1) first one.5) two.5 in
-    one.2 ∙ (ap (λ e. e ∷ one.1) first ∙ (ap (λ l. two.0 ∷ l) rest ∙ sym two.2))
+    let rest = rows_same options columns (Some (start_of two.0)) records one.1 two.1 p q
+    (subst (λ e. AreRows options columns (Some (start_of e)) records one.1 p) first one.5) two.5 in
+    (one.2 ∙ (ap (λ e. e ∷ one.1) first ∙ (ap (λ l. two.0 ∷ l) rest.0 ∙ sym two.2)), rest.1)
+rows_same options columns last (row ∷ records) a b p q (inl one) (inr two) =
+    absurd (out_apart options columns row one.0 two.0 one.3 two.3)
+rows_same options columns last (row ∷ records) a b p q (inr one) (inl two) =
+    absurd (out_apart options columns row two.0 one.0 two.3 one.3)
+rows_same options columns last (row ∷ records) a b p q (inr one) (inr two) =
+    let first : one.0 ≡ two.0 = out_same options columns row one.0 two.0 one.3 two.3 in
+    let rest = rows_same options columns last records a b one.1 two.1 one.4 two.4 in
+    (rest.0, one.2 ∙ (ap (λ e. e ∷ one.1) first ∙ (ap (λ l. two.0 ∷ l) rest.1 ∙ sym two.2)))
 
 pub events_same : (options : SaleaeOptions) (records : List (List (List ℕ)))
-    (events others : List Event)
-    → AreEvents options records events → AreEvents options records others → others ≡ events
-events_same options [] events others one two = absurd one
-events_same options (header ∷ rows) events others one two =
+    (events others : List Event) (damaged more : List Place)
+    → AreEvents options records events damaged → AreEvents options records others more
+    → (others ≡ events) × (more ≡ damaged)
+events_same options [] events others damaged more one two = absurd one
+events_same options (header ∷ rows) events others damaged more one two =
     let columns = columns_same header two.0 one.0 two.1 one.1 in
-    rows_same options one.0 None rows others events
-    (subst (λ c. AreRows options c None rows others) columns two.2) one.2
+    rows_same options one.0 None rows others events more damaged
+    (subst (λ c. AreRows options c None rows others more) columns two.2) one.2
+
+-- nothing is left out unless that was asked for
+
+none_out : (options : SaleaeOptions) (columns : Columns) (last : Option ℕ)
+    (records : List (List (List ℕ))) (events : List Event) (damaged : List Place)
+    → options.skip_damaged ≡ false → AreRows options columns last records events damaged
+    → damaged ≡ []
+none_out options columns last [] events damaged unasked are = are.1
+none_out options columns last (row ∷ records) events damaged unasked (inl are) =
+    none_out options columns (Some (start_of are.0)) records are.1 damaged unasked are.5
+none_out options columns last (row ∷ records) events damaged unasked (inr out) =
+    let asked : true ≡ false = sym out.3.asked ∙ unasked in absurd (cc)
+
+pub nothing_out : (options : SaleaeOptions) (records : List (List (List ℕ))) (events : List Event)
+    (damaged : List Place) → options.skip_damaged ≡ false
+    → AreEvents options records events damaged → damaged ≡ []
+nothing_out options [] events damaged unasked are = absurd are
+nothing_out options (header ∷ rows) events damaged unasked are =
+    none_out options are.0 None rows events damaged unasked are.2
 
 -- each event is one of a row
 
@@ -179,20 +230,23 @@ event_small options columns fields (Break at length) short row =
     (subst (λ o. IfSome o (λ l. l < 10 ^ 9)) row.are.5 short)
 
 rows_small : (options : SaleaeOptions) (columns : Columns) (last : Option ℕ)
-    (records : List (List (List ℕ))) (events : List Event)
+    (records : List (List (List ℕ))) (events : List Event) (damaged : List Place)
     → IfSome options.break_length (λ length. length < 10 ^ 9)
-    → AreRows options columns last records events → All IsRowEvent events
-rows_small options columns last [] events short none =
-    subst (All IsRowEvent) (sym none) (All-nil IsRowEvent)
-rows_small options columns last (row ∷ records) events short are =
+    → AreRows options columns last records events damaged → All IsRowEvent events
+rows_small options columns last [] events damaged short none =
+    subst (All IsRowEvent) (sym none.0) (All-nil IsRowEvent)
+rows_small options columns last (row ∷ records) events damaged short (inl are) =
     subst (All IsRowEvent) (sym are.2) (All-cons IsRowEvent are.0 are.1
     (event_small options columns row are.0 short are.3)
-    (rows_small options columns (Some (start_of are.0)) records are.1 short are.5))
+    (rows_small options columns (Some (start_of are.0)) records are.1 damaged short are.5))
+rows_small options columns last (row ∷ records) events damaged short (inr out) =
+    rows_small options columns last records events out.1 short out.4
 
 pub part_read_back : (options : SaleaeOptions) (records : List (List (List ℕ)))
-    (events : List Event) → IfSome options.break_length (λ length. length < 10 ^ 9)
-    → AreEvents options records events → AreReadBack (filter (is_taken options) events)
-part_read_back options [] events short are = absurd are
-part_read_back options (header ∷ rows) events short are =
+    (events : List Event) (damaged : List Place)
+    → IfSome options.break_length (λ length. length < 10 ^ 9)
+    → AreEvents options records events damaged → AreReadBack (filter (is_taken options) events)
+part_read_back options [] events damaged short are = absurd are
+part_read_back options (header ∷ rows) events damaged short are =
     read_back (filter (is_taken options) events) (some_of IsRowEvent (is_taken options) events
-    (rows_small options are.0 None rows events short are.2))
+    (rows_small options are.0 None rows events damaged short are.2))

@@ -10,13 +10,15 @@ use Rattle.mdb_records.specs.declared.ReadFault.TheVariants as reading
 use Rattle.mdb_exports.specs.Records.{export_records}
 use Rattle.mdb_exports.specs.Told.{is_controllers, is_marked, is_peripherals, told_count}
 use Rattle.mdb_exports.specs.Part.{is_from, is_until}
+use Rattle.mdb_exports.specs.Places.{AreNoted}
+use Rattle.mdb_exports.specs.Refusal.{IsAnswered}
 use Rattle.mdb_exports.specs.Rows.{rows_text}
 use Rattle.mdb_exports.specs.Order.{IsAfter}
-use Rattle.mdb_writing.specs.Written.{HasTaken}
+use Rattle.mdb_exports.specs.declared.places.Place.{Place}
 use Rattle.mdb_exports.specs.declared.told.Imported.{Imported}
 use Rattle.mdb_saleae.specs.Columns.{IsColumns, IsHeaderFault}
 use Rattle.mdb_saleae.specs.Refusals.{IsFault}
-use Rattle.mdb_saleae.specs.Rows.{AreEvents, AreRows, IsTableRow, last_start}
+use Rattle.mdb_saleae.specs.Rows.{AreEvents, AreRows, IsLeftOut, IsTableRow, last_start}
 use Rattle.mdb_saleae.specs.declared.columns.Columns.{Columns}
 use Rattle.mdb_saleae.specs.declared.fault.RowFault.{RowFault}
 use Rattle.mdb_saleae.specs.declared.fault.SaleaeFault.{SaleaeFault}
@@ -43,10 +45,10 @@ abbrev pub part_text : SaleaeOptions → List Event → List ℕ
 part_text options events = rows_text (filter (is_taken options) events)
 
 -- What is told of all events: how many were written, and how many are before and after the part,
--- whether there is a marked word, and one on each line. A table has a header, and none of its
--- records is passed over.
-pub record IsTold (options : SaleaeOptions) (events : List Event) (imported : Imported)
-    : Type 0 where
+-- whether there is a marked word, and one on each line; and which damaged words were left out. A
+-- table has a header, and none of its records is passed over for its time.
+pub record IsTold (options : SaleaeOptions) (events : List Event) (damaged : List Place)
+    (imported : Imported) : Type 0 where
   pub header : imported.header ≡ true
   pub passed : imported.passed ≡ 0
   pub rows : imported.rows ≡ told_count (is_taken options) events
@@ -55,20 +57,24 @@ pub record IsTold (options : SaleaeOptions) (events : List Event) (imported : Im
   pub marked : imported.marked ≡ list_any is_marked events
   pub controller : imported.controller ≡ list_any is_controllers events
   pub peripheral : imported.peripheral ≡ list_any is_peripherals events
+  pub left_out : AreNoted imported.damaged damaged
 
--- the first records behind the header stand for events, and the text is that of their rows
+-- the first records behind the header stand for events, but for damaged words, and the text is that
+-- of their rows
 pub record ImportedUpTo (options : SaleaeOptions) (columns : Columns)
     (rows : List (List (List ℕ))) (done : List (List (List ℕ))) (events : List Event)
     (rest : List (List (List ℕ))) (text : List ℕ) : Type 0 where
+  pub damaged : List Place
   pub split : rows ≡ done ++ rest
-  pub are : AreRows options columns None done events
+  pub are : AreRows options columns None done events damaged
   pub lines : text ≡ part_text options events
 
--- a record is no row of an event that is later than those before it, and why it isn't
+-- a record is no row of an event that is later than those before it, and isn't left out, and why
 pub record IsRefusedRow (options : SaleaeOptions) (columns : Columns) (events : List Event)
     (named : List (List ℕ)) (at : Option ℕ) (fault : RowFault) : Type 0 where
   pub no_row : (event : Event) → IsTableRow options columns named event
       → IsAfter (last_start None events) event → ⊥
+  pub not_left_out : (place : Place) → IsLeftOut options columns named place → ⊥
   pub why : IsFault options columns (last_start None events) named at fault
 
 -- a record is refused, and the text is that of the rows before it. The header is the first record.
@@ -95,8 +101,9 @@ pub record ImportedInPart (options : SaleaeOptions) (columns : Columns)
 abbrev pub IsRowsImport : SaleaeOptions → Columns → List (List (List ℕ))
     → Result Imported SaleaeFault → List ℕ → Type 0
 IsRowsImport options columns rows (Ok imported) text =
-    (events : List Event) × AreRows options columns None rows events
-    × IsTold options events imported × (text ≡ part_text options events)
+    (events : List Event) × (damaged : List Place)
+    × AreRows options columns None rows events damaged
+    × IsTold options events damaged imported × (text ≡ part_text options events)
 IsRowsImport options columns rows (Err (BadRecord number fault)) text =
     ImportedToFault options columns rows number None fault text
 IsRowsImport options columns rows (Err (BadRow number at fault)) text =
@@ -125,32 +132,24 @@ pub record IsTableImport (options : SaleaeOptions) (records : List (List (List �
   pub are : IsColumns header columns
   pub import : IsRowsImport options columns rows answer text
 
--- the answer to the records of a table, and the text that is written of them
+-- the answer to the records of a table, and the text of the rows that are written of them
 abbrev pub IsImport : SaleaeOptions → List (List (List ℕ)) → Result Imported SaleaeFault → List ℕ
     → Type 0
 IsImport options records answer text =
     IsTableImport options records answer text ⊎ (IsHeaderAnswer records answer × (text ≡ []))
 
--- the writer took a front of a text that is written of the records, with whatever answer
-pub record IsCutShort (options : SaleaeOptions) (records : List (List (List ℕ)))
-    (before after : Option (List ℕ)) : Type 0 where
-  pub answer : Result Imported SaleaeFault
-  pub text : List ℕ
-  pub import : IsImport options records answer text
-  pub taken : HasTaken before after text
-
--- The same of the bytes that a writer held before and after. It took the text of the answer; or the
--- answer is that it failed, and it took a front of a text.
+-- The bytes that a writer held before the answer to these records and after it. The text of the
+-- rows was written, and behind it, where the answer is a refusal, the line of one.
 abbrev pub Imports : SaleaeOptions → List (List (List ℕ)) → Option (List ℕ) → Option (List ℕ)
     → Result Imported SaleaeFault → Type 0
 Imports options records before after answer =
-    ((text : List ℕ) × IsImport options records answer text × Appends before after text)
-    ⊎ ((answer ≡ Err Write) × IsCutShort options records before after)
+    IsAnswered (IsImport options records) Write before after answer
 
 -- a table whose bytes are this text: all its rows are written, and nothing else
 abbrev pub IsImported : SaleaeOptions → List ℕ → Option (List ℕ) → Option (List ℕ) → Type 0
 IsImported options text before after =
-    (events : List Event) × AreEvents options (export_records text) events
+    (events : List Event) × (damaged : List Place)
+    × AreEvents options (export_records text) events damaged
     × Appends before after (part_text options events)
 
 -- what a fault of reading is told as

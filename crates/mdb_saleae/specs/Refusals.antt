@@ -1,5 +1,5 @@
 -- Why a record is refused.
-use Rattle.std.specs.Prelude.{◌≡◌, ◌≢◌, ◌⊎◌, ◌<◌, ℕ, List, Option, Some, None, true, length}
+use Rattle.std.specs.Prelude.{◌≡◌, ◌≢◌, ◌⊎◌, ◌<◌, ℕ, List, Option, Some, None, false, true, length}
 use Rattle.mdb_words.specs.Event.{start_of}
 use Rattle.mdb_words.specs.declared.event.Event.{Event}
 use Rattle.mdb_words.specs.declared.word.Line.{Line}
@@ -14,14 +14,16 @@ use Rattle.mdb_saleae.specs.declared.fault.RowFault.{RowFault}
 use Rattle.mdb_saleae.specs.declared.fault.RowFault.TheVariants as fault
 use Rattle.mdb_saleae.specs.declared.options.SaleaeOptions.{SaleaeOptions}
 
--- why a word without a stop bit is no break: it is a peripheral's; it is the controller's and isn't
--- 0; or it is the controller's and 0, and the length wasn't told
+-- why a word without a stop bit is refused. It is damaged, and isn't to be left out: it is a
+-- peripheral's, or the controller's and isn't 0. Or it is the controller's and 0, and the length of
+-- a break wasn't told.
 abbrev pub IsNoBreak : SaleaeOptions → Columns → List (List ℕ) → RowFault → Type 0
 IsNoBreak options columns fields told =
     IsFramed columns fields true
-    × (((told ≡ fault.PeripheralFraming) × IsLine options (cell fields columns.name) Peripheral)
+    × (((told ≡ fault.PeripheralFraming) × IsLine options (cell fields columns.name) Peripheral
+    × (options.skip_damaged ≡ false))
     ⊎ ((told ≡ fault.Framing) × IsLine options (cell fields columns.name) Controller
-    × (IsValue columns fields 0 → ⊥))
+    × (IsValue columns fields 0 → ⊥) × (options.skip_damaged ≡ false))
     ⊎ ((told ≡ fault.NoLength) × IsLine options (cell fields columns.name) Controller
     × IsValue columns fields 0 × (options.break_length ≡ None)))
 

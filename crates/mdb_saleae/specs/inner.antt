@@ -1,3 +1,3 @@
-pub mod Breaks
 pub mod Faults
+pub mod Found
 pub mod Steps

@@ -88,8 +88,14 @@ impl RowFault {
             RowFault::LongData => {
                 "wanted data of at most 0x1FF, and of at most 0xFF beside a column address"
             }
-            RowFault::PeripheralFraming => "wanted a stop bit: only the controller sends a break",
-            RowFault::Framing => "wanted a stop bit: a word that isn't 0 is no break",
+            RowFault::PeripheralFraming => {
+                "wanted a stop bit: only the controller sends a break; \
+                 --skip-damaged leaves out what is damaged"
+            }
+            RowFault::Framing => {
+                "wanted a stop bit: a word that isn't 0 is no break; \
+                 --skip-damaged leaves out what is damaged"
+            }
             RowFault::NoLength => {
                 "the table doesn't tell how long the break is: give --break MICROSECONDS"
             }

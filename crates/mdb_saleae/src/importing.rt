@@ -7,17 +7,18 @@ ghost use Rattle.mdb_records.specs.ToCome.{ToCome, fault_of};
 ghost use Rattle.mdb_words.specs.Event.{start_of};
 ghost use Rattle.mdb_exports.specs.Records.{HasFailed, export_records};
 ghost use Rattle.mdb_writing.specs.Output.{Breaks, Puts, begun, output};
+ghost use Rattle.mdb_exports.specs.shared.Closing.{Refuses, telling};
 ghost use Rattle.mdb_exports.specs.shared.Told.{IsKept, IsSaid};
 ghost use Rattle.mdb_saleae.specs.Imports.{Imports, IsImported, IsTold};
 ghost use Rattle.mdb_saleae.specs.inner.Steps.{Begins, HasFailedBehind, HasImported, IsNext};
-ghost use Rattle.mdb_saleae.specs.inner.Steps.{IsNoted, PutsRows};
+ghost use Rattle.mdb_saleae.specs.inner.Steps.{IsNoted, PutsRows, PutsTable};
 ghost use Rattle.mdb_saleae.specs.inner.Steps.{TakesOne, fault_at, part_line};
 
 use super::columns::{Columns, read_columns};
 use super::fault::{RowFault, SaleaeFault};
 use super::options::SaleaeOptions;
-use super::rows::{Refusal, event_in};
-use mdb_exports::{Imported, expect_after, line_of, records_of};
+use super::rows::{Found, Refusal, found_in};
+use mdb_exports::{Imported, Places, expect_after, line_of, records_of, write_refused};
 use mdb_records::{ReadFault, Record, Records};
 use mdb_words::{Event, Line};
 use mdb_writing::{Page, WriteFailed};
@@ -30,10 +31,11 @@ use std::io::{Read, Write};
 ///
 /// `NoHeader` where there is no record, and `BadHeader` where the first one lacks a column or has
 /// one twice. `BadRow`, or `BadRecord` where its time isn't known, for the first record behind it
-/// that is no row after the one before it: then the rows of all records before it were written.
-/// `Read` where the reader failed and `Memory` where memory was refused: then those of some first
-/// records were. `Write` where the writer failed: then it took a front of what is written where it
-/// doesn't fail.
+/// that is no row after the one before it, and isn't left out: then the rows of all records before
+/// it were written. `Read` where the reader failed and `Memory` where memory was refused: then those
+/// of some first records were. After these rows, or where there are none, comes a line that is no
+/// row, so that no checker takes them for a whole recording. `Write` where the writer failed: then
+/// it took a front of what is written where it doesn't fail.
 pub fn import_table<R: Read + Drop, W: Write>(
     options: &SaleaeOptions,
     records: &mut Records<R>,
@@ -45,13 +47,14 @@ pub fn import_table<R: Read + Drop, W: Write>(
     ensures failed { IfErr result (λ fault. fault ≡ SaleaeFault.Read
         → HasFailed R.remaining records.old records.new) }
 {
-    let columns = columns_of(records)?;
     let mut importing = Importing::new();
-    let answer = importing.take_all(options, &columns, records, writer);
-    if answer != Err(SaleaeFault::Write) {
-        importing.page.write_out(writer)?;
+    match importing.take_table(options, records, writer) {
+        Ok(()) => {
+            importing.page.write_out(writer)?;
+            Ok(importing.tally)
+        }
+        Err(fault) => Err(importing.refuse(fault, writer)),
     }
-    answer
 }
 
 /// Imports the table that a reader has left, and writes the rows as it reads.
@@ -103,13 +106,14 @@ pub(crate) struct Importing {
 impl Importing {
     ghost use Rattle.std.specs.Prelude.{Option};
     ghost use Rattle.mdb_words.specs.declared.event.Event.{Event};
+    ghost use Rattle.mdb_exports.specs.declared.places.Place.{Place};
     ghost use Rattle.mdb_writing.specs.Output.{Output};
     ghost use Rattle.mdb_saleae.specs.declared.options.SaleaeOptions.{SaleaeOptions};
 
     /// Before the first record behind the header.
     fn new() -> Importing
         ensures last { result.last ≡ None }
-        ensures told { (options : SaleaeOptions) → IsTold options [] result.tally }
+        ensures told { (options : SaleaeOptions) → IsTold options [] [] result.tally }
         ensures page { result.page ≡ [] }
     {
         Importing {
@@ -123,9 +127,30 @@ impl Importing {
                 marked: false,
                 controller: false,
                 peripheral: false,
+                damaged: Places::new(),
             },
             page: Page::new(),
         }
+    }
+
+    /// Takes all records that are still to come, the header first.
+    fn take_table<R: Read + Drop, W: Write>(
+        &mut self,
+        options: &SaleaeOptions,
+        records: &mut Records<R>,
+        writer: &mut W,
+    ) -> Result<(), SaleaeFault>
+        requires last { self.old.last ≡ None }
+        requires told { IsTold options.now [] [] self.old.tally }
+        requires page { self.old.page ≡ [] }
+        ensures failed { IfErr result (λ fault. fault ≡ SaleaeFault.Read
+            → HasFailed R.remaining records.old records.new) }
+        ensures puts { (all : List (List (List ℕ))) → ToCome R.remaining records.old all
+            → PutsTable options.now all (begun (W.contents writer.old))
+            (output (W.contents writer.new) self.new.page) (telling self.new.tally result) }
+    {
+        let columns = columns_of(records)?;
+        self.take_all(options, &columns, records, writer)
     }
 
     /// Takes all records that are still to come behind the header, after none.
@@ -135,25 +160,39 @@ impl Importing {
         columns: &Columns,
         records: &mut Records<R>,
         writer: &mut W,
-    ) -> Result<Imported, SaleaeFault>
+    ) -> Result<(), SaleaeFault>
         requires last { self.old.last ≡ None }
-        requires told { IsTold options.now [] self.old.tally }
+        requires told { IsTold options.now [] [] self.old.tally }
         requires page { self.old.page ≡ [] }
         ensures failed { IfErr result (λ fault. fault ≡ SaleaeFault.Read
             → HasFailedBehind R.remaining records.old records.new) }
         ensures puts { (all : List (List (List ℕ))) → ToCome R.remaining records.old all
             → PutsRows options.now columns.now all (begun (W.contents writer.old))
-            (output (W.contents writer.new) self.new.page) result }
+            (output (W.contents writer.new) self.new.page) (telling self.new.tally result) }
     {
         // The header was taken.
         for taken in 1..u64::MAX {
             let found = records.advance()?;
             if !found {
-                return Ok(self.tally);
+                return Ok(());
             }
             self.take(options, columns, taken + 1, &records.row(), writer)?;
         }
         Err(SaleaeFault::Read)
+    }
+
+    /// Ends what was written of a refused table, and says why it is refused.
+    fn refuse<W: Write>(&mut self, fault: SaleaeFault, writer: &mut W) -> SaleaeFault
+        ensures { Refuses SaleaeFault.Write (output (W.contents writer.old) self.old.page)
+            (W.contents writer.new) fault result }
+    {
+        if fault == SaleaeFault::Write {
+            return fault;
+        }
+        match write_refused(&mut self.page, writer) {
+            Ok(()) => fault,
+            Err(failed) => SaleaeFault::from(failed),
+        }
     }
 
     /// Takes the record of a number.
@@ -167,15 +206,19 @@ impl Importing {
     ) -> Result<(), SaleaeFault>
         ensures unread { IfErr result (λ fault. fault ≡ SaleaeFault.Read → ⊥) }
         ensures takes { (before : Output) (earlier : List (List (List ℕ))) (events : List Event)
-            → length earlier + 2 ≡ number
+            (damaged : List Place) → length earlier + 2 ≡ number
             → HasImported options.now columns.now self.old before
-            (output (W.contents writer.old) self.old.page) earlier events
+            (output (W.contents writer.old) self.old.page) earlier events damaged
             → TakesOne options.now columns.now self.new before
             (output (W.contents writer.new) self.new.page) earlier events
             (fields_of fields.now) result }
     {
         match next_in(options, columns, self.last, fields) {
-            Ok(event) => Ok(self.add(options, &event, writer)?),
+            Ok(Found::Row(event)) => Ok(self.add(options, &event, writer)?),
+            Ok(Found::Damaged(place)) => {
+                self.tally.damaged.note(place);
+                Ok(())
+            }
             Err(refusal) => Err(told(number, refusal)),
         }
     }
@@ -229,18 +272,22 @@ impl Importing {
     }
 }
 
-/// The event of a record that comes after a time, or why there is none.
+/// The row of a record, which has to come after a time, or its damaged word; or why there is
+/// neither.
 fn next_in(
     options: &SaleaeOptions,
     columns: &Columns,
     last: Option<u64>,
     fields: &Record<'_>,
-) -> Result<Event, Refusal>
+) -> Result<Found, Refusal>
     ensures { IsNext options.now columns.now last (fields_of fields.now) result }
 {
-    let event = event_in(options, columns, fields)?;
+    let event = match found_in(options, columns, fields)? {
+        Found::Row(event) => event,
+        Found::Damaged(place) => return Ok(Found::Damaged(place)),
+    };
     match expect_after(last, &event) {
-        Ok(()) => Ok(event),
+        Ok(()) => Ok(Found::Row(event)),
         Err(fault) => Err(Refusal {
             at: Some(event.start().value()),
             fault: RowFault::from(fault),

@@ -1,8 +1,9 @@
 //! Laws of tables and of their times. Each function's contract is the law, and its body is empty.
 
-ghost use Rattle.std.specs.Prelude.{◌≡◌, ◌+◌, ◌*◌, ◌^◌, ◌<◌, IfSome, List, filter, ℕ};
+ghost use Rattle.std.specs.Prelude.{◌≡◌, ◌+◌, ◌*◌, ◌^◌, ◌<◌, IfSome, List, [], false, filter, ℕ};
 ghost use Rattle.mdb_words.specs.declared.event.Event.{Event};
 ghost use Rattle.mdb_exports.specs.Numbers.{IsNearest};
+ghost use Rattle.mdb_exports.specs.declared.places.Place.{Place};
 ghost use Rattle.mdb_exports.specs.ReadBack.{AreReadBack};
 ghost use Rattle.mdb_saleae.specs.Imports.{is_taken};
 ghost use Rattle.mdb_saleae.specs.Rows.{AreEvents};
@@ -15,17 +16,26 @@ pub fn later_decimals_move_no_microsecond()
         → IsNearest (n * 10 ^ places + rest) (10 ^ 15 * 10 ^ places) micros }
 {}
 
-/// A table has no other events than its events, whatever its analysers are called.
+/// A table has no other events than its events, and no other damaged words are left out of it,
+/// whatever its analysers are called.
 pub fn events_of_a_table_are_the_only_ones()
     ensures { (options : SaleaeOptions) (records : List (List (List ℕ)))
-        (events others : List Event) → AreEvents options records events
-        → AreEvents options records others → others ≡ events }
+        (events others : List Event) (damaged more : List Place)
+        → AreEvents options records events damaged → AreEvents options records others more
+        → (others ≡ events) × (more ≡ damaged) }
+{}
+
+/// Nothing is left out of a table unless that was asked for.
+pub fn nothing_is_left_out_unasked()
+    ensures { (options : SaleaeOptions) (records : List (List (List ℕ))) (events : List Event)
+        (damaged : List Place) → options.skip_damaged ≡ false
+        → AreEvents options records events damaged → damaged ≡ [] }
 {}
 
 /// What is written of a table is read as just the rows that were written.
 pub fn rows_of_a_table_are_read_back()
     ensures { (options : SaleaeOptions) (records : List (List (List ℕ))) (events : List Event)
-        → IfSome options.break_length (λ length. length < 10 ^ 9)
-        → AreEvents options records events
+        (damaged : List Place) → IfSome options.break_length (λ length. length < 10 ^ 9)
+        → AreEvents options records events damaged
         → AreReadBack (filter (is_taken options) events) }
 {}

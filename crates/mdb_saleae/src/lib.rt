@@ -1,8 +1,9 @@
 //! Imports the table that an asynchronous serial analyser exports, with nine bits a word:
 //! [`import_saleae`] turns it into the rows that `mdbcheck` reads.
 //!
-//! The first record of a table is its header. Each other record is a row, or is refused. Nothing is
-//! guessed. The rows before a refused record are written. Times are in microseconds.
+//! The first record of a table is its header. Each other record is a row, or is refused. Damaged
+//! words are left out where that is asked for, and are reported. Nothing is guessed. The rows before
+//! a refused record are written, and after them a line that is no row. Times are in microseconds.
 #![tactic(auto)]
 
 mod cells;

@@ -12,6 +12,9 @@ pub struct SaleaeOptions {
     /// The length of each break, in microseconds, because the table doesn't contain it. `None`: a
     /// break is refused.
     pub break_length: Option<Span>,
+    /// Whether damaged words are left out: those without a stop bit that are no break. If not, the
+    /// first of them is refused.
+    pub skip_damaged: bool,
     /// The first microsecond of the part that is asked for. `None`: from the beginning.
     pub from: Option<u64>,
     /// The last microsecond of the part that is asked for. `None`: to the end.

@@ -6,8 +6,9 @@ ghost use Rattle.mdb_words.specs.Event.{start_of};
 ghost use Rattle.mdb_words.specs.declared.event.Event.{Event};
 ghost use Rattle.mdb_words.specs.declared.word.Line.{Line};
 ghost use Rattle.mdb_saleae.specs.Refusals.{IsNoEvent, IsNoRow};
-ghost use Rattle.mdb_saleae.specs.Rows.{IsEventAt, IsLine, IsTableRow, IsWordKind};
-ghost use Rattle.mdb_saleae.specs.inner.Breaks.{IsBreakOf, IsNoBreakOf};
+ghost use Rattle.mdb_saleae.specs.Rows.{IsLine, IsTableRow, IsWordKind};
+ghost use Rattle.mdb_saleae.specs.inner.Found.{IsNoBreakOf, IsUnstopped, StandsAt, StandsFor};
+ghost use Rattle.mdb_saleae.specs.inner.Found.{found_start};
 
 use super::cells::{cell, cell_or, is_text};
 use super::columns::Columns;
@@ -16,11 +17,20 @@ use super::frames::is_framed;
 use super::options::SaleaeOptions;
 use super::seconds::read_seconds;
 use super::values::read_value;
-use mdb_exports::is_named;
+use mdb_exports::{Place, is_named};
 use mdb_records::Record;
 use mdb_words::{Event, Line, Time, Word};
 
-/// A record that is no row.
+/// What a record stands for.
+#[derive(Clone, Copy)]
+pub(crate) enum Found {
+    /// A row.
+    Row(Event),
+    /// A damaged word, which is left out.
+    Damaged(Place),
+}
+
+/// A record that stands for nothing.
 #[derive(Clone, Copy)]
 pub(crate) struct Refusal {
     /// Its time in microseconds, where it has one.
@@ -29,18 +39,18 @@ pub(crate) struct Refusal {
     pub(crate) fault: RowFault,
 }
 
-/// The event of a record, or why it has none.
-pub(crate) fn event_in(
+/// What a record stands for, or why it stands for nothing.
+pub(crate) fn found_in(
     options: &SaleaeOptions,
     columns: &Columns,
     fields: &Record<'_>,
-) -> Result<Event, Refusal>
-    ensures ok { IfOk result (IsTableRow options.now columns.now (fields_of fields.now)) }
-    ensures only { IfOk result (λ event. (other : Event)
+) -> Result<Found, Refusal>
+    ensures ok { IfOk result (StandsFor options.now columns.now (fields_of fields.now)) }
+    ensures only { IfOk result (λ found. (other : Event)
         → IsTableRow options.now columns.now (fields_of fields.now) other
-        → start_of other ≡ start_of event) }
-    ensures err { IfErr result (λ refusal. (event : Event)
-        → IsTableRow options.now columns.now (fields_of fields.now) event → ⊥) }
+        → start_of other ≡ found_start found) }
+    ensures err { IfErr result (λ refusal. (found : Found)
+        → StandsFor options.now columns.now (fields_of fields.now) found → ⊥) }
     ensures why { IfErr result (λ refusal.
         IsNoRow options.now columns.now (fields_of fields.now) refusal.at refusal.fault) }
 {
@@ -54,8 +64,8 @@ pub(crate) fn event_in(
         Ok(at) => at,
         Err(fault) => return Err(Refusal { at: None, fault }),
     };
-    match event_at(options, columns, fields, at) {
-        Ok(event) => Ok(event),
+    match found_at(options, columns, fields, at) {
+        Ok(found) => Ok(found),
         Err(fault) => Err(Refusal {
             at: Some(at.value()),
             fault,
@@ -63,16 +73,16 @@ pub(crate) fn event_in(
     }
 }
 
-/// The event of a record that is at this time.
-fn event_at(
+/// What a record that is at this time stands for.
+fn found_at(
     options: &SaleaeOptions,
     columns: &Columns,
     fields: &Record<'_>,
     at: Time,
-) -> Result<Event, RowFault>
-    ensures ok { IfOk result (IsEventAt options.now columns.now (fields_of fields.now) at) }
-    ensures err { IfErr result (λ fault. (event : Event)
-        → IsEventAt options.now columns.now (fields_of fields.now) at event → ⊥) }
+) -> Result<Found, RowFault>
+    ensures ok { IfOk result (StandsAt options.now columns.now (fields_of fields.now) at) }
+    ensures err { IfErr result (λ fault. (found : Found)
+        → StandsAt options.now columns.now (fields_of fields.now) at found → ⊥) }
     ensures why { IfErr result (IsNoEvent options.now columns.now (fields_of fields.now)) }
 {
     if !is_word_kind(columns, fields) {
@@ -84,26 +94,29 @@ fn event_at(
     let framed = is_framed(columns, fields)?;
     let word = read_value(columns, fields)?;
     if framed {
-        break_of(options, at, line, word)
+        unstopped(options, at, line, word)
     } else {
-        Ok(Event::Word { at, line, word })
+        Ok(Found::Row(Event::Word { at, line, word }))
     }
 }
 
-/// The break that a word without a stop bit is.
-fn break_of(options: &SaleaeOptions, at: Time, line: Line, word: Word) -> Result<Event, RowFault>
-    ensures ok { IfOk result (IsBreakOf options.now at line word) }
+/// What a word without a stop bit is: a break, or damaged.
+fn unstopped(options: &SaleaeOptions, at: Time, line: Line, word: Word) -> Result<Found, RowFault>
+    ensures ok { IfOk result (IsUnstopped options.now at line word) }
     ensures why { IfErr result (IsNoBreakOf options.now line word) }
 {
-    if line == Line::Peripheral {
-        return Err(RowFault::PeripheralFraming);
+    if line == Line::Controller && word.byte() == 0 && !word.marked() {
+        return match options.break_length {
+            Some(length) => Ok(Found::Row(Event::Break { at, length })),
+            None => Err(RowFault::NoLength),
+        };
     }
-    if word.byte() != 0 || word.marked() {
-        return Err(RowFault::Framing);
+    if options.skip_damaged {
+        return Ok(Found::Damaged(Place { at, line }));
     }
-    match options.break_length {
-        Some(length) => Ok(Event::Break { at, length }),
-        None => Err(RowFault::NoLength),
+    match line {
+        Line::Controller => Err(RowFault::Framing),
+        Line::Peripheral => Err(RowFault::PeripheralFraming),
     }
 }
 

@@ -1,6 +1,7 @@
 pub mod Cuts
 pub mod Digits
 pub mod Records
+pub mod Kept
 pub mod Lines
 pub mod Pairs
 pub mod Whats

@@ -5,12 +5,17 @@ use Rattle.mdb_words.specs.declared.word.Line.{Line}
 use Rattle.mdb_words.specs.declared.word.Line.TheVariants.{Controller, Peripheral}
 use Rattle.mdb_sigrok.specs.declared.fault.SigrokFault.{SigrokFault}
 use Rattle.mdb_sigrok.specs.declared.fault.SigrokFault.TheVariants.{Form, Order, Read, Write, Memory}
-use Rattle.mdb_sigrok.specs.declared.line.Place.{Place}
+use Rattle.mdb_sigrok.specs.declared.line.State.{State}
+use Rattle.mdb_sigrok.specs.declared.note.Note.{Note}
+use Rattle.mdb_sigrok.specs.declared.options.SigrokOptions.{SigrokOptions}
 use Rattle.mdb_sigrok.specs.declared.pair.Pair.{Pair}
+use Rattle.mdb_sigrok.specs.declared.reading.Passed.{Passed}
+use Rattle.mdb_sigrok.specs.Notes.{rows_in}
 use Rattle.mdb_sigrok.specs.Rows.{LineRows}
 use Rattle.mdb_sigrok.specs.Trace.{Refutes, TellPairs, last, more, is_line, on_line}
-use Rattle.mdb_sigrok.specs.inner.Pairs.{Bars, Comes, Ends, GoBy, Goes, IsNext, IsOfTrace, Moves, Remains, Stand, Stops, Tells, start}
-use Rattle.mdb_sigrok.specs.inner.Steps.{EndsWith, open_pairs}
+use Rattle.mdb_sigrok.specs.inner.Pairs.{Bars, Begins, BothEnd, Comes, Ends, Finds, GoBy, Goes, IsNext, IsOfTrace, LineLeads, Moves, Remains, Stand, Stops, Tells, first_of}
+use Rattle.mdb_sigrok.specs.inner.Steps.{EndsWith, Leads, open_pairs}
+use Rattle.mdb_sigrok.proofs.Kept.{both_kept, kept_none, more_kept, none_kept}
 use Rattle.mdb_sigrok.proofs.Whats.{one_next}
 
 -- what a fault refutes
@@ -29,9 +34,9 @@ refutes_too Read P Q from never = never
 refutes_too Write P Q from never = never
 refutes_too Memory P Q from never = tt
 
-pub any_refuted : (fault : SigrokFault) (P : Type 0) (L : List Pair → List Event → Type 0)
-    → ((pairs : List Pair) (rows : List Event) → Refutes fault (L pairs rows))
-    → (P → (pairs : List Pair) × (rows : List Event) × L pairs rows) → Refutes fault P
+pub any_refuted : (fault : SigrokFault) (P : Type 0) (L : List Pair → List Note → Type 0)
+    → ((pairs : List Pair) (notes : List Note) → Refutes fault (L pairs notes))
+    → (P → (pairs : List Pair) × (notes : List Note) × L pairs notes) → Refutes fault P
 any_refuted (Form number fault) P L never from =
     λ p. let found = from p in never found.0 found.1 found.2
 any_refuted (Order number micros line fault) P L never from =
@@ -105,87 +110,88 @@ on_behind line held pair pairs =
 
 -- a line goes on, and what its other records tell
 
-line_took : (line : Line) (before after : Place) (pair : Pair) (pairs : List Pair)
-    (rb ra : List Event) (s : List Event)
-    (goes : Goes line before after (on_line line (pair ∷ [])) rb ra)
-    → LineRows line after.earliest (open_pairs after.held ++ on_line line pairs) s
-    → LineRows line before.earliest (open_pairs before.held ++ on_line line (pair ∷ pairs))
-    (goes.told ++ s)
-line_took line before after pair pairs rb ra s goes rows =
-    subst (λ l. LineRows line before.earliest l (goes.told ++ s))
-    (on_behind line (open_pairs before.held) pair pairs)
-    (goes.leads.took (on_line line pairs) s rows)
+line_took : (skip : Bool) (line : Line) (before after : State) (pair : Pair) (pairs : List Pair)
+    (told s : List Note) → LineLeads skip line before after (on_line line (pair ∷ [])) told
+    → LineRows skip line after.earliest (open_pairs after.held ++ on_line line pairs) s
+    → LineRows skip line before.earliest (open_pairs before.held ++ on_line line (pair ∷ pairs))
+    (told ++ s)
+line_took skip line before after pair pairs told s leads rows =
+    subst (λ l. LineRows skip line before.earliest l (told ++ s))
+    (on_behind line (open_pairs before.held) pair pairs) (leads.took (on_line line pairs) s rows)
 
-line_only : (line : Line) (before after : Place) (pair : Pair) (pairs : List Pair)
-    (rb ra : List Event) (s : List Event)
-    (goes : Goes line before after (on_line line (pair ∷ [])) rb ra)
-    → LineRows line before.earliest (open_pairs before.held ++ on_line line (pair ∷ pairs)) s
-    → (t : List Event) × (s ≡ goes.told ++ t)
-    × LineRows line after.earliest (open_pairs after.held ++ on_line line pairs) t
-line_only line before after pair pairs rb ra s goes rows =
-    goes.leads.only (on_line line pairs) s (subst (λ l. LineRows line before.earliest l s)
+line_only : (skip : Bool) (line : Line) (before after : State) (pair : Pair) (pairs : List Pair)
+    (told s : List Note) → LineLeads skip line before after (on_line line (pair ∷ [])) told
+    → LineRows skip line before.earliest (open_pairs before.held ++ on_line line (pair ∷ pairs)) s
+    → (t : List Note) × (s ≡ told ++ t)
+    × LineRows skip line after.earliest (open_pairs after.held ++ on_line line pairs) t
+line_only skip line before after pair pairs told s leads rows =
+    leads.only (on_line line pairs) s (subst (λ l. LineRows skip line before.earliest l s)
     (sym (on_behind line (open_pairs before.held) pair pairs)) rows)
 
 -- both lines go on
 
-pub moves_by : (swap : Bool) (lines : List (List ℕ)) (before after : Stand) (pair : Pair)
-    (again : Bool) (rest : List (List ℕ)) → IsNext swap lines pair again rest
-    → GoBy before after pair → Moves swap true lines before again rest after
-moves_by swap lines before after pair again rest next go = record {
-  sent = go.controller.told;
-  answered = go.devices.told;
-  sent_rows = go.controller.rows;
-  answered_rows = go.devices.rows;
-  took = λ s a comes. record {
-    pairs = pair ∷ comes.pairs;
-    told = tell_next swap lines pair again rest comes.pairs next comes.told;
-    controller_rows =
-        line_took Controller before.controller after.controller pair comes.pairs before.sent
-        after.sent s go.controller comes.controller_rows;
-    device_rows =
-        line_took Peripheral before.devices after.devices pair comes.pairs before.answered
-        after.answered a go.devices comes.device_rows;
-  };
-  only = λ s a comes.
-      let found = next_of comes.told in
-      let same =
-      one_next swap lines found.pair pair found.again again found.rest rest found.next next in
-      let parts : comes.pairs ≡ pair ∷ found.behind =
-      found.parts ∙ ap (λ p. p ∷ found.behind) same.0 in
-      let one =
-      line_only Controller before.controller after.controller pair found.behind before.sent
-      after.sent s go.controller (subst (λ l. LineRows Controller before.controller.earliest
-      (open_pairs before.controller.held ++ on_line Controller l) s) parts
-      comes.controller_rows) in
-      let two =
-      line_only Peripheral before.devices after.devices pair found.behind before.answered
-      after.answered a go.devices (subst (λ l. LineRows Peripheral before.devices.earliest
-      (open_pairs before.devices.held ++ on_line Peripheral l) a) parts
-      comes.device_rows) in (
-        one.0,
-        two.0,
-        one.1,
-        two.1,
-        record {
-          pairs = found.behind;
-          told =
-              subst (λ m. Remains swap m rest found.behind) same.1
-              (subst (λ r. Remains swap found.again r found.behind) same.2 found.remains);
-          controller_rows = one.2;
-          device_rows = two.2;
-        },
-      );
-}
+pub moves_by : (options : SigrokOptions) (lines : List (List ℕ)) (before after : Stand)
+    (pair : Pair) (again : Bool) (rest : List (List ℕ))
+    → IsNext options.swap lines pair again rest → GoBy options.skip_damaged before after pair
+    → Moves options true lines before again rest after
+moves_by options lines before after pair again rest next go =
+    let skip = options.skip_damaged in record {
+      sent = go.sent;
+      answered = go.answered;
+      kept = go.kept;
+      took = λ s a comes. record {
+        pairs = pair ∷ comes.pairs;
+        told = tell_next options.swap lines pair again rest comes.pairs next comes.told;
+        controller_rows =
+            line_took skip Controller before.controller after.controller pair comes.pairs go.sent
+            s go.controller comes.controller_rows;
+        device_rows =
+            line_took skip Peripheral before.devices after.devices pair comes.pairs go.answered a
+            go.devices comes.device_rows;
+      };
+      only = λ s a comes.
+          let found = next_of comes.told in
+          let same =
+          one_next options.swap lines found.pair pair found.again again found.rest rest found.next
+          next in
+          let parts : comes.pairs ≡ pair ∷ found.behind =
+          found.parts ∙ ap (λ p. p ∷ found.behind) same.0 in
+          let one =
+          line_only skip Controller before.controller after.controller pair found.behind go.sent
+          s go.controller (subst (λ l. LineRows skip Controller before.controller.earliest
+          (open_pairs before.controller.held ++ on_line Controller l) s) parts
+          comes.controller_rows) in
+          let two =
+          line_only skip Peripheral before.devices after.devices pair found.behind go.answered
+          a go.devices (subst (λ l. LineRows skip Peripheral before.devices.earliest
+          (open_pairs before.devices.held ++ on_line Peripheral l) a) parts
+          comes.device_rows) in (
+            one.0,
+            two.0,
+            one.1,
+            two.1,
+            record {
+              pairs = found.behind;
+              told =
+                  subst (λ m. Remains options.swap m rest found.behind) same.1
+                  (subst (λ r. Remains options.swap found.again r found.behind) same.2
+                  found.remains);
+              controller_rows = one.2;
+              device_rows = two.2;
+            },
+          );
+    }
 
-pub unread_stops : (fault : SigrokFault) (swap : Bool) (lines : List (List ℕ)) (stand : Stand)
-    → IsOfTrace fault
-    → ((pair : Pair) (again : Bool) (rest : List (List ℕ)) → IsNext swap lines pair again rest → ⊥)
-    → Stops fault swap true lines stand
-unread_stops fault swap lines stand is none =
-    λ s a. refutes fault (Comes swap true lines stand s a) is (λ comes.
+pub unread_stops : (fault : SigrokFault) (options : SigrokOptions) (lines : List (List ℕ))
+    (stand : Stand) → IsOfTrace fault
+    → ((pair : Pair) (again : Bool) (rest : List (List ℕ))
+    → IsNext options.swap lines pair again rest → ⊥)
+    → Stops fault options true lines stand
+unread_stops fault options lines stand is none =
+    λ s a. refutes fault (Comes options true lines stand.controller stand.devices s a) is (λ comes.
     let found = next_of comes.told in none found.pair found.again found.rest found.next)
 
--- the pair that comes is on a line that can't go on by it
+-- by a pair of one of them
 
 controller_here : (pair : Pair) → pair.line ≡ Controller
     → on_line Controller (pair ∷ []) ≡ pair ∷ []
@@ -194,24 +200,79 @@ controller_here pair is = ap (λ l. if is_line Controller l then pair ∷ [] els
 device_here : (pair : Pair) → pair.line ≡ Peripheral → on_line Peripheral (pair ∷ []) ≡ pair ∷ []
 device_here pair is = ap (λ l. if is_line Peripheral l then pair ∷ [] else []) is
 
-line_barred : (fault : SigrokFault) (line : Line) (place : Place) (pair : Pair) (P : Type 0)
-    → on_line line (pair ∷ []) ≡ pair ∷ [] → Bars fault line place (pair ∷ [])
+no_device : (pair : Pair) → pair.line ≡ Controller → on_line Peripheral (pair ∷ []) ≡ []
+no_device pair is = ap (λ l. if is_line Peripheral l then pair ∷ [] else []) is
+
+no_controller : (pair : Pair) → pair.line ≡ Peripheral → on_line Controller (pair ∷ []) ≡ []
+no_controller pair is = ap (λ l. if is_line Controller l then pair ∷ [] else []) is
+
+waits : (skip : Bool) (line : Line) (state : State) (front : List Pair) → front ≡ []
+    → LineLeads skip line state state front []
+waits skip line state front none =
+    subst (λ f. LineLeads skip line state state f []) (sym none)
+    (subst (λ l. Leads skip line state.earliest l state.earliest (open_pairs state.held) [])
+    (sym (append-nil (open_pairs state.held)))
+    (record { took = λ pairs notes told. told; only = λ pairs notes told. (notes, refl, told) }))
+
+pub controller_goes : (skip : Bool) (a b d : State) (sent told answered : List Event)
+    (one two : Passed) (pair : Pair) → pair.line ≡ Controller → a.line ≡ Controller
+    → Goes skip a.line a b (pair ∷ []) sent told one two
+    → GoBy skip
+    (record { controller = a; devices = d; sent = sent; answered = answered; passed = one })
+    (record { controller = b; devices = d; sent = told; answered = answered; passed = two }) pair
+controller_goes skip a b d sent told answered one two pair is here at_line =
+    let goes = subst (λ l. Goes skip l a b (pair ∷ []) sent told one two) here at_line in record {
+      sent = goes.told;
+      answered = [];
+      controller =
+          subst (λ f. LineLeads skip Controller a b f goes.told) (sym (controller_here pair is))
+          goes.leads;
+      devices = waits skip Peripheral d (on_line Peripheral (pair ∷ [])) (no_device pair is);
+      kept =
+          both_kept a d b d sent told answered answered one two two goes.told [] goes.kept
+          (kept_none Peripheral answered two);
+    }
+
+pub device_goes : (skip : Bool) (c a b : State) (sent answered told : List Event)
+    (one two : Passed) (pair : Pair) → pair.line ≡ Peripheral → a.line ≡ Peripheral
+    → Goes skip a.line a b (pair ∷ []) answered told one two
+    → GoBy skip
+    (record { controller = c; devices = a; sent = sent; answered = answered; passed = one })
+    (record { controller = c; devices = b; sent = sent; answered = told; passed = two }) pair
+device_goes skip c a b sent answered told one two pair is here at_line =
+    let goes = subst (λ l. Goes skip l a b (pair ∷ []) answered told one two) here at_line in record {
+      sent = [];
+      answered = goes.told;
+      controller = waits skip Controller c (on_line Controller (pair ∷ [])) (no_controller pair is);
+      devices =
+          subst (λ f. LineLeads skip Peripheral a b f goes.told) (sym (device_here pair is))
+          goes.leads;
+      kept =
+          both_kept c a c b sent sent answered told one one two [] goes.told
+          (kept_none Controller sent one) goes.kept;
+    }
+
+-- the pair that comes is on a line that can't go on by it
+
+line_barred : (fault : SigrokFault) (skip : Bool) (line : Line) (state : State) (pair : Pair)
+    (P : Type 0) → on_line line (pair ∷ []) ≡ pair ∷ []
+    → Bars fault skip line state (pair ∷ [])
     → (P
-    → (pairs : List Pair) × (rows : List Event)
-    × LineRows line place.earliest (open_pairs place.held ++ on_line line (pair ∷ pairs))
-    rows)
+    → (pairs : List Pair) × (notes : List Note)
+    × LineRows skip line state.earliest (open_pairs state.held ++ on_line line (pair ∷ pairs))
+    notes)
     → Refutes fault P
-line_barred fault line place pair P here bars from =
-    any_refuted fault P (λ pairs rows.
-    LineRows line place.earliest ((open_pairs place.held ++ pair ∷ []) ++ pairs) rows) bars
+line_barred fault skip line state pair P here bars from =
+    any_refuted fault P (λ pairs notes.
+    LineRows skip line state.earliest ((open_pairs state.held ++ pair ∷ []) ++ pairs) notes) bars
     (λ p.
     let found = from p in (
       on_line line found.0,
       found.1,
-      subst (λ f. LineRows line place.earliest
-          ((open_pairs place.held ++ f) ++ on_line line found.0) found.1) here
-          (subst (λ l. LineRows line place.earliest l found.1)
-          (sym (on_behind line (open_pairs place.held) pair found.0)) found.2),
+      subst (λ f. LineRows skip line state.earliest
+          ((open_pairs state.held ++ f) ++ on_line line found.0) found.1) here
+          (subst (λ l. LineRows skip line state.earliest l found.1)
+          (sym (on_behind line (open_pairs state.held) pair found.0)) found.2),
     ))
 
 pairs_begin : (swap : Bool) (lines : List (List ℕ)) (pair : Pair) (again : Bool)
@@ -223,64 +284,68 @@ pairs_begin swap lines pair again rest pairs next told =
     one_next swap lines found.pair pair found.again again found.rest rest found.next next in
     (found.behind, found.parts ∙ ap (λ p. p ∷ found.behind) same.0)
 
-pub barred_stops : (fault : SigrokFault) (swap : Bool) (lines : List (List ℕ)) (stand : Stand)
-    (pair : Pair) (again : Bool) (rest : List (List ℕ)) → IsNext swap lines pair again rest
-    → (pair.line ≡ Controller → Bars fault Controller stand.controller (pair ∷ []))
-    → (pair.line ≡ Peripheral → Bars fault Peripheral stand.devices (pair ∷ []))
-    → Stops fault swap true lines stand
-barred_stops fault swap lines stand pair again rest next one two = λ s a. by_line pair.line refl s a
+pub barred_stops : (fault : SigrokFault) (options : SigrokOptions) (lines : List (List ℕ))
+    (stand : Stand) (pair : Pair) (again : Bool) (rest : List (List ℕ))
+    → IsNext options.swap lines pair again rest
+    → (pair.line ≡ Controller
+    → Bars fault options.skip_damaged Controller stand.controller (pair ∷ []))
+    → (pair.line ≡ Peripheral
+    → Bars fault options.skip_damaged Peripheral stand.devices (pair ∷ []))
+    → Stops fault options true lines stand
+barred_stops fault options lines stand pair again rest next one two =
+    λ s a. by_line pair.line refl s a
   where
-    by_line : (line : Line) → pair.line ≡ line → (s a : List Event)
-        → Refutes fault (Comes swap true lines stand s a)
+    by_line : (line : Line) → pair.line ≡ line → (s a : List Note)
+        → Refutes fault (Comes options true lines stand.controller stand.devices s a)
     by_line Controller is s a =
-        line_barred fault Controller stand.controller pair (Comes swap true lines stand s a)
-        (controller_here pair is) (one is) (λ comes.
-        let begins = pairs_begin swap lines pair again rest comes.pairs next comes.told in (
+        line_barred fault options.skip_damaged Controller stand.controller pair
+        (Comes options true lines stand.controller stand.devices s a) (controller_here pair is)
+        (one is) (λ comes.
+        let begins = pairs_begin options.swap lines pair again rest comes.pairs next comes.told in (
           begins.0,
           s,
-          subst (λ l. LineRows Controller stand.controller.earliest
+          subst (λ l. LineRows options.skip_damaged Controller stand.controller.earliest
               (open_pairs stand.controller.held ++ on_line Controller l) s) begins.1
               comes.controller_rows,
         ))
     by_line Peripheral is s a =
-        line_barred fault Peripheral stand.devices pair (Comes swap true lines stand s a)
-        (device_here pair is) (two is) (λ comes.
-        let begins = pairs_begin swap lines pair again rest comes.pairs next comes.told in (
+        line_barred fault options.skip_damaged Peripheral stand.devices pair
+        (Comes options true lines stand.controller stand.devices s a) (device_here pair is)
+        (two is) (λ comes.
+        let begins = pairs_begin options.swap lines pair again rest comes.pairs next comes.told in (
           begins.0,
           a,
-          subst (λ l. LineRows Peripheral stand.devices.earliest
+          subst (λ l. LineRows options.skip_damaged Peripheral stand.devices.earliest
               (open_pairs stand.devices.held ++ on_line Peripheral l) a) begins.1
               comes.device_rows,
         ))
 
 -- ways, one behind the other
 
-pub moves_none : (swap again : Bool) (lines : List (List ℕ)) (stand : Stand)
-    → Moves swap again lines stand again lines stand
-moves_none swap again lines stand = record {
+pub moves_none : (options : SigrokOptions) (again : Bool) (lines : List (List ℕ)) (stand : Stand)
+    → Moves options again lines stand again lines stand
+moves_none options again lines stand = record {
   sent = [];
   answered = [];
-  sent_rows = sym (append-nil stand.sent);
-  answered_rows = sym (append-nil stand.answered);
+  kept = none_kept stand;
   took = λ s a comes. comes;
   only = λ s a comes. (s, a, refl, refl, comes);
 }
 
-pub moves_on : (swap m n o : Bool) (l k j : List (List ℕ)) (one two three : Stand)
-    → Moves swap m l one n k two → Moves swap n k two o j three → Moves swap m l one o j three
-moves_on swap m n o l k j one two three first second = record {
+pub moves_on : (options : SigrokOptions) (m n o : Bool) (l k j : List (List ℕ))
+    (one two three : Stand) → Moves options m l one n k two → Moves options n k two o j three
+    → Moves options m l one o j three
+moves_on options m n o l k j one two three first second = record {
   sent = first.sent ++ second.sent;
   answered = first.answered ++ second.answered;
-  sent_rows =
-      second.sent_rows ∙ ap (λ r. r ++ second.sent) first.sent_rows
-      ∙ append_assoc one.sent first.sent second.sent;
-  answered_rows =
-      second.answered_rows ∙ ap (λ r. r ++ second.answered) first.answered_rows
-      ∙ append_assoc one.answered first.answered second.answered;
+  kept =
+      more_kept one two three first.sent first.answered second.sent second.answered first.kept
+      second.kept;
   took = λ s a comes.
-      subst (λ r. Comes swap m l one r ((first.answered ++ second.answered) ++ a))
-      (sym (append_assoc first.sent second.sent s))
-      (subst (λ r. Comes swap m l one (first.sent ++ (second.sent ++ s)) r)
+      subst (λ r. Comes options m l one.controller one.devices r
+      ((first.answered ++ second.answered) ++ a)) (sym (append_assoc first.sent second.sent s))
+      (subst (λ r. Comes options m l one.controller one.devices
+      (first.sent ++ (second.sent ++ s)) r)
       (sym (append_assoc first.answered second.answered a))
       (first.took (second.sent ++ s) (second.answered ++ a) (second.took s a comes)));
   only = λ s a comes.
@@ -295,129 +360,167 @@ moves_on swap m n o l k j one two three first second = record {
       );
 }
 
-pub moves_stop : (fault : SigrokFault) (swap m n : Bool) (l k : List (List ℕ)) (one two : Stand)
-    → Moves swap m l one n k two → Stops fault swap n k two → Stops fault swap m l one
-moves_stop fault swap m n l k one two moves stops = λ s a.
-    both_refuted fault (Comes swap m l one s a) (Comes swap n k two) stops (λ comes.
+both_refuted : (fault : SigrokFault) (P : Type 0) (L : List Note → List Note → Type 0)
+    → ((t b : List Note) → Refutes fault (L t b)) → (P → (t b : List Note) × L t b)
+    → Refutes fault P
+both_refuted (Form number fault_kind) P L never from =
+    λ p. let found = from p in never found.0 found.1 found.2
+both_refuted (Order number micros line fault_kind) P L never from =
+    λ p. let found = from p in never found.0 found.1 found.2
+both_refuted Read P L never from = never [] []
+both_refuted Write P L never from = never [] []
+both_refuted Memory P L never from = tt
+
+pub moves_stop : (fault : SigrokFault) (options : SigrokOptions) (m n : Bool)
+    (l k : List (List ℕ)) (one two : Stand) → Moves options m l one n k two
+    → Stops fault options n k two → Stops fault options m l one
+moves_stop fault options m n l k one two moves stops = λ s a.
+    both_refuted fault (Comes options m l one.controller one.devices s a)
+    (Comes options n k two.controller two.devices) stops (λ comes.
     let mid = moves.only s a comes in (mid.0, mid.1, mid.4))
-  where
-    both_refuted : (fault : SigrokFault) (P : Type 0) (L : List Event → List Event → Type 0)
-        → ((t b : List Event) → Refutes fault (L t b)) → (P → (t b : List Event) × L t b)
-        → Refutes fault P
-    both_refuted (Form number fault_kind) P L never from =
-        λ p. let found = from p in never found.0 found.1 found.2
-    both_refuted (Order number micros line fault_kind) P L never from =
-        λ p. let found = from p in never found.0 found.1 found.2
-    both_refuted Read P L never from = never [] []
-    both_refuted Write P L never from = never [] []
-    both_refuted Memory P L never from = tt
 
 -- the end of a trace
 
-comes_at_end : (swap : Bool) (lines : List (List ℕ)) (stand : Stand) (t b : List Event)
-    → lines ≡ codes "]}" ∷ []
-    → EndsWith Controller stand.controller.earliest (open_pairs stand.controller.held) t
-    → EndsWith Peripheral stand.devices.earliest (open_pairs stand.devices.held) b
-    → Comes swap false lines stand t b
-comes_at_end swap lines stand t b ends one two = record {
+comes_at_end : (options : SigrokOptions) (lines : List (List ℕ)) (one two : State)
+    (t b : List Note) → lines ≡ codes "]}" ∷ []
+    → EndsWith options.skip_damaged Controller one.earliest (open_pairs one.held) t
+    → EndsWith options.skip_damaged Peripheral two.earliest (open_pairs two.held) b
+    → Comes options false lines one two t b
+comes_at_end options lines one two t b ends first second = record {
   pairs = [];
   told = (ends, refl);
   controller_rows =
-      subst (λ l. LineRows Controller stand.controller.earliest l t)
-      (sym (append-nil (open_pairs stand.controller.held))) one.took;
+      subst (λ l. LineRows options.skip_damaged Controller one.earliest l t)
+      (sym (append-nil (open_pairs one.held))) first.took;
   device_rows =
-      subst (λ l. LineRows Peripheral stand.devices.earliest l b)
-      (sym (append-nil (open_pairs stand.devices.held))) two.took;
+      subst (λ l. LineRows options.skip_damaged Peripheral two.earliest l b)
+      (sym (append-nil (open_pairs two.held))) second.took;
 }
-
-only_at_end : (swap : Bool) (lines : List (List ℕ)) (stand : Stand) (t b s a : List Event)
-    → EndsWith Controller stand.controller.earliest (open_pairs stand.controller.held) t
-    → EndsWith Peripheral stand.devices.earliest (open_pairs stand.devices.held) b
-    → Comes swap false lines stand s a → (s ≡ t) × (a ≡ b)
-only_at_end swap lines stand t b s a one two comes =
-    let none = comes.told.1 in
-    let front = λ (line : Line) (held : List Pair).
-    ap (λ p. held ++ on_line line p) none ∙ append-nil held in (
-      one.only s (subst (λ l. LineRows Controller stand.controller.earliest l s)
-          (front Controller (open_pairs stand.controller.held)) comes.controller_rows),
-      two.only a (subst (λ l. LineRows Peripheral stand.devices.earliest l a)
-          (front Peripheral (open_pairs stand.devices.held)) comes.device_rows),
-    )
 
 at_end : (line : Line) (held : List Pair) (pairs : List Pair) → pairs ≡ []
     → held ++ on_line line pairs ≡ held
 at_end line held pairs none = ap (λ p. held ++ on_line line p) none ∙ append-nil held
 
-pub controller_stops : (fault : SigrokFault) (lines : List (List ℕ)) (stand : Stand)
-    → stand.controller.line ≡ Controller
-    → ((rows : List Event)
-    → Refutes fault (LineRows stand.controller.line stand.controller.earliest
-    (open_pairs stand.controller.held) rows))
-    → (swap : Bool) → Stops fault swap false lines stand
-controller_stops fault lines stand is never = λ swap s a.
+only_at_end : (options : SigrokOptions) (lines : List (List ℕ)) (one two : State)
+    (t b s a : List Note)
+    → EndsWith options.skip_damaged Controller one.earliest (open_pairs one.held) t
+    → EndsWith options.skip_damaged Peripheral two.earliest (open_pairs two.held) b
+    → Comes options false lines one two s a → (s ≡ t) × (a ≡ b)
+only_at_end options lines one two t b s a first second comes = (
+  first.only s (subst (λ l. LineRows options.skip_damaged Controller one.earliest l s)
+      (at_end Controller (open_pairs one.held) comes.pairs comes.told.1) comes.controller_rows),
+  second.only a (subst (λ l. LineRows options.skip_damaged Peripheral two.earliest l a)
+      (at_end Peripheral (open_pairs two.held) comes.pairs comes.told.1) comes.device_rows),
+)
+
+pub controller_stops : (fault : SigrokFault) (skip : Bool) (lines : List (List ℕ))
+    (stand : Stand) → stand.controller.line ≡ Controller
+    → ((notes : List Note)
+    → Refutes fault (LineRows skip stand.controller.line stand.controller.earliest
+    (open_pairs stand.controller.held) notes))
+    → (options : SigrokOptions) → options.skip_damaged ≡ skip
+    → Stops fault options false lines stand
+controller_stops fault skip lines stand is never = λ options same s a.
     refutes_too fault _ _ (λ comes.
-    subst (λ l. LineRows l stand.controller.earliest (open_pairs stand.controller.held) s) (sym is)
-    (subst (λ h. LineRows Controller stand.controller.earliest h s)
+    subst (λ k. LineRows k stand.controller.line stand.controller.earliest
+    (open_pairs stand.controller.held) s) same
+    (subst (λ l. LineRows options.skip_damaged l stand.controller.earliest
+    (open_pairs stand.controller.held) s) (sym is)
+    (subst (λ h. LineRows options.skip_damaged Controller stand.controller.earliest h s)
     (at_end Controller (open_pairs stand.controller.held) comes.pairs comes.told.1)
-    comes.controller_rows))
+    comes.controller_rows)))
     (never s)
 
-pub devices_stop : (fault : SigrokFault) (lines : List (List ℕ)) (stand : Stand)
+pub devices_stop : (fault : SigrokFault) (skip : Bool) (lines : List (List ℕ)) (stand : Stand)
     → stand.devices.line ≡ Peripheral
-    → ((rows : List Event)
-    → Refutes fault (LineRows stand.devices.line stand.devices.earliest
-    (open_pairs stand.devices.held) rows))
-    → (swap : Bool) → Stops fault swap false lines stand
-devices_stop fault lines stand is never = λ swap s a.
+    → ((notes : List Note)
+    → Refutes fault (LineRows skip stand.devices.line stand.devices.earliest
+    (open_pairs stand.devices.held) notes))
+    → (options : SigrokOptions) → options.skip_damaged ≡ skip
+    → Stops fault options false lines stand
+devices_stop fault skip lines stand is never = λ options same s a.
     refutes_too fault _ _ (λ comes.
-    subst (λ l. LineRows l stand.devices.earliest (open_pairs stand.devices.held) a) (sym is)
-    (subst (λ h. LineRows Peripheral stand.devices.earliest h a)
+    subst (λ k. LineRows k stand.devices.line stand.devices.earliest
+    (open_pairs stand.devices.held) a) same
+    (subst (λ l. LineRows options.skip_damaged l stand.devices.earliest
+    (open_pairs stand.devices.held) a) (sym is)
+    (subst (λ h. LineRows options.skip_damaged Peripheral stand.devices.earliest h a)
     (at_end Peripheral (open_pairs stand.devices.held) comes.pairs comes.told.1)
-    comes.device_rows))
+    comes.device_rows)))
     (never a)
 
-pub start_stops : (fault : SigrokFault) (swap : Bool) (lines rest : List (List ℕ))
-    (before now : Stand) → Moves swap true lines before false rest now → before ≡ start
-    → Stops fault swap false rest now → (s a : List Event) → Refutes fault (Tells swap lines s a)
-start_stops fault swap lines rest before now moves is stops =
-    subst (λ b. Stops fault swap true lines b) is
-    (moves_stop fault swap true false lines rest before now moves stops)
+pub both_end : (skip : Bool) (a b c d : State) (sent told answered told_too : List Event)
+    (one two three : Passed) → a.line ≡ Controller → b.line ≡ Peripheral
+    → Ends skip a.line a sent told one two → Ends skip b.line b answered told_too two three
+    → BothEnd skip
+    (record { controller = a; devices = b; sent = sent; answered = answered; passed = one })
+    (record { controller = c; devices = d; sent = told; answered = told_too; passed = three })
+both_end skip a b c d sent told answered told_too one two three is_one is_two at_one at_two =
+    let first = subst (λ l. Ends skip l a sent told one two) is_one at_one in
+    let second = subst (λ l. Ends skip l b answered told_too two three) is_two at_two in record {
+      sent = first.told;
+      answered = second.told;
+      controller = first.ends;
+      devices = second.ends;
+      kept =
+          both_kept a b c d sent told answered told_too one two three first.told second.told first.kept
+          second.kept;
+    }
 
-pub all_told : (swap : Bool) (lines rest : List (List ℕ)) (before now : Stand)
-    (sent answered : List Event) → Moves swap true lines before false rest now → before ≡ start
-    → rest ≡ codes "]}" ∷ [] → Ends Controller now.controller now.sent sent
-    → Ends Peripheral now.devices now.answered answered → Tells swap lines sent answered
-all_told swap lines rest before now sent answered moves is ends one two =
-    let all =
-    moves.took one.told two.told
-    (comes_at_end swap rest now one.told two.told ends one.ends two.ends) in
-    let rows =
-    one.rows ∙ ap (λ r. r ++ one.told) (moves.sent_rows ∙ ap (λ b. b.sent ++ moves.sent) is) in
-    let others =
-    two.rows
-    ∙ ap (λ r. r ++ two.told)
-    (moves.answered_rows ∙ ap (λ b. b.answered ++ moves.answered) is) in
-    subst (λ r. Tells swap lines r answered) (sym rows)
-    (subst (λ r. Tells swap lines (moves.sent ++ one.told) r) (sym others)
-    (subst
-    (λ b. Comes swap true lines b (moves.sent ++ one.told) (moves.answered ++ two.told))
-    is all))
+pub start_stops : (fault : SigrokFault) (options : SigrokOptions) (lines rest : List (List ℕ))
+    (before now : Stand) → Moves options true lines before false rest now → Begins before
+    → Stops fault options false rest now
+    → (s a : List Note) → Refutes fault (Tells options lines s a)
+start_stops fault options lines rest before now moves begins stops = λ s a.
+    subst (λ d. Refutes fault (Comes options true lines (first_of Controller) d s a)) begins.devices
+    (subst (λ c. Refutes fault (Comes options true lines c before.devices s a)) begins.controller
+    (moves_stop fault options true false lines rest before now moves stops s a))
 
-pub only_told : (swap : Bool) (lines rest : List (List ℕ)) (before now : Stand)
-    (sent answered : List Event) → Moves swap true lines before false rest now → before ≡ start
-    → Ends Controller now.controller now.sent sent
-    → Ends Peripheral now.devices now.answered answered → (s a : List Event) → Tells swap lines s a
-    → (s ≡ sent) × (a ≡ answered)
-only_told swap lines rest before now sent answered moves is one two = λ s a tells.
-    let found = moves.only s a (subst (λ b. Comes swap true lines b s a) (sym is) tells) in
-    let last =
-    only_at_end swap rest now one.told two.told found.0 found.1 one.ends two.ends found.4 in
-    let rows =
-    one.rows ∙ ap (λ r. r ++ one.told) (moves.sent_rows ∙ ap (λ b. b.sent ++ moves.sent) is) in
-    let others =
-    two.rows
-    ∙ ap (λ r. r ++ two.told)
-    (moves.answered_rows ∙ ap (λ b. b.answered ++ moves.answered) is) in (
-      found.2 ∙ ap (λ t. moves.sent ++ t) last.0 ∙ sym rows,
-      found.3 ∙ ap (λ t. moves.answered ++ t) last.1 ∙ sym others,
-    )
+-- all that the lines tell is kept, and there is nothing else
+
+begun_all : (options : SigrokOptions) (lines : List (List ℕ)) (before : Stand) (s a : List Note)
+    → Begins before → Comes options true lines before.controller before.devices s a
+    → Tells options lines s a
+begun_all options lines before s a begins comes =
+    subst (λ d. Comes options true lines (first_of Controller) d s a) begins.devices
+    (subst (λ c. Comes options true lines c before.devices s a) begins.controller comes)
+
+begun_too : (options : SigrokOptions) (lines : List (List ℕ)) (before : Stand) (s a : List Note)
+    → Begins before → Tells options lines s a
+    → Comes options true lines before.controller before.devices s a
+begun_too options lines before s a begins tells =
+    subst (λ c. Comes options true lines c before.devices s a) (sym begins.controller)
+    (subst (λ d. Comes options true lines (first_of Controller) d s a) (sym begins.devices) tells)
+
+pub all_found : (options : SigrokOptions) (lines rest : List (List ℕ)) (before now after : Stand)
+    → Moves options true lines before false rest now → Begins before → rest ≡ codes "]}" ∷ []
+    → BothEnd options.skip_damaged now after
+    → Finds options lines after.sent after.answered after.passed
+all_found options lines rest before now after moves begins ends end =
+    let all = more_kept before now after moves.sent moves.answered end.sent end.answered moves.kept
+    end.kept in
+    record {
+      controller = moves.sent ++ end.sent;
+      devices = moves.answered ++ end.answered;
+      tells =
+          begun_all options lines before (moves.sent ++ end.sent)
+          (moves.answered ++ end.answered) begins
+          (moves.took end.sent end.answered
+          (comes_at_end options rest now.controller now.devices end.sent end.answered ends
+          end.controller end.devices));
+      only = λ s a tells.
+          let found = moves.only s a (begun_too options lines before s a begins tells) in
+          let last =
+          only_at_end options rest now.controller now.devices end.sent end.answered found.0
+          found.1 end.controller end.devices found.4 in (
+            found.2 ∙ ap (λ t. moves.sent ++ t) last.0,
+            found.3 ∙ ap (λ t. moves.answered ++ t) last.1,
+          );
+      sent_rows =
+          all.sent_rows ∙ ap (λ r. r ++ rows_in (moves.sent ++ end.sent)) begins.sent;
+      answered_rows =
+          all.answered_rows
+          ∙ ap (λ r. r ++ rows_in (moves.answered ++ end.answered)) begins.answered;
+      pulses = all.pulses [] begins.pulses;
+      damaged = all.damaged [] begins.damaged;
+    }

@@ -1,89 +1,175 @@
 -- The rows of a trace are those of both its lines.
-use Rattle.std.proofs.Common.{◌≡◌, Bool, List, ℕ, [], ◌∷◌, codes, sym, subst, ◌∙◌, Option}
+use Rattle.std.proofs.Common.{◌≡◌, ◌⊎◌, inl, inr, List, ℕ, [], ◌∷◌, codes, ap, refl, sym, subst, ◌∙◌, Option}
 use Rattle.std.specs.Io.KnownBytes.{Appends}
 use Rattle.mdb_writing.specs.Written.{HasTaken}
-use Rattle.mdb_sigrok.specs.Import.{IsImported, IsPartial, IsRefused}
-use Rattle.mdb_sigrok.specs.Part.{IsTold}
-use Rattle.mdb_sigrok.specs.inner.Tallies.{part_text}
-use Rattle.mdb_sigrok.specs.declared.tally.SigrokRows.{SigrokRows}
-use Rattle.mdb_sigrok.specs.declared.options.SigrokOptions.{SigrokOptions}
-use Rattle.std.proofs.KnownBytes.{Keeps-refl}
-use Rattle.mdb_sigrok.proofs.Pages.{part_text_is}
 use Rattle.mdb_words.specs.declared.event.Event.{Event}
-use Rattle.mdb_sigrok.specs.declared.fault.SigrokFault.{SigrokFault}
-use Rattle.mdb_sigrok.specs.declared.fault.SigrokFault.TheVariants.{Form, Order, Read, Write, Memory}
+use Rattle.mdb_words.specs.declared.word.Line.{Line}
 use Rattle.mdb_exports.specs.Order.{Merges}
+use Rattle.mdb_exports.specs.Places.{AreNoted}
+use Rattle.mdb_exports.specs.Refusal.{refusal_line}
+use Rattle.mdb_exports.specs.declared.places.Place.{Place}
+use Rattle.mdb_exports.proofs.Merges.{one_merge}
+use Rattle.mdb_sigrok.specs.Found.{IsFound, IsOnly}
+use Rattle.mdb_sigrok.specs.Import.{IsImported, IsPartial, IsRefused}
+use Rattle.mdb_sigrok.specs.Notes.{damage_in, places_in, pulse_in, rows_in}
+use Rattle.mdb_sigrok.specs.Part.{IsTold}
 use Rattle.mdb_sigrok.specs.Text.{lines_of}
 use Rattle.mdb_sigrok.specs.Trace.{AreRowsOfTrace, Refutes, TellPairs}
-use Rattle.mdb_sigrok.specs.inner.Pairs.{Tells}
-use Rattle.mdb_exports.proofs.Merges.{one_merge}
+use Rattle.mdb_sigrok.specs.inner.Closed.{IsClosed}
+use Rattle.mdb_sigrok.specs.inner.Pairs.{Finds, Tells}
+use Rattle.mdb_sigrok.specs.inner.Tallies.{part_text}
+use Rattle.mdb_sigrok.specs.declared.fault.SigrokFault.{SigrokFault}
+use Rattle.mdb_sigrok.specs.declared.fault.SigrokFault.TheVariants.{Form, Order, Read, Write, Memory}
+use Rattle.mdb_sigrok.specs.declared.note.Note.{Note}
+use Rattle.mdb_sigrok.specs.declared.options.SigrokOptions.{SigrokOptions}
+use Rattle.mdb_sigrok.specs.declared.reading.Passed.{Passed}
+use Rattle.mdb_sigrok.specs.declared.rows.TraceRows.{TraceRows}
+use Rattle.mdb_sigrok.specs.declared.tally.SigrokRows.{SigrokRows}
+use Rattle.mdb_sigrok.proofs.Pages.{part_text_is}
 use Rattle.mdb_sigrok.proofs.Pairs.{tails_same}
 
-tells_of : (swap : Bool) (text first rest : List ℕ) (rows : List Event)
-    → lines_of text ≡ first ∷ lines_of rest → (told : AreRowsOfTrace swap text rows)
-    → Tells swap (lines_of rest) told.controller told.devices
-tells_of swap text first rest rows is told = record {
+tells_of : (options : SigrokOptions) (text first rest : List ℕ) (rows : List Event)
+    (pulses damaged : List Place) → lines_of text ≡ first ∷ lines_of rest
+    → (told : AreRowsOfTrace options text rows pulses damaged)
+    → Tells options (lines_of rest) told.controller told.devices
+tells_of options text first rest rows pulses damaged is told = record {
   pairs = told.pairs;
   told =
-      subst (λ l. TellPairs swap l told.pairs) (sym (tails_same first (codes "{\"traceEvents\": [")
-      (lines_of rest) told.lines (sym is ∙ told.begins))) told.told;
+      subst (λ l. TellPairs options.swap l told.pairs)
+      (sym (tails_same first (codes "{\"traceEvents\": [") (lines_of rest) told.lines
+      (sym is ∙ told.begins))) told.told;
   controller_rows = told.controller_rows;
   device_rows = told.device_rows;
 }
 
-pub only_rows : (swap : Bool) (text first rest : List ℕ) (sent answered rows : List Event)
-    → lines_of text ≡ first ∷ lines_of rest
-    → ((s a : List Event) → Tells swap (lines_of rest) s a → (s ≡ sent) × (a ≡ answered))
-    → Merges sent answered rows → (others : List Event) → AreRowsOfTrace swap text others
-    → others ≡ rows
-only_rows swap text first rest sent answered rows is only merges = λ others told.
-    let same = only told.controller told.devices (tells_of swap text first rest others is told) in
-    one_merge (subst (λ s. Merges s answered others) same.0
-    (subst (λ a. Merges told.controller a others) same.1 told.both)) merges
+-- what is found of the lines is what the trace tells
+pub found_rows : (options : SigrokOptions) (text first rest : List ℕ) (sent answered : List Event)
+    (passed : Passed) (found : TraceRows) → lines_of text ≡ first ∷ lines_of rest
+    → first ≡ codes "{\"traceEvents\": [" → Finds options (lines_of rest) sent answered passed
+    → Merges sent answered found.rows.items → found.pulses ≡ passed.pulses
+    → found.damaged ≡ passed.damaged → IsFound options text found
+found_rows options text first rest sent answered passed found is begins finds merges one two =
+    record {
+      pulses = places_in pulse_in finds.controller finds.devices;
+      damaged = places_in damage_in finds.controller finds.devices;
+      are = record {
+        lines = lines_of rest;
+        pairs = finds.tells.pairs;
+        controller = finds.controller;
+        devices = finds.devices;
+        begins = is ∙ ap (λ l. l ∷ lines_of rest) begins;
+        told = finds.tells.told;
+        controller_rows = finds.tells.controller_rows;
+        device_rows = finds.tells.device_rows;
+        both =
+            subst (λ s. Merges s (rows_in finds.devices) found.rows.items) finds.sent_rows
+            (subst (λ a. Merges sent a found.rows.items) finds.answered_rows merges);
+        passed = refl;
+        left_out = refl;
+      };
+      pulses_noted =
+          subst (λ p. AreNoted p (places_in pulse_in finds.controller finds.devices)) (sym one)
+          finds.pulses;
+      damaged_noted =
+          subst (λ p. AreNoted p (places_in damage_in finds.controller finds.devices)) (sym two)
+          finds.damaged;
+    }
 
-pub refused_rows : (fault : SigrokFault) (swap : Bool) (text first rest : List ℕ)
-    → lines_of text ≡ first ∷ lines_of rest
-    → ((s a : List Event) → Refutes fault (Tells swap (lines_of rest) s a)) → (rows : List Event)
-    → Refutes fault (AreRowsOfTrace swap text rows)
-refused_rows (Form number wrong) swap text first rest is never =
-    λ rows told. never told.controller told.devices (tells_of swap text first rest rows is told)
-refused_rows (Order number micros line wrong) swap text first rest is never =
-    λ rows told. never told.controller told.devices (tells_of swap text first rest rows is told)
-refused_rows Read swap text first rest is never = λ rows. never [] []
-refused_rows Write swap text first rest is never = λ rows. never [] []
-refused_rows Memory swap text first rest is never = λ rows. tt
+pub only_rows : (options : SigrokOptions) (text first rest : List ℕ) (sent answered : List Event)
+    (passed : Passed) (found : TraceRows) → lines_of text ≡ first ∷ lines_of rest
+    → Finds options (lines_of rest) sent answered passed → Merges sent answered found.rows.items
+    → found.pulses ≡ passed.pulses → found.damaged ≡ passed.damaged → IsOnly options text found
+only_rows options text first rest sent answered passed found is finds merges one two =
+    λ others pulses damaged told.
+    let same =
+    finds.only told.controller told.devices
+    (tells_of options text first rest others pulses damaged is told) in
+    let here = λ (find : Line → Note → List Place).
+    ap (λ s. places_in find s told.devices) same.0
+    ∙ ap (λ a. places_in find finds.controller a) same.1 in (
+      one_merge (subst (λ s. Merges s answered others)
+          (ap rows_in same.0 ∙ sym finds.sent_rows)
+          (subst (λ a. Merges (rows_in told.controller) a others)
+          (ap rows_in same.1 ∙ sym finds.answered_rows) told.both)) merges,
+      subst (λ p. AreNoted p pulses) (sym one)
+          (subst (AreNoted passed.pulses) (sym (told.passed ∙ here pulse_in)) finds.pulses),
+      subst (λ p. AreNoted p damaged) (sym two)
+          (subst (AreNoted passed.damaged) (sym (told.left_out ∙ here damage_in)) finds.damaged),
+    )
 
-pub refused_of : (options : SigrokOptions) (text : List ℕ) (fault : SigrokFault)
-    (held : Option (List ℕ))
-    → ((rows : List Event) → Refutes fault (AreRowsOfTrace options.swap text rows))
-    → IsRefused options text fault held held
-refused_of options text (Form number wrong) held never = (never, Keeps-refl held)
-refused_of options text (Order number micros line wrong) held never = (never, Keeps-refl held)
-refused_of options text Read held never = absurd (never [])
-refused_of options text Write held never = absurd (never [])
-refused_of options text Memory held never = Keeps-refl held
+pub refused_rows : (fault : SigrokFault) (options : SigrokOptions) (text first rest : List ℕ)
+    → lines_of text ≡ first ∷ lines_of rest
+    → ((s a : List Note) → Refutes fault (Tells options (lines_of rest) s a))
+    → (rows : List Event) (pulses damaged : List Place)
+    → Refutes fault (AreRowsOfTrace options text rows pulses damaged)
+refused_rows (Form number wrong) options text first rest is never = λ rows pulses damaged told.
+    never told.controller told.devices
+    (tells_of options text first rest rows pulses damaged is told)
+refused_rows (Order number micros line wrong) options text first rest is never =
+    λ rows pulses damaged told.
+    never told.controller told.devices
+    (tells_of options text first rest rows pulses damaged is told)
+refused_rows Read options text first rest is never = λ rows pulses damaged. never [] []
+refused_rows Write options text first rest is never = λ rows pulses damaged. never [] []
+refused_rows Memory options text first rest is never = λ rows pulses damaged. tt
+
+-- a trace that gives no rows, where the line that is no row was written
+closed_of : (options : SigrokOptions) (text : List ℕ) (fault : SigrokFault)
+    (before after : Option (List ℕ))
+    → ((rows : List Event) (pulses damaged : List Place)
+    → Refutes fault (AreRowsOfTrace options text rows pulses damaged))
+    → Appends before after refusal_line → IsRefused options text fault before after
+closed_of options text (Form number wrong) before after never line = (never, line)
+closed_of options text (Order number micros wire wrong) before after never line = (never, line)
+closed_of options text Read before after never line = line
+closed_of options text Write before after never line = absurd (never [] [] [])
+closed_of options text Memory before after never line = line
+
+pub refused_of : (options : SigrokOptions) (text : List ℕ) (fault told : SigrokFault)
+    (before after : Option (List ℕ))
+    → (fault ≡ Read)
+    ⊎ ((rows : List Event) (pulses damaged : List Place)
+    → Refutes fault (AreRowsOfTrace options text rows pulses damaged))
+    → IsClosed fault before after told → IsRefused options text told before after
+refused_of options text fault told before after never closed = elim closed [
+  | inl done ↦
+      subst (λ f. IsRefused options text f before after) (sym done.0) (elim never [
+        | inl read ↦ subst (λ f. IsRefused options text f before after) (sym read) done.1
+        | inr refutes ↦ closed_of options text fault before after refutes done.1
+      ])
+  | inr failed ↦
+      let taken : IsRefused options text Write before after = inr failed.1 in
+      subst (λ f. IsRefused options text f before after) (sym failed.0) taken
+]
 
 -- the rows of the part are written, or a front of them
-pub imported_of : (options : SigrokOptions) (text : List ℕ) (rows : List Event) (told : SigrokRows)
-    (before after : Option (List ℕ)) → AreRowsOfTrace options.swap text rows
-    → IsTold options rows told → Appends before after (part_text options rows)
+pub imported_of : (options : SigrokOptions) (text : List ℕ) (found : TraceRows) (told : SigrokRows)
+    (before after : Option (List ℕ)) → IsFound options text found
+    → ((pulses damaged : List Place) → AreNoted found.pulses pulses
+    → AreNoted found.damaged damaged → IsTold options found.rows.items pulses damaged told)
+    → Appends before after (part_text options found.rows.items)
     → IsImported options text told before after
-imported_of options text rows told before after are tally written = record {
-  rows = rows;
-  are = are;
-  tally = tally;
-  written = subst (Appends before after) (part_text_is options rows) written;
+imported_of options text found told before after is tally written = record {
+  rows = found.rows.items;
+  pulses = is.pulses;
+  damaged = is.damaged;
+  are = is.are;
+  tally = tally is.pulses is.damaged is.pulses_noted is.damaged_noted;
+  written = subst (Appends before after) (part_text_is options found.rows.items) written;
 }
 
-pub partial_of : (options : SigrokOptions) (text : List ℕ) (rows : List Event) (fault : SigrokFault)
-    (before after : Option (List ℕ)) → AreRowsOfTrace options.swap text rows
-    → HasTaken before after (part_text options rows) → fault ≡ Write
+pub partial_of : (options : SigrokOptions) (text : List ℕ) (found : TraceRows) (fault : SigrokFault)
+    (before after : Option (List ℕ)) → IsFound options text found
+    → HasTaken before after (part_text options found.rows.items) → fault ≡ Write
     → IsRefused options text fault before after
-partial_of options text rows fault before after are taken write =
+partial_of options text found fault before after is taken write =
     let partial : IsPartial options text before after =
     record {
-      rows = rows;
-      are = are;
-      written = subst (HasTaken before after) (part_text_is options rows) taken;
+      rows = found.rows.items;
+      pulses = is.pulses;
+      damaged = is.damaged;
+      are = is.are;
+      written = subst (HasTaken before after) (part_text_is options found.rows.items) taken;
     } in
-    subst (λ f. IsRefused options text f before after) (sym write) partial
+    let told : IsRefused options text Write before after = inl partial in
+    subst (λ f. IsRefused options text f before after) (sym write) told

@@ -1,4 +1,6 @@
+pub mod Found
 pub mod Import
+pub mod Notes
 pub mod Part
 pub mod Record
 pub mod Refusals

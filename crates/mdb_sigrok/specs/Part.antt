@@ -3,6 +3,8 @@ use Rattle.std.specs.Prelude.{◌≡◌, ◌&&◌, Bool, List, filter, not}
 use Rattle.std.specs.List.{list_any}
 use Rattle.mdb_words.specs.Event.{start_of}
 use Rattle.mdb_words.specs.declared.event.Event.{Event}
+use Rattle.mdb_exports.specs.Places.{AreNoted}
+use Rattle.mdb_exports.specs.declared.places.Place.{Place}
 use Rattle.mdb_exports.specs.Part.{is_from, is_until}
 use Rattle.mdb_exports.specs.Told.{is_controllers, is_marked, is_peripherals, told_count}
 use Rattle.mdb_sigrok.specs.declared.options.SigrokOptions.{SigrokOptions}
@@ -25,12 +27,16 @@ is_behind options row =
 abbrev pub part_of : SigrokOptions → List Event → List Event
 part_of options rows = filter (is_taken options) rows
 
--- What is told of all rows: how many are in the part, before it and after it, whether there is a
--- marked word, and one on each line.
-pub record IsTold (options : SigrokOptions) (all : List Event) (told : SigrokRows) : Type 0 where
+-- What is told of a trace: how many of its rows are in the part, before it and after it, whether
+-- there is a marked word, and one on each line, and where pulses and damaged words were passed
+-- over.
+pub record IsTold (options : SigrokOptions) (all : List Event) (pulses damaged : List Place)
+    (told : SigrokRows) : Type 0 where
   pub rows : told.rows ≡ told_count (is_taken options) all
   pub before : told.before ≡ told_count (is_before options) all
   pub after : told.after ≡ told_count (is_behind options) all
   pub marked : told.marked ≡ list_any is_marked all
   pub controller : told.controller ≡ list_any is_controllers all
   pub peripheral : told.peripheral ≡ list_any is_peripherals all
+  pub pulses_noted : AreNoted told.pulses pulses
+  pub damaged_noted : AreNoted told.damaged damaged

@@ -1,9 +1,10 @@
 -- Why a record is refused where it stands.
-use Rattle.std.specs.Prelude.{◌≡◌, ◌≢◌, ◌⊎◌, ◌-◌, ◌^◌, ◌<◌, ◌≤◌, ℕ, List, [], length, codes, true, All}
+use Rattle.std.specs.Prelude.{◌≡◌, ◌≢◌, ◌⊎◌, ◌+◌, ◌^◌, ◌<◌, ◌≤◌, Bool, true, false, ℕ, List, [], length, codes, All}
 use Rattle.std.specs.Fmt.{digit_glyph}
 use Rattle.mdb_words.specs.Digits.{hex_word}
 use Rattle.mdb_words.specs.declared.word.Line.{Line}
 use Rattle.mdb_words.specs.declared.word.Line.TheVariants.{Controller, Peripheral}
+use Rattle.mdb_sigrok.specs.Rows.{IsBreak, IsErrorOf, length_of}
 use Rattle.mdb_sigrok.specs.Text.{micros_of}
 use Rattle.mdb_sigrok.specs.declared.fault.FaultLine.{FaultLine}
 use Rattle.mdb_sigrok.specs.declared.fault.FaultLine.TheVariants as wire
@@ -38,11 +39,11 @@ IsNoName name other = ⊥
 abbrev pub IsNoKind : List ℕ → List ℕ → OrderFault → Type 0
 IsNoKind row name told = ((row ≡ []) × IsNoName name told) ⊎ ((row ≢ []) × (told ≡ fault.Kind))
 
--- why what was seen is no start of a word in an earliest microsecond or later
+-- why what was seen is neither a start bit nor a pulse in an earliest microsecond or later
 abbrev pub IsNoStart : ℕ → Pair → OrderFault → Type 0
-IsNoStart earliest pair fault.Early = (pair.what ≡ Start) × (micros_of pair.from < earliest)
+IsNoStart earliest pair fault.Early =
+    ((pair.what ≡ Start) ⊎ (pair.what ≡ FrameError)) × (micros_of pair.from < earliest)
 IsNoStart earliest pair fault.NoStart = (word : ℕ) × (pair.what ≡ Data word)
-IsNoStart earliest pair fault.NoBreak = pair.what ≡ FrameError
 IsNoStart earliest pair fault.NoFrameError = pair.what ≡ BreakEnd
 IsNoStart earliest pair other = ⊥
 
@@ -53,27 +54,36 @@ IsNoData pair fault.NoBreak = pair.what ≡ FrameError
 IsNoData pair fault.NoFrameError = pair.what ≡ BreakEnd
 IsNoData pair other = ⊥
 
--- Why what was seen behind a start bit and a word is neither the start of the next word, which is
--- in a later microsecond, nor the frame error of a break, whose word is 000.
-abbrev pub IsNoNext : Pair → ℕ → Pair → OrderFault → Type 0
-IsNoNext start word pair fault.Early =
-    (pair.what ≡ Start) × (micros_of pair.from ≤ micros_of start.from)
-IsNoNext start word pair fault.NoStart = (other : ℕ) × (pair.what ≡ Data other)
-IsNoNext start word pair fault.NoBreak = (pair.what ≡ FrameError) × (word ≢ 0)
-IsNoNext start word pair fault.NoFrameError = pair.what ≡ BreakEnd
-IsNoNext start word pair other = ⊥
+-- Why a line can't go on behind a start bit and a word: by the frame error of a word that isn't
+-- 000, where damaged words aren't left out; or else by what neither begins a later word nor is a
+-- pulse.
+abbrev pub IsNoNext : Bool → Pair → ℕ → Pair → OrderFault → Type 0
+IsNoNext skip start word pair told =
+    (IsErrorOf start pair × (skip ≡ false) × (word ≢ 0) × (told ≡ fault.NoBreak))
+    ⊎ ((IsErrorOf start pair → ⊥) × IsNoStart (micros_of start.from + 1) pair told)
 
--- Why what was seen is no break of a line from an earliest microsecond on. Each reason comes where
--- none of those above it holds.
-abbrev pub IsNoBreak : ℕ → Line → Pair → OrderFault → Type 0
-IsNoBreak earliest line pair fault.NoBreak = pair.what ≢ BreakEnd
-IsNoBreak earliest line pair fault.DeviceBreak = (pair.what ≡ BreakEnd) × (line ≡ Peripheral)
-IsNoBreak earliest line pair fault.Backwards =
-    (pair.what ≡ BreakEnd) × (line ≡ Controller) × (pair.to < pair.from)
-IsNoBreak earliest line pair fault.LongBreak =
-    (pair.what ≡ BreakEnd) × (line ≡ Controller) × (pair.from ≤ pair.to)
-    × (10 ^ 9 ≤ micros_of (pair.to - pair.from))
-IsNoBreak earliest line pair fault.Early =
-    (pair.what ≡ BreakEnd) × (line ≡ Controller) × (pair.from ≤ pair.to)
-    × (micros_of (pair.to - pair.from) < 10 ^ 9) × (micros_of pair.from < earliest)
-IsNoBreak earliest line pair other = ⊥
+-- Why a break condition behind the frame error of a word is none. Each reason comes where none of
+-- those above it holds.
+abbrev pub IsNoBreak : Bool → ℕ → Line → ℕ → Pair → OrderFault → Type 0
+IsNoBreak skip earliest line word pair fault.DeviceBreak = (skip ≡ false) × (line ≡ Peripheral)
+IsNoBreak skip earliest line word pair fault.Backwards =
+    (skip ≡ false → line ≡ Controller) × (pair.to < pair.from)
+IsNoBreak skip earliest line word pair fault.LongBreak =
+    (skip ≡ false) × (line ≡ Controller) × (pair.from ≤ pair.to) × (10 ^ 9 ≤ length_of pair)
+IsNoBreak skip earliest line word pair fault.Early =
+    (pair.from ≤ pair.to) × IsBreak skip line word pair × (micros_of pair.from < earliest)
+IsNoBreak skip earliest line word pair other = ⊥
+
+-- Why a line can't go on behind the frame error of a word by what is no break condition: damaged
+-- words aren't left out, or that is one more frame error of it; or else it neither begins a later
+-- word nor is a pulse.
+abbrev pub IsNoneAfterError : Bool → Pair → Pair → OrderFault → Type 0
+IsNoneAfterError skip start pair told =
+    (((skip ≡ false) ⊎ IsErrorOf start pair) × (told ≡ fault.NoBreak))
+    ⊎ ((IsErrorOf start pair → ⊥) × IsNoStart (micros_of start.from + 1) pair told)
+
+-- why a line can't go on behind the frame error of a word
+abbrev pub IsNoLow : Bool → ℕ → Line → Pair → ℕ → Pair → OrderFault → Type 0
+IsNoLow skip earliest line start word pair told =
+    ((pair.what ≡ BreakEnd) × IsNoBreak skip earliest line word pair told)
+    ⊎ ((pair.what ≢ BreakEnd) × IsNoneAfterError skip start pair told)

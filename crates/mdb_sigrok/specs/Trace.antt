@@ -9,7 +9,11 @@ use Rattle.mdb_sigrok.specs.declared.fault.SigrokFault.TheVariants.{Form, Order,
 use Rattle.mdb_sigrok.specs.Text.{lines_of}
 use Rattle.mdb_sigrok.specs.Record.{IsPair}
 use Rattle.mdb_exports.specs.Order.{Merges}
+use Rattle.mdb_exports.specs.declared.places.Place.{Place}
+use Rattle.mdb_sigrok.specs.Notes.{damage_in, places_in, pulse_in, rows_in}
 use Rattle.mdb_sigrok.specs.Rows.{LineRows}
+use Rattle.mdb_sigrok.specs.declared.note.Note.{Note}
+use Rattle.mdb_sigrok.specs.declared.options.SigrokOptions.{SigrokOptions}
 
 -- The lines after the first one tell these pairs of records, one or more. Each record but the last
 -- has a comma behind it, and below that stands `]}` as the last line.
@@ -35,18 +39,23 @@ on_line line [] = []
 on_line line (pair ∷ pairs) =
     if is_line line pair.line then pair ∷ on_line line pairs else on_line line pairs
 
--- The rows of a trace: its pairs of records, those of each line as rows, and the rows of both lines
--- in the order of their times.
-pub record AreRowsOfTrace (swap : Bool) (text : List ℕ) (rows : List Event) : Type 0 where
+-- The rows of a trace, and where pulses and damaged words were passed over: its pairs of records,
+-- what those of each line tell, and the rows of both lines in the order of their times.
+pub record AreRowsOfTrace (options : SigrokOptions) (text : List ℕ) (rows : List Event)
+    (pulses damaged : List Place) : Type 0 where
   pub lines : List (List ℕ)
   pub pairs : List Pair
-  pub controller : List Event
-  pub devices : List Event
+  pub controller : List Note
+  pub devices : List Note
   pub begins : lines_of text ≡ codes "{\"traceEvents\": [" ∷ lines
-  pub told : TellPairs swap lines pairs
-  pub controller_rows : LineRows Controller 0 (on_line Controller pairs) controller
-  pub device_rows : LineRows Peripheral 0 (on_line Peripheral pairs) devices
-  pub both : Merges controller devices rows
+  pub told : TellPairs options.swap lines pairs
+  pub controller_rows : LineRows options.skip_damaged Controller 0
+      (on_line Controller pairs) controller
+  pub device_rows : LineRows options.skip_damaged Peripheral 0
+      (on_line Peripheral pairs) devices
+  pub both : Merges (rows_in controller) (rows_in devices) rows
+  pub passed : pulses ≡ places_in pulse_in controller devices
+  pub left_out : damaged ≡ places_in damage_in controller devices
 
 -- A fault that is told of a trace refutes what is claimed of it. That memory was refused tells
 -- nothing of the trace. That writing failed is never told; that reading did is told beside this.

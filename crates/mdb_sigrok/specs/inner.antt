@@ -1,3 +1,4 @@
+pub mod Closed
 pub mod Fronts
 pub mod Heads
 pub mod Pairs

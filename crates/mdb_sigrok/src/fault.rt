@@ -125,19 +125,19 @@ pub enum OrderFault {
     LargeWord,
     /// A start bit, and another one before its word came.
     NoWord,
-    /// A start, or a break, that isn't after the row before it on its line.
+    /// A start, a pulse or a break that isn't after what comes before it on its line.
     Early,
-    /// A frame error that is none of a break.
+    /// A frame error of a word that is none of a break, or one in place of a word.
     NoBreak,
     /// A parity error, where no parity was asked for.
     Parity,
     /// A break without a word 000 and a frame error right before it on its line.
     NoFrameError,
-    /// A break on the line of the devices.
+    /// A break on the line of the devices, where damaged words aren't left out.
     DeviceBreak,
     /// A break that ends before it begins.
     Backwards,
-    /// A break of more than 999,999,999 microseconds.
+    /// A break of more than 999,999,999 microseconds, where damaged words aren't left out.
     LongBreak,
 }
 
@@ -158,17 +158,22 @@ impl OrderFault {
             OrderFault::NoWord => "wanted the word of the start bit before the next start bit",
             OrderFault::Early => "wanted a time after that of the row before it on this line",
             OrderFault::NoBreak => {
-                "wanted a stop bit after the word: a framing error that is no break"
+                "wanted a stop bit after the word: a framing error that is no break; \
+                 --skip-damaged leaves out what is damaged"
             }
             OrderFault::Parity => "wanted no parity: decode with parity=none",
             OrderFault::NoFrameError => {
                 "wanted a word 000 and its framing error right before the break"
             }
             OrderFault::DeviceBreak => {
-                "wanted no break on the line of the devices: are the lines exchanged (--swap)?"
+                "wanted no break on the line of the devices: are the lines exchanged (--swap)?; \
+                 --skip-damaged leaves out what is damaged"
             }
             OrderFault::Backwards => "wanted the end of the break after its beginning",
-            OrderFault::LongBreak => "wanted a break of at most 999999999 microseconds",
+            OrderFault::LongBreak => {
+                "wanted a break of at most 999999999 microseconds; \
+                 --skip-damaged leaves out what is damaged"
+            }
         }
     }
 }

@@ -12,6 +12,10 @@ use std::marker::Model;
 /// What a microsecond has of the parts that a moment counts.
 const MICRO: u128 = 1_000_000;
 
+/// Three times how long after its start bit a frame error of a word begins at most: 10 1/4 bits of
+/// 1/9600 s, in those parts.
+const NEAR: u128 = 3_203_125_000;
+
 /// When something begins or ends, in millionths of a microsecond since the first sample.
 ///
 /// A clause sees it as that number.
@@ -72,6 +76,13 @@ impl Moment {
     {
         let micros = (later.millionths() - self.millionths() + MICRO / 2) / MICRO;
         Span::new(micros as u64)
+    }
+
+    /// Whether it is less than 10 1/4 bits after the start of a word, or before that.
+    pub(crate) fn is_near(self, start: Moment) -> bool
+        ensures { IsTrue result ↔ (self * 3 < start * 3 + 3203125000) }
+    {
+        self.millionths() * 3 < start.millionths() * 3 + NEAR
     }
 
     /// As one number.

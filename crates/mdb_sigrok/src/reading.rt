@@ -1,31 +1,45 @@
 //! Both lines of the bus, as a trace is read.
 
-ghost use Rattle.std.specs.Prelude.{◌≡◌, ◌++◌, ◌∷◌, [], ℕ, Bool, true, false, List, codes, IfOk, IfErr, OnOk};
-ghost use Rattle.mdb_words.specs.declared.event.Event.{Event};
+ghost use Rattle.std.specs.Prelude.{◌≡◌, ◌++◌, ◌∷◌, [], ℕ, true, false, List, codes, IfOk, IfErr, OnOk};
+ghost use Rattle.mdb_sigrok.specs.declared.note.Note.{Note};
+ghost use Rattle.mdb_sigrok.specs.declared.options.SigrokOptions.{SigrokOptions};
 ghost use Rattle.mdb_sigrok.specs.Text.{lines_of};
 ghost use Rattle.mdb_sigrok.specs.Trace.{Refutes};
 ghost use Rattle.mdb_sigrok.specs.Rows.{LineRows};
 ghost use Rattle.mdb_sigrok.specs.inner.Fronts.{AreFirst};
-ghost use Rattle.mdb_sigrok.specs.inner.Pairs.{Bars, Ends, GoBy, Goes, IsOfTrace, IsReady, Moves, Stops, start};
+ghost use Rattle.mdb_sigrok.specs.inner.Pairs.{Adds, AreKept, Bars, Begins, BothEnd, Ends, GoBy, Goes};
+ghost use Rattle.mdb_sigrok.specs.inner.Pairs.{IsOfTrace, IsReady, Moves, Stops};
 ghost use Rattle.mdb_sigrok.specs.inner.Stands.{stand_of};
-ghost use Rattle.mdb_sigrok.specs.inner.Steps.{IsOpen, open_pairs, told_by};
+ghost use Rattle.mdb_sigrok.specs.inner.Steps.{IsOpen, noted_by, open_pairs, told_by};
 
 use super::fault::{OrderFault, SigrokFault};
-use super::line::{Open, Place, first_place, go_on, last_row};
+use super::line::{Open, State, first_state, go_on, last_note};
+use super::note::{Note, Told};
+use super::options::SigrokOptions;
 use super::pair::Pair;
 use super::pair_reading::{end_of_trace, fault_line, next_pair, order};
-use mdb_words::{Event, Line};
+use mdb_exports::{Place, Places};
+use mdb_words::{Event, Line, Time};
 use std::alloc::Global;
 
 /// A line as it is read.
 #[derive(Drop)]
 pub(crate) struct Reading {
     /// Where it stands.
-    pub(crate) place: Place,
+    pub(crate) state: State,
     // The record of it that was read last.
     number: u64,
     /// Its rows so far.
     pub(crate) rows: Vec<Event>,
+}
+
+/// What was passed over on both lines.
+#[derive(Drop)]
+pub(crate) struct Passed {
+    /// Pulses shorter than half a bit.
+    pub(crate) pulses: Places,
+    /// Damaged words.
+    pub(crate) damaged: Places,
 }
 
 /// Both lines as they are read.
@@ -35,66 +49,103 @@ pub(crate) struct Both {
     pub(crate) controller: Reading,
     /// That of the devices.
     pub(crate) devices: Reading,
+    /// What was passed over on them.
+    pub(crate) passed: Passed,
 }
 
 impl Reading {
     /// A line of which nothing was read.
     fn new(alloc: Global, line: Line) -> Reading
-        ensures place { result.place ≡ record { line = line; earliest = 0; held = Open.Nothing } }
+        ensures state { result.state ≡ record { line = line; earliest = 0; held = Open.Nothing } }
         ensures rows { result.rows.items ≡ [] }
     {
         Reading {
-            place: first_place(line),
+            state: first_state(line),
             number: 0,
             rows: Vec::new(alloc),
         }
     }
 
-    /// Goes on by what was seen on the line.
-    fn take(&mut self, number: u64, pair: &Pair) -> Result<(), SigrokFault>
-        requires { IsOpen self.old.place.earliest self.old.place.held }
-        ensures ok { OnOk result (Goes self.old.place.line self.old.place self.new.place
-            (pair.now ∷ []) self.old.rows.items self.new.rows.items) }
-        ensures held { OnOk result (IsOpen self.new.place.earliest self.new.place.held) }
-        ensures line { OnOk result (self.new.place.line ≡ self.old.place.line) }
+    /// Goes on by what was seen on the line. With `skip` damaged words are left out.
+    fn take(
+        &mut self,
+        skip: bool,
+        number: u64,
+        pair: &Pair,
+        passed: &mut Passed,
+    ) -> Result<(), SigrokFault>
+        requires { IsOpen skip self.old.state.earliest self.old.state.held }
+        ensures ok { OnOk result (Goes skip self.old.state.line self.old.state self.new.state
+            (pair.now ∷ []) self.old.rows.items self.new.rows.items passed.old passed.new) }
+        ensures held { OnOk result (IsOpen skip self.new.state.earliest self.new.state.held) }
+        ensures line { OnOk result (self.new.state.line ≡ self.old.state.line) }
         ensures err { IfErr result (λ fault.
-            Bars fault self.old.place.line self.old.place (pair.now ∷ [])) }
+            Bars fault skip self.old.state.line self.old.state (pair.now ∷ [])) }
     {
-        match go_on(&mut self.place, pair) {
-            Ok(row) => {
+        match go_on(&mut self.state, skip, pair) {
+            Ok(told) => {
                 self.number = number;
-                self.keep(row)
+                self.keep(told, passed)
             }
             Err(fault) => Err(self.fault_at(number, pair, fault)),
         }
     }
 
-    /// Has one more row, or none.
-    fn keep(&mut self, row: Option<Event>) -> Result<(), SigrokFault>
-        ensures place { self.new.place ≡ self.old.place }
-        ensures rows { OnOk result (self.new.rows.items ≡ self.old.rows.items ++ told_by row) }
+    /// Keeps what a record made sure.
+    fn keep(&mut self, told: Told, passed: &mut Passed) -> Result<(), SigrokFault>
+        ensures state { self.new.state ≡ self.old.state }
+        ensures kept { OnOk result (AreKept self.old.state.line (noted_by told)
+            self.old.rows.items self.new.rows.items passed.old passed.new) }
         ensures err { IfErr result (λ fault. fault ≡ SigrokFault.Memory) }
     {
-        let Some(row) = row else {
-            return Ok(());
-        };
-        match self.rows.push(row) {
-            Ok(()) => Ok(()),
-            Err(_) => Err(SigrokFault::Memory),
+        self.keep_one(told.ended, passed)?;
+        self.keep_one(told.itself, passed)
+    }
+
+    /// Keeps a note, or none.
+    fn keep_one(&mut self, note: Option<Note>, passed: &mut Passed) -> Result<(), SigrokFault>
+        ensures state { self.new.state ≡ self.old.state }
+        ensures kept { OnOk result (AreKept self.old.state.line (told_by note)
+            self.old.rows.items self.new.rows.items passed.old passed.new) }
+        ensures err { IfErr result (λ fault. fault ≡ SigrokFault.Memory) }
+    {
+        match note {
+            Some(note) => self.keep_note(note, passed),
+            None => Ok(()),
         }
     }
 
-    /// Tells what was still open at the end.
-    fn end(&mut self) -> Result<(), SigrokFault>
-        requires { IsOpen self.old.place.earliest self.old.place.held }
-        ensures ok { OnOk result (Ends self.old.place.line self.old.place
-            self.old.rows.items self.new.rows.items) }
-        ensures err { IfErr result (λ fault. (rows : List Event) → Refutes fault
-            (LineRows self.old.place.line self.old.place.earliest
-            (open_pairs self.old.place.held) rows)) }
+    /// Keeps a note: a row for itself, and what was passed over with that of the other line.
+    fn keep_note(&mut self, note: Note, passed: &mut Passed) -> Result<(), SigrokFault>
+        ensures state { self.new.state ≡ self.old.state }
+        ensures kept { OnOk result (AreKept self.old.state.line (note ∷ [])
+            self.old.rows.items self.new.rows.items passed.old passed.new) }
+        ensures err { IfErr result (λ fault. fault ≡ SigrokFault.Memory) }
     {
-        match last_row(&self.place) {
-            Ok(row) => self.keep(row),
+        let line = self.state.line;
+        match note {
+            Note::Row(row) => {
+                if self.rows.push(row).is_err() {
+                    return Err(SigrokFault::Memory);
+                }
+            }
+            Note::Pulse(at) => add_place(&mut passed.pulses, at, line),
+            Note::Damaged(at) => add_place(&mut passed.damaged, at, line),
+        }
+        Ok(())
+    }
+
+    /// Tells what was still open at the end.
+    fn end(&mut self, skip: bool, passed: &mut Passed) -> Result<(), SigrokFault>
+        requires { IsOpen skip self.old.state.earliest self.old.state.held }
+        ensures ok { OnOk result (Ends skip self.old.state.line self.old.state
+            self.old.rows.items self.new.rows.items passed.old passed.new) }
+        ensures err { IfErr result (λ fault. (notes : List Note) → Refutes fault
+            (LineRows skip self.old.state.line self.old.state.earliest
+            (open_pairs self.old.state.held) notes)) }
+    {
+        match last_note(&self.state, skip) {
+            Ok(note) => self.keep_one(note, passed),
             Err(fault) => Err(self.fault_at_end(fault)),
         }
     }
@@ -103,12 +154,12 @@ impl Reading {
     fn fault_at(&self, number: u64, pair: &Pair, fault: OrderFault) -> SigrokFault
         ensures { IsOfTrace result }
     {
-        let line = fault_line(self.place.line);
-        match (self.place.held, fault) {
+        let line = fault_line(self.state.line);
+        match (self.state.held, fault) {
             (Open::Started(start), OrderFault::NoWord) => {
                 order(self.number, start.from, line, fault)
             }
-            (Open::Wrong(_, _, wrong), OrderFault::NoBreak) => {
+            (Open::Wrong(_, _, _, wrong), OrderFault::NoBreak) => {
                 order(self.number, wrong.from, line, fault)
             }
             _ => order(number, pair.from, line, fault),
@@ -119,9 +170,9 @@ impl Reading {
     fn fault_at_end(&self, fault: OrderFault) -> SigrokFault
         ensures { IsOfTrace result }
     {
-        let line = fault_line(self.place.line);
-        match self.place.held {
-            Open::Wrong(_, _, wrong) => order(self.number, wrong.from, line, fault),
+        let line = fault_line(self.state.line);
+        match self.state.held {
+            Open::Wrong(_, _, _, wrong) => order(self.number, wrong.from, line, fault),
             _ => SigrokFault::Order {
                 number: self.number,
                 micros: 0,
@@ -132,21 +183,39 @@ impl Reading {
     }
 
     /// What is told of a word, or a parity error, that can't be read: maybe that it can't stand
-    /// there at all.
-    fn fault_before(&self, fault: SigrokFault) -> SigrokFault
+    /// there at all. A damaged word that is left out is no reason for a word that comes after it.
+    fn fault_before(&self, skip: bool, fault: SigrokFault) -> SigrokFault
         ensures { IsOfTrace fault → IsOfTrace result }
     {
-        match self.place.held {
-            Open::Wrong(_, _, wrong) => order(
+        match self.state.held {
+            Open::Wrong(_, _, _, wrong) if !(skip && is_of_word(&fault)) => order(
                 self.number,
                 wrong.from,
-                fault_line(self.place.line),
+                fault_line(self.state.line),
                 OrderFault::NoBreak,
             ),
             Open::Started(_) => fault,
             _ => without_start(fault),
         }
     }
+}
+
+/// Whether a fault is that of a word that can't be read.
+fn is_of_word(fault: &SigrokFault) -> bool {
+    matches!(
+        *fault,
+        SigrokFault::Order {
+            fault: OrderFault::WordDigits | OrderFault::LargeWord,
+            ..
+        }
+    )
+}
+
+/// Notes where something was passed over.
+fn add_place(places: &mut Places, at: Time, line: Line)
+    ensures { Adds places.old places.new (record { at = at; line = line } ∷ []) }
+{
+    places.note(Place { at, line });
 }
 
 /// What is told of a word without a start bit.
@@ -172,73 +241,81 @@ fn without_start(fault: SigrokFault) -> SigrokFault
 impl Both {
     /// Both lines before the first record.
     pub(crate) fn new(alloc: Global) -> Both
-        ensures { stand_of result ≡ start }
+        ensures { Begins (stand_of result) }
     {
         Both {
             controller: Reading::new(alloc, Line::Controller),
             devices: Reading::new(alloc, Line::Peripheral),
+            passed: Passed {
+                pulses: Places::new(),
+                damaged: Places::new(),
+            },
         }
     }
 
     /// Goes on by the next two records, which stand in two lines, and tells whether more follow.
-    pub(crate) fn step(&mut self, swap: bool, text: &[u8], number: u64) -> Result<bool, SigrokFault>
-        requires { IsReady (stand_of self.old) }
+    pub(crate) fn step(
+        &mut self,
+        options: &SigrokOptions,
+        text: &[u8],
+        number: u64,
+    ) -> Result<bool, SigrokFault>
+        requires { IsReady options.now.skip_damaged (stand_of self.old) }
         ensures ok { IfOk result (λ more. (lines behind : List (List ℕ)) →
             AreFirst 2 (lines_of text.now) lines behind →
-            Moves swap true lines (stand_of self.old) more behind (stand_of self.new)) }
-        ensures ready { OnOk result (IsReady (stand_of self.new)) }
+            Moves options.now true lines (stand_of self.old) more behind (stand_of self.new)) }
+        ensures ready { OnOk result (IsReady options.now.skip_damaged (stand_of self.new)) }
         ensures err { IfErr result (λ fault. (lines behind : List (List ℕ)) →
             AreFirst 2 (lines_of text.now) lines behind →
-            Stops fault swap true lines (stand_of self.old)) }
+            Stops fault options.now true lines (stand_of self.old)) }
     {
-        let seen = match next_pair(swap, text, number) {
+        let skip = options.skip_damaged;
+        let seen = match next_pair(options.swap, text, number) {
             Ok(seen) => seen,
-            Err(refusal) => return Err(self.fault_before(refusal.line, refusal.fault)),
+            Err(refusal) => return Err(self.fault_before(skip, refusal.line, refusal.fault)),
         };
-        self.take(number, &seen.pair)?;
+        self.take(skip, number, &seen.pair)?;
         Ok(seen.more)
     }
 
-    /// Goes on by what was seen.
-    pub(crate) fn take(&mut self, number: u64, pair: &Pair) -> Result<(), SigrokFault>
-        requires { IsReady (stand_of self.old) }
-        ensures ok { OnOk result (GoBy (stand_of self.old) (stand_of self.new) pair.now) }
-        ensures ready { OnOk result (IsReady (stand_of self.new)) }
+    /// Goes on by what was seen. With `skip` damaged words are left out.
+    pub(crate) fn take(&mut self, skip: bool, number: u64, pair: &Pair) -> Result<(), SigrokFault>
+        requires { IsReady skip (stand_of self.old) }
+        ensures ok { OnOk result (GoBy skip (stand_of self.old) (stand_of self.new) pair.now) }
+        ensures ready { OnOk result (IsReady skip (stand_of self.new)) }
         ensures controller { IfErr result (λ fault. pair.now.line ≡ Line.Controller →
-            Bars fault Line.Controller self.old.controller.place (pair.now ∷ [])) }
+            Bars fault skip Line.Controller self.old.controller.state (pair.now ∷ [])) }
         ensures devices { IfErr result (λ fault. pair.now.line ≡ Line.Peripheral →
-            Bars fault Line.Peripheral self.old.devices.place (pair.now ∷ [])) }
+            Bars fault skip Line.Peripheral self.old.devices.state (pair.now ∷ [])) }
     {
         match pair.line {
-            Line::Controller => self.controller.take(number, pair),
-            Line::Peripheral => self.devices.take(number, pair),
+            Line::Controller => self.controller.take(skip, number, pair, &mut self.passed),
+            Line::Peripheral => self.devices.take(skip, number, pair, &mut self.passed),
         }
     }
 
     /// What is told where the next two records can't be read: maybe an earlier one of their line.
-    fn fault_before(&self, line: Option<Line>, fault: SigrokFault) -> SigrokFault
+    fn fault_before(&self, skip: bool, line: Option<Line>, fault: SigrokFault) -> SigrokFault
         ensures { IsOfTrace fault → IsOfTrace result }
     {
         match line {
-            Some(Line::Controller) => self.controller.fault_before(fault),
-            Some(Line::Peripheral) => self.devices.fault_before(fault),
+            Some(Line::Controller) => self.controller.fault_before(skip, fault),
+            Some(Line::Peripheral) => self.devices.fault_before(skip, fault),
             None => fault,
         }
     }
 
     /// Reads the end of a trace.
-    pub(crate) fn end(&mut self, text: &[u8], number: u64) -> Result<(), SigrokFault>
-        requires { IsReady (stand_of self.old) }
+    pub(crate) fn end(&mut self, skip: bool, text: &[u8], number: u64) -> Result<(), SigrokFault>
+        requires { IsReady skip (stand_of self.old) }
         ensures text { OnOk result (lines_of text.now ≡ codes "]}" ∷ []) }
-        ensures controller { OnOk result (Ends Line.Controller self.old.controller.place
-            self.old.controller.rows.items self.new.controller.rows.items) }
-        ensures devices { OnOk result (Ends Line.Peripheral self.old.devices.place
-            self.old.devices.rows.items self.new.devices.rows.items) }
-        ensures err { IfErr result (λ fault. (swap : Bool) →
-            Stops fault swap false (lines_of text.now) (stand_of self.old)) }
+        ensures ends { OnOk result (BothEnd skip (stand_of self.old) (stand_of self.new)) }
+        ensures err { IfErr result (λ fault. (options : SigrokOptions) →
+            options.skip_damaged ≡ skip →
+            Stops fault options false (lines_of text.now) (stand_of self.old)) }
     {
         end_of_trace(text, number)?;
-        self.controller.end()?;
-        self.devices.end()
+        self.controller.end(skip, &mut self.passed)?;
+        self.devices.end(skip, &mut self.passed)
     }
 }

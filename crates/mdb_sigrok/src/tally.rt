@@ -1,14 +1,17 @@
 //! What is reported of the rows of a trace.
 
-ghost use Rattle.std.specs.Prelude.{◌≡◌};
+ghost use Rattle.std.specs.Prelude.{◌≡◌, List};
+ghost use Rattle.mdb_exports.specs.Places.{AreNoted};
+ghost use Rattle.mdb_exports.specs.declared.places.Place.{Place};
 ghost use Rattle.mdb_sigrok.specs.Part.{IsTold};
 ghost use Rattle.mdb_sigrok.specs.inner.Tallies.{IsNoted};
 
 use super::options::SigrokOptions;
+use mdb_exports::Places;
 use mdb_words::{Event, Line};
 
 /// What was imported, and what the recorder's user should know of the whole trace.
-#[derive(Clone, Copy, PartialEq, Eq, Debug)]
+#[derive(Drop, Debug)]
 pub struct SigrokRows {
     /// The number of rows that were written.
     pub rows: u64,
@@ -22,11 +25,21 @@ pub struct SigrokRows {
     pub controller: bool,
     /// Whether a device sent a word.
     pub peripheral: bool,
+    /// Where a line was low for less than half a bit. Nothing is told of it.
+    pub pulses: Places,
+    /// Where a damaged word was left out.
+    pub damaged: Places,
 }
 
-/// What is told of these rows.
-pub(crate) fn tally_of(options: &SigrokOptions, rows: &[Event]) -> SigrokRows
-    ensures { IsTold options.now rows.now result }
+/// What is told of these rows, and of what was passed over.
+pub(crate) fn tally_of(
+    options: &SigrokOptions,
+    rows: &[Event],
+    pulses: Places,
+    damaged: Places,
+) -> SigrokRows
+    ensures { (passed left_out : List Place) → AreNoted pulses passed → AreNoted damaged left_out →
+        IsTold options.now rows.now passed left_out result }
 {
     let mut tally = SigrokRows {
         rows: 0,
@@ -35,6 +48,8 @@ pub(crate) fn tally_of(options: &SigrokOptions, rows: &[Event]) -> SigrokRows
         marked: false,
         controller: false,
         peripheral: false,
+        pulses,
+        damaged,
     };
     for row in rows {
         tally.note(options, row);

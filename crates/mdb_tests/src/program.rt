@@ -551,47 +551,47 @@ static REFUSED_SETUPS: [(&str, &str); 19] = [
     ("mdbcheck check --setup hopper", "--setup needs --joined"),
     (
         "mdbcheck check --joined --setup=",
-        "--setup \"\" isn't DEVICE BYTES as show writes them",
+        "--setup \"\" isn't DEVICE BYTES or a line of show",
     ),
     (
         "mdbcheck check --joined --setup changer",
-        "--setup \"changer\" isn't DEVICE BYTES as show writes them",
+        "--setup \"changer\" isn't DEVICE BYTES or a line of show",
     ),
     (
         "mdbcheck check --joined --setup changer~",
-        "--setup \"changer \" isn't DEVICE BYTES as show writes them",
+        "--setup \"changer \" isn't DEVICE BYTES or a line of show",
     ),
     (
         "mdbcheck check --joined --setup hopper~02~00~01~05~02~00~07~01~02~05~19",
-        "--setup \"hopper 02 00 01 05 02 00..\" isn't DEVICE BYTES as show writes them",
+        "--setup \"hopper 02 00 01 05 02 00..\" isn't DEVICE BYTES or a line of show",
     ),
     (
         "mdbcheck check --joined --setup Changer~02~00~01~05~02~00~07~01~02~05~19",
-        "--setup \"Changer 02 00 01 05 02 0..\" isn't DEVICE BYTES as show writes them",
+        "--setup \"Changer 02 00 01 05 02 0..\" isn't DEVICE BYTES or a line of show",
     ),
     (
         "mdbcheck check --joined --setup ~02~00~01~05~02~00~07~01~02~05~19",
-        "--setup \" 02 00 01 05 02 00 07 01..\" isn't DEVICE BYTES as show writes them",
+        "--setup \" 02 00 01 05 02 00 07 01..\" isn't DEVICE BYTES or a line of show",
     ),
     (
         "mdbcheck check --joined --setup changer~02~00~01~05~02~00~07~01~02~05~19~",
-        "--setup \"changer 02 00 01 05 02 0..\" isn't DEVICE BYTES as show writes them",
+        "--setup \"changer 02 00 01 05 02 0..\" isn't DEVICE BYTES or a line of show",
     ),
     (
         "mdbcheck check --joined --setup changer~02~00~01~~05~02~00~07~01~02~~05~19",
-        "--setup \"changer 02 00 01  05 02 ..\" isn't DEVICE BYTES as show writes them",
+        "--setup \"changer 02 00 01  05 02 ..\" isn't DEVICE BYTES or a line of show",
     ),
     (
         "mdbcheck check --joined --setup changer~02~00~01~5~02~00~07~01~02~5~19",
-        "--setup \"changer 02 00 01 5 02 00..\" isn't DEVICE BYTES as show writes them",
+        "--setup \"changer 02 00 01 5 02 00..\" isn't DEVICE BYTES or a line of show",
     ),
     (
         "mdbcheck check --joined --setup changer~02~00~01~0G~02~00~07~01~02~0G~19",
-        "--setup \"changer 02 00 01 0G 02 0..\" isn't DEVICE BYTES as show writes them",
+        "--setup \"changer 02 00 01 0G 02 0..\" isn't DEVICE BYTES or a line of show",
     ),
     (
         "mdbcheck check --joined --setup bill~01~00~01~00~64~02~00~C8~00~00~ff~00~01~05~35",
-        "--setup \"bill 01 00 01 00 64 02 0..\" isn't DEVICE BYTES as show writes them",
+        "--setup \"bill 01 00 01 00 64 02 0..\" isn't DEVICE BYTES or a line of show",
     ),
 ];
 
@@ -599,7 +599,7 @@ static REFUSED_SETUPS: [(&str, &str); 19] = [
 static MORE_REFUSED_SETUPS: [(&str, &str); 20] = [
     (
         "mdbcheck check --joined --setup changer,02~00~01~05~02~00~07~01~02~05~19",
-        "--setup \"changer,02 00 01 05 02 0..\" isn't DEVICE BYTES as show writes them",
+        "--setup \"changer,02 00 01 05 02 0..\" isn't DEVICE BYTES or a line of show",
     ),
     (
         "mdbcheck check --joined --setup changer~02~00~01~05~02~00~07~01~02~05~18",

@@ -8,7 +8,12 @@ use Rattle.mdb_msgs.specs.declared.device_set.DeviceSet.{DeviceSet}
 use Rattle.mdb_msgs.specs.declared.setups.Setups.{Setups}
 use Rattle.mdb_msgs.specs.Laws.{AnswerTellsOneSetup}
 use Rattle.mdb_msgs.specs.SetupData.{IsSetupOf}
-use Rattle.mdbcheck_run.specs.Program.{AddsSetup, AreSetups}
+use Rattle.std.proofs.Common.{false}
+use Rattle.mdb_blocks.specs.Block.{IsBlock}
+use Rattle.mdb_msgs.specs.DeviceSets.{has}
+use Rattle.mdb_text.specs.Known.{known_devices}
+use Rattle.mdbcheck_run.specs.Program.{AddsSetup, AreSetups, Gives, setup_text}
+use Rattle.mdbcheck_run.proofs.SetupRows.{one_given}
 use Rattle.mdbcheck_run.proofs.SetupValues.{one_value}
 
 -- one thing is known with it
@@ -23,8 +28,10 @@ module _ (one_told : AnswerTellsOneSetup) where
   one_step : (left_out : DeviceSet) (before : Setups) (text : List ℕ) (a b : Setups)
       → AddsSetup left_out before text a → AddsSetup left_out before text b → a ≡ b
   one_step left_out before text a b adds_a adds_b =
-      let same = one_value text adds_a.device adds_b.device adds_a.bytes adds_b.bytes
-      adds_a.is.block adds_b.is.block adds_a.spelled adds_b.spelled in
+      let same = one_value (setup_text adds_a.device adds_a.bytes) adds_a.device adds_b.device
+      adds_a.bytes adds_b.bytes adds_a.is.block adds_b.is.block refl
+      (one_given text adds_a.device adds_b.device adds_a.bytes adds_b.bytes adds_a.given
+      adds_b.given) in
       one_known before a b adds_a.device adds_b.device adds_a.bytes adds_b.bytes same.0 same.1
       adds_a.is adds_b.is
 
@@ -101,3 +108,28 @@ next_adds one_told left_out before words i word now all within are whole =
       subst (λ known. AddsSetup left_out known (get_or words i word).now at.after) same
           at.adds,
     )
+
+-- ---- a value that was read
+
+-- What is known with the value that gives this device and these bytes, and nothing else.
+module _ (left_out : DeviceSet) (before : Setups) (text : List ℕ) (device : Device) (bytes : List ℕ)
+    (only : (other : Device) (others : List ℕ) → IsBlock others → Gives text other others
+    → (device ≡ other) × (bytes ≡ others)) where
+  pub adds_followed : (after : Setups) → AddsSetup left_out before text after
+      → has left_out device ≡ false
+  adds_followed after adds =
+      subst (λ d. has left_out d ≡ false)
+      (sym (only adds.device adds.bytes adds.is.block adds.given).0) adds.followed
+
+  pub adds_new : (after : Setups) → AddsSetup left_out before text after
+      → has (known_devices before) device ≡ false
+  adds_new after adds =
+      subst (λ d. has (known_devices before) d ≡ false)
+      (sym (only adds.device adds.bytes adds.is.block adds.given).0) adds.new
+
+  pub adds_setup : (after : Setups) → AddsSetup left_out before text after
+      → IsSetupOf device bytes before after
+  adds_setup after adds =
+      let same = only adds.device adds.bytes adds.is.block adds.given in
+      subst (λ d. IsSetupOf d bytes before after) (sym same.0)
+      (subst (λ bs. IsSetupOf adds.device bs before after) (sym same.1) adds.is)

@@ -4,6 +4,7 @@ use Rattle.std.specs.Prelude.{codes, if◌then◌else◌, Option, Some, None, Re
 use Rattle.std.specs.Io.KnownBytes.{Appends}
 use Rattle.command_words.specs.Grammar.{Command, NameCommand, Uses, chosen, is_used}
 use Rattle.command_words.specs.Manual.{AskForManual, Manual}
+use Rattle.mdb_words.specs.Digits.{IsDecimal}
 use Rattle.mdb_msgs.specs.declared.command.Device.{Device}
 use Rattle.mdb_msgs.specs.declared.device_set.DeviceSet.{DeviceSet}
 use Rattle.mdb_msgs.specs.declared.device_set.TheConstants.DeviceSet.{NONE}
@@ -48,6 +49,32 @@ use Rattle.mdbcheck_run.specs.declared.form.Form.TheVariants.{Text, Json}
 -- the word of a device, and bytes as `show` writes them after it
 abbrev pub setup_text : Device → List ℕ → List ℕ
 setup_text device bytes = device_word device ++ bytes_text bytes
+
+-- the word in front of them in a line of `show`
+abbrev pub reply_word : List ℕ
+reply_word = codes "reply "
+
+-- the rows of a line of `show`: two numbers of up to 15 digits, and a dash (45) between them
+pub record AreRows (text : List ℕ) : Type 0 where
+  pub first : List ℕ
+  pub last : List ℕ
+  pub parts : text ≡ first ++ 45 ∷ last
+  pub first_is : (row : ℕ) × IsDecimal 15 first row
+  pub last_is : (row : ℕ) × IsDecimal 15 last row
+
+-- a text that begins with such rows and a blank (32), and what it has after them
+pub record HasRows (text line : List ℕ) : Type 0 where
+  pub rows : List ℕ
+  pub are : AreRows rows
+  pub parts : text ≡ rows ++ 32 ∷ line
+
+-- A value of `--setup` that gives the bytes of a device: a line of `show` as it stands, the same
+-- without its rows, or what it has after the word `reply`.
+pub data Gives (text : List ℕ) (device : Device) (bytes : List ℕ) : Type 0 where
+  with_rows : (line : List ℕ) → HasRows text line → line ≡ reply_word ++ setup_text device bytes
+      → Gives text device bytes
+  with_word : text ≡ reply_word ++ setup_text device bytes → Gives text device bytes
+  bare : text ≡ setup_text device bytes → Gives text device bytes
 
 -- ---- the commands
 
@@ -127,7 +154,7 @@ pub record AddsSetup (left_out : DeviceSet) (before : Setups) (text : List ℕ) 
     : Type 0 where
   pub device : Device
   pub bytes : List ℕ
-  pub spelled : text ≡ setup_text device bytes
+  pub given : Gives text device bytes
   pub followed : has left_out device ≡ false
   pub new : has (known_devices before) device ≡ false
   pub is : IsSetupOf device bytes before after

@@ -1,10 +1,17 @@
 //! Laws of command lines. Each function's contract is the law, and its body calls the laws that it
 //! rests on.
 
-ghost use Rattle.std.specs.Prelude.{◌≡◌, ◌⊎◌, ℕ, List};
+ghost use Rattle.std.specs.Prelude.{◌≡◌, ◌⊎◌, ◌<◌, ◌^◌, ◌++◌, ℕ, List};
+ghost use Rattle.mdb_blocks.specs.Block.{block_of};
+ghost use Rattle.mdb_msgs.specs.declared.command.Command.{Command};
+ghost use Rattle.mdb_msgs.specs.declared.reply.Reply.{Reply};
+ghost use Rattle.mdb_msgs.specs.Commands.{device_of};
+ghost use Rattle.mdb_msgs.specs.Replies.{reply_bytes};
+ghost use Rattle.mdb_bus.specs.declared.act.Act.TheVariants as acts;
 ghost use Rattle.mdb_bus.specs.declared.scope.Scope.{Scope};
 ghost use Rattle.mdb_follow.specs.declared.goal.Goal.{Goal};
-ghost use Rattle.mdbcheck_run.specs.Program.{NameAReading, NamesCheck, NamesExplain, NamesManual};
+ghost use Rattle.mdb_show.specs.ShowText.{act_text, rows_text};
+ghost use Rattle.mdbcheck_run.specs.Program.{Gives, NameAReading, NamesCheck, NamesExplain, NamesManual};
 ghost use Rattle.mdbcheck_run.specs.Program.{NamesReplay, NamesShow, NamesSurvey};
 ghost use Rattle.mdbcheck_run.specs.declared.form.Form.{Form};
 
@@ -50,3 +57,12 @@ pub fn command_lines_name_one_task()
     command_lines::words_name_one_command();
     messages::answer_tells_one_setup();
 }
+
+/// Each line that `show` prints of a reply, as it stands, gives the bytes of that reply and the
+/// device that sent it, where it is a value of `--setup`.
+pub fn lines_of_show_give_replies()
+    ensures { (first last : ℕ) (command : Command) (reply : Reply)
+        → first < 10 ^ 15 → last < 10 ^ 15
+        → Gives (rows_text first last ++ act_text (acts.Reply command reply))
+        (device_of command) (block_of (reply_bytes reply)) }
+{}

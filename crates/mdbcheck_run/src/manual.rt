@@ -48,9 +48,10 @@ CHECK
                      and the checker may blame the innocent.
     --setup 'DEVICE BYTES'
                      With --joined: gives the device's answer to SETUP, from
-                     an earlier recording, as \"mdbcheck show\" prints it after
-                     \"reply\". Give it once for each device. A recording that
-                     contains no such answer has sums of 0 without it.
+                     an earlier recording: the line that \"mdbcheck show\"
+                     prints of it, or what that line has after \"reply\". Give
+                     it once for each device. A recording that contains no
+                     such answer has sums of 0 without it.
     --without DEVICE
                      Leaves a device out: all words to and from it are passed
                      over. Repeat it for more devices. DEVICE is changer,
@@ -264,7 +265,7 @@ EXAMPLES
     earlier recording:
 
         mdbcheck check --joined \\
-            --setup 'changer 02 00 01 05 02 00 07 01 02 05 19' \\
+            --setup '11-21 reply changer 02 00 01 05 02 00 07 01 02 05 19' \\
             < coin-in-mid-session.csv
 
     Explain how the controller can have counted 25 more than the changer

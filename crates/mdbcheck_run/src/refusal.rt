@@ -18,7 +18,8 @@ pub(crate) enum Refusal {
 pub(crate) enum SetupFault {
     /// They stand without `--joined`.
     NotJoined,
-    /// A value isn't a device's word and bytes after it.
+    /// A value isn't a device's word and bytes after it, with or without what a line of `show` has
+    /// before them.
     Form,
     /// The last byte isn't the sum of the others.
     Sum,

@@ -146,7 +146,7 @@ fn reason_of(refusal: Refusal) -> &'static str {
     match refusal {
         Refusal::Words(kind) => kind.as_str().unwrap_or(""),
         Refusal::Setup(SetupFault::NotJoined) => "needs --joined",
-        Refusal::Setup(SetupFault::Form) => "isn't DEVICE BYTES as show writes them",
+        Refusal::Setup(SetupFault::Form) => "isn't DEVICE BYTES or a line of show",
         Refusal::Setup(SetupFault::Sum) => "doesn't end with the sum of its bytes",
         Refusal::Setup(SetupFault::NoAnswer) => "is no answer of its device to SETUP",
         Refusal::Setup(SetupFault::Twice) => "names its device again",

@@ -1,13 +1,16 @@
 //! The values of `--setup`.
 
-ghost use Rattle.std.specs.Prelude.{◌≡◌, ◌<◌, ◌∷◌, ◌++◌, ℕ, List, [], IfErr, IfOk, IfSome, IsSome};
+ghost use Rattle.std.specs.Prelude.{◌≡◌, ◌↔◌, ◌<◌, ◌∷◌, ◌++◌, ℕ, List, [], IfErr, IfOk, IfSome, IsSome};
+ghost use Rattle.std.specs.Prelude.{IfNone, IsTrue};
 ghost use Rattle.std.specs.Prelude.{MatchResult, OnOk, Some, map, true};
 ghost use Rattle.std.specs.Fmt.{digit_glyph};
 ghost use Rattle.mdb_blocks.specs.Block.{IsBlock};
 ghost use Rattle.mdb_msgs.specs.declared.command.Device.{Device};
 ghost use Rattle.mdb_msgs.specs.declared.setups.Setups.{Setups};
 ghost use Rattle.mdb_msgs.specs.Setups.{nothing_known};
-ghost use Rattle.mdbcheck_run.specs.Program.{AddsSetup, AreSetups, setup_text};
+ghost use Rattle.mdb_words.specs.Digits.{IsDecimal};
+ghost use Rattle.mdbcheck_run.specs.Program.{AddsSetup, AreRows, AreSetups, Gives, HasRows};
+ghost use Rattle.mdbcheck_run.specs.Program.{setup_text};
 ghost use Rattle.mdb_show.specs.ShowText.{bytes_text};
 ghost use Rattle.mdbcheck_run.specs.inner.CommandLine.{IsOwnRefusal};
 ghost use Rattle.mdbcheck_run.specs.inner.SetupReading.{no_memory};
@@ -17,6 +20,7 @@ use clap::error::ErrorKind;
 use mdb_blocks::{BlockFault, unseal};
 use mdb_msgs::{Device, DeviceSet, Setups, laws};
 use mdb_text::known_devices;
+use mdb_words::Time;
 use std::alloc::Global;
 
 /// What is known with these values, where these devices are left out.
@@ -71,8 +75,57 @@ fn add_setup(
     }
 }
 
-/// The device and the bytes that a value names.
+/// The device and the bytes that a value gives.
 fn value_in(alloc: Global, text: &str) -> Result<(Device, Vec<u8>), Refusal>
+    ensures found { IfOk result (λ value. Gives text.now value.0 value.1.items) }
+    ensures only { (device : Device) (bytes : List ℕ) → IsBlock bytes
+        → Gives text.now device bytes
+        → MatchResult result (λ value. (value.0 ≡ device) × (value.1.items ≡ bytes))
+        (λ refusal. refusal ≡ no_memory) }
+    ensures own { IfErr result IsOwnRefusal }
+{
+    setup_in(alloc, words_in(text))
+}
+
+/// What a value has after the rows and the word of a line of `show`, as far as it has them.
+fn words_in(text: &str) -> &str
+    ensures { (device : Device) (bytes : List ℕ)
+        → Gives text.now device bytes ↔ (result.now ≡ setup_text device bytes) }
+{
+    let line = after_rows(text).unwrap_or(text);
+    line.strip_prefix("reply ").unwrap_or(text)
+}
+
+/// What stands after the rows in front of a line of `show`.
+fn after_rows(text: &str) -> Option<&str>
+    ensures some { IfSome result (λ line. HasRows text.now line.now) }
+    ensures none { IfNone result ((line : List ℕ) → HasRows text.now line → ⊥) }
+{
+    let Some((rows, line)) = text.split_once(' ') else {
+        return None;
+    };
+    if are_rows(rows) { Some(line) } else { None }
+}
+
+/// Whether a word is the rows of a line of `show`.
+fn are_rows(word: &str) -> bool
+    ensures { IsTrue result ↔ AreRows word.now }
+{
+    match word.split_once('-') {
+        Some((first, last)) => is_row(first) && is_row(last),
+        None => false,
+    }
+}
+
+/// Whether a word is the number of a row.
+fn is_row(word: &str) -> bool
+    ensures { IsTrue result ↔ (row : ℕ) × IsDecimal 15 word.now row }
+{
+    Time::read(word.as_bytes()).is_some()
+}
+
+/// The device and the bytes that these words name.
+fn setup_in(alloc: Global, text: &str) -> Result<(Device, Vec<u8>), Refusal>
     ensures found { IfOk result (λ value. text.now ≡ setup_text value.0 value.1.items) }
     ensures only { (device : Device) (bytes : List ℕ) → IsBlock bytes
         → text.now ≡ setup_text device bytes

@@ -1,9 +1,10 @@
 -- From what was read of a command line to its task, and back.
-use Rattle.std.proofs.Common.{arith, Bool, get_or, ap, refl, subst, sym, ◌∙◌, ◌≡◌, ◌≢◌, ◌⊎◌, List, ℕ, inl}
-use Rattle.std.proofs.Common.{[], ◌∷◌, inr, codes, option_map, Option, Some}
+use Rattle.std.proofs.Common.{Bool, get_or, ap, refl, subst, sym, ◌∙◌, ◌≡◌, List, ℕ}
+use Rattle.std.proofs.Common.{[], ◌∷◌, codes, option_map, Option, Some}
 use Rattle.clap.specs.Walk.{Text}
 use Rattle.command_words.specs.Grammar.{Command, Knows, NameCommand, Uses, WordsNameOneCommand}
-use Rattle.command_words.specs.Grammar.{chosen}
+use Rattle.command_words.specs.Grammar.{AreAlike, chosen}
+use Rattle.std.specs.Prelude.{◌==◌, if◌then◌else◌}
 use Rattle.command_words.specs.Manual.{AskForManual, manual_text}
 use Rattle.command_words.specs.Named.{IsReadFrom, NameACommand, name_in, values_in}
 use Rattle.command_words.specs.declared.named.Named.{Named}
@@ -14,13 +15,14 @@ use Rattle.mdb_sigrok.specs.declared.options.SigrokOptions.{SigrokOptions}
 use Rattle.mdb_saleae.specs.declared.options.SaleaeOptions.{SaleaeOptions}
 use Rattle.mdb_edges.specs.declared.options.EdgesOptions.{EdgesOptions}
 use Rattle.mdbimport_run.specs.Program.{AskForEdges, AskForRows, AskForSaleae, AskForSigrok}
-use Rattle.mdbimport_run.specs.Program.{AskTheSame, AskTheSameOfEdges, AskTheSameOfTable, IsLength}
-use Rattle.mdbimport_run.specs.Program.{IsLineName, IsUnit, NameAnImport, NameEdges, NameManual}
-use Rattle.mdbimport_run.specs.Program.{NameRows, NameSaleae, NameSigrok, NamesEdges, NamesManual}
-use Rattle.mdbimport_run.specs.Program.{NamesRows, NamesSaleae, NamesSigrok, TellNames, TellsOnce}
-use Rattle.mdbimport_run.specs.Program.{TellsUnit, edges_command, manual_command, rows_command}
+use Rattle.mdbimport_run.specs.Program.{AskTheSame, AskTheSameOfEdges, AskTheSameOfTable, Common}
+use Rattle.mdbimport_run.specs.Program.{IsLength, IsLineName, IsUnit, Kind, NameEdges, NameManual}
+use Rattle.mdbimport_run.specs.Program.{NameRows, NameSaleae, NameSigrok, NameTask, TellCommon}
+use Rattle.mdbimport_run.specs.Program.{TellsOnce, TellsUnit, command_of, common_of_edges}
+use Rattle.mdbimport_run.specs.Program.{common_of_rows, common_of_saleae, edges_command}
+use Rattle.mdbimport_run.specs.Program.{manual_command, mdbimport_manual, of_edges, of_manual}
+use Rattle.mdbimport_run.specs.Program.{of_rows, of_saleae, of_sigrok, rows_command}
 use Rattle.mdbimport_run.specs.Program.{saleae_command, sigrok_command}
-use Rattle.mdbimport_run.specs.Program.{mdbimport_manual}
 use Rattle.mdbimport_run.specs.inner.CommandLine.{AskFor, FindSigrok, FindTask, commands}
 use Rattle.mdbimport_run.specs.declared.command_line.Task.{Task}
 use Rattle.mdbimport_run.specs.declared.command_line.Task.TheVariants.{Edges, Manual, Rows, Saleae}
@@ -59,7 +61,7 @@ module _ (words : List Text) (found : Named) (read : IsReadFrom commands words f
     read.uses,
     named_as commands words found read saleae_command refl is,
     asked_by found
-        read.uses read.has (λ values used. AskForSaleae values options) finds,
+        read.uses read.has (λ values used. AskForSaleae values used options) finds,
   )
   asked (Edges options) (is, finds) = (
     read.uses,
@@ -84,7 +86,7 @@ module _ (words : List Text) (found : Named) (read : IsReadFrom commands words f
       (is, found_by found uses has (λ values used. AskForSigrok values used options) asks)
   finds (Saleae options) (uses, names, asks) =
       let (is, has) = found_as commands words found read saleae_command uses refl names in
-      (is, found_by found uses has (λ values used. AskForSaleae values options) asks)
+      (is, found_by found uses has (λ values used. AskForSaleae values used options) asks)
   finds (Edges options) (uses, names, asks) =
       let (is, has) = found_as commands words found read edges_command uses refl names in
       (is, found_by found uses has (λ values used. AskForEdges values used options) asks)
@@ -97,57 +99,69 @@ module _ (words : List Text) (found : Named) (read : IsReadFrom commands words f
 
 -- ---- names that differ
 
-pub rows_not_sigrok : codes "rows" ≢ codes "sigrok"
-rows_not_sigrok is = let bad : codes "rows" ≡ codes "sigrok" = is in cc bad
+-- the task of a name, by its first two letters
+abbrev kind_at : List ℕ → Kind
+kind_at name =
+    if get_or name 1 0 == 111 then of_rows
+    else if get_or name 1 0 == 105 then of_sigrok
+    else if get_or name 1 0 == 100 then of_edges
+    else if get_or name 0 0 == 115 then of_saleae
+    else of_manual
 
-pub rows_not_saleae : codes "rows" ≢ codes "saleae"
-rows_not_saleae is = let bad : codes "rows" ≡ codes "saleae" = is in cc bad
+kind_again : (kind : Kind) → kind_at (command_of kind).name ≡ kind
+kind_again of_rows = refl
+kind_again of_sigrok = refl
+kind_again of_saleae = refl
+kind_again of_edges = refl
+kind_again of_manual = refl
 
-pub rows_not_edges : codes "rows" ≢ codes "edges"
-rows_not_edges is = let bad : codes "rows" ≡ codes "edges" = is in cc bad
+pub one_kind : (a b : Kind) → (command_of a).name ≡ (command_of b).name → a ≡ b
+one_kind a b same = sym (kind_again a) ∙ ap kind_at same ∙ kind_again b
 
-pub sigrok_not_saleae : codes "sigrok" ≢ codes "saleae"
-sigrok_not_saleae is =
-    let second : 105 ≡ 97 = ap (λ l. get_or l 1 0) is in absurd (omega (arith, second))
+-- the kind of a task
+abbrev kind_of : Task → Kind
+kind_of (Rows options) = of_rows
+kind_of (Sigrok options) = of_sigrok
+kind_of (Saleae options) = of_saleae
+kind_of (Edges options) = of_edges
+kind_of (Manual part) = of_manual
 
-pub sigrok_not_edges : codes "sigrok" ≢ codes "edges"
-sigrok_not_edges is = let bad : codes "sigrok" ≡ codes "edges" = is in cc bad
-
-pub saleae_not_edges : codes "saleae" ≢ codes "edges"
-saleae_not_edges is = let bad : codes "saleae" ≡ codes "edges" = is in cc bad
-
-pub rows_not_manual : codes "rows" ≢ codes "manual"
-rows_not_manual is = let bad : codes "rows" ≡ codes "manual" = is in cc bad
-
-pub sigrok_not_manual : codes "sigrok" ≢ codes "manual"
-sigrok_not_manual is =
-    let first : 115 ≡ 109 = ap (λ l. get_or l 0 0) is in absurd (omega (arith, first))
-
-pub saleae_not_manual : codes "saleae" ≢ codes "manual"
-saleae_not_manual is =
-    let first : 115 ≡ 109 = ap (λ l. get_or l 0 0) is in absurd (omega (arith, first))
-
-pub edges_not_manual : codes "edges" ≢ codes "manual"
-edges_not_manual is = let bad : codes "edges" ≡ codes "manual" = is in cc bad
+name_found : (found : Named) (task : Task) → FindTask found task
+    → name_in found ≡ (command_of (kind_of task)).name
+name_found found (Rows options) finds = finds.0
+name_found found (Sigrok options) finds = finds.0
+name_found found (Saleae options) finds = finds.0
+name_found found (Edges options) finds = finds.0
+name_found found (Manual part) finds = finds.0
 
 -- what was read is of `sigrok`, or of `manual`, where its name is
 pub sigrok_found : (found : Named) → name_in found ≡ codes "sigrok" → (task : Task)
     → FindTask found task → (options : SigrokOptions) × FindSigrok found options
-sigrok_found found named (Rows options) (is, finds) = absurd (rows_not_sigrok (sym is ∙ named))
-sigrok_found found named (Sigrok options) (is, finds) = (options, finds)
-sigrok_found found named (Saleae options) (is, finds) = absurd (sigrok_not_saleae (sym named ∙ is))
-sigrok_found found named (Edges options) (is, finds) = absurd (sigrok_not_edges (sym named ∙ is))
-sigrok_found found named (Manual part) (is, finds) = absurd (sigrok_not_manual (sym named ∙ is))
+sigrok_found found named task finds =
+    by task finds (one_kind (kind_of task) of_sigrok (sym (name_found found task finds) ∙ named))
+  where
+    by : (task : Task) → FindTask found task → kind_of task ≡ of_sigrok
+        → (options : SigrokOptions) × FindSigrok found options
+    by (Rows options) (is, finds) bad = absurd (cc bad)
+    by (Sigrok options) (is, finds) same = (options, finds)
+    by (Saleae options) (is, finds) bad = absurd (cc bad)
+    by (Edges options) (is, finds) bad = absurd (cc bad)
+    by (Manual part) (is, finds) bad = absurd (cc bad)
 
 pub manual_found : (found : Named) → name_in found ≡ codes "manual" → (task : Task)
     → FindTask found task
     → (page : Text) × AskForManual mdbimport_manual (values_in found (codes "COMMAND")) page
-manual_found found named (Rows options) (is, finds) = absurd (rows_not_manual (sym is ∙ named))
-manual_found found named (Sigrok options) (is, finds) = absurd (sigrok_not_manual (sym is ∙ named))
-manual_found found named (Saleae options) (is, finds) = absurd (saleae_not_manual (sym is ∙ named))
-manual_found found named (Edges options) (is, finds) = absurd (edges_not_manual (sym is ∙ named))
-manual_found found named (Manual part) (is, finds) =
-    (manual_text mdbimport_manual (option_map (λ text. text.now) part), finds)
+manual_found found named task finds =
+    by task finds (one_kind (kind_of task) of_manual (sym (name_found found task finds) ∙ named))
+  where
+    by : (task : Task) → FindTask found task → kind_of task ≡ of_manual
+        → (page : Text) × AskForManual mdbimport_manual (values_in found (codes "COMMAND")) page
+    by (Rows options) (is, finds) bad = absurd (cc bad)
+    by (Sigrok options) (is, finds) bad = absurd (cc bad)
+    by (Saleae options) (is, finds) bad = absurd (cc bad)
+    by (Edges options) (is, finds) bad = absurd (cc bad)
+    by (Manual part) (is, finds) same =
+        (manual_text mdbimport_manual (option_map (λ text. text.now) part), finds)
 
 -- ---- one task with one way
 
@@ -158,17 +172,25 @@ module _ (values also : Text → List Text) (alike : (name : Text) → values na
   times_same name a b is too =
       one_time (also name) a b (subst (λ v. TellsOnce (IsDecimal 15) v a) (alike name) is) too
 
-  controllers_same : (a b c d : Option Text) → TellNames values a c → TellNames also b d → a ≡ b
-  controllers_same a b c d is too =
-      one_name (also (codes "controller")) a b
-      (subst (λ v. TellsOnce IsLineName v a) (alike (codes "controller")) is.controller_is)
-      too.controller_is
+  names_same : (name : Text) (a b : Option Text) → TellsOnce IsLineName (values name) a
+      → TellsOnce IsLineName (also name) b → a ≡ b
+  names_same name a b is too =
+      one_name (also name) a b (subst (λ v. TellsOnce IsLineName v a) (alike name) is) too
 
-  peripherals_same : (a b c d : Option Text) → TellNames values a c → TellNames also b d → c ≡ d
-  peripherals_same a b c d is too =
-      one_name (also (codes "peripheral")) c d
-      (subst (λ v. TellsOnce IsLineName v c) (alike (codes "peripheral")) is.peripheral_is)
-      too.peripheral_is
+  common_same : (a b : Common) → TellCommon values a → TellCommon also b → a ≡ b
+  common_same a b is too =
+      let controller = names_same (codes "controller") a.controller b.controller
+      is.names.controller_is too.names.controller_is in
+      let peripheral = names_same (codes "peripheral") a.peripheral b.peripheral
+      is.names.peripheral_is too.names.peripheral_is in
+      let from = times_same (codes "from") a.from b.from is.from too.from in
+      let until = times_same (codes "until") a.until b.until is.until too.until in
+      λ i. record {
+        controller = controller i;
+        peripheral = peripheral i;
+        from = from i;
+        until = until i;
+      }
 
 -- and words ask for one text of the manual
 some_same : {a b : Text} → ◌≡◌ {A = Option Text} (Some a) (Some b) → a ≡ b
@@ -180,6 +202,22 @@ one_page [] page other asks also = asks ∙ sym also
 one_page (name ∷ []) page other asks also = some_same (sym asks ∙ also)
 one_page (name ∷ second ∷ more) page other asks also = absurd asks
 
+-- each task has a command of the program
+known : (kind : Kind) → Knows commands (command_of kind)
+known of_rows = refl
+known of_sigrok = refl
+known of_saleae = refl
+known of_edges = refl
+known of_manual = refl
+
+named_by : (words : List Text) (kind : Kind) → NameTask kind words
+    → (uses : Uses) × NameCommand words (command_of kind) uses
+named_by words of_rows (options, (uses, named, asks)) = (uses, named)
+named_by words of_sigrok (options, (uses, named, asks)) = (uses, named)
+named_by words of_saleae (options, (uses, named, asks)) = (uses, named)
+named_by words of_edges (options, (uses, named, asks)) = (uses, named)
+named_by words of_manual (page, (uses, named, asks)) = (uses, named)
+
 module _ (one : WordsNameOneCommand) where
   same_name : (words : List Text) (a b : Command) (uses also : Uses) → Knows commands a
       → Knows commands b → NameCommand words a uses → NameCommand words b also → a.name ≡ b.name
@@ -187,117 +225,75 @@ module _ (one : WordsNameOneCommand) where
       ap (λ (c : Command). c.name)
       (one commands words a b uses also refl knows_a knows_b named too).0
 
+  alike_in : (words : List Text) (kind : Kind) (uses also : Uses)
+      → NameCommand words (command_of kind) uses → NameCommand words (command_of kind) also
+      → AreAlike uses also
+  alike_in words kind uses also named too =
+      (one commands words (command_of kind) (command_of kind) uses also refl (known kind)
+      (known kind) named too).1
+
   pub one_rows : (words : List Text) (a b : RowsOptions) → NameRows words a → NameRows words b
       → AskTheSame a b
   one_rows words a b (uses, named, asks) (other, also, asks_too) =
-      let alike = (one commands words rows_command rows_command uses other refl refl refl named
-      also).1 in
-      let values : Text → List Text = λ name. chosen name uses in
-      let others : Text → List Text = λ name. chosen name other in
-      record {
+      let alike = alike_in words of_rows uses other named also in record {
         unit = one_unit (chosen (codes "unit") other) a.unit b.unit
             (subst (λ v. TellsOnce IsUnit v a.unit) (alike.values (codes "unit")) asks.unit)
             asks_too.unit;
-        controller = controllers_same values others alike.values _ _ _ _ asks.names asks_too.names;
-        peripheral = peripherals_same values others alike.values _ _ _ _ asks.names asks_too.names;
-        from = times_same values others alike.values (codes "from") a.from b.from asks.from
-            asks_too.from;
-        until = times_same values others alike.values (codes "until") a.until b.until asks.until
-            asks_too.until;
+        common = common_same (λ name. chosen name uses) (λ name. chosen name other) alike.values
+            (common_of_rows a) (common_of_rows b) asks.common asks_too.common;
       }
 
   pub one_sigrok : (words : List Text) (a b : SigrokOptions) → NameSigrok words a
       → NameSigrok words b → a ≡ b
   one_sigrok words a b (uses, named, asks) (other, also, asks_too) =
-      let alike = (one commands words sigrok_command sigrok_command uses other refl refl refl named
-      also).1 in
+      let alike = alike_in words of_sigrok uses other named also in
       let swap : a.swap ≡ b.swap = sym asks.swap ∙ alike.flags (codes "swap") ∙ asks_too.swap in
+      let skips : a.skip_damaged ≡ b.skip_damaged =
+      sym asks.skips ∙ alike.flags (codes "skip-damaged") ∙ asks_too.skips in
       let from = one_time (chosen (codes "from") other) a.from b.from
       (subst (λ v. TellsOnce (IsDecimal 15) v a.from) (alike.values (codes "from")) asks.from)
       asks_too.from in
       let until = one_time (chosen (codes "until") other) a.until b.until
       (subst (λ v. TellsOnce (IsDecimal 15) v a.until) (alike.values (codes "until")) asks.until)
       asks_too.until in
-      λ i. record { swap = swap i; from = from i; until = until i }
+      λ i. record { swap = swap i; skip_damaged = skips i; from = from i; until = until i }
 
   pub one_saleae : (words : List Text) (a b : SaleaeOptions) → NameSaleae words a
       → NameSaleae words b → AskTheSameOfTable a b
   one_saleae words a b (uses, named, asks) (other, also, asks_too) =
-      let alike = (one commands words saleae_command saleae_command uses other refl refl refl named
-      also).1 in
-      let values : Text → List Text = λ name. chosen name uses in
-      let others : Text → List Text = λ name. chosen name other in
-      record {
-        controller = controllers_same values others alike.values _ _ _ _ asks.names asks_too.names;
-        peripheral = peripherals_same values others alike.values _ _ _ _ asks.names asks_too.names;
+      let alike = alike_in words of_saleae uses other named also in record {
         length = one_length (chosen (codes "break") other) a.break_length b.break_length
             (subst (λ v. TellsOnce IsLength v a.break_length) (alike.values (codes "break"))
             asks.length) asks_too.length;
-        from = times_same values others alike.values (codes "from") a.from b.from asks.from
-            asks_too.from;
-        until = times_same values others alike.values (codes "until") a.until b.until asks.until
-            asks_too.until;
+        skips = sym asks.skips ∙ alike.flags (codes "skip-damaged") ∙ asks_too.skips;
+        common = common_same (λ name. chosen name uses) (λ name. chosen name other) alike.values
+            (common_of_saleae a) (common_of_saleae b) asks.common asks_too.common;
       }
 
   pub one_edges : (words : List Text) (a b : EdgesOptions) → NameEdges words a → NameEdges words b
       → AskTheSameOfEdges a b
   one_edges words a b (uses, named, asks) (other, also, asks_too) =
-      let alike = (one commands words edges_command edges_command uses other refl refl refl named
-      also).1 in
-      let values : Text → List Text = λ name. chosen name uses in
-      let others : Text → List Text = λ name. chosen name other in
-      record {
+      let alike = alike_in words of_edges uses other named also in record {
         unit = one_unit_told (chosen (codes "unit") other) a.unit b.unit
             (subst (λ v. TellsUnit v a.unit) (alike.values (codes "unit")) asks.unit) asks_too.unit;
-        controller = controllers_same values others alike.values _ _ _ _ asks.names asks_too.names;
-        peripheral = peripherals_same values others alike.values _ _ _ _ asks.names asks_too.names;
         invert = sym asks.invert ∙ alike.flags (codes "invert") ∙ asks_too.invert;
-        from = times_same values others alike.values (codes "from") a.from b.from asks.from
-            asks_too.from;
-        until = times_same values others alike.values (codes "until") a.until b.until asks.until
-            asks_too.until;
+        skips = sym asks.skips ∙ alike.flags (codes "skip-damaged") ∙ asks_too.skips;
+        common = common_same (λ name. chosen name uses) (λ name. chosen name other) alike.values
+            (common_of_edges a) (common_of_edges b) asks.common asks_too.common;
       }
-
-  -- words that name a task name no other
-  pub rows_alone : (words : List Text) → NamesRows words
-      → NamesSigrok words ⊎ (NamesSaleae words ⊎ NamesEdges words) → ⊥
-  rows_alone words (options, (uses, named, asks)) (inl (option, (more, also, too))) =
-      rows_not_sigrok (same_name words rows_command sigrok_command uses more refl refl named also)
-  rows_alone words (options, (uses, named, asks)) (inr (inl (option, (more, also, too)))) =
-      rows_not_saleae (same_name words rows_command saleae_command uses more refl refl named also)
-  rows_alone words (options, (uses, named, asks)) (inr (inr (option, (more, also, too)))) =
-      rows_not_edges (same_name words rows_command edges_command uses more refl refl named also)
-
-  pub sigrok_alone : (words : List Text) → NamesSigrok words → NamesSaleae words ⊎ NamesEdges words
-      → ⊥
-  sigrok_alone words (options, (uses, named, asks)) (inl (option, (more, also, too))) =
-      sigrok_not_saleae (same_name words sigrok_command saleae_command uses more refl refl named
-      also)
-  sigrok_alone words (options, (uses, named, asks)) (inr (option, (more, also, too))) =
-      sigrok_not_edges (same_name words sigrok_command edges_command uses more refl refl named also)
-
-  pub saleae_alone : (words : List Text) → NamesSaleae words → NamesEdges words → ⊥
-  saleae_alone words (options, (uses, named, asks)) (option, (more, also, too)) =
-      saleae_not_edges (same_name words saleae_command edges_command uses more refl refl named also)
 
   pub one_manual : (words : List Text) (page other : Text) → NameManual words page
       → NameManual words other → page ≡ other
   one_manual words page other (uses, named, asks) (also, too, asks_too) =
-      let alike = (one commands words manual_command manual_command uses also refl refl refl named
-      too).1 in
+      let alike = alike_in words of_manual uses also named too in
       one_page (chosen (codes "COMMAND") also) page other
       (subst (λ v. AskForManual mdbimport_manual v page) (alike.values (codes "COMMAND")) asks)
       asks_too
 
-  pub manual_alone : (words : List Text) → NamesManual words → NameAnImport words → ⊥
-  manual_alone words (page, (uses, named, asks)) (inl (option, (more, also, too))) =
-      rows_not_manual (same_name words rows_command manual_command more uses refl refl also named)
-  manual_alone words (page, (uses, named, asks)) (inr (inl (option, (more, also, too)))) =
-      sigrok_not_manual (same_name words sigrok_command manual_command more uses refl refl also
-      named)
-  manual_alone words (page, (uses, named, asks)) (inr (inr (inl (option, (more, also, too))))) =
-      saleae_not_manual (same_name words saleae_command manual_command more uses refl refl also
-      named)
-  manual_alone words (page, (uses, named, asks)) (inr (inr (inr (option, (more, also, too))))) =
-      edges_not_manual (same_name words edges_command manual_command more uses refl refl also
-      named)
+  -- words that name a task name no other
+  pub alone : (words : List Text) (a b : Kind) → NameTask a words → NameTask b words → a ≡ b
+  alone words a b names_a names_b =
+      let one_way = named_by words a names_a in
+      let other = named_by words b names_b in
+      one_kind a b (same_name words (command_of a) (command_of b) one_way.0 other.0 (known a)
+      (known b) one_way.1 other.1)

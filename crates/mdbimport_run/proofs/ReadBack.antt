@@ -11,7 +11,10 @@ use Rattle.mdb_exports.proofs.PlainRows.{read_back, small_break, small_word}
 use Rattle.mdb_exports.proofs.Merges.{merged_all}
 use Rattle.mdb_sigrok.specs.Part.{is_taken, part_of}
 use Rattle.mdb_sigrok.specs.Record.{IsName, IsPair}
-use Rattle.mdb_sigrok.specs.Rows.{LineRows, nothing, unfinished, word, broken}
+use Rattle.mdb_exports.specs.declared.places.Place.{Place}
+use Rattle.mdb_sigrok.specs.Notes.{rows_in}
+use Rattle.mdb_sigrok.specs.Rows.{LineRows, break_of, nothing, unfinished, pulse, word, broken, damaged, damaged_low}
+use Rattle.mdb_sigrok.specs.declared.note.Note.{Note}
 use Rattle.mdb_sigrok.specs.Text.{micros_of}
 use Rattle.mdb_sigrok.specs.Trace.{AreRowsOfTrace, TellPairs, is_line, last, more, on_line}
 use Rattle.mdb_sigrok.specs.declared.options.SigrokOptions.{SigrokOptions}
@@ -52,28 +55,42 @@ line_small line (pair ∷ pairs) all =
         All-cons IsSmall pair (on_line line pairs) (All-head IsSmall pair pairs all) rest
     one false rest = rest
 
-rows_small : {line : Line} {earliest : ℕ} {pairs : List Pair} {rows : List Event}
-    → LineRows line earliest pairs rows → All IsSmall pairs → All IsRowEvent rows
+-- those after the first three
+after_three : (one two three : Pair) (pairs : List Pair) → All IsSmall (one ∷ two ∷ three ∷ pairs)
+    → All IsSmall pairs
+after_three one two three pairs all =
+    All-tail IsSmall three pairs (All-tail IsSmall two (three ∷ pairs)
+    (All-tail IsSmall one (two ∷ three ∷ pairs) all))
+
+rows_small : {skip : Bool} {line : Line} {earliest : ℕ} {pairs : List Pair} {notes : List Note}
+    → LineRows skip line earliest pairs notes → All IsSmall pairs → All IsRowEvent (rows_in notes)
 rows_small nothing all = All-nil IsRowEvent
 rows_small (unfinished start begins) all = All-nil IsRowEvent
-rows_small {line = line} (word start data_pair value pairs rows begins is rest) all =
+rows_small (pulse pair pairs notes is rest) all =
+    rows_small rest (All-tail IsSmall pair pairs all)
+rows_small {line = line} (word start data_pair value pairs notes begins is whole rest) all =
     let first = All-head IsSmall start (data_pair ∷ pairs) all in
     let others = All-tail IsSmall start (data_pair ∷ pairs) all in
     let second = All-head IsSmall data_pair pairs others in
-    All-cons IsRowEvent (Word (micros_of start.from) line value) rows
+    All-cons IsRowEvent (Word (micros_of start.from) line value) (rows_in notes)
     (small_word (micros_of start.from) line value first.early (second.few value is))
     (rows_small rest (All-tail IsSmall data_pair pairs others))
-rows_small (broken start zero_pair frame end pairs rows begins is wrong breaks rest) all =
-    let one = All-tail IsSmall start (zero_pair ∷ frame ∷ end ∷ pairs) all in
-    let two = All-tail IsSmall zero_pair (frame ∷ end ∷ pairs) one in
-    let three = All-tail IsSmall frame (end ∷ pairs) two in
-    let last_pair = All-head IsSmall end pairs three in
-    All-cons IsRowEvent _ rows (small_break _ _ last_pair.early breaks.short)
-    (rows_small rest (All-tail IsSmall end pairs three))
+rows_small (broken start data_pair frame end value pairs notes begins is wrong low breaks late rest)
+    all =
+    let ends = after_three start data_pair frame (end ∷ pairs) all in
+    All-cons IsRowEvent (break_of end) (rows_in notes)
+    (small_break _ _ (All-head IsSmall end pairs ends).early breaks.short)
+    (rows_small rest (All-tail IsSmall end pairs ends))
+rows_small (damaged start data_pair frame value pairs notes begins is wrong alone rest) all =
+    rows_small rest (after_three start data_pair frame pairs all)
+rows_small (damaged_low start data_pair frame end value pairs notes begins is wrong low no_break rest)
+    all =
+    rows_small rest (All-tail IsSmall end pairs (after_three start data_pair frame (end ∷ pairs) all))
 
 pub trace_read_back : (options : SigrokOptions) (text : List ℕ) (rows : List Event)
-    → AreRowsOfTrace options.swap text rows → AreReadBack (part_of options rows)
-trace_read_back options text rows trace =
+    (passed left_out : List Place) → AreRowsOfTrace options text rows passed left_out
+    → AreReadBack (part_of options rows)
+trace_read_back options text rows passed left_out trace =
     let all = pairs_small trace.told in
     read_back (part_of options rows) (some_of IsRowEvent (is_taken options) rows
     (merged_all IsRowEvent trace.both

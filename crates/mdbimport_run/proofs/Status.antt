@@ -1,5 +1,5 @@
 -- What the answer of the program says.
-use Rattle.std.proofs.Common.{Global, List, codes, inl, inr, subst, sym, ◌≡◌, ℕ, Option, Some, None, IfSome, Result, Ok, Err, IfOk, IfErr}
+use Rattle.std.proofs.Common.{Global, List, codes, subst, sym, ◌≡◌, ℕ, Option, Some, None, IfSome, Result, Ok, Err, IfOk, IfErr}
 use Rattle.std.specs.Prelude.{String, map, string_bytes}
 use Rattle.mdb_saleae.specs.Imports as table
 use Rattle.mdb_saleae.specs.declared.fault.SaleaeFault.{SaleaeFault}
@@ -7,8 +7,8 @@ use Rattle.mdb_saleae.specs.declared.options.SaleaeOptions.{SaleaeOptions}
 use Rattle.mdb_edges.specs.Import as edges
 use Rattle.mdb_edges.specs.declared.fault.EdgesFault.{EdgesFault}
 use Rattle.mdb_edges.specs.declared.options.EdgesOptions.{EdgesOptions}
-use Rattle.mdb_edges.specs.declared.part.EdgesImported.{EdgesImported}
-use Rattle.mdbimport_run.specs.Program.{IsEdgesAnswer, IsManualWritten, NameATask, NameManual, NamesManual, Says, no_memory}
+use Rattle.mdb_levels.specs.declared.part.LevelsImported.{LevelsImported}
+use Rattle.mdbimport_run.specs.Program.{IsEdgesAnswer, IsManualWritten, Kind, NameATask, NameManual, NameTask, Says, no_memory, of_edges, of_manual, of_rows, of_saleae, of_sigrok}
 use Rattle.mdb_exports.specs.Records.{export_records}
 use Rattle.mdb_rows_import.specs.Imports.{Imports}
 use Rattle.mdb_rows_import.specs.declared.fault.ImportFault.{ImportFault}
@@ -37,11 +37,15 @@ asked read given found task same is asks =
     let Words : List (String Global) → Type 0 = λ words. AskFor (map string_bytes words) found in
     subst (AskFor (map string_bytes given)) is (subst Words same asks)
 
--- words that are refused name no part of the manual, but where memory was refused
-why_no_manual : (words : List (List ℕ)) (refusal : Refusal)
-    → ((task : Task) → AskFor words task → refusal ≡ no_memory) → NamesManual words
-    → refusal ≡ no_memory
-why_no_manual words refusal why (page, (uses, named, asks)) =
+-- words that are refused name no task, but where memory was refused
+why_none : (words : List (List ℕ)) (refusal : Refusal)
+    → ((task : Task) → AskFor words task → refusal ≡ no_memory) → (kind : Kind)
+    → NameTask kind words → refusal ≡ no_memory
+why_none words refusal why of_rows (options, asks) = why (Rows options) asks
+why_none words refusal why of_sigrok (options, asks) = why (Sigrok options) asks
+why_none words refusal why of_saleae (options, asks) = why (Saleae options) asks
+why_none words refusal why of_edges (options, asks) = why (Edges options) asks
+why_none words refusal why of_manual (page, (uses, named, asks)) =
     let (part, is) = asked_part mdbimport_manual _ page asks in
     why (Manual part) (
       uses,
@@ -49,20 +53,14 @@ why_no_manual words refusal why (page, (uses, named, asks)) =
       subst (AskForManual mdbimport_manual (chosen (codes "COMMAND") uses)) (sym is) asks,
     )
 
--- words that are refused name no task, but where memory was refused
 pub refused : (read given : List (String Global)) (refusal : Refusal) → read ≡ given
     → ((task : Task) → AskFor (map string_bytes read) task → refusal ≡ no_memory)
     → NameATask (map string_bytes given) → refusal ≡ no_memory
 refused read given refusal same why names =
     let Words : List (String Global) → Type 0 =
     λ words. NameATask (map string_bytes words) → refusal ≡ no_memory in
-    subst Words same (λ named. elim named [
-      | inl manual ↦ why_no_manual (map string_bytes read) refusal why manual
-      | inr (inl rows) ↦ why (Rows rows.0) rows.1
-      | inr (inr (inl sigrok)) ↦ why (Sigrok sigrok.0) sigrok.1
-      | inr (inr (inr (inl saleae))) ↦ why (Saleae saleae.0) saleae.1
-      | inr (inr (inr (inr edges))) ↦ why (Edges edges.0) edges.1
-    ]) names
+    subst Words same
+    (λ named. why_none (map string_bytes read) refusal why named.0 named.1) names
 
 pub refused_says : (known : Option (List ℕ)) (words : List (List ℕ))
     (before after : Option (List ℕ)) (refusal : Refusal) → (NameATask words → refusal ≡ no_memory)
@@ -90,7 +88,7 @@ pub saleae_says : (words : List (List ℕ)) (options : SaleaeOptions) (before af
 saleae_says words options before after answer asks text imports = (options, asks, imports)
 
 pub edges_say : (words : List (List ℕ)) (options : EdgesOptions) (before after : Option (List ℕ))
-    (answer : Result EdgesImported EdgesFault) → AskFor words (Edges options) → (text : List ℕ)
+    (answer : Result LevelsImported EdgesFault) → AskFor words (Edges options) → (text : List ℕ)
     → IsEdgesAnswer options text before after answer
     → Says words text before after (ended.Edges answer)
 edges_say words options before after answer asks text answers = (options, asks, answers)
@@ -104,7 +102,7 @@ manual_says words page before after answer asks written (Some text) = (page, ask
 
 -- what is said of both answers to the records of a table of edges is said of the answer
 pub edges_answer : (Come : List (List (List ℕ)) → Type 0) (text : List ℕ) (options : EdgesOptions)
-    (before after : Option (List ℕ)) (answer : Result EdgesImported EdgesFault)
+    (before after : Option (List ℕ)) (answer : Result LevelsImported EdgesFault)
     → IfOk answer (λ told.
     (all : List (List (List ℕ))) → Come all → edges.AreImported options all told before after)
     → IfErr answer (λ fault.

@@ -1,7 +1,8 @@
 -- What the words of a command line name, and what the answer of the program says.
-use Rattle.std.specs.Prelude.{◌≡◌, ◌≢◌, ◌⊎◌, ℕ, Bool, List, [], ◌∷◌, ◌<◌, ◌^◌, codes, ⊤, Option}
+use Rattle.std.specs.Prelude.{◌≡◌, ◌≢◌, ℕ, Bool, List, [], ◌∷◌, ◌<◌, ◌^◌, codes, ⊤, Option}
 use Rattle.std.specs.Prelude.{Some, None, option_map, option_to_list, string_bytes, unwrap_or}
-use Rattle.std.specs.Prelude.{Result, Ok, Err}
+use Rattle.std.specs.Prelude.{Result, Ok, Err, String}
+use Rattle.std.specs.Global.{Global}
 use Rattle.std.specs.Io.KnownBytes.{Appends}
 use Rattle.clap.specs.declared.error.kind.ErrorKind.TheVariants.{OutOfMemory}
 use Rattle.command_words.specs.Grammar.{Command, IsOneOf, NameCommand, Uses, chosen, is_used}
@@ -21,7 +22,7 @@ use Rattle.mdb_saleae.specs.declared.options.SaleaeOptions.{SaleaeOptions}
 use Rattle.mdb_edges.specs.Import as edges
 use Rattle.mdb_edges.specs.declared.fault.EdgesFault.{EdgesFault}
 use Rattle.mdb_edges.specs.declared.options.EdgesOptions.{EdgesOptions}
-use Rattle.mdb_edges.specs.declared.part.EdgesImported.{EdgesImported}
+use Rattle.mdb_levels.specs.declared.part.LevelsImported.{LevelsImported}
 use Rattle.mdbimport_run.specs.declared.manual.TheConstants.{ABOUT, EDGES, MANUAL, REST, ROWS, SALEAE, SIGROK}
 use Rattle.mdbimport_run.specs.declared.ended.Ended.{Ended}
 use Rattle.mdbimport_run.specs.declared.ended.Ended.TheVariants.{Rows, Sigrok, Saleae, Edges}
@@ -47,7 +48,7 @@ abbrev pub sigrok_command : Command
 sigrok_command = record {
   name = codes "sigrok";
   options = codes "from" ∷ codes "until" ∷ [];
-  flags = codes "swap" ∷ [];
+  flags = codes "swap" ∷ codes "skip-damaged" ∷ [];
   words = [];
   further = [];
 }
@@ -58,14 +59,17 @@ saleae_command = record {
   name = codes "saleae";
   options = codes "controller" ∷ codes "peripheral" ∷ codes "break" ∷ codes "from"
       ∷ codes "until" ∷ [];
-  flags = [];
+  flags = codes "skip-damaged" ∷ [];
   words = [];
   further = [];
 }
 
 -- what `edges` knows
 abbrev pub edges_command : Command
-edges_command = record rows_command { name = codes "edges"; flags = codes "invert" ∷ [] }
+edges_command = record rows_command {
+  name = codes "edges";
+  flags = codes "invert" ∷ codes "skip-damaged" ∷ [];
+}
 
 -- what `manual` knows: the name of a command, which may be missing
 abbrev pub manual_command : Command
@@ -76,6 +80,21 @@ manual_command = record {
   words = [];
   further = codes "COMMAND" ∷ [];
 }
+
+-- the tasks, and the command of each
+pub data Kind : Type 0 where
+  of_rows : Kind
+  of_sigrok : Kind
+  of_saleae : Kind
+  of_edges : Kind
+  of_manual : Kind
+
+abbrev pub command_of : Kind → Command
+command_of of_rows = rows_command
+command_of of_sigrok = sigrok_command
+command_of of_saleae = saleae_command
+command_of of_edges = edges_command
+command_of of_manual = manual_command
 
 -- the texts of the manual
 abbrev pub mdbimport_manual : Texts
@@ -122,12 +141,35 @@ AreApart (Some one) (Some other) = one ≢ other
 AreApart (Some one) None = ⊤
 AreApart None other = ⊤
 
+-- What the options of all imports of tables tell: what the lines are called, and the part.
+pub record Common : Type 0 where
+  pub controller : Option (List ℕ)
+  pub peripheral : Option (List ℕ)
+  pub from : Option ℕ
+  pub until : Option ℕ
+
+-- these, with the names as the options of an import have them
+abbrev pub common_of : Option (String Global) → Option (String Global) → Option ℕ → Option ℕ
+    → Common
+common_of controller peripheral from until = record {
+  controller = option_map string_bytes controller;
+  peripheral = option_map string_bytes peripheral;
+  from = from;
+  until = until;
+}
+
 -- the values of the options that name the lines tell these names
 pub record TellNames (values : List ℕ → List (List ℕ)) (controller peripheral : Option (List ℕ))
     : Type 0 where
   pub controller_is : TellsOnce IsLineName (values (codes "controller")) controller
   pub peripheral_is : TellsOnce IsLineName (values (codes "peripheral")) peripheral
   pub apart : AreApart controller peripheral
+
+-- the values of the options tell all this
+pub record TellCommon (values : List ℕ → List (List ℕ)) (common : Common) : Type 0 where
+  pub names : TellNames values common.controller common.peripheral
+  pub from : TellsOnce (IsDecimal 15) (values (codes "from")) common.from
+  pub until : TellsOnce (IsDecimal 15) (values (codes "until")) common.until
 
 -- a word that tells the length of a break: a number of microseconds below 10^9
 abbrev pub IsLength : List ℕ → ℕ → Type 0
@@ -138,64 +180,64 @@ abbrev pub TellsUnit : List (List ℕ) → Unit → Type 0
 TellsUnit values is = (told : Option Unit) × TellsOnce IsUnit values told
     × (is ≡ unwrap_or told unit.Seconds)
 
+-- what the options of `rows`, of `saleae` and of `edges` have of these
+abbrev pub common_of_rows : RowsOptions → Common
+common_of_rows options =
+    common_of options.controller options.peripheral options.from options.until
+
+abbrev pub common_of_saleae : SaleaeOptions → Common
+common_of_saleae options =
+    common_of options.controller options.peripheral options.from options.until
+
+abbrev pub common_of_edges : EdgesOptions → Common
+common_of_edges options =
+    common_of options.controller options.peripheral options.from options.until
+
 -- The values of the options of `rows` ask for an import with these options.
 pub record AskForRows (values : List ℕ → List (List ℕ)) (options : RowsOptions) : Type 0 where
   pub unit : TellsOnce IsUnit (values (codes "unit")) options.unit
-  pub names : TellNames values (option_map string_bytes options.controller)
-      (option_map string_bytes options.peripheral)
-  pub from : TellsOnce (IsDecimal 15) (values (codes "from")) options.from
-  pub until : TellsOnce (IsDecimal 15) (values (codes "until")) options.until
+  pub common : TellCommon values (common_of_rows options)
 
--- Those of `sigrok`, and whether its flag was used, ask for an import with these.
+-- Those of `sigrok`, and whether each flag was used, ask for an import with these.
 pub record AskForSigrok (values : List ℕ → List (List ℕ)) (used : List ℕ → Bool)
     (options : SigrokOptions) : Type 0 where
   pub swap : used (codes "swap") ≡ options.swap
+  pub skips : used (codes "skip-damaged") ≡ options.skip_damaged
   pub from : TellsOnce (IsDecimal 15) (values (codes "from")) options.from
   pub until : TellsOnce (IsDecimal 15) (values (codes "until")) options.until
 
--- Those of `saleae` ask for an import with these.
-pub record AskForSaleae (values : List ℕ → List (List ℕ)) (options : SaleaeOptions)
-    : Type 0 where
-  pub names : TellNames values (option_map string_bytes options.controller)
-      (option_map string_bytes options.peripheral)
+-- Those of `saleae`, and whether its flag was used, ask for an import with these.
+pub record AskForSaleae (values : List ℕ → List (List ℕ)) (used : List ℕ → Bool)
+    (options : SaleaeOptions) : Type 0 where
   pub length : TellsOnce IsLength (values (codes "break")) options.break_length
-  pub from : TellsOnce (IsDecimal 15) (values (codes "from")) options.from
-  pub until : TellsOnce (IsDecimal 15) (values (codes "until")) options.until
+  pub skips : used (codes "skip-damaged") ≡ options.skip_damaged
+  pub common : TellCommon values (common_of_saleae options)
 
--- Those of `edges`, and whether its flag was used, ask for an import with these.
+-- Those of `edges`, and whether each flag was used, ask for an import with these.
 pub record AskForEdges (values : List ℕ → List (List ℕ)) (used : List ℕ → Bool)
     (options : EdgesOptions) : Type 0 where
   pub unit : TellsUnit (values (codes "unit")) options.unit
-  pub names : TellNames values (option_map string_bytes options.controller)
-      (option_map string_bytes options.peripheral)
   pub invert : used (codes "invert") ≡ options.invert
-  pub from : TellsOnce (IsDecimal 15) (values (codes "from")) options.from
-  pub until : TellsOnce (IsDecimal 15) (values (codes "until")) options.until
+  pub skips : used (codes "skip-damaged") ≡ options.skip_damaged
+  pub common : TellCommon values (common_of_edges options)
 
 -- Two ways of importing rows that are told by the same.
 pub record AskTheSame (a b : RowsOptions) : Type 0 where
   pub unit : a.unit ≡ b.unit
-  pub controller : option_map string_bytes a.controller ≡ option_map string_bytes b.controller
-  pub peripheral : option_map string_bytes a.peripheral ≡ option_map string_bytes b.peripheral
-  pub from : a.from ≡ b.from
-  pub until : a.until ≡ b.until
+  pub common : common_of_rows a ≡ common_of_rows b
 
 -- two ways of importing an analyser's table that are told by the same
 pub record AskTheSameOfTable (a b : SaleaeOptions) : Type 0 where
-  pub controller : option_map string_bytes a.controller ≡ option_map string_bytes b.controller
-  pub peripheral : option_map string_bytes a.peripheral ≡ option_map string_bytes b.peripheral
   pub length : a.break_length ≡ b.break_length
-  pub from : a.from ≡ b.from
-  pub until : a.until ≡ b.until
+  pub skips : a.skip_damaged ≡ b.skip_damaged
+  pub common : common_of_saleae a ≡ common_of_saleae b
 
 -- two ways of importing a table of edges that are told by the same
 pub record AskTheSameOfEdges (a b : EdgesOptions) : Type 0 where
   pub unit : a.unit ≡ b.unit
-  pub controller : option_map string_bytes a.controller ≡ option_map string_bytes b.controller
-  pub peripheral : option_map string_bytes a.peripheral ≡ option_map string_bytes b.peripheral
   pub invert : a.invert ≡ b.invert
-  pub from : a.from ≡ b.from
-  pub until : a.until ≡ b.until
+  pub skips : a.skip_damaged ≡ b.skip_damaged
+  pub common : common_of_edges a ≡ common_of_edges b
 
 -- ---- what words name
 
@@ -212,42 +254,29 @@ NameSigrok words options = (uses : Uses) × NameCommand words sigrok_command use
 -- they name `saleae` with these options
 abbrev pub NameSaleae : List (List ℕ) → SaleaeOptions → Type 0
 NameSaleae words options = (uses : Uses) × NameCommand words saleae_command uses
-    × AskForSaleae (λ name. chosen name uses) options
+    × AskForSaleae (λ name. chosen name uses) (λ name. is_used name uses) options
 
 -- they name `edges` with these options
 abbrev pub NameEdges : List (List ℕ) → EdgesOptions → Type 0
 NameEdges words options = (uses : Uses) × NameCommand words edges_command uses
     × AskForEdges (λ name. chosen name uses) (λ name. is_used name uses) options
 
--- they name the task with some options
-abbrev pub NamesRows : List (List ℕ) → Type 0
-NamesRows words = (options : RowsOptions) × NameRows words options
-
-abbrev pub NamesSigrok : List (List ℕ) → Type 0
-NamesSigrok words = (options : SigrokOptions) × NameSigrok words options
-
-abbrev pub NamesSaleae : List (List ℕ) → Type 0
-NamesSaleae words = (options : SaleaeOptions) × NameSaleae words options
-
-abbrev pub NamesEdges : List (List ℕ) → Type 0
-NamesEdges words = (options : EdgesOptions) × NameEdges words options
-
--- they name one of the imports
-abbrev pub NameAnImport : List (List ℕ) → Type 0
-NameAnImport words =
-    NamesRows words ⊎ (NamesSigrok words ⊎ (NamesSaleae words ⊎ NamesEdges words))
-
 -- they name `manual`, and ask for this text of it
 abbrev pub NameManual : List (List ℕ) → List ℕ → Type 0
 NameManual words page = (uses : Uses) × NameCommand words manual_command uses
     × AskForManual mdbimport_manual (chosen (codes "COMMAND") uses) page
 
-abbrev pub NamesManual : List (List ℕ) → Type 0
-NamesManual words = (page : List ℕ) × NameManual words page
+-- they name this task, with some options or a text
+abbrev pub NameTask : Kind → List (List ℕ) → Type 0
+NameTask of_rows words = (options : RowsOptions) × NameRows words options
+NameTask of_sigrok words = (options : SigrokOptions) × NameSigrok words options
+NameTask of_saleae words = (options : SaleaeOptions) × NameSaleae words options
+NameTask of_edges words = (options : EdgesOptions) × NameEdges words options
+NameTask of_manual words = (page : List ℕ) × NameManual words page
 
 -- they name one of the tasks
 abbrev pub NameATask : List (List ℕ) → Type 0
-NameATask words = NamesManual words ⊎ NameAnImport words
+NameATask words = (kind : Kind) × NameTask kind words
 
 -- ---- what is answered
 
@@ -258,16 +287,16 @@ no_memory = Words OutOfMemory
 -- An answer is that of the task that the words name. Where they name one, they aren't refused, but
 -- for want of memory.
 abbrev pub IsAnswerTo : List (List ℕ) → Ended → Type 0
-IsAnswerTo words (Rows answer) = NamesRows words
-IsAnswerTo words (Sigrok answer) = NamesSigrok words
-IsAnswerTo words (Saleae answer) = NamesSaleae words
-IsAnswerTo words (Edges answer) = NamesEdges words
-IsAnswerTo words (Manual answer) = NamesManual words
+IsAnswerTo words (Rows answer) = NameTask of_rows words
+IsAnswerTo words (Sigrok answer) = NameTask of_sigrok words
+IsAnswerTo words (Saleae answer) = NameTask of_saleae words
+IsAnswerTo words (Edges answer) = NameTask of_edges words
+IsAnswerTo words (Manual answer) = NameTask of_manual words
 IsAnswerTo words (Refused refusal) = NameATask words → refusal ≡ no_memory
 
 -- what the answer to a table of edges says of its text, and of the bytes that the writer held
 abbrev pub IsEdgesAnswer : EdgesOptions → List ℕ → Option (List ℕ) → Option (List ℕ)
-    → Result EdgesImported EdgesFault → Type 0
+    → Result LevelsImported EdgesFault → Type 0
 IsEdgesAnswer options text before after (Ok told) =
     edges.IsImported options text told before after
 IsEdgesAnswer options text before after (Err fault) =

@@ -4,15 +4,16 @@ ghost use Rattle.std.specs.Prelude.{◌≡◌, ◌≢◌, ◌↔◌, List, ℕ, 
 ghost use Rattle.std.specs.Prelude.{IsTrue, codes, map, option_map, option_to_list, string_bytes};
 ghost use Rattle.command_words.specs.Grammar.{IsOneOf};
 ghost use Rattle.command_words.specs.Manual.{AskForManual, manual_text};
-ghost use Rattle.command_words.specs.Named.{name_in, values_in};
+ghost use Rattle.command_words.specs.Named.{name_in, used_in, values_in};
 ghost use Rattle.mdb_words.specs.Digits.{IsDecimal};
 ghost use Rattle.mdb_rows_import.specs.declared.options.RowsOptions.{RowsOptions};
 ghost use Rattle.mdb_exports.specs.declared.units.Unit.{Unit};
 ghost use Rattle.mdb_sigrok.specs.declared.options.SigrokOptions.{SigrokOptions};
 ghost use Rattle.mdb_saleae.specs.declared.options.SaleaeOptions.{SaleaeOptions};
 ghost use Rattle.mdb_edges.specs.declared.options.EdgesOptions.{EdgesOptions};
-ghost use Rattle.mdbimport_run.specs.Program.{AreApart, IsLength, IsLineName, IsUnit, TellNames};
-ghost use Rattle.mdbimport_run.specs.Program.{TellsOnce, letters, mdbimport_manual, no_memory};
+ghost use Rattle.mdbimport_run.specs.Program.{AreApart, Common, IsLength, IsLineName, IsUnit};
+ghost use Rattle.mdbimport_run.specs.Program.{TellCommon, TellNames, TellsOnce, common_of, letters};
+ghost use Rattle.mdbimport_run.specs.Program.{mdbimport_manual, no_memory};
 ghost use Rattle.mdbimport_run.specs.inner.CommandLine.{AskFor, FindEdges, FindRows, FindSaleae};
 ghost use Rattle.mdbimport_run.specs.inner.CommandLine.{FindSigrok, FindTask, names};
 
@@ -55,6 +56,9 @@ pub(crate) const BREAK: &str = "break";
 /// The option that takes the levels of a table of edges upside down.
 const INVERT: &str = "invert";
 
+/// The option that leaves damaged words out.
+const SKIP_DAMAGED: &str = "skip-damaged";
+
 /// The word that names the command whose part of the manual is asked for.
 pub(crate) const COMMAND: &str = "COMMAND";
 
@@ -76,29 +80,29 @@ pub(crate) const PROGRAM: Program<'static> = Program {
         CommandRow {
             name: "sigrok",
             options: &[FROM, UNTIL],
-            flags: &[SWAP],
+            flags: &[SWAP, SKIP_DAMAGED],
             words: &[],
             further: &[],
-            usage: "sigrok [--swap] [--from T] [--until T] < TRACE",
+            usage: "sigrok [--swap] [--skip-damaged] [--from T] [--until T] < TRACE",
             manual: manual::SIGROK,
         },
         CommandRow {
             name: "saleae",
             options: &[CONTROLLER, PERIPHERAL, BREAK, FROM, UNTIL],
-            flags: &[],
+            flags: &[SKIP_DAMAGED],
             words: &[],
             further: &[],
-            usage: "saleae [--controller NAME] [--peripheral NAME] [--break T] [--from T] \
-[--until T] < CSV",
+            usage: "saleae [--controller NAME] [--peripheral NAME] [--break T] [--skip-damaged] \
+[--from T] [--until T] < CSV",
             manual: manual::SALEAE,
         },
         CommandRow {
             name: "edges",
             options: &[UNIT, CONTROLLER, PERIPHERAL, FROM, UNTIL],
-            flags: &[INVERT],
+            flags: &[INVERT, SKIP_DAMAGED],
             words: &[],
             further: &[],
-            usage: "edges [--unit s|ms|us|ns] [--controller NAME] [--peripheral NAME] [--invert] \
+            usage: "edges [--unit U] [--controller N] [--peripheral N] [--invert] [--skip-damaged] \
 [--from T] [--until T] < CSV",
             manual: manual::EDGES,
         },
@@ -189,15 +193,13 @@ fn rows_options(alloc: Global, found: &Named<'_>) -> Result<RowsOptions, Refusal
         → FindRows found.now options → refusal ≡ no_memory) }
 {
     let unit = unit_in(found)?;
-    let names = names_in(alloc, found)?;
-    let from = time_in(found, FROM)?;
-    let until = time_in(found, UNTIL)?;
+    let common = common_in(alloc, found)?;
     Ok(RowsOptions {
         unit,
-        controller: names.controller,
-        peripheral: names.peripheral,
-        from,
-        until,
+        controller: common.controller,
+        peripheral: common.peripheral,
+        from: common.from,
+        until: common.until,
     })
 }
 
@@ -210,7 +212,13 @@ fn sigrok_options(found: &Named<'_>) -> Result<SigrokOptions, Refusal>
     let from = time_in(found, FROM)?;
     let until = time_in(found, UNTIL)?;
     let swap = found.is_used(SWAP);
-    Ok(SigrokOptions { swap, from, until })
+    let skip_damaged = skips_in(found);
+    Ok(SigrokOptions {
+        swap,
+        skip_damaged,
+        from,
+        until,
+    })
 }
 
 /// What the options of `saleae` ask for.
@@ -219,16 +227,16 @@ fn saleae_options(alloc: Global, found: &Named<'_>) -> Result<SaleaeOptions, Ref
     ensures refused { IfErr result (λ refusal. (options : SaleaeOptions)
         → FindSaleae found.now options → refusal ≡ no_memory) }
 {
-    let names = names_in(alloc, found)?;
     let break_length = length_in(found)?;
-    let from = time_in(found, FROM)?;
-    let until = time_in(found, UNTIL)?;
+    let common = common_in(alloc, found)?;
+    let skip_damaged = skips_in(found);
     Ok(SaleaeOptions {
-        controller: names.controller,
-        peripheral: names.peripheral,
+        controller: common.controller,
+        peripheral: common.peripheral,
         break_length,
-        from,
-        until,
+        skip_damaged,
+        from: common.from,
+        until: common.until,
     })
 }
 
@@ -239,18 +247,25 @@ fn edges_options(alloc: Global, found: &Named<'_>) -> Result<EdgesOptions, Refus
         → FindEdges found.now options → refusal ≡ no_memory) }
 {
     let told = unit_in(found)?;
-    let names = names_in(alloc, found)?;
-    let from = time_in(found, FROM)?;
-    let until = time_in(found, UNTIL)?;
+    let common = common_in(alloc, found)?;
     let invert = found.is_used(INVERT);
+    let skip_damaged = skips_in(found);
     Ok(EdgesOptions {
         unit: told.unwrap_or(Unit::Seconds),
-        controller: names.controller,
-        peripheral: names.peripheral,
+        controller: common.controller,
+        peripheral: common.peripheral,
         invert,
-        from,
-        until,
+        skip_damaged,
+        from: common.from,
+        until: common.until,
     })
+}
+
+/// Whether damaged words are to be left out.
+fn skips_in(found: &Named<'_>) -> bool
+    ensures { used_in found.now (codes "skip-damaged") ≡ result }
+{
+    found.is_used(SKIP_DAMAGED)
 }
 
 /// The value of an option, if it has one.
@@ -296,6 +311,34 @@ fn unit_of(word: &str) -> Option<Unit>
     }
 }
 
+/// What the options of all imports of tables tell: what the lines are called, and the ends of the
+/// part.
+#[derive(Drop)]
+struct CommonOptions {
+    controller: Option<String>,
+    peripheral: Option<String>,
+    from: Option<u64>,
+    until: Option<u64>,
+}
+
+/// What these options tell.
+fn common_in(alloc: Global, found: &Named<'_>) -> Result<CommonOptions, Refusal>
+    ensures told { IfOk result (λ common. TellCommon (values_in found.now)
+        (common_of common.controller common.peripheral common.from common.until)) }
+    ensures refused { IfErr result (λ refusal. (common : Common)
+        → TellCommon (values_in found.now) common → refusal ≡ no_memory) }
+{
+    let names = names_in(alloc, found)?;
+    let from = time_in(found, FROM)?;
+    let until = time_in(found, UNTIL)?;
+    Ok(CommonOptions {
+        controller: names.controller,
+        peripheral: names.peripheral,
+        from,
+        until,
+    })
+}
+
 /// The names of both lines, as far as they were told.
 #[derive(Drop)]
 struct Names {
@@ -305,14 +348,8 @@ struct Names {
 
 /// The names of both lines that were told.
 fn names_in(alloc: Global, found: &Named<'_>) -> Result<Names, Refusal>
-    ensures controller { IfOk result (λ names. TellsOnce IsLineName
-        (values_in found.now (codes "controller"))
-        (option_map string_bytes names.controller)) }
-    ensures peripheral { IfOk result (λ names. TellsOnce IsLineName
-        (values_in found.now (codes "peripheral"))
-        (option_map string_bytes names.peripheral)) }
-    ensures apart { IfOk result (λ names. AreApart (option_map string_bytes names.controller)
-        (option_map string_bytes names.peripheral)) }
+    ensures told { IfOk result (λ names. TellNames (values_in found.now)
+        (option_map string_bytes names.controller) (option_map string_bytes names.peripheral)) }
     ensures refused { IfErr result (λ refusal. (controller peripheral : Option (List ℕ))
         → TellNames (values_in found.now) controller peripheral
         → refusal ≡ no_memory) }

@@ -1,8 +1,10 @@
-//! What standard error is told.
+//! What standard error is told of an import.
 
 use super::hint::hint_of;
-use mdb_edges::{EdgesFault, EdgesImported, EdgesOptions, LineFault};
+use super::notes::{Notes, say};
+use mdb_edges::{EdgesFault, EdgesOptions};
 use mdb_exports::{Imported, RecordFault};
+use mdb_levels::LevelsImported;
 use mdb_records::{ReadCause, Record, Records};
 use mdb_rows_import::ImportFault;
 use mdb_saleae::SaleaeFault;
@@ -16,75 +18,46 @@ const TIMES: u64 = 1_000_000_000_000_000;
 
 /// Tells what was imported, or why it wasn't, of the records that the answer was met with.
 pub(crate) fn tell<R: Read + Drop, E: Write>(
-    answer: Result<Imported, ImportFault>,
+    answer: &Result<Imported, ImportFault>,
     records: &Records<R>,
     err: &mut E,
 ) {
     match answer {
-        Ok(imported) => note(
-            Notes {
-                header: imported.header,
-                passed: imported.passed,
-                ..notes_on(&imported)
-            },
-            err,
-        ),
-        Err(fault) => complain(fault, records, err),
+        Ok(imported) => Notes::of_rows(imported).tell(err),
+        Err(fault) => complain(*fault, records, err),
     }
 }
 
 /// Tells the same of a trace.
-pub(crate) fn tell_of_trace<E: Write>(answer: Result<SigrokRows, SigrokFault>, err: &mut E) {
+pub(crate) fn tell_of_trace<E: Write>(answer: &Result<SigrokRows, SigrokFault>, err: &mut E) {
     match answer {
-        Ok(rows) => note(
-            Notes {
-                header: false,
-                before: rows.before,
-                after: rows.after,
-                passed: 0,
-                controller: rows.controller,
-                peripheral: rows.peripheral,
-                marked: rows.marked,
-            },
-            err,
-        ),
-        Err(fault) => complain_of(&fault, None, "", err),
+        Ok(rows) => Notes::of_trace(rows).tell(err),
+        Err(fault) => complain_of(fault, None, "", err),
     }
 }
 
 /// Tells the same of the table of an analyser, of the records that the answer was met with.
 pub(crate) fn tell_of_table<R: Read + Drop, E: Write>(
-    answer: Result<Imported, SaleaeFault>,
+    answer: &Result<Imported, SaleaeFault>,
     records: &Records<R>,
     err: &mut E,
 ) {
     match answer {
-        Ok(imported) => note(notes_on(&imported), err),
-        Err(fault) => complain_of_table(fault, records, err),
+        Ok(imported) => Notes::of_table(imported).tell(err),
+        Err(fault) => complain_of_table(*fault, records, err),
     }
 }
 
 /// Tells the same of a table of edges, of the records that the answer was met with.
 pub(crate) fn tell_of_edges<R: Read + Drop, E: Write>(
     options: &EdgesOptions,
-    answer: Result<EdgesImported, EdgesFault>,
+    answer: &Result<LevelsImported, EdgesFault>,
     records: &Records<R>,
     err: &mut E,
 ) {
     match answer {
-        Ok(imported) => note(
-            Notes {
-                header: false,
-                before: imported.before,
-                after: imported.after,
-                passed: 0,
-                controller: imported.controller,
-                peripheral: imported.peripheral,
-                marked: imported.marked,
-            },
-            err,
-        ),
-        Err(fault) => complain_of_edges(options, fault, records, err),
+        Ok(imported) => Notes::of_levels(imported).tell(err),
+        Err(fault) => complain_of_edges(options, *fault, records, err),
     }
 }
 
@@ -195,11 +168,9 @@ fn complain_of_edges<R: Read + Drop, E: Write>(
         EdgesFault::Form { fault: form, .. } => {
             complain_of(&fault, Some(row), hint_of(options, form, row), err);
         }
-        EdgesFault::Order { .. }
-        | EdgesFault::Line {
-            fault: LineFault::BadLevel,
-            ..
-        } => complain_of(&fault, Some(row), "", err),
+        EdgesFault::Order { .. } | EdgesFault::Level { .. } => {
+            complain_of(&fault, Some(row), "", err);
+        }
         EdgesFault::Read => say(text_of_cause(records.cause()), err),
         EdgesFault::Line { .. } | EdgesFault::Write | EdgesFault::Memory => {
             complain_of(&fault, None, "", err);
@@ -225,96 +196,6 @@ fn complain_of<D: Display, E: Write>(
         }
         _ => writeln!(err, "mdbimport: {fault}{hint}"),
     };
-}
-
-/// What the recorder's user should know about the imported rows.
-#[derive(Clone, Copy)]
-struct Notes {
-    // Whether an optional header was passed over.
-    header: bool,
-    // How many rows stand before and after the part, and how many records outside it are no rows.
-    before: u64,
-    after: u64,
-    passed: u64,
-    // Whether either line has a word, and whether a word is marked.
-    controller: bool,
-    peripheral: bool,
-    marked: bool,
-}
-
-/// The notes on an import that neither has an optional header nor passes records over.
-fn notes_on(imported: &Imported) -> Notes {
-    Notes {
-        header: false,
-        before: imported.before,
-        after: imported.after,
-        passed: 0,
-        controller: imported.controller,
-        peripheral: imported.peripheral,
-        marked: imported.marked,
-    }
-}
-
-/// Writes a line for each note: a header that was passed over, rows that were left out, and the
-/// likely cause if no word is marked or a line has no word.
-fn note<E: Write>(notes: Notes, err: &mut E) {
-    let Notes {
-        before,
-        after,
-        passed,
-        ..
-    } = notes;
-    say(text_on_header(notes), err);
-    if before > 0 || after > 0 {
-        let _ = writeln!(
-            err,
-            "mdbimport: left out {before} rows before the part and {after} after it"
-        );
-    }
-    if passed > 0 {
-        let _ = writeln!(
-            err,
-            "mdbimport: left out {passed} records outside the part that are no rows, \
-            or not in order"
-        );
-    }
-    say(text_on_lines(notes), err);
-    say(text_on_marks(notes), err);
-}
-
-/// Writes a line, unless its text is empty.
-fn say<E: Write>(text: &str, err: &mut E) {
-    if !text.is_empty() {
-        let _ = writeln!(err, "mdbimport: {text}");
-    }
-}
-
-/// The note on a header that was passed over.
-fn text_on_header(notes: Notes) -> &'static str {
-    if notes.header {
-        "the first record is taken for a header"
-    } else {
-        ""
-    }
-}
-
-/// The note on a line without a word.
-fn text_on_lines(notes: Notes) -> &'static str {
-    match (notes.controller, notes.peripheral) {
-        (false, false) => "there is no word on either line",
-        (true, false) => "no word of a peripheral (S): was only the controller's line recorded?",
-        (false, true) => "no word of the controller (M): was only the peripherals' line recorded?",
-        (true, true) => "",
-    }
-}
-
-/// The note on a recording without a marked word.
-fn text_on_marks(notes: Notes) -> &'static str {
-    if !notes.marked && (notes.controller || notes.peripheral) {
-        "no word has its mode bit set: was it recorded with 8 bits and not 9?"
-    } else {
-        ""
-    }
 }
 
 /// What stands in a record that is refused.

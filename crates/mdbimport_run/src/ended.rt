@@ -4,8 +4,9 @@ ghost use Rattle.std.specs.Prelude.{◌≡◌};
 ghost use Rattle.mdbimport_run.specs.Program.{status_of};
 
 use super::refusal::Refusal;
-use mdb_edges::{EdgesFault, EdgesImported};
+use mdb_edges::EdgesFault;
 use mdb_exports::Imported;
+use mdb_levels::LevelsImported;
 use mdb_rows_import::ImportFault;
 use mdb_saleae::SaleaeFault;
 use mdb_sigrok::{SigrokFault, SigrokRows};
@@ -18,7 +19,7 @@ const DONE: u8 = 0;
 const NOT_DONE: u8 = 2;
 
 /// How a run of the program ended.
-#[derive(Clone, Copy, Debug)]
+#[derive(Debug, Drop)]
 pub enum Ended {
     /// The words name `rows`, and that import returned this.
     Rows(Result<Imported, ImportFault>),
@@ -27,7 +28,7 @@ pub enum Ended {
     /// The words name `saleae`, and that import returned this.
     Saleae(Result<Imported, SaleaeFault>),
     /// The words name `edges`, and that import returned this.
-    Edges(Result<EdgesImported, EdgesFault>),
+    Edges(Result<LevelsImported, EdgesFault>),
     /// The words name `manual`, and its text was written, or the writer failed.
     Manual(Result<(), WriteFailed>),
     /// The words were refused, and there was no import.

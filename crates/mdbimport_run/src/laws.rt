@@ -1,9 +1,10 @@
 //! Laws of command lines and of what is written. Each function's contract is the law, and its body
 //! calls the laws that it rests on.
 
-ghost use Rattle.std.specs.Prelude.{◌≡◌, ◌⊎◌, List, ℕ};
+ghost use Rattle.std.specs.Prelude.{◌≡◌, List, ℕ};
 ghost use Rattle.mdb_words.specs.declared.event.Event.{Event};
 ghost use Rattle.mdb_exports.specs.ReadBack.{AreReadBack};
+ghost use Rattle.mdb_exports.specs.declared.places.Place.{Place};
 ghost use Rattle.mdb_rows_import.specs.declared.options.RowsOptions.{RowsOptions};
 ghost use Rattle.mdb_sigrok.specs.Part.{part_of};
 ghost use Rattle.mdb_sigrok.specs.Trace.{AreRowsOfTrace};
@@ -11,10 +12,8 @@ ghost use Rattle.mdb_sigrok.specs.declared.options.SigrokOptions.{SigrokOptions}
 ghost use Rattle.mdb_saleae.specs.declared.options.SaleaeOptions.{SaleaeOptions};
 ghost use Rattle.mdb_edges.specs.declared.options.EdgesOptions.{EdgesOptions};
 ghost use Rattle.mdbimport_run.specs.Program.{AskTheSame, AskTheSameOfEdges, AskTheSameOfTable};
-ghost use Rattle.mdbimport_run.specs.Program.{NameAnImport, NameEdges, NameManual, NameRows};
-ghost use Rattle.mdbimport_run.specs.Program.{NameSaleae, NameSigrok};
-ghost use Rattle.mdbimport_run.specs.Program.{NamesEdges, NamesManual, NamesRows};
-ghost use Rattle.mdbimport_run.specs.Program.{NamesSaleae, NamesSigrok};
+ghost use Rattle.mdbimport_run.specs.Program.{Kind, NameEdges, NameManual, NameRows, NameSaleae};
+ghost use Rattle.mdbimport_run.specs.Program.{NameSigrok, NameTask};
 
 use command_words::laws as command_lines;
 
@@ -30,16 +29,10 @@ pub fn command_lines_name_one_task()
         → NameSaleae words a → NameSaleae words b → AskTheSameOfTable a b }
     ensures edges { (words : List (List ℕ)) (a b : EdgesOptions)
         → NameEdges words a → NameEdges words b → AskTheSameOfEdges a b }
-    ensures rows_alone { (words : List (List ℕ)) → NamesRows words
-        → NamesSigrok words ⊎ (NamesSaleae words ⊎ NamesEdges words) → ⊥ }
-    ensures sigrok_alone { (words : List (List ℕ)) → NamesSigrok words
-        → NamesSaleae words ⊎ NamesEdges words → ⊥ }
-    ensures saleae_alone { (words : List (List ℕ)) → NamesSaleae words
-        → NamesEdges words → ⊥ }
     ensures manual { (words : List (List ℕ)) (page other : List ℕ)
         → NameManual words page → NameManual words other → page ≡ other }
-    ensures manual_alone { (words : List (List ℕ)) → NamesManual words
-        → NameAnImport words → ⊥ }
+    ensures alone { (words : List (List ℕ)) (a b : Kind)
+        → NameTask a words → NameTask b words → a ≡ b }
 {
     command_lines::words_name_one_command();
 }
@@ -48,5 +41,6 @@ pub fn command_lines_name_one_task()
 /// an export or a table.
 pub fn rows_of_traces_are_read_back()
     ensures { (options : SigrokOptions) (text : List ℕ) (rows : List Event)
-        → AreRowsOfTrace options.swap text rows → AreReadBack (part_of options rows) }
+        (pulses damaged : List Place) → AreRowsOfTrace options text rows pulses damaged
+        → AreReadBack (part_of options rows) }
 {}

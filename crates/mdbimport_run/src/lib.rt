@@ -11,6 +11,7 @@ mod ended;
 mod hint;
 pub mod laws;
 mod manual;
+mod notes;
 mod program;
 mod refusal;
 mod refused;

@@ -18,8 +18,12 @@ DESCRIPTION
     and leaves nothing out without a word. What it can't be sure of is
     refused, with the number of the record and, if it can be read, its time.
 
-    Options stand after the command. Each may stand once, but for --swap and
-    --invert. --unit=ms, in one word, means the same as two words.
+    A pulse shorter than half a bit is passed over, and reported. The decoder
+    of Saleae never shows one.
+
+    Options stand after the command. Each may stand once, but for --swap,
+    --invert and --skip-damaged. --unit=ms, in one word, means the same as
+    two words.
 
     If standard error is a terminal, a run that takes longer than a second
     shows there how many rows it has read.
@@ -52,12 +56,16 @@ ROWS
 /// `sigrok`.
 pub const SIGROK: &str = "\
 SIGROK
-        mdbimport sigrok [--swap] [--from T] [--until T] < TRACE > ROWS
+        mdbimport sigrok [--swap] [--skip-damaged] [--from T] [--until T]
+            < TRACE > ROWS
 
     Imports the trace that sigrok-cli writes of its decoder uart.
     sigrok-trace.md has the command for it.
 
     --swap           The channel RX is the controller's line.
+    --skip-damaged   Leaves out damaged words, and reports them: what has a
+                     low stop bit, and is no break. Without this option such
+                     a trace is refused.
     --from T, --until T
                      A part of the trace. T is a time in the microseconds of
                      the rows, and both ends belong to the part.
@@ -68,7 +76,8 @@ SIGROK
 pub const SALEAE: &str = "\
 SALEAE
         mdbimport saleae [--controller NAME] [--peripheral NAME]
-            [--break T] [--from T] [--until T] < CSV > ROWS
+            [--break T] [--skip-damaged] [--from T] [--until T]
+            < CSV > ROWS
 
     Imports the table that Logic 2 exports of its analyser Async Serial, with
     nine bits a word. saleae.md has its form.
@@ -77,6 +86,7 @@ SALEAE
                      What the table calls the two lines.
     --break T        How long each break was, in microseconds. The table
                      doesn't show it. Without this option a break is refused.
+    --skip-damaged   As with sigrok.
     --from T, --until T
                      A part of the table. T is a time in the microseconds of
                      the rows, and both ends belong to the part.
@@ -87,8 +97,8 @@ SALEAE
 pub const EDGES: &str = "\
 EDGES
         mdbimport edges [--unit s|ms|us|ns] [--controller NAME]
-            [--peripheral NAME] [--invert] [--from T] [--until T]
-            < CSV > ROWS
+            [--peripheral NAME] [--invert] [--skip-damaged] [--from T]
+            [--until T] < CSV > ROWS
 
     Decodes a table of the times at which each channel changed. edges.md has
     its form.
@@ -98,6 +108,7 @@ EDGES
     --controller NAME, --peripheral NAME
                      What the table calls the two channels.
     --invert         The levels of the table are upside down.
+    --skip-damaged   As with sigrok.
     --from T, --until T
                      A part of the table. T is a time in the microseconds of
                      the rows, and both ends belong to the part.
@@ -121,7 +132,9 @@ EXIT STATUS
                      standard error may say what was passed over, and what is
                      likely to be wrong with the recording.
     2                Not all rows are there. A line on standard error says
-                     why.
+                     why. If the export was refused, the last line on
+                     standard output is \"mdbimport refused this export\". It
+                     is no row, and mdbcheck refuses it.
 
 EXAMPLES
     Check a trace of sigrok-cli, with no file in between:

@@ -14,8 +14,9 @@ use super::complaint::{tell, tell_of_edges, tell_of_table, tell_of_trace};
 use super::ended::Ended;
 use super::refused::tell_refusal;
 use command_words::write_manual;
-use mdb_edges::{EdgesFault, EdgesImported, EdgesOptions, import_edge_records};
+use mdb_edges::{EdgesFault, EdgesOptions, import_edge_records};
 use mdb_exports::{Imported, records_of};
+use mdb_levels::LevelsImported;
 use mdb_rows_import::{ImportFault, RowsOptions, import_records};
 use mdb_saleae::{SaleaeFault, SaleaeOptions, import_table};
 use mdb_sigrok::{SigrokFault, SigrokOptions, SigrokRows, import_sigrok};
@@ -68,7 +69,7 @@ fn run_rows<R: Read + Drop, W: Write, E: Write>(
 {
     let mut records = records_of(alloc, reader);
     let answer = import_records(alloc, options, &mut records, out);
-    tell(answer, &records, err);
+    tell(&answer, &records, err);
     answer
 }
 
@@ -84,7 +85,7 @@ fn run_sigrok<R: Read + Drop, W: Write, E: Write>(
         (W.contents out.old) (W.contents out.new) result) }
 {
     let answer = import_sigrok(alloc, options, reader, out);
-    tell_of_trace(answer, err);
+    tell_of_trace(&answer, err);
     answer
 }
 
@@ -101,7 +102,7 @@ fn run_saleae<R: Read + Drop, W: Write, E: Write>(
 {
     let mut records = records_of(alloc, reader);
     let answer = import_table(options, &mut records, out);
-    tell_of_table(answer, &records, err);
+    tell_of_table(&answer, &records, err);
     answer
 }
 
@@ -112,13 +113,13 @@ fn run_edges<R: Read + Drop, W: Write, E: Write>(
     reader: R,
     out: &mut W,
     err: &mut E,
-) -> Result<EdgesImported, EdgesFault>
+) -> Result<LevelsImported, EdgesFault>
     ensures { IfSome (R.remaining reader) (λ text. IsEdgesAnswer options.now text
         (W.contents out.old) (W.contents out.new) result) }
 {
     let mut records = records_of(alloc, reader);
     let answer = import_edge_records(alloc, options, &mut records, out);
-    tell_of_edges(options, answer, &records, err);
+    tell_of_edges(options, &answer, &records, err);
     answer
 }
 

@@ -16,7 +16,8 @@ abbrev pub counted_more : ℕ → Bool → ℕ
 counted_more count true = min (count + 1) (2 ^ 64 - 1)
 counted_more count false = count
 
--- what is told of records that are no events stays as it is
+-- what is told of records that are no rows stays as it is
 pub record IsKept (old new : Imported) : Type 0 where
   pub header : new.header ≡ old.header
   pub passed : new.passed ≡ old.passed
+  pub damaged : new.damaged ≡ old.damaged

@@ -1,6 +1,6 @@
 -- How the rows of an export come about, record by record. This file serves private functions and
 -- proofs: no public clause cites it.
-use Rattle.std.specs.Prelude.{◌≡◌, ◌⊎◌, ◌+◌, ◌++◌, ◌∷◌, false, ℕ, List, [], length, Bool, true}
+use Rattle.std.specs.Prelude.{◌≡◌, ◌+◌, ◌++◌, ◌∷◌, false, ℕ, List, [], length, Bool, true}
 use Rattle.std.specs.Prelude.{IfSome, IfNone, Option, Some, None, Result, Ok, Err, if◌then◌else◌}
 use Rattle.mdb_words.specs.declared.event.Event.{Event}
 use Rattle.mdb_rows_import.specs.Part.{is_before, is_behind, is_taken, is_in}
@@ -13,6 +13,7 @@ use Rattle.mdb_rows_import.specs.Rows.{AreEvents, IsHeaderOf, IsRowOf, TellsTime
 use Rattle.mdb_writing.specs.Output.{Breaks, Output, Puts}
 use Rattle.mdb_rows_import.specs.declared.fault.ImportFault.{ImportFault}
 use Rattle.mdb_rows_import.specs.declared.fault.ImportFault.TheVariants.{BadRecord, Read, Write, Memory}
+use Rattle.mdb_exports.specs.shared.Closing.{IsSent}
 use Rattle.mdb_exports.specs.shared.Told.{IsKept, IsSaid, counted_more}
 use Rattle.mdb_exports.specs.declared.told.Imported.{Imported}
 use Rattle.mdb_exports.specs.declared.fault.RecordFault.{RecordFault}
@@ -50,6 +51,7 @@ pub record TellsSame (old new : Imported) : Type 0 where
   pub marked : new.marked ≡ old.marked
   pub controller : new.controller ≡ old.controller
   pub peripheral : new.peripheral ≡ old.peripheral
+  pub damaged : new.damaged ≡ old.damaged
 
 -- fields that tell a time outside the part that was asked for
 pub record IsOutside (options : RowsOptions) (fields : List (List ℕ)) : Type 0 where
@@ -95,17 +97,8 @@ TakesOne options importing before after done events row (Err Write) =
 TakesOne options importing before after done events row (Err Memory) =
     Puts before after (rows_text (taken_of options events))
 
--- The writer failed with a front of a text that is written of the records.
-pub record IsBroken (options : RowsOptions) (records : List (List (List ℕ))) (before after : Output)
-    : Type 0 where
-  pub answer : Result Imported ImportFault
-  pub text : List ℕ
-  pub import : IsImport options records answer text
-  pub broken : Breaks before after text
-
 -- what `Imports` says, where some of the text may still be on its way
 abbrev pub PutsImport : RowsOptions → List (List (List ℕ)) → Output → Output
     → Result Imported ImportFault → Type 0
 PutsImport options records before after answer =
-    ((text : List ℕ) × IsImport options records answer text × Puts before after text)
-    ⊎ ((answer ≡ Err Write) × IsBroken options records before after)
+    IsSent (IsImport options records) Write before after answer

@@ -9,13 +9,15 @@ use Rattle.mdb_records.specs.declared.Records.{Records}
 use Rattle.mdb_exports.specs.Rows.{row_line}
 use Rattle.mdb_exports.specs.Order.{IsAfter}
 use Rattle.mdb_writing.specs.Output.{Breaks, Output, Puts}
+use Rattle.mdb_exports.specs.shared.Closing.{IsSent}
 use Rattle.mdb_exports.specs.shared.Told.{IsKept, IsSaid, counted_more}
+use Rattle.mdb_exports.specs.declared.places.Place.{Place}
 use Rattle.mdb_exports.specs.declared.told.Imported.{Imported}
 use Rattle.mdb_saleae.specs.Columns.{IsColumns}
-use Rattle.mdb_saleae.specs.Imports.{IsHeaderAnswer, IsRefusedRow, IsRowsImport, IsTold, is_before}
-use Rattle.mdb_saleae.specs.Imports.{is_behind, is_taken, part_text}
+use Rattle.mdb_saleae.specs.Imports.{IsHeaderAnswer, IsImport, IsRefusedRow, IsRowsImport, IsTold}
+use Rattle.mdb_saleae.specs.Imports.{is_before, is_behind, is_taken, part_text}
 use Rattle.mdb_saleae.specs.Refusals.{IsFault}
-use Rattle.mdb_saleae.specs.Rows.{AreRows, IsTableRow, last_start}
+use Rattle.mdb_saleae.specs.Rows.{AreRows, IsLeftOut, IsTableRow, last_start}
 use Rattle.mdb_saleae.specs.declared.columns.Columns.{Columns}
 use Rattle.mdb_saleae.specs.declared.fault.RowFault.{RowFault}
 use Rattle.mdb_saleae.specs.declared.fault.SaleaeFault.{SaleaeFault}
@@ -23,6 +25,8 @@ use Rattle.mdb_saleae.specs.declared.fault.SaleaeFault.TheVariants.{BadRecord, B
 use Rattle.mdb_saleae.specs.declared.fault.SaleaeFault.TheVariants.{Memory}
 use Rattle.mdb_saleae.specs.declared.importing.Importing.{Importing}
 use Rattle.mdb_saleae.specs.declared.options.SaleaeOptions.{SaleaeOptions}
+use Rattle.mdb_saleae.specs.declared.rows.Found.{Found}
+use Rattle.mdb_saleae.specs.declared.rows.Found.TheVariants.{Row, Damaged}
 use Rattle.mdb_saleae.specs.declared.rows.Refusal.{Refusal}
 
 -- the columns of the first of some records, behind which others come; or why there are none
@@ -39,13 +43,15 @@ abbrev pub HasFailedBehind : {R : Type 0} → (R → Option (List ℕ)) → Reco
 HasFailedBehind remaining before after = (fault_of after ≡ Some reading.Read)
     ⊎ ((rows : List (List (List ℕ))) → ToCome remaining before rows → 2 ^ 64 - 2 ≤ length rows)
 
--- the event of a record that comes after a time, or why there is none
-abbrev pub IsNext : SaleaeOptions → Columns → Option ℕ → List (List ℕ) → Result Event Refusal
+-- the row of a record, which comes after a time, or its damaged word; or why there is neither
+abbrev pub IsNext : SaleaeOptions → Columns → Option ℕ → List (List ℕ) → Result Found Refusal
     → Type 0
-IsNext options columns last fields (Ok event) =
+IsNext options columns last fields (Ok (Row event)) =
     IsTableRow options columns fields event × IsAfter last event
+IsNext options columns last fields (Ok (Damaged place)) = IsLeftOut options columns fields place
 IsNext options columns last fields (Err refusal) =
     ((event : Event) → IsTableRow options columns fields event → IsAfter last event → ⊥)
+    × ((place : Place) → IsLeftOut options columns fields place → ⊥)
     × IsFault options columns last fields refusal.at refusal.fault
 
 -- a refusal with the number of its record
@@ -65,20 +71,21 @@ pub record IsNoted (options : SaleaeOptions) (old new : Imported) (event : Event
   pub said : IsSaid old new event
   pub kept : IsKept old new
 
--- the records so far stand for these events, whose rows are on their way
+-- the records so far stand for these events, whose rows are on their way, but for damaged words
 pub record HasImported (options : SaleaeOptions) (columns : Columns) (importing : Importing)
-    (before after : Output) (done : List (List (List ℕ))) (events : List Event) : Type 0 where
-  pub are : AreRows options columns None done events
+    (before after : Output) (done : List (List (List ℕ))) (events : List Event)
+    (damaged : List Place) : Type 0 where
+  pub are : AreRows options columns None done events damaged
   pub last : importing.last ≡ last_start None events
-  pub told : IsTold options events importing.tally
+  pub told : IsTold options events damaged importing.tally
   pub written : Puts before after (part_text options events)
 
 -- what the taking of a record after others comes to
 abbrev pub TakesOne : SaleaeOptions → Columns → Importing → Output → Output
     → List (List (List ℕ)) → List Event → List (List ℕ) → Result Unit SaleaeFault → Type 0
 TakesOne options columns importing before after done events row (Ok taken) =
-    (more : List Event)
-    × HasImported options columns importing before after (done ++ row ∷ []) more
+    (more : List Event) × (damaged : List Place)
+    × HasImported options columns importing before after (done ++ row ∷ []) more damaged
 TakesOne options columns importing before after done events row (Err (BadRecord number fault)) =
     (number ≡ length done + 2) × IsRefusedRow options columns events row None fault
     × Puts before after (part_text options events)
@@ -86,23 +93,21 @@ TakesOne options columns importing before after done events row (Err (BadRow num
     (number ≡ length done + 2) × IsRefusedRow options columns events row (Some at) fault
     × Puts before after (part_text options events)
 TakesOne options columns importing before after done events row (Err Write) =
-    (more : List Event) × AreRows options columns None (done ++ row ∷ []) more
+    (more : List Event) × (damaged : List Place)
+    × AreRows options columns None (done ++ row ∷ []) more damaged
     × Breaks before after (part_text options more)
 TakesOne options columns importing before after done events row (Err Memory) =
     Puts before after (part_text options events)
 TakesOne options columns importing before after done events row (Err other) = ⊥
 
--- The writer failed with a front of a text that is written of the records.
-pub record IsBroken (options : SaleaeOptions) (columns : Columns) (rows : List (List (List ℕ)))
-    (before after : Output) : Type 0 where
-  pub answer : Result Imported SaleaeFault
-  pub text : List ℕ
-  pub import : IsRowsImport options columns rows answer text
-  pub broken : Breaks before after text
-
 -- the answer to the records behind a header, where some of the text may still be on its way
 abbrev pub PutsRows : SaleaeOptions → Columns → List (List (List ℕ)) → Output → Output
     → Result Imported SaleaeFault → Type 0
 PutsRows options columns rows before after answer =
-    ((text : List ℕ) × IsRowsImport options columns rows answer text × Puts before after text)
-    ⊎ ((answer ≡ Err Write) × IsBroken options columns rows before after)
+    IsSent (IsRowsImport options columns rows) Write before after answer
+
+-- the same of all records, the header first
+abbrev pub PutsTable : SaleaeOptions → List (List (List ℕ)) → Output → Output
+    → Result Imported SaleaeFault → Type 0
+PutsTable options records before after answer =
+    IsSent (IsImport options records) Write before after answer

@@ -4,8 +4,9 @@ use Rattle.mdb_sigrok.specs.inner.Pairs.{Stand}
 
 abbrev pub stand_of : Both → Stand
 stand_of both = record {
-  controller = both.controller.place;
-  devices = both.devices.place;
+  controller = both.controller.state;
+  devices = both.devices.state;
   sent = both.controller.rows.items;
   answered = both.devices.rows.items;
+  passed = both.passed;
 }

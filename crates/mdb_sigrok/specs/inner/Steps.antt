@@ -1,76 +1,98 @@
 -- How a line goes on, record by record.
-use Rattle.std.specs.Prelude.{◌≡◌, ◌++◌, ℕ, List, [], ◌∷◌, Option, None, Some}
-use Rattle.mdb_words.specs.declared.event.Event.{Event}
+use Rattle.std.specs.Prelude.{◌≡◌, ◌≤◌, ◌+◌, ◌++◌, Bool, true, false, ℕ, List, [], ◌∷◌, Option, None, Some}
 use Rattle.mdb_words.specs.declared.word.Line.{Line}
+use Rattle.mdb_sigrok.specs.declared.note.Note.{Note}
+use Rattle.mdb_sigrok.specs.declared.note.Note.TheVariants.{Row, Damaged}
+use Rattle.mdb_sigrok.specs.declared.note.Told.{Told}
 use Rattle.mdb_sigrok.specs.declared.pair.Pair.{Pair}
-use Rattle.mdb_sigrok.specs.declared.pair.What.TheVariants.{Data, FrameError}
+use Rattle.mdb_sigrok.specs.declared.pair.What.TheVariants.{Data}
 use Rattle.mdb_sigrok.specs.declared.line.Open.{Open}
 use Rattle.mdb_sigrok.specs.declared.line.Open.TheVariants.{Nothing, Started, Worded, Wrong}
-use Rattle.mdb_sigrok.specs.declared.line.Place.{Place}
+use Rattle.mdb_sigrok.specs.declared.line.State.{State}
 use Rattle.mdb_sigrok.specs.declared.fault.OrderFault.{OrderFault}
 use Rattle.mdb_sigrok.specs.declared.fault.OrderFault.TheVariants as fault
-use Rattle.mdb_sigrok.specs.Refusals.{IsNoBreak, IsNoData, IsNoNext, IsNoStart}
-use Rattle.mdb_sigrok.specs.Rows.{IsStart, LineRows}
+use Rattle.mdb_sigrok.specs.Refusals.{IsNoData, IsNoLow, IsNoNext, IsNoStart}
+use Rattle.mdb_sigrok.specs.Rows.{IsBreak, IsErrorOf, IsLow, IsStart, LineRows, break_of}
+use Rattle.mdb_sigrok.specs.Text.{micros_of}
 
--- the records that no row tells yet
+-- the records of which nothing is told yet
 abbrev pub open_pairs : Open → List Pair
 open_pairs Nothing = []
 open_pairs (Started start) = start ∷ []
 open_pairs (Worded start value word) = start ∷ value ∷ []
-open_pairs (Wrong start zero_pair frame) = start ∷ zero_pair ∷ frame ∷ []
+open_pairs (Wrong start value word frame) = start ∷ value ∷ frame ∷ []
 
 -- they are what they are held for
-abbrev pub IsOpen : ℕ → Open → Type 0
-IsOpen earliest Nothing = Unit {0}
-IsOpen earliest (Started start) = IsStart earliest start
-IsOpen earliest (Worded start value word) = IsStart earliest start × (value.what ≡ Data word)
-IsOpen earliest (Wrong start zero_pair frame) =
-    IsStart earliest start × (zero_pair.what ≡ Data 0) × (frame.what ≡ FrameError)
+abbrev pub IsOpen : Bool → ℕ → Open → Type 0
+IsOpen skip earliest Nothing = Unit {0}
+IsOpen skip earliest (Started start) = IsStart earliest start
+IsOpen skip earliest (Worded start value word) = IsStart earliest start × (value.what ≡ Data word)
+IsOpen skip earliest (Wrong start value word frame) =
+    IsStart earliest start × (value.what ≡ Data word) × IsErrorOf start frame
+    × (skip ≡ false → word ≡ 0)
 
--- a row, or none
-abbrev pub told_by : Option Event → List Event
+-- a note, or none
+abbrev pub told_by : Option Note → List Note
 told_by None = []
-told_by (Some row) = row ∷ []
+told_by (Some note) = note ∷ []
+
+-- what one more record makes sure
+abbrev pub noted_by : Told → List Note
+noted_by told = told_by told.ended ++ told_by told.itself
+
+-- What a break condition behind the frame error of a word tells, and the earliest microsecond of
+-- what comes next: a break, or else, where damaged words are left out, one of these.
+pub data LowNote : Bool → Line → ℕ → Pair → ℕ → Pair → Note → ℕ → Type 0 where
+  of_break : {skip : Bool} {line : Line} {earliest : ℕ} {start : Pair} {value : ℕ} {end : Pair} →
+      IsLow end → IsBreak skip line value end → earliest ≤ micros_of end.from →
+      LowNote skip line earliest start value end (Row (break_of end)) (micros_of end.from + 1)
+  of_damage : {line : Line} {earliest : ℕ} {start : Pair} {value : ℕ} {end : Pair} →
+      IsLow end → (IsBreak true line value end → ⊥) →
+      LowNote true line earliest start value end (Damaged (micros_of start.from))
+      (micros_of start.from + 1)
 
 -- Whatever comes behind, these records and those tell what was told, and what the later ones tell.
-pub record Leads (line : Line) (earliest : ℕ) (front : List Pair) (later : ℕ) (behind : List Pair)
-    (told : List Event) : Type 0 where
-  pub took : (pairs : List Pair) (rows : List Event) → LineRows line later (behind ++ pairs) rows →
-      LineRows line earliest (front ++ pairs) (told ++ rows)
-  pub only : (pairs : List Pair) (rows : List Event)
-      → LineRows line earliest (front ++ pairs) rows
-      → (more : List Event) × (rows ≡ told ++ more) × LineRows line later (behind ++ pairs) more
+pub record Leads (skip : Bool) (line : Line) (earliest : ℕ) (front : List Pair) (later : ℕ)
+    (behind : List Pair) (told : List Note) : Type 0 where
+  pub took : (pairs : List Pair) (notes : List Note)
+      → LineRows skip line later (behind ++ pairs) notes
+      → LineRows skip line earliest (front ++ pairs) (told ++ notes)
+  pub only : (pairs : List Pair) (notes : List Note)
+      → LineRows skip line earliest (front ++ pairs) notes
+      → (more : List Note) × (notes ≡ told ++ more)
+      × LineRows skip line later (behind ++ pairs) more
 
 -- where a line stands behind some records
-pub record IsPlace (line : Line) (earliest : ℕ) (front : List Pair) (told : List Event)
-    (place : Place) : Type 0 where
-  pub leads : Leads line earliest front place.earliest (open_pairs place.held) told
-  pub apart : IsOpen place.earliest place.held
-  pub same : place.line ≡ line
+pub record IsState (skip : Bool) (line : Line) (earliest : ℕ) (front : List Pair)
+    (told : List Note) (state : State) : Type 0 where
+  pub leads : Leads skip line earliest front state.earliest (open_pairs state.held) told
+  pub apart : IsOpen skip state.earliest state.held
+  pub same : state.line ≡ line
 
--- no rows come of these records, whatever comes behind
-abbrev pub Blocks : Line → ℕ → List Pair → Type 0
-Blocks line earliest front =
-    (pairs : List Pair) (rows : List Event) → LineRows line earliest (front ++ pairs) rows → ⊥
+-- nothing is told by these records, whatever comes behind
+abbrev pub Blocks : Bool → Line → ℕ → List Pair → Type 0
+Blocks skip line earliest front = (pairs : List Pair) (notes : List Note)
+    → LineRows skip line earliest (front ++ pairs) notes → ⊥
 
--- why a line can't go on, by the records that no row tells yet
-abbrev pub IsNoneAfter : Line → ℕ → Open → Pair → OrderFault → Type 0
-IsNoneAfter line earliest Nothing pair told = IsNoStart earliest pair told
-IsNoneAfter line earliest (Started start) pair told = IsNoData pair told
-IsNoneAfter line earliest (Worded start value word) pair told = IsNoNext start word pair told
-IsNoneAfter line earliest (Wrong start zero_pair frame) pair told =
-    IsNoBreak earliest line pair told
+-- why a line can't go on, by the records of which nothing is told yet
+abbrev pub IsNoneAfter : Bool → Line → ℕ → Open → Pair → OrderFault → Type 0
+IsNoneAfter skip line earliest Nothing pair told = IsNoStart earliest pair told
+IsNoneAfter skip line earliest (Started start) pair told = IsNoData pair told
+IsNoneAfter skip line earliest (Worded start value word) pair told =
+    IsNoNext skip start word pair told
+IsNoneAfter skip line earliest (Wrong start value word frame) pair told =
+    IsNoLow skip earliest line start word pair told
 
-abbrev pub IsNoMore : Place → Pair → OrderFault → Type 0
-IsNoMore place pair told = IsNoneAfter place.line place.earliest place.held pair told
+abbrev pub IsNoMore : Bool → State → Pair → OrderFault → Type 0
+IsNoMore skip state pair told = IsNoneAfter skip state.line state.earliest state.held pair told
 
 -- why the records of a line can't end with these: there is a frame error without its break
 abbrev pub IsNoEnd : Open → OrderFault → Type 0
-IsNoEnd (Wrong start zero_pair frame) fault.NoBreak = Unit {0}
+IsNoEnd (Wrong start value word frame) fault.NoBreak = Unit {0}
 IsNoEnd held told = ⊥
 
--- the row that the last records of a line tell, or none
-pub record EndsWith (line : Line) (earliest : ℕ) (front : List Pair) (told : List Event) :
-    Type 0 where
-  pub took : LineRows line earliest front told
-  pub only : (rows : List Event) → LineRows line earliest front rows → rows ≡ told
+-- what the last records of a line tell, or nothing
+pub record EndsWith (skip : Bool) (line : Line) (earliest : ℕ) (front : List Pair)
+    (told : List Note) : Type 0 where
+  pub took : LineRows skip line earliest front told
+  pub only : (notes : List Note) → LineRows skip line earliest front notes → notes ≡ told

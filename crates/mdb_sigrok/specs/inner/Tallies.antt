@@ -18,6 +18,8 @@ pub record IsNoted (options : SigrokOptions) (old new : SigrokRows) (row : Event
   pub marked : new.marked ≡ (old.marked || is_marked row)
   pub controller : new.controller ≡ (old.controller || is_controllers row)
   pub peripheral : new.peripheral ≡ (old.peripheral || is_peripherals row)
+  pub pulses : new.pulses ≡ old.pulses
+  pub damaged : new.damaged ≡ old.damaged
 
 -- what is written of a row: its text, if it is in the part that was asked for
 abbrev pub part_line : SigrokOptions → Event → List ℕ

@@ -34,7 +34,7 @@ abbrev pub FindSigrok : Named → SigrokOptions → Type 0
 FindSigrok found options = AskForSigrok (values_in found) (used_in found) options
 
 abbrev pub FindSaleae : Named → SaleaeOptions → Type 0
-FindSaleae found options = AskForSaleae (values_in found) options
+FindSaleae found options = AskForSaleae (values_in found) (used_in found) options
 
 abbrev pub FindEdges : Named → EdgesOptions → Type 0
 FindEdges found options = AskForEdges (values_in found) (used_in found) options

@@ -1,5 +1,5 @@
 use Rattle.std.proofs.Common.{subst, ◌<◌, ◌^◌}
-use Rattle.mdb_edges.specs.Levels.{micros_of}
+use Rattle.mdb_levels.specs.Levels.{micros_of}
 use Rattle.mdb_edges.proofs.Parts.{far_instant, one_instant, per_some}
 use Rattle.mdb_edges.proofs.record.instant_of.Goals as goal
 

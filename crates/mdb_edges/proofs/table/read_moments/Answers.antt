@@ -2,8 +2,8 @@ use Rattle.std.proofs.Common.{Bool, ◌+◌, ◌++◌, ◌∷◌, ◌∙◌, [],
 use Rattle.mdb_records.specs.Fields.{fields_of}
 use Rattle.mdb_records.specs.ToCome.{Advances}
 use Rattle.mdb_edges.proofs.Faults.{first_at, met_end, no_read, reached, too_many}
-use Rattle.mdb_edges.proofs.Records.{moments_rise}
-use Rattle.mdb_edges.specs.inner.Waves.{HasRead}
+use Rattle.mdb_edges.specs.declared.fault.Stop.TheVariants as stop
+use Rattle.mdb_edges.specs.inner.Reading.{HasRead}
 use Rattle.mdb_edges.proofs.Tables.{all_come, none_come, so_far_more, so_far_none, stops_come}
 use Rattle.mdb_edges.proofs.table.read_moments.Goals as goal
 
@@ -17,29 +17,29 @@ returns-in-Ok-clause-ok g c all to_come =
     let so_far = c.loop-number.invariant all to_come in
     let P : Bool → Type 0 = λ b. Advances g.R.Read.remaining c.advance.new.self b so_far.rest in
     all_come g.R.Read.remaining c.loop-number.records c.advance.new.self c.args.options.now
-    c.args.columns.now c.loop-number.earliest c.loop-number.number c.loop-number.lines all
-    c.end.new.self.controller.rows.items c.end.new.self.peripheral.rows.items so_far
+    c.args.columns.now c.loop-number.earliest c.loop-number.number c.loop-number.lines
+    c.end.new.self all so_far
     (subst P c.in-Ok-false.field-0-test (c.in-Ok-false.ensures.next so_far.rest so_far.to_come))
-    c.in-Ok.ensures.ok
+    (c.in-Ok.ensures.ok c.args.options.now.skip_damaged)
 
 pub returns-in-Err-end-clause-err : goal.returns-in-Err-end-clause-err
-returns-in-Err-end-clause-err g c all to_come others sent answered =
+returns-in-Err-end-clause-err g c all to_come others rows =
     let so_far = c.loop-number.invariant all to_come in
     let P : Bool → Type 0 = λ b. Advances g.R.Read.remaining c.advance.new.self b so_far.rest in
     none_come g.R.Read.remaining c.loop-number.records c.advance.new.self c.args.options.now
     c.args.columns.now c.loop-number.earliest c.loop-number.number c.loop-number.lines all
-    c.in-Err-end.stop c.at.result others sent answered so_far
+    c.in-Err-end.fault c.at.result others rows so_far
     (subst P c.in-Ok-false.field-0-test (c.in-Ok-false.ensures.next so_far.rest so_far.to_come))
-    c.in-Err-end.ensures.err c.at.ensures
+    (c.in-Err-end.ensures.err c.args.options.now.skip_damaged) c.at.ensures
 
 pub returns-in-Err-take_record-clause-err : goal.returns-in-Err-take_record-clause-err
-returns-in-Err-take_record-clause-err g c all to_come others sent answered =
+returns-in-Err-take_record-clause-err g c all to_come others rows =
     let so_far = c.loop-number.invariant all to_come in
     let P : Bool → Type 0 = λ b. Advances g.R.Read.remaining c.advance.new.self b so_far.rest in
     stops_come g.R.Read.remaining c.loop-number.records c.advance.new.self c.args.options.now
     c.args.columns.now c.loop-number.earliest c.loop-number.number c.loop-number.lines all
     (fields_of c.row.result) c.in-Err-take_record.stop c.at-in-Err-take_record.result others
-    sent answered so_far c.row.ensures
+    rows so_far c.row.ensures
     (subst P c.in-Ok-true.field-0-test (c.in-Ok-true.ensures.next so_far.rest so_far.to_come))
     c.in-Err-take_record.ensures.err c.at-in-Err-take_record.ensures
 
@@ -67,16 +67,13 @@ returns-in-Err-end-clause-why g c header all named to_come =
     let none =
     subst P c.in-Ok-false.field-0-test
     (c.in-Ok-false.ensures.next so_far.rest so_far.to_come) in
-    let rising =
-    moments_rise c.args.options.now c.args.columns.now 0 so_far.done so_far.moments
-    so_far.has.told in
-    first_at c.in-Err-end.stop c.at.result c.args.options.now (header ∷ all) c.loop-number.number
+    first_at (stop.Levels c.in-Err-end.fault) c.at.result c.args.options.now (header ∷ all) c.loop-number.number
     c.args.columns.now so_far.moments []
     (reached g.R.Read.remaining c.loop-number.records c.args.options.now c.args.columns.now
     c.loop-number.earliest c.loop-number.number c.loop-number.lines all [] header so_far none
     named)
-    (met_end c.in-Err-end.stop c.args.options.now c.args.columns.now so_far.moments rising
-    (c.in-Err-end.ensures.wrong so_far.moments so_far.has.heard)) c.at.ensures
+    (met_end c.in-Err-end.fault c.args.options.now c.args.columns.now so_far.moments
+    (c.in-Err-end.ensures.wrong c.args.options.now.skip_damaged so_far.moments so_far.has.heard)) c.at.ensures
 
 pub returns-in-Err-take_record-clause-why : goal.returns-in-Err-take_record-clause-why
 returns-in-Err-take_record-clause-why g c header all named to_come =
@@ -99,7 +96,7 @@ returns-in-Err-clause-failed g c is =
 
 pub returns-in-Err-end-clause-failed : goal.returns-in-Err-end-clause-failed
 returns-in-Err-end-clause-failed g c is =
-    absurd (no_read c.in-Err-end.stop c.loop-number.number c.at.result c.at.ensures is)
+    absurd (no_read (stop.Levels c.in-Err-end.fault) c.loop-number.number c.at.result c.at.ensures is)
 
 pub returns-in-Err-take_record-clause-failed : goal.returns-in-Err-take_record-clause-failed
 returns-in-Err-take_record-clause-failed g c is =

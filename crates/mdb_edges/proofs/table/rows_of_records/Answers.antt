@@ -1,5 +1,4 @@
 use Rattle.std.proofs.Common.{inl, inr, arith, ℕ, List, length, ap, subst, sym}
-use Rattle.mdb_exports.specs.Order.{Merges}
 use Rattle.mdb_edges.specs.Faults.{IsFirstFault}
 use Rattle.mdb_edges.proofs.Tables.{no_head_table, no_table, table_of}
 use Rattle.mdb_exports.proofs.Handed.{handed_on}
@@ -8,29 +7,24 @@ use Rattle.mdb_edges.proofs.table.rows_of_records.Goals as goal
 pub returns-in_err-columns-clause-err : goal.returns-in_err-columns-clause-err
 returns-in_err-columns-clause-err g c =
     handed_on c.from_residual.result c.in_err-columns.field-0.0 _ c.from_residual.ensures
-    (λ all to_come others rows. no_head_table c.in_err-columns.field-0.0 c.args.options.now all
-    others (λ rest columns. c.in_err-columns.ensures.err all others rest columns to_come) rows)
+    (λ all to_come others rows pulses damaged. no_head_table c.in_err-columns.field-0.0 c.args.options.now all
+    others (λ rest columns. c.in_err-columns.ensures.err all others rest columns to_come) rows pulses damaged)
 
 pub returns-in_err-read_moments-clause-err : goal.returns-in_err-read_moments-clause-err
 returns-in_err-read_moments-clause-err g c =
     handed_on c.from_residual-in_err-read_moments.result c.in_err-read_moments.field-0.0 _
     c.from_residual-in_err-read_moments.ensures
-    (λ all to_come others rows.
+    (λ all to_come others rows pulses damaged.
     let head = c.in_ok-columns.ensures.ok all to_come in
     no_table c.in_err-read_moments.field-0.0 c.args.options.now c.in_ok-columns.columns all head.0
     head.1 c.in_err-read_moments.ensures.numbered
-    (c.in_err-read_moments.ensures.err head.0 head.2) others rows)
+    (c.in_err-read_moments.ensures.err head.0 head.2) others rows pulses damaged)
 
 pub returns-in-Ok-clause-ok : goal.returns-in-Ok-clause-ok
 returns-in-Ok-clause-ok g c all to_come =
     let head = c.in_ok-columns.ensures.ok all to_come in
-    let lines = c.read_moments.new.lines in
-    table_of c.args.options.now c.in_ok-columns.columns all head.0 lines.controller.rows.items
-    lines.peripheral.rows.items c.in-Ok.rows.items head.1
-    (c.in_ok-read_moments.ensures.ok head.0 head.2)
-    (subst (λ s. Merges s lines.peripheral.rows.items c.in-Ok.rows.items) c.as_slice.ensures.value
-    (subst (λ a. Merges c.as_slice.result.now a c.in-Ok.rows.items) c.as_slice-2.ensures.value
-    c.in-Ok.ensures))
+    table_of c.args.options.now c.in_ok-columns.columns all head.0 c.read_moments.new.lines
+    c.in-Ok.bus head.1 (c.in_ok-read_moments.ensures.ok head.0 head.2) c.in-Ok.ensures
 
 pub returns-in_err-read_moments-clause-why : goal.returns-in_err-read_moments-clause-why
 returns-in_err-read_moments-clause-why g c =

@@ -8,9 +8,9 @@ use Rattle.mdb_sigrok.proofs.rows.read_pairs.Given as goal
 abbrev pub invariant-loop-number : goal.invariant-loop-number
 invariant-loop-number g l =
     Leaves (g.B.Read.remaining l.initial.reader) (g.B.Read.remaining l.reader)
-    (λ text rest. Moves l.swap true (lines_of text) (stand_of l.initial.both) true
+    (λ text rest. Moves l.options true (lines_of text) (stand_of l.initial.both) true
     (lines_of rest) (stand_of l.both))
-    × IsReady (stand_of l.both)
+    × IsReady l.options.skip_damaged (stand_of l.both)
 
 abbrev pub decreases-loop-number : goal.decreases-loop-number
 decreases-loop-number g l = 2 ^ 64 - l.number

@@ -1,8 +1,8 @@
-use Rattle.std.proofs.Common.{subst, sym}
+use Rattle.std.proofs.Common.{refl, subst, sym}
 use Rattle.mdb_sigrok.specs.Text.{lines_of}
 use Rattle.mdb_sigrok.specs.inner.Fronts.{AreFirst, Leaves}
 use Rattle.mdb_sigrok.specs.inner.Stands.{stand_of}
-use Rattle.mdb_sigrok.proofs.Sources.{all_told_by, end_stops_by, only_told_by}
+use Rattle.mdb_sigrok.proofs.Sources.{all_found_by, end_stops_by}
 use Rattle.mdb_exports.proofs.Handed.{handed_on}
 use Rattle.mdb_sigrok.proofs.rows.rows_of_lines.Goals as goal
 
@@ -13,21 +13,10 @@ returns-clause-ok g c =
     subst (λ l. Leaves (left c.read_pairs.new.reader) (left c.read_two.new.reader)
     (λ text rest. AreFirst 2 (lines_of l) (lines_of text) (lines_of rest)))
     (sym c.as_slice.ensures.value) c.in_ok-read_two.ensures.ok in
-    all_told_by c.args.swap (left c.args.reader.now) (left c.read_pairs.new.reader)
+    all_found_by c.args.options.now (left c.args.reader.now) (left c.read_pairs.new.reader)
     (left c.read_two.new.reader) (lines_of c.as_slice.result.now) (stand_of c.new-both.result)
-    (stand_of c.read_pairs.new.both) c.end.new.self.controller.rows.items
-    c.end.new.self.devices.rows.items
-    c.in_ok-number.ensures.ok first c.new-both.ensures c.in_ok-end.ensures.text
-    c.in_ok-end.ensures.controller c.in_ok-end.ensures.devices
-
-pub returns-clause-only : goal.returns-clause-only
-returns-clause-only g c =
-    let left = g.B.Read.remaining in
-    only_told_by c.args.swap (left c.args.reader.now) (left c.read_pairs.new.reader)
-    (stand_of c.new-both.result) (stand_of c.read_pairs.new.both)
-    c.end.new.self.controller.rows.items c.end.new.self.devices.rows.items
-    c.in_ok-number.ensures.ok c.new-both.ensures c.in_ok-end.ensures.controller
-    c.in_ok-end.ensures.devices
+    (stand_of c.read_pairs.new.both) (stand_of c.end.new.self) c.in_ok-number.ensures.ok first
+    c.new-both.ensures c.in_ok-end.ensures.text c.in_ok-end.ensures.ends
 
 pub returns-in_err-end-clause-err : goal.returns-in_err-end-clause-err
 returns-in_err-end-clause-err g c =
@@ -38,7 +27,7 @@ returns-in_err-end-clause-err g c =
     (sym c.as_slice.ensures.value) c.in_ok-read_two.ensures.ok in
     handed_on c.from_residual-in_err-end.result c.in_err-end.field-0.0 _
     c.from_residual-in_err-end.ensures
-    (end_stops_by c.in_err-end.field-0.0 c.args.swap (left c.args.reader.now)
+    (end_stops_by c.in_err-end.field-0.0 c.args.options.now (left c.args.reader.now)
     (left c.read_pairs.new.reader) (left c.read_two.new.reader) (lines_of c.as_slice.result.now)
     (stand_of c.new-both.result) (stand_of c.read_pairs.new.both) c.in_ok-number.ensures.ok
-    first c.new-both.ensures (c.in_err-end.ensures.err c.args.swap))
+    first c.new-both.ensures (c.in_err-end.ensures.err c.args.options.now refl))

@@ -12,23 +12,9 @@ returns-in_err-unit-clause-refused c =
     c.from_residual.ensures.1
     (λ options asks. absurd (c.in_err-unit.ensures.refused _ asks.unit))
 
-pub returns-in_err-names-clause-refused : goal.returns-in_err-names-clause-refused
-returns-in_err-names-clause-refused c =
-    passed_up c.from_residual-in_err-names.result c.in_err-names.field-0.0
+pub returns-in_err-common-clause-refused : goal.returns-in_err-common-clause-refused
+returns-in_err-common-clause-refused c =
+    passed_up c.from_residual-in_err-common.result c.in_err-common.field-0.0
     (λ refusal. (options : RowsOptions) → FindRows c.args.found.now options → refusal ≡ no_memory)
-    c.from_residual-in_err-names.ensures.1
-    (λ options asks. c.in_err-names.ensures.refused _ _ asks.names)
-
-pub returns-in_err-from-clause-refused : goal.returns-in_err-from-clause-refused
-returns-in_err-from-clause-refused c =
-    passed_up c.from_residual-in_err-from.result c.in_err-from.field-0.0
-    (λ refusal. (options : RowsOptions) → FindRows c.args.found.now options → refusal ≡ no_memory)
-    c.from_residual-in_err-from.ensures.1
-    (λ options asks. absurd (c.in_err-from.ensures.refused _ asks.from))
-
-pub returns-in_err-until-clause-refused : goal.returns-in_err-until-clause-refused
-returns-in_err-until-clause-refused c =
-    passed_up c.from_residual-in_err-until.result c.in_err-until.field-0.0
-    (λ refusal. (options : RowsOptions) → FindRows c.args.found.now options → refusal ≡ no_memory)
-    c.from_residual-in_err-until.ensures.1
-    (λ options asks. absurd (c.in_err-until.ensures.refused _ asks.until))
+    c.from_residual-in_err-common.ensures.1
+    (λ options asks. c.in_err-common.ensures.refused _ asks.common)

@@ -5,30 +5,23 @@ use Rattle.mdbimport_run.specs.Program.{no_memory}
 use Rattle.mdbimport_run.specs.inner.CommandLine.{FindSaleae}
 use Rattle.mdbimport_run.proofs.command_line.saleae_options.Goals as goal
 
-pub returns-in_err-names-clause-refused : goal.returns-in_err-names-clause-refused
-returns-in_err-names-clause-refused c =
-    passed_up c.from_residual.result c.in_err-names.field-0.0
-    (λ refusal. (options : SaleaeOptions) → FindSaleae c.args.found.now options
-    → refusal ≡ no_memory) c.from_residual.ensures.1
-    (λ options asks. c.in_err-names.ensures.refused _ _ asks.names)
-
 pub returns-in_err-break_length-clause-refused : goal.returns-in_err-break_length-clause-refused
 returns-in_err-break_length-clause-refused c =
-    passed_up c.from_residual-in_err-break_length.result c.in_err-break_length.field-0.0
+    passed_up c.from_residual.result c.in_err-break_length.field-0.0
     (λ refusal. (options : SaleaeOptions) → FindSaleae c.args.found.now options
-    → refusal ≡ no_memory) c.from_residual-in_err-break_length.ensures.1
+    → refusal ≡ no_memory) c.from_residual.ensures.1
     (λ options asks. absurd (c.in_err-break_length.ensures.refused _ asks.length))
 
-pub returns-in_err-from-clause-refused : goal.returns-in_err-from-clause-refused
-returns-in_err-from-clause-refused c =
-    passed_up c.from_residual-in_err-from.result c.in_err-from.field-0.0
-    (λ refusal. (options : SaleaeOptions) → FindSaleae c.args.found.now options
-    → refusal ≡ no_memory) c.from_residual-in_err-from.ensures.1
-    (λ options asks. absurd (c.in_err-from.ensures.refused _ asks.from))
+pub returns-in_err-common-clause-refused : goal.returns-in_err-common-clause-refused
+returns-in_err-common-clause-refused c =
+    passed_up c.from_residual-in_err-common.result c.in_err-common.field-0.0
+    (λ refusal. (options : SaleaeOptions) → FindSaleae c.args.found.now options → refusal ≡ no_memory)
+    c.from_residual-in_err-common.ensures.1
+    (λ options asks. c.in_err-common.ensures.refused _ asks.common)
 
-pub returns-in_err-until-clause-refused : goal.returns-in_err-until-clause-refused
-returns-in_err-until-clause-refused c =
-    passed_up c.from_residual-in_err-until.result c.in_err-until.field-0.0
-    (λ refusal. (options : SaleaeOptions) → FindSaleae c.args.found.now options
-    → refusal ≡ no_memory) c.from_residual-in_err-until.ensures.1
-    (λ options asks. absurd (c.in_err-until.ensures.refused _ asks.until))
+pub returns-clause-asked : goal.returns-clause-asked
+returns-clause-asked c = record {
+  length = c.in_ok-break_length.ensures.told;
+  skips = c.skips_in-skip_damaged.ensures;
+  common = c.in_ok-common.ensures.told;
+}

@@ -21,6 +21,7 @@ returns-in_err-until-clause-refused c =
 pub returns-clause-asked : goal.returns-clause-asked
 returns-clause-asked c = record {
   swap = sym c.is_used-swap.ensures;
+  skips = c.skips_in-skip_damaged.ensures;
   from = c.in_ok-from.ensures.told;
   until = c.in_ok-until.ensures.told;
 }

@@ -70,8 +70,8 @@ returns-in-Ok-None-clause-takes g c before earlier events counted has =
       after = has.told.after;
       marked = has.told.marked;
       controller = has.told.controller;
-      peripheral =
-          has.told.peripheral;
+      peripheral = has.told.peripheral;
+      damaged = has.told.damaged;
     }) refl refl next.1
 
 pub returns-in-Err-clause-takes : goal.returns-in-Err-clause-takes

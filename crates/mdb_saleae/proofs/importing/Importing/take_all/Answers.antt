@@ -15,6 +15,7 @@ pub loop-taken-init : goal.loop-taken-init
 loop-taken-init g c all to_come = record {
   done = [];
   events = [];
+  damaged = [];
   rest = all;
   split = refl;
   counted = refl;
@@ -60,7 +61,7 @@ returns-in_err-take-clause-puts g c all to_come =
     c.loop-taken.taken all (fields_of c.row.result) so_far next.0
     (next.1 ∙ ap (λ r. r ∷ next.0) (sym c.row.ensures)) c.in_err-take.field-0.0
     (c.in_err-take.ensures.takes before so_far.done so_far.events
-    (next_number so_far.done c.loop-taken.taken so_far.counted) so_far.has))
+    so_far.damaged (next_number so_far.done c.loop-taken.taken so_far.counted) so_far.has))
 
 pub loop-taken-preserved : goal.loop-taken-preserved
 loop-taken-preserved g c all to_come =
@@ -76,7 +77,7 @@ loop-taken-preserved g c all to_come =
     c.loop-taken.taken all (fields_of c.row.result) so_far next.0
     (next.1 ∙ ap (λ r. r ∷ next.0) (sym c.row.ensures)) next.2
     (c.in_ok-take.ensures.takes before so_far.done so_far.events
-    (next_number so_far.done c.loop-taken.taken so_far.counted) so_far.has)
+    so_far.damaged (next_number so_far.done c.loop-taken.taken so_far.counted) so_far.has)
 
 pub returns-clause-puts : goal.returns-clause-puts
 returns-clause-puts g c all to_come =

@@ -1,7 +1,0 @@
-use Rattle.mdb_edges.proofs.part.part_of.Goals as goal
-
-pub loop-row-init : goal.loop-row-init
-loop-row-init c = record {
-  part = c.new-part.ensures.items;
-  told = c.new-told.ensures c.args.options.now;
-}

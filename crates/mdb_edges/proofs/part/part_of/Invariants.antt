@@ -1,9 +1,0 @@
-use Rattle.std.proofs.Common.{◌≡◌, take}
-use Rattle.mdb_edges.specs.Import.{IsTold, part_of}
-use Rattle.mdb_edges.proofs.part.part_of.Given as goal
-
-abbrev pub invariant-loop-row : goal.invariant-loop-row
-invariant-loop-row l = record {
-  part : l.part.items ≡ part_of l.options (take l.row-index l.rows);
-  told : IsTold l.options (take l.row-index l.rows) l.told;
-}

@@ -1,0 +1,11 @@
+pub mod Orders
+pub mod Passes
+pub mod Frames
+pub mod Standings
+pub mod Wrongs
+pub mod Waves
+pub mod Stops
+pub mod Shown
+pub mod PartRows
+pub mod OneBus
+pub mod ReadBack

@@ -1,0 +1,96 @@
+//! Why there are no rows.
+
+ghost use Rattle.std.specs.Prelude.{◌≡◌};
+ghost use Rattle.mdb_levels.specs.Faults.{line_of};
+
+use super::instant::Instant;
+use mdb_words::Line;
+use std::fmt;
+use thiserror::Error;
+
+/// A line of the bus, in a fault.
+#[derive(Clone, Copy, PartialEq, Eq, Debug, Error)]
+pub enum Wire {
+    /// The controller's line.
+    #[error("line M")]
+    Controller,
+    /// The peripherals' line.
+    #[error("line S")]
+    Peripheral,
+}
+
+impl Wire {
+    /// How a line is told of.
+    pub fn new(line: Line) -> Wire
+        ensures { line_of result ≡ line }
+    {
+        match line {
+            Line::Controller => Wire::Controller,
+            Line::Peripheral => Wire::Peripheral,
+        }
+    }
+}
+
+/// What is wrong with the levels of a line, where nothing damaged is left out.
+#[derive(Clone, Copy, PartialEq, Eq, Debug)]
+pub enum LineFault {
+    /// The line is low at the middle of a stop bit, and it isn't low for 100 milliseconds from the
+    /// start bit on.
+    Framing,
+    /// A break on the line of the peripherals.
+    DeviceBreak,
+    /// A break of more than 999,999,999 microseconds.
+    LongBreak,
+    /// The line is low at the end of the table.
+    Cut,
+}
+
+impl LineFault {
+    /// What is told of it.
+    fn text(self) -> &'static str {
+        match self {
+            LineFault::Framing => {
+                "wanted a high stop bit, or a break of 100 ms or more, and the stop bit is low; \
+                 --skip-damaged leaves out what is damaged"
+            }
+            LineFault::DeviceBreak => {
+                "wanted words alone on the line of the peripherals, and it is low for a break; \
+                 --skip-damaged leaves out what is damaged"
+            }
+            LineFault::LongBreak => {
+                "wanted a break of at most 999999999 microseconds, and it is longer; \
+                 --skip-damaged leaves out what is damaged"
+            }
+            LineFault::Cut => {
+                "wanted a line that is high at the end of the table, and it is low; \
+                 --skip-damaged leaves out what is damaged"
+            }
+        }
+    }
+}
+
+impl fmt::Display for LineFault {
+    fn fmt<W: fmt::Write>(&self, f: &mut fmt::Formatter<W>) -> fmt::Result {
+        f.write_str(self.text())
+    }
+}
+
+impl std::error::Error for LineFault {}
+
+/// Why a line's levels are no words and breaks.
+#[derive(Clone, Copy)]
+pub struct Wrong {
+    /// When that began.
+    pub start: Instant,
+    /// What is wrong.
+    pub fault: LineFault,
+}
+
+/// Why both lines take no more.
+#[derive(Clone, Copy)]
+pub enum LevelsFault {
+    /// The levels of a line are no words and breaks.
+    Line(Line, Wrong),
+    /// Memory was refused.
+    Memory,
+}
