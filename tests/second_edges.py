@@ -121,17 +121,21 @@ def column_of(header, name, letters):
 
 
 class Records(NamedTuple):
-    """The records of a table below its header that are good, up to one that isn't or to the end."""
+    """The levels of the lines over time, up to what is refused by itself or to the end."""
 
     times: "list[Fraction]"
     levels: "dict[str, list[bool]]"  # for M and S whether the line is high from each time on
-    fault: "Refused | None"  # what is wrong with the record behind them; None: there is none
+    numbers: "list[int]"  # where each is read: the number of its record
+    end: int  # the number of what would come next
+    fault: "Refused | None"  # what is wrong with what comes behind them; None: nothing comes
 
     def seen(self, time):
-        """The number of the first record that is later than a time; of the one that would come
-        where none is; None where that can't be told, since a record was refused before."""
+        """Where the first is read that is later than a time, or the end where none is; None where
+        that can't be told, since something was refused before."""
         at = bisect_right(self.times, time)
-        return None if at == len(self.times) and self.fault else at + 2
+        if at < len(self.times):
+            return self.numbers[at]
+        return None if self.fault else self.end
 
 
 class LineRead(NamedTuple):
@@ -145,8 +149,7 @@ class LineRead(NamedTuple):
 
 def line_of(records, letter, skip):
     """What is read of a line: rules 1 to 6."""
-    times, levels = records.times, records.levels[letter]
-    end = len(times) + 2  # the number of the record that would come next
+    times, levels, end = records.times, records.levels[letter], records.end
     rows, pulses, damaged = [], [], []
 
     def level(time):
@@ -200,16 +203,17 @@ def line_of(records, letter, skip):
         elif rise is None:
             return answer() if records.fault else refused(end, start, CUT)
         elif length < 100_000:
-            return refused(rise + 2, start, FRAMING)
+            return refused(records.numbers[rise], start, FRAMING)
         else:
-            return refused(rise + 2, start, DEVICE_BREAK if letter == "S" else LONG_BREAK)
+            why = DEVICE_BREAK if letter == "S" else LONG_BREAK
+            return refused(records.numbers[rise], start, why)
         idle = rise
     return answer()
 
 
 def records_in(text, controller, peripheral, unit, invert):
     times, levels = [], {"M": [], "S": []}
-    width, columns, number = None, {}, 0
+    width, columns, number, fault = None, {}, 0, None
     try:
         for number, record in enumerate(records_of(plain(text)), 1):
             fields = [field.strip(b' "') for field in record]
@@ -243,14 +247,13 @@ def records_in(text, controller, peripheral, unit, invert):
                 levels[letter].append((fields[column] == b"1") != invert)
         if number == 0:
             raise Refused(1, "wanted a header that names the columns")
-    except Refused as fault:
-        return Records(times, levels, fault)
-    return Records(times, levels, None)
+    except Refused as refused:
+        fault = refused
+    return Records(times, levels, range(2, len(times) + 2), len(times) + 2, fault)
 
 
-def rows_of(text, controller, peripheral, unit, invert, skip):
-    """The rows of a table, its pulses, and its damaged words, all in the order of their times."""
-    records = records_in(text, controller, peripheral, unit, invert)
+def rows_of(records, skip):
+    """The rows, the pulses, and the damaged words, all in the order of their times."""
     sent, answered = (line_of(records, letter, skip) for letter in "MS")
     faults = [fault for fault in (sent.fault, answered.fault, records.fault) if fault]
     if faults:
@@ -263,7 +266,8 @@ def read(text, controller=None, peripheral=None, unit="s", invert=False, first=N
          skip=False):
     """All that the pages say of a table."""
     try:
-        rows, pulses, damaged = rows_of(text, controller, peripheral, unit, invert, skip)
+        records = records_in(text, controller, peripheral, unit, invert)
+        rows, pulses, damaged = rows_of(records, skip)
     except Refused as fault:
         return Answer([], fault.number, fault.why, fault.time, fault.line, 0, 0, set(), False)
     return answer_of(rows, pulses, damaged, first, last)
