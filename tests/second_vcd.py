@@ -176,7 +176,8 @@ def records_in(tokens, controller, peripheral, invert):
         body.read(tokens)
     except Refused as refused:
         fault = refused
-    return Records(body.times, body.high, body.numbers, len(tokens.tokens), fault)
+    # At the end of the text the levels of the last time are read, and then comes the end of the lines.
+    return Records(body.times, body.high, body.numbers, len(tokens.tokens) + 1, fault)
 
 
 def read(text, controller=None, peripheral=None, invert=False, first=None, last=None, skip=False):
