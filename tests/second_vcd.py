@@ -17,19 +17,24 @@ from fractions import Fraction
 from second_edges import Answer, Records, Refused, answer_of, micros, rows_of
 from second_rows import REFUSED, disturbances
 
-NO_DUMP = "wanted a dump, which begins with $ and a word"
-NO_HEADER = "wanted the rest of the header, up to $enddefinitions"
-TIMESCALE = "wanted one $timescale: 1, 10 or 100, and s, ms, us, ns, ps or fs"
-SCOPE = "wanted a scope with a type and a name"
-VARIABLE = "wanted a variable with a type, a size, a code and a name"
-LINES = ("wanted one variable of one bit for each line: as --controller and --peripheral say, or M and "
-         "S")
-NO_TOKEN = "wanted a time, a change or a command"
+NO_COMMAND = "wanted a command of the header, up to $enddefinitions $end"
+TIMESCALE = "wanted a timescale of 1, 10 or 100 s, ms, us, ns, ps or fs"
+SECOND_TIMESCALE = "wanted one timescale, and this is another one"
+SCOPE = "wanted a type and a name of the scope"
+NO_SCOPE = "wanted an open scope before $upscope"
+VARIABLE = "wanted a type, a size, a code and a name of the variable"
+SIZE = "wanted a variable of one bit for the line"
+SEVERAL = "wanted one variable of each line: several are called so; give a path"
+NO_TIMESCALE = "wanted a timescale in the header"
+NO_VARIABLE = "wanted one variable of each line: as --controller and --peripheral say, or M and S"
+SAME = "wanted another variable for each line, and it is the same"
+NO_TOKEN = "wanted a time, a change of a value, or a command of the dump"
+NO_TIME = "wanted a time: digits behind #"
 LONG_TIME = "wanted a time of at most 15 digits of microseconds"
-EARLY = "wanted a time that isn't before the one above it"
-NO_LEVEL = "wanted a level, 0 or 1"
-LOST_LEVEL = "wanted a level, 0 or 1, as the line had before"
-CUT = "wanted the rest of a change or of a comment: the dump is cut"
+EARLY = "wanted a time that isn't before the time before it"
+NO_LEVEL = "wanted a level, 0 or 1, and the value is none"
+LOST_LEVEL = "wanted a level, 0 or 1, after the first one, and it is x or z"
+CUT = "wanted more of the dump: it is cut"
 
 UNITS = {b"s": 1, b"ms": 10**3, b"us": 10**6, b"ns": 10**9, b"ps": 10**12, b"fs": 10**15}
 LEVELS = {b"0": False, b"1": True, b"x": None, b"X": None, b"z": None, b"Z": None}
@@ -67,46 +72,65 @@ def timescale_of(words):
     return Fraction(int(found[1]), UNITS[found[2]]) if found else None
 
 
-def header_of(tokens):
-    """The length of a timescale in seconds, and the variables: (path, name, code, size)."""
-    timescale, variables, scopes = None, [], []
-    if not tokens.tokens:
-        raise Refused(0, NO_DUMP)
-    while True:
-        command = tokens.take(NO_HEADER)
-        if not command.startswith(b"$"):
-            raise Refused(tokens.at - 1, NO_DUMP)
-        words = list(iter(lambda: tokens.take(NO_HEADER), b"$end"))
-        end = tokens.at - 1
+class Header:
+    """What the header tells: the length of a timescale in seconds, and the codes of the lines."""
+
+    def __init__(self, controller, peripheral):
+        self.called = {"M": controller, "S": peripheral}
+        self.timescale, self.codes, self.scopes = None, {}, []
+
+    def is_called(self, line, name):
+        """Whether a variable in the open scopes is called as a line is."""
+        called = self.called[line]
+        if called is None:
+            return name in (line.encode(), line.lower().encode())
+        return called.encode() in (name, b".".join(self.scopes + [name]))
+
+    def command(self, command, words, end):
+        """A command with the words in it; what is wrong is so at its end."""
         if command == b"$timescale":
-            if timescale is not None or timescale_of(words) is None:
+            if self.timescale is not None:
+                raise Refused(end, SECOND_TIMESCALE)
+            self.timescale = timescale_of(words)
+            if self.timescale is None:
                 raise Refused(end, TIMESCALE)
-            timescale = timescale_of(words)
         elif command == b"$scope":
             if len(words) != 2:
                 raise Refused(end, SCOPE)
-            scopes.append(words[1])
+            self.scopes.append(words[1])
         elif command == b"$upscope":
-            del scopes[-1:]
+            if not self.scopes:
+                raise Refused(end, NO_SCOPE)
+            self.scopes.pop()
         elif command == b"$var":
             if len(words) < 4:
                 raise Refused(end, VARIABLE)
-            name = b"".join(words[3:])
-            variables.append((b".".join(scopes + [name]), name, words[2], words[1]))
+            self.variable(words[1], words[2], b"".join(words[3:]), end)
         elif command == b"$enddefinitions":
-            if timescale is None:
-                raise Refused(end, TIMESCALE)
-            return timescale, variables, end
+            if self.timescale is None:
+                raise Refused(end, NO_TIMESCALE)
+            for line in "MS":
+                if line not in self.codes:
+                    raise Refused(end, NO_VARIABLE, None, line)
+            if self.codes["M"] == self.codes["S"]:
+                raise Refused(end, SAME)
 
+    def variable(self, size, code, name, end):
+        for line in "MS":
+            if self.is_called(line, name):
+                if size != b"1":
+                    raise Refused(end, SIZE, None, line)
+                if self.codes.setdefault(line, code) != code:
+                    raise Refused(end, SEVERAL, None, line)
 
-def code_of(variables, called, letters):
-    """The one code of the variables that are a line's, or None."""
-    if called is None:
-        found = [one for one in variables if one[1] in letters]
-    else:
-        found = [one for one in variables if called.encode() in one[:2]]
-    codes, sizes = {one[2] for one in found}, {one[3] for one in found}
-    return codes.pop() if len(codes) == 1 and sizes == {b"1"} else None
+    def read(self, tokens):
+        command = None
+        while command != b"$enddefinitions":
+            command = tokens.take(CUT)
+            if not command.startswith(b"$") or command == b"$end":
+                raise Refused(tokens.at - 1, NO_COMMAND)
+            words = list(iter(lambda: tokens.take(CUT), b"$end"))
+            self.command(command, words, tokens.at - 1)
 
 
 class Body:
@@ -150,7 +174,9 @@ class Body:
     def read(self, tokens):
         while tokens.at < len(tokens.tokens):
             number, token = tokens.at, tokens.take(None)
-            if re.fullmatch(rb"#[0-9]+", token):
+            if token.startswith(b"#"):
+                if not re.fullmatch(rb"#[0-9]+", token):
+                    raise Refused(number, NO_TIME)
                 self.time(number, token[1:].lstrip(b"0") or b"0")
             elif token[:1] in LEVELS and len(token) > 1:
                 self.change(number, token[1:], token[:1])
@@ -166,12 +192,10 @@ class Body:
 
 
 def records_in(tokens, controller, peripheral, invert):
-    timescale, variables, end = header_of(tokens)
-    codes = {code_of(variables, controller, (b"M", b"m")): "M"}
-    codes[code_of(variables, peripheral, (b"S", b"s"))] = "S"
-    if None in codes or len(codes) == 1:
-        raise Refused(end, LINES)
-    body, fault = Body(timescale, codes, invert), None
+    header = Header(controller, peripheral)
+    header.read(tokens)
+    codes = {code: line for line, code in header.codes.items()}
+    body, fault = Body(header.timescale, codes, invert), None
     try:
         body.read(tokens)
     except Refused as refused:
