@@ -4,16 +4,18 @@ docs/bench/edges.md (and docs/bench/importing.md, docs/bench/rows-and-command-li
 not from a program's code, to compare with.
 
     tests/second_edges.py [--controller NAME] [--peripheral NAME] [--unit s|ms|us|ns] [--invert]
-                          [--from MICROSECONDS] [--until MICROSECONDS] < TABLE
+                          [--skip-damaged] [--from MICROSECONDS] [--until MICROSECONDS] < TABLE
 
-prints the rows; or, where the table is refused, one line and nothing else, with status 2. As a
-module: `read(text, ..)` answers all that the pages say of a table.
+prints the rows; or, where the table is refused, the line that is no row, and on standard error why,
+with status 2. As a module: `read(text, ..)` answers all that the pages say of a table.
 """
 
 import sys
 from bisect import bisect_right
 from fractions import Fraction
 from typing import NamedTuple
+
+from second_rows import REFUSED, disturbances
 
 BIT = Fraction(1, 9600)
 MICROSECOND = Fraction(1, 10**6)
@@ -40,6 +42,15 @@ class Answer(NamedTuple):
     after: int  # and after it
     lines: "set[str]"  # M, S: those that have a word
     marked: bool  # a word has its mode bit set
+    pulses: "list" = ()  # (time, line) of each, those outside the part included
+    damaged: "list" = ()  # the same of each damaged word
+
+
+HINT = "; --skip-damaged leaves out what is damaged"
+FRAMING = "wanted a high stop bit, or a break of 100 ms or more, and the stop bit is low"
+DEVICE_BREAK = ("wanted words alone on the line of the peripherals, and it is low for a break")
+LONG_BREAK = "wanted a break of at most 999999999 microseconds, and it is longer"
+CUT = "wanted a line that is high at the end of the table, and it is low"
 
 
 def plain(text):
@@ -110,80 +121,99 @@ def column_of(header, name, letters):
 
 
 class Records(NamedTuple):
-    """The records of a table below its header that are good, up to one that isn't or to the end."""
+    """The levels of the lines over time, up to what is refused by itself or to the end."""
 
     times: "list[Fraction]"
     levels: "dict[str, list[bool]]"  # for M and S whether the line is high from each time on
-    fault: "Refused | None"  # what is wrong with the record behind them; None: there is none
+    numbers: "list[int]"  # where each is read: the number of its record
+    end: int  # the number of what would come next
+    fault: "Refused | None"  # what is wrong with what comes behind them; None: nothing comes
 
     def seen(self, time):
-        """The number of the first record that is later than a time; of the one that would come
-        where none is; None where that can't be told, since a record was refused before."""
+        """Where the first is read that is later than a time, or the end where none is; None where
+        that can't be told, since something was refused before."""
         at = bisect_right(self.times, time)
-        return None if at == len(self.times) and self.fault else at + 2
+        if at < len(self.times):
+            return self.numbers[at]
+        return None if self.fault else self.end
 
 
-def rows_of_line(records, letter):
-    """The rows of a line, and what is wrong with it, or None."""
-    times, levels = records.times, records.levels[letter]
-    end = len(times) + 2
+class LineRead(NamedTuple):
+    """What a line gives."""
+
+    rows: list
+    pulses: list
+    damaged: list
+    fault: "Refused | None"  # what is wrong with it
+
+
+def line_of(records, letter, skip):
+    """What is read of a line: rules 1 to 6."""
+    times, levels, end = records.times, records.levels[letter], records.end
+    rows, pulses, damaged = [], [], []
 
     def level(time):
         at = bisect_right(times, time)
         return at > 0 and levels[at - 1]
 
-    def fault(number, start, why):
-        if number == end and not levels[-1]:
-            why = "wanted a line that is high at the end of the table, and it is low"
-        return rows, Refused(number, why, micros(start), letter)
+    def next_of(wanted, at):
+        """The first record, from one on, that leaves the line so."""
+        return next((one for one in range(at, len(times)) if levels[one] == wanted), None)
 
-    rows = []
-    at = next((at for at, high in enumerate(levels) if high), None)
-    while at is not None:
-        at = next((low for low in range(at, len(times)) if not levels[low]), None)
-        if at is None:
+    def answer(fault=None):
+        return LineRead(rows, pulses, damaged, fault)
+
+    def refused(number, start, why):
+        return answer(Refused(number, why + HINT, micros(start), letter))
+
+    idle = next_of(True, 0)
+    while idle is not None:
+        fall = next_of(False, idle)
+        if fall is None:
             break
-        start = times[at]
+        start = times[fall]
         middles = [start + (2 * bit + 1) * BIT / 2 for bit in range(11)]
-        number = records.seen(middles[0])
-        if number is None:
+        if records.seen(middles[0]) is None:
             break
         if level(middles[0]):
-            return fault(number, start, "wanted a start bit that is low at its middle, and it is"
-                         " high there")
-        number = records.seen(middles[10])
+            pulses.append((micros(start), letter))
+            idle = bisect_right(times, middles[0]) - 1
+            continue
+        stop = middles[10]
+        number = records.seen(stop)
         if number is None:
             break
-        if number == end and not levels[-1]:
-            return fault(number, start, None)
-        if level(middles[10]):
+        if level(stop):
             value = sum(level(middle) << place for place, middle in enumerate(middles[1:10]))
             rows.append((micros(start), letter, f"{value:03X}"))
-            at = bisect_right(times, middles[10])
+            idle = bisect_right(times, stop) - 1
             continue
-        at = next((high for high in range(at, len(times)) if levels[high]), None)
-        if at is None:
-            if records.fault:
-                break
-            return fault(end, start, None)
-        framing = "wanted a high stop bit, or a break of 100 ms or more, and the stop bit is low"
-        if times[at] <= middles[10]:
-            return fault(number, start, framing)
-        if micros(times[at] - start) < 100_000:
-            return fault(at + 2, start, framing)
-        if letter == "S":
-            return fault(at + 2, start, "wanted words alone on the line of the peripherals, and it"
-                         " is low for a break")
-        if micros(times[at] - start) > 999_999_999:
-            return fault(at + 2, start, "wanted a break of at most 999999999 microseconds, and it"
-                         " is longer")
-        rows.append((micros(start), "B", str(micros(times[at] - start))))
-    return rows, None
+        rise = next_of(True, bisect_right(times, stop))
+        low_since = next_of(True, fall) == rise  # low from the start bit to there
+        length = None if rise is None else micros(times[rise] - start)
+        is_break = low_since and letter == "M" and rise is not None and 100_000 <= length < 10**9
+        if is_break:
+            rows.append((micros(start), "B", str(length)))
+        elif skip:
+            damaged.append((micros(start), letter))
+        elif number == end and not levels[-1]:
+            return refused(end, start, CUT)
+        elif not low_since:
+            return refused(number, start, FRAMING)
+        elif rise is None:
+            return answer() if records.fault else refused(end, start, CUT)
+        elif length < 100_000:
+            return refused(records.numbers[rise], start, FRAMING)
+        else:
+            why = DEVICE_BREAK if letter == "S" else LONG_BREAK
+            return refused(records.numbers[rise], start, why)
+        idle = rise
+    return answer()
 
 
 def records_in(text, controller, peripheral, unit, invert):
     times, levels = [], {"M": [], "S": []}
-    width, columns, number = None, {}, 0
+    width, columns, number, fault = None, {}, 0, None
     try:
         for number, record in enumerate(records_of(plain(text)), 1):
             fields = [field.strip(b' "') for field in record]
@@ -217,27 +247,34 @@ def records_in(text, controller, peripheral, unit, invert):
                 levels[letter].append((fields[column] == b"1") != invert)
         if number == 0:
             raise Refused(1, "wanted a header that names the columns")
-    except Refused as fault:
-        return Records(times, levels, fault)
-    return Records(times, levels, None)
+    except Refused as refused:
+        fault = refused
+    return Records(times, levels, range(2, len(times) + 2), len(times) + 2, fault)
 
 
-def rows_of(text, controller, peripheral, unit, invert):
-    records = records_in(text, controller, peripheral, unit, invert)
-    sent, wrong = rows_of_line(records, "M")
-    answered, other = rows_of_line(records, "S")
-    faults = [fault for fault in (wrong, other, records.fault) if fault]
+def rows_of(records, skip):
+    """The rows, the pulses, and the damaged words, all in the order of their times."""
+    sent, answered = (line_of(records, letter, skip) for letter in "MS")
+    faults = [fault for fault in (sent.fault, answered.fault, records.fault) if fault]
     if faults:
         raise min(faults, key=lambda fault: fault.number)  # of two at one record the first
-    return sorted(sent + answered, key=lambda row: (row[0], row[1] == "S"))
+    return tuple(sorted(two[0] + two[1], key=lambda row: (row[0], row[1] == "S"))
+                 for two in zip(sent[:3], answered[:3]))
 
 
-def read(text, controller=None, peripheral=None, unit="s", invert=False, first=None, last=None):
+def read(text, controller=None, peripheral=None, unit="s", invert=False, first=None, last=None,
+         skip=False):
     """All that the pages say of a table."""
     try:
-        rows = rows_of(text, controller, peripheral, unit, invert)
+        records = records_in(text, controller, peripheral, unit, invert)
+        rows, pulses, damaged = rows_of(records, skip)
     except Refused as fault:
         return Answer([], fault.number, fault.why, fault.time, fault.line, 0, 0, set(), False)
+    return answer_of(rows, pulses, damaged, first, last)
+
+
+def answer_of(rows, pulses, damaged, first, last):
+    """The rows of the part, and what is told of them."""
     part, before, after, lines, marked = [], 0, 0, set(), False
     for time, line, value in rows:
         if line != "B":
@@ -249,7 +286,7 @@ def read(text, controller=None, peripheral=None, unit="s", invert=False, first=N
             after += 1
         else:
             part.append(f"{time},{line},{value}")
-    return Answer(part, None, None, None, None, before, after, lines, marked)
+    return Answer(part, None, None, None, None, before, after, lines, marked, pulses, damaged)
 
 
 def main(words):
@@ -259,8 +296,8 @@ def main(words):
     words = list(words)
     while words:
         word = words.pop(0)
-        if word == "--invert":
-            options["invert"] = True
+        if word in ("--invert", "--skip-damaged"):
+            options["invert" if word == "--invert" else "skip"] = True
         elif word in names and words:
             value = words.pop(0)
             options[names[word]] = int(value) if word in ("--from", "--until") else value
@@ -271,10 +308,13 @@ def main(words):
     if answer.refused is not None:
         at = "" if answer.time is None else f" at {answer.time}"
         on = "" if answer.line is None else f" on line {answer.line}"
+        print(REFUSED)
         print(f"second_edges: record {answer.refused}{at}{on}: {answer.why}", file=sys.stderr)
         return 2
     for row in answer.rows:
         print(row)
+    for line in disturbances(answer.pulses, answer.damaged):
+        print(f"second_edges: {line}", file=sys.stderr)
     return 0
 
 

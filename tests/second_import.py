@@ -3,16 +3,19 @@
 written from the pages in words (docs/bench/sigrok-trace.md) and not from a program's code, to compare
 with.
 
-    tests/second_import.py sigrok [--swap] [--from MICROSECONDS] [--until MICROSECONDS] < TRACE
+    tests/second_import.py sigrok [--swap] [--skip-damaged] [--from MICROSECONDS]
+                                  [--until MICROSECONDS] < TRACE
 
-prints the rows, or one line that tells why there are none, with status 2. As a module:
-`read_sigrok(text, swap)` answers a list of rows, each (time, line, value) with the value as it
-stands in a row, or a Refusal.
+prints the rows, or the line that is no row and on standard error one that tells why, with status 2. As
+a module: `read_sigrok(text, swap)` answers a list of rows, each (time, line, value) with the value as
+it stands in a row, or a Refusal; `read(text, swap, skip)` answers the pulses and the damaged words too.
 """
 
 import re
 import sys
 from typing import NamedTuple
+
+from second_rows import REFUSED, disturbances
 
 
 class Refusal(NamedTuple):
@@ -52,10 +55,12 @@ NAMES = {
 }
 
 LAST_TIME = 10**15 - 1
+SHORTEST_BREAK = 100_000  # where damage is skipped
 LONGEST_BREAK = 10**9 - 1
 
 # What is wanted in more places than one.
-NO_BREAK = "a stop bit after the word: a framing error that is no break"
+HINT = "; --skip-damaged leaves out what is damaged"
+NO_BREAK = "a stop bit after the word: a framing error that is no break" + HINT
 EARLY = "a time after that of the row before it on this line"
 OTHER_KIND = "something of RX or TX that was asked for: see the annotations (-A)"
 
@@ -113,74 +118,136 @@ def records_of(text):
         raise Refused(number + 1, None, "more records, or the last line ]}: the trace is cut")
 
 
+FREE, STARTED, WORDED, LOW = range(4)
+
+
 class Line:
     """What was read of one line: its rows, and what its next record goes on from."""
 
-    def __init__(self, name):
-        self.name = name
-        self.rows = []
-        self.start = None  # the time of a start bit that waits for its word
-        self.opened = None  # the record of that start bit
-        self.zero = False  # the last record was a word 000
-        self.wrong = None  # a frame error behind 000 that may begin a break: its record and time
-
-    def no_break(self):
-        """There was a frame error, and what comes now is no break."""
-        if self.wrong is not None:
-            self.refuse(*self.wrong, NO_BREAK)
+    def __init__(self, name, skip):
+        self.name, self.skip = name, skip
+        self.rows, self.pulses, self.damaged = [], [], []
+        self.state = FREE
+        self.last = -1  # the time of the last row, pulse or damaged word, in whole microseconds
+        self.opened = None  # the record of the start bit, and its time in millionths
+        self.word = None  # the word that came after it
+        self.wrong = None  # the word's frame error: its record and time
 
     def refuse(self, number, time, why):
         raise Refused(number, time, why, self.name)
 
+    def no_break(self):
+        """What refuses a low line where no break comes."""
+        self.refuse(*self.wrong, NO_BREAK)
+
+    def is_damaged(self):
+        """The word with a frame error is damaged, and its row is taken back."""
+        self.rows.pop()
+        self.last = whole(self.opened[1])
+        self.damaged.append((self.last, self.name))
+        self.state = FREE
+
+    def is_later(self, number, time):
+        if time <= self.last:
+            self.refuse(number, time, EARLY)
+
+    def end(self):
+        if self.state == LOW:
+            if not self.skip:
+                self.no_break()
+            self.is_damaged()
+
     def take(self, number, kind, name, start, end):
-        time = whole(start)
-        if kind != BREAK:
+        by_kind = {START: self.take_start, DATA: self.take_word, FRAME: self.take_frame_error,
+                   BREAK: self.take_break}
+        if kind in by_kind:
+            return by_kind[kind](number, name, start, end)
+        if self.state == LOW:
             self.no_break()
-        if kind == START:
-            if self.start is not None:
-                why = "the word of the start bit before the next start bit"
-                self.refuse(self.opened, self.start, why)
-            if self.rows and time <= self.rows[-1][0]:
-                self.refuse(number, time, EARLY)
-            self.start, self.opened, self.zero = time, number, False
-        elif kind == DATA:
-            if self.start is None:
-                self.refuse(number, time, "a start bit right before the word")
-            if len(name) != 3:
-                why = "a word of three hexadecimal digits: decode with nine data bits"
-                self.refuse(number, time, why)
-            if int(name, 16) > 0x1FF:
-                self.refuse(number, time, "a word of at most 1FF: decode with nine data bits")
-            self.rows.append((self.start, self.name, name.decode()))
-            self.start, self.zero = None, name == b"000"
-        elif kind == FRAME:
-            if not self.zero:
-                self.refuse(number, time, NO_BREAK)
-            self.wrong, self.zero = (number, time), False
-        elif kind == PARITY:
-            self.refuse(number, time, "no parity: decode with parity=none")
-        else:
-            if self.wrong is None:
-                why = "a word 000 and its framing error right before the break"
-                self.refuse(number, time, why)
-            if self.name != "M":
-                why = "no break on the line of the devices: are the lines exchanged (--swap)?"
-                self.refuse(number, time, why)
-            if end < start:
-                self.refuse(number, time, "the end of the break after its beginning")
-            length = whole(end - start)
-            if length > LONGEST_BREAK:
-                self.refuse(number, time, "a break of at most 999999999 microseconds")
-            self.rows.pop()
-            if self.rows and time <= self.rows[-1][0]:
-                self.refuse(number, time, EARLY)
-            self.rows.append((time, "B", str(length)))
-            self.wrong = None
+        self.refuse(number, whole(start),
+                    "no parity: decode with parity=none" if kind == PARITY else OTHER_KIND)
+
+    def take_start(self, number, _, start, __):
+        if self.state == STARTED:
+            self.refuse(self.opened[0], whole(self.opened[1]),
+                        "the word of the start bit before the next start bit")
+        if self.state == LOW:
+            if not self.skip:
+                self.no_break()
+            self.is_damaged()
+        if self.state == WORDED:
+            self.last = self.rows[-1][0]
+        self.is_later(number, whole(start))
+        self.state, self.opened = STARTED, (number, start)
+
+    def take_word(self, number, name, start, _):
+        time = whole(start)
+        if self.state == LOW and not self.skip:
+            self.no_break()
+        if self.state != STARTED:
+            self.refuse(number, time, "a start bit right before the word")
+        if len(name) != 3:
+            self.refuse(number, time, "a word of three hexadecimal digits: decode with nine data bits")
+        if int(name, 16) > 0x1FF:
+            self.refuse(number, time, "a word of at most 1FF: decode with nine data bits")
+        self.rows.append((whole(self.opened[1]), self.name, name.decode()))
+        self.state, self.word = WORDED, name
+
+    def take_frame_error(self, number, _, start, __):
+        time = whole(start)
+        if self.state == STARTED:
+            self.refuse(number, time, NO_BREAK)
+        if self.state in (WORDED, LOW):
+            of_the_word = 3 * (start - self.opened[1]) < 3_203_125_000
+            if self.state == LOW:
+                if of_the_word or not self.skip:
+                    self.no_break()
+                self.is_damaged()
+            elif of_the_word:
+                if self.word != b"000" and not self.skip:
+                    self.refuse(number, time, NO_BREAK)
+                self.state, self.wrong = LOW, (number, time)
+                return
+            else:
+                self.last = self.rows[-1][0]
+        self.is_later(number, time)
+        self.pulses.append((time, self.name))
+        self.state, self.last = FREE, time
+
+    def take_break(self, number, _, start, end):
+        time = whole(start)
+        if self.state != LOW:
+            self.refuse(number, time, "a word 000 and its framing error right before the break")
+        if self.name != "M" and not self.skip:
+            self.refuse(number, time, "no break on the line of the devices: are the lines exchanged "
+                        "(--swap)?" + HINT)
+        if end < start:
+            self.refuse(number, time, "the end of the break after its beginning")
+        length = whole(end - start)
+        if self.skip:
+            is_break = SHORTEST_BREAK <= length <= LONGEST_BREAK
+            if self.name != "M" or self.word != b"000" or not is_break:
+                self.is_damaged()
+                return
+        elif length > LONGEST_BREAK:
+            self.refuse(number, time, "a break of at most 999999999 microseconds" + HINT)
+        self.rows.pop()
+        self.is_later(number, time)
+        self.rows.append((time, "B", str(length)))
+        self.state, self.last = FREE, time
 
 
-def read_sigrok(text: bytes, swap: bool = False):
-    """The rows of the JSON trace that sigrok-cli writes for its decoder `uart`, or a Refusal."""
-    controller, device = Line("M"), Line("S")
+class Trace(NamedTuple):
+    """What a trace gives, all in the order of the times."""
+
+    rows: list  # (time, line, value)
+    pulses: list  # (time, line)
+    damaged: list
+
+
+def read(text: bytes, swap: bool = False, skip: bool = False):
+    """What the JSON trace gives that sigrok-cli writes for its decoder `uart`, or a Refusal."""
+    controller, device = Line("M", skip), Line("S", skip)
     of = {b"TX": device, b"RX": controller} if swap else {b"TX": controller, b"RX": device}
     try:
         for number, tid, name, start, end in records_of(text):
@@ -188,18 +255,23 @@ def read_sigrok(text: bytes, swap: bool = False):
             kind = NAMES.get((rest, name))
             if kind is None and rest == b"" and HEXADECIMAL.fullmatch(name):
                 kind = DATA
-            if line is None or kind is None:
-                if line is None:
-                    raise Refused(number, whole(start), OTHER_KIND)
-                line.no_break()
-                line.refuse(number, whole(start), OTHER_KIND)
+            if line is None:
+                raise Refused(number, whole(start), OTHER_KIND)
             line.take(number, kind, name, start, end)
-        controller.no_break()
-        device.no_break()
+        controller.end()
+        device.end()
     except Refused as refused:
         return refused.refusal
     # By their starts, and at one time the controller's first.
-    return sorted(controller.rows + device.rows, key=lambda row: (row[0], row[1] == "S"))
+    return Trace(*(sorted(two[0] + two[1], key=lambda row: (row[0], row[1] == "S"))
+                   for two in ((controller.rows, device.rows), (controller.pulses, device.pulses),
+                               (controller.damaged, device.damaged))))
+
+
+def read_sigrok(text: bytes, swap: bool = False):
+    """The rows alone, without --skip-damaged, or a Refusal."""
+    came = read(text, swap)
+    return came if isinstance(came, Refusal) else came.rows
 
 
 def part_of(rows, first=None, last=None):
@@ -212,21 +284,25 @@ def part_of(rows, first=None, last=None):
 def main(words):
     told = {}
     rest = list(words[1:])
+    flags = ("--swap", "--skip-damaged")
     while rest:
         option = rest.pop(0)
-        if option not in ("--swap", "--from", "--until") or (option != "--swap" and not rest):
+        if option not in ("--from", "--until", *flags) or (option not in flags and not rest):
             words = []
             break
-        told[option] = True if option == "--swap" else int(rest.pop(0))
+        told[option] = True if option in flags else int(rest.pop(0))
     if words[:1] != ["sigrok"]:
         print(__doc__, file=sys.stderr)
         return 2
-    rows = read_sigrok(sys.stdin.buffer.read(), "--swap" in told)
-    if isinstance(rows, Refusal):
-        print(f"second_import: {rows}", file=sys.stderr)
+    came = read(sys.stdin.buffer.read(), "--swap" in told, "--skip-damaged" in told)
+    if isinstance(came, Refusal):
+        print(REFUSED)
+        print(f"second_import: {came}", file=sys.stderr)
         return 2
-    for time, line, value in part_of(rows, told.get("--from"), told.get("--until"))[0]:
+    for time, line, value in part_of(came.rows, told.get("--from"), told.get("--until"))[0]:
         print(f"{time},{line},{value}")
+    for line in disturbances(came.pulses, came.damaged):
+        print(f"second_import: {line}", file=sys.stderr)
     return 0
 
 

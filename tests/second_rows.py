@@ -6,14 +6,40 @@ takes) and not from a program's code, to compare with.
     tests/second_rows.py [--unit s|ms|us|ns] [--controller NAME] [--peripheral NAME]
                          [--from MICROSECONDS] [--until MICROSECONDS] < EXPORT
 
-prints the rows, and those before a record that is refused, with one line that has its number, and
-status 2. As a module: `read_rows(text, unit, controller, peripheral, first, last)` answers the rows
-and no number, or no rows and the number of the record that is refused; `read(..)` answers more.
+prints the rows, and those before a record that is refused, then the line that is no row, with one line
+on standard error that has the record's number, and status 2. As a module:
+`read_rows(text, unit, controller, peripheral, first, last)` answers the rows and no number, or no rows
+and the number of the record that is refused; `read(..)` answers more. What the page says of all
+formats is here too: REFUSED, and disturbances().
 """
 
 import re
 import sys
 from typing import NamedTuple
+
+
+# What is written at the end of a refused export.
+REFUSED = "mdbimport refused this export"
+
+
+def disturbances(pulses, damaged):
+    """The lines that tell of pulses and of damaged words, each (time, line)."""
+    def placed(places):
+        places = sorted(places, key=lambda place: (place[0], place[1] == "S"))
+        return [f"{time} on {line}" for time, line in places[:5]]
+
+    lines = []
+    if len(pulses) == 1:
+        lines.append(f"passed over 1 pulse shorter than half a bit, at {placed(pulses)[0]}")
+    elif pulses:
+        lines.append(f"passed over {len(pulses)} pulses shorter than half a bit; the first at "
+                     f"{placed(pulses)[0]}")
+    if damaged:
+        words = "word" if len(damaged) == 1 else "words"
+        at = "the first at" if len(damaged) > 5 else "at"
+        lines.append(f"left out {len(damaged)} damaged {words}, {at} {', '.join(placed(damaged))}; "
+                     "mdbcheck survey shows what is missing")
+    return lines
 
 
 class Answer(NamedTuple):
@@ -30,6 +56,8 @@ class Answer(NamedTuple):
     passed: int  # how many records outside it are no rows, or not in order
     lines: "set[str]"  # M, S, B: those that the rows of the whole export have
     marked: bool  # one of its words has its mode bit set
+    pulses: "list" = ()  # (time, line) of each pulse; rows have none
+    damaged: "list" = ()  # the same of each damaged word
 
 
 # Nanoseconds are the smallest unit, with 15 decimals: all times are whole numbers of these.
@@ -234,6 +262,7 @@ def main(words):
     for row in answer.rows:
         print(row)
     if answer.refused is not None:
+        print(REFUSED)
         print(f"second_rows: record {answer.refused}: wanted {answer.why}", file=sys.stderr)
         return 2
     return 0

@@ -4,16 +4,19 @@ reader, written from the page in words (docs/bench/saleae.md) and not from a pro
 with.
 
     tests/second_saleae.py [--controller NAME] [--peripheral NAME] [--break MICROSECONDS]
-                           [--from MICROSECONDS] [--until MICROSECONDS] < TABLE
+                           [--skip-damaged] [--from MICROSECONDS] [--until MICROSECONDS] < TABLE
 
-prints the rows, and those before a record that is refused, with one line that has its number, its
-time where it has one, and what was wanted, and status 2. As a module: `read(..)`.
+prints the rows, and those before a record that is refused, then the line that is no row, with one line
+on standard error that has the record's number, its time where it has one, and what was wanted, and
+status 2. As a module: `read(..)`.
 """
 
 import re
 import sys
 from decimal import ROUND_HALF_UP, Decimal, localcontext
 from typing import NamedTuple
+
+from second_rows import REFUSED, disturbances
 
 
 class Answer(NamedTuple):
@@ -27,6 +30,8 @@ class Answer(NamedTuple):
     after: int  # and after it
     lines: "set[str]"  # M, S, B: those that the rows of the whole table have
     marked: bool  # one of its words has its mode bit set
+    pulses: "list" = ()  # a table has none
+    damaged: "list" = ()  # (time, line) of each damaged word, those outside the part included
 
 
 class Refused(Exception):
@@ -141,8 +146,11 @@ def line_of(field, controller, peripheral):
     return None
 
 
-def row_of(fields, columns, controller, peripheral, length):
-    """The row of a record: (time, line, value)."""
+HINT = "; --skip-damaged leaves out what is damaged"
+
+
+def row_of(fields, columns, controller, peripheral, length, skip):
+    """The row of a record: (time, line, value); or a value of None for a damaged word."""
     time = time_of(fields[columns["time"]])
 
     def cell(column, other=b""):
@@ -170,16 +178,19 @@ def row_of(fields, columns, controller, peripheral, length):
         word += 0x100
     if error == b"" and cell("framing") == b"":
         return time, line, f"{word:03X}"
-    wants(line == "M", "wanted a stop bit: only the controller sends a break")
-    wants(word == 0, "wanted a stop bit: a word that isn't 0 is no break")
+    if skip and (line == "S" or word != 0):
+        return time, line, None
+    wants(line == "M", "wanted a stop bit: only the controller sends a break" + HINT)
+    wants(word == 0, "wanted a stop bit: a word that isn't 0 is no break" + HINT)
     wants(length is not None,
           "the table doesn't tell how long the break is: give --break MICROSECONDS")
     return time, "B", str(length)
 
 
-def read(text, controller=None, peripheral=None, length=None, first=None, last=None):
+def read(text, controller=None, peripheral=None, length=None, first=None, last=None, skip=False):
     """All that the page says of a table."""
     rows, before_part, after_part, before, lines, marked = [], 0, 0, None, set(), False
+    damaged = []
     number, columns, width = 1, None, 0
     try:
         for number, record in enumerate(records_of(plain(text)), 1):
@@ -189,7 +200,10 @@ def read(text, controller=None, peripheral=None, length=None, first=None, last=N
                 continue
             if len(fields) != width:
                 raise Refused("wanted as many fields as the header has", None)
-            time, line, value = row_of(fields, columns, controller, peripheral, length)
+            time, line, value = row_of(fields, columns, controller, peripheral, length, skip)
+            if value is None:
+                damaged.append((time, line))
+                continue
             if before is not None and time == before:
                 raise Refused("wanted a time after that of the row before it, and it is the same",
                               time)
@@ -211,10 +225,12 @@ def read(text, controller=None, peripheral=None, length=None, first=None, last=N
     except Refused as refused:
         why, time = refused.args
         return Answer(rows, number, time, why, before_part, after_part, lines, marked)
-    return Answer(rows, None, None, None, before_part, after_part, lines, marked)
+    return Answer(rows, None, None, None, before_part, after_part, lines, marked, (), damaged)
 
 
 def main(words):
+    skip = "--skip-damaged" in words
+    words = [word for word in words if word != "--skip-damaged"]
     options = dict(zip(words[::2], words[1::2]))
     known = ("--controller", "--peripheral", "--break", "--from", "--until")
     if len(words) != 2 * len(options) or any(option not in known for option in options):
@@ -222,13 +238,16 @@ def main(words):
         return 2
     controller, peripheral, *numbers = (options.get(option) for option in known)
     numbers = (None if number is None else int(number) for number in numbers)
-    answer = read(sys.stdin.buffer.read(), controller, peripheral, *numbers)
+    answer = read(sys.stdin.buffer.read(), controller, peripheral, *numbers, skip)
     for row in answer.rows:
         print(row)
     if answer.refused is not None:
+        print(REFUSED)
         at = "" if answer.time is None else f" at {answer.time}"
         print(f"second_saleae: record {answer.refused}{at}: {answer.why}", file=sys.stderr)
         return 2
+    for line in disturbances(answer.pulses, answer.damaged):
+        print(f"second_saleae: {line}", file=sys.stderr)
     return 0
 
 
