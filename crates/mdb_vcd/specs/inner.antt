@@ -1,0 +1,4 @@
+pub mod Ends
+pub mod Places
+pub mod Reading
+pub mod Words

@@ -1,0 +1,59 @@
+//! A dump from a reader, and its rows to a writer.
+
+ghost use Rattle.std.specs.Prelude.{IfErr, IfOk, IfSome};
+ghost use Rattle.mdb_vcd.specs.Import.{IsImported, IsRefused};
+ghost use Rattle.mdb_vcd.specs.inner.Ends.{IsClosed};
+
+use super::fault::VcdFault;
+use super::options::VcdOptions;
+use super::source::rows_of_dump;
+use mdb_exports::write_refusal;
+use mdb_levels::{LevelsImported, PartFault, write_part};
+use mdb_writing::WriteFailed;
+use std::alloc::Global;
+use std::io::{Read, Write};
+
+/// Reads the value change dump that a reader has left, and writes the rows of its words and breaks,
+/// each with a line feed: those of the part that is asked for. It answers what is told of all rows.
+///
+/// Nothing is written before all is read. Of the dump a line and 64 KiB are kept, and its rows up to
+/// three times.
+///
+/// # Errors
+///
+/// The first word of what is no dump of words and breaks, with the number of its line, and where
+/// that is known with its time in microseconds and the line of the bus. Or that reading failed, or
+/// that memory was refused. What was written then is a line that no checker takes. Or that writing
+/// failed: the writer took a front of the rows, or of that line.
+pub fn import_vcd<R: Read + Drop, W: Write>(
+    alloc: Global,
+    options: &VcdOptions,
+    reader: R,
+    writer: &mut W,
+) -> Result<LevelsImported, VcdFault>
+    ensures written { IfOk result (λ told. IfSome (R.remaining reader) (λ text.
+        IsImported options.now text told (W.contents writer.old) (W.contents writer.new))) }
+    ensures refused { IfErr result (λ fault. IfSome (R.remaining reader) (λ text.
+        IsRefused options.now text fault (W.contents writer.old) (W.contents writer.new))) }
+{
+    let rows = match rows_of_dump(alloc, options, reader) {
+        Ok(rows) => rows,
+        Err(fault) => return Err(closed(fault, writer)),
+    };
+    match write_part(alloc, options.from, options.until, rows.as_slice(), writer) {
+        Ok(told) => Ok(told),
+        Err(PartFault::Write) => Err(VcdFault::Write),
+        Err(PartFault::Memory) => Err(closed(VcdFault::Memory, writer)),
+    }
+}
+
+/// Ends what was written with a line that no checker takes, and answers the fault; or that writing
+/// failed.
+fn closed<W: Write>(fault: VcdFault, writer: &mut W) -> VcdFault
+    ensures { IsClosed fault result (W.contents writer.old) (W.contents writer.new) }
+{
+    match write_refusal(writer) {
+        Ok(()) => fault,
+        Err(WriteFailed) => VcdFault::Write,
+    }
+}
