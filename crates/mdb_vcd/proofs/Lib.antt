@@ -1,7 +1,9 @@
 pub mod Cuts
 pub mod Dumps
 pub mod Holds
+pub mod Figures
 pub mod Lines
+pub mod OneDump
 pub mod Sources
 pub mod Steps
 pub mod Texts

@@ -45,6 +45,12 @@ pub record Remain (o : VcdOptions) (q : Place) (rest : List (List ℕ)) (done al
   pub parts : all ≡ done ++ more
   pub told : AreMoments o q rest more
 
+left_parts : (front more tail own all done : List Moment) → all ≡ front ++ own
+    → own ≡ more ++ tail → done ≡ front ++ more → all ≡ done ++ tail
+left_parts front more tail own all done one two three =
+    one ∙ (ap (λ l. front ++ l) two ∙ (sym (append_assoc front more tail)
+    ∙ ap (λ l. l ++ tail) (sym three)))
+
 pub moments_left : (o : VcdOptions) (p : Place) (words : List (List ℕ)) (q : Place)
     (rest : List (List ℕ)) (done all : List Moment) → Reads o p words q done
     → AreMoments o p (words ++ rest) all → Remain o q rest done all
@@ -63,10 +69,7 @@ moments_left o p (v ∷ vs) q rest done all reads told =
     record {
       more = left.more;
       parts =
-          told.3
-          ∙ (ap (λ x. passed p.now x.now ++ told.1) same
-          ∙ (ap (λ l. passed p.now reads.0.now ++ l) left.parts
-          ∙ (sym (append_assoc (passed p.now reads.0.now) reads.1 left.more)
-          ∙ ap (λ l. l ++ left.more) (sym reads.3))));
+          left_parts (passed p.now reads.0.now) reads.1 left.more told.1 all done
+          (told.3 ∙ ap (λ x. passed p.now x.now ++ told.1) same) left.parts reads.3;
       told = left.told;
     }

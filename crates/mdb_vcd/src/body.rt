@@ -10,7 +10,7 @@ ghost use Rattle.mdb_vcd.specs.inner.Places.{heading_of};
 
 use super::fault::{FormFault, LevelFault, Stop};
 use super::head::Head;
-use super::numbers::{are_digits, number_of};
+use super::numbers::number_in;
 use mdb_levels::{Instant, Moment};
 use mdb_words::Line;
 
@@ -191,10 +191,10 @@ impl Known {
         let Some(scale) = scale else {
             return Err(Stop::Form(FormFault::NoTimescale));
         };
-        if !are_digits(digits) {
+        let Some(number) = number_in(digits) else {
             return Err(Stop::Form(FormFault::BadTime));
-        }
-        let Some(parts) = number_of(digits).checked_mul(scale) else {
+        };
+        let Some(parts) = number.checked_mul(scale) else {
             return Err(Stop::Form(FormFault::LongTime));
         };
         let Some(at) = Instant::new(parts) else {

@@ -8,6 +8,7 @@ mod head;
 mod header;
 mod import;
 mod keyword;
+pub mod laws;
 mod numbers;
 mod options;
 mod reader;

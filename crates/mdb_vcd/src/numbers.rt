@@ -1,15 +1,16 @@
 //! Times and timescales.
 
-ghost use Rattle.std.specs.Prelude.{◌≡◌, ◌≢◌, ◌<◌, ◌≤◌, ◌*◌, ◌^◌, ◌∷◌, ℕ, List, IfNone, IfSome, min, true};
+ghost use Rattle.std.specs.Prelude.{◌≡◌, ◌≢◌, ◌<◌, ◌≤◌, ◌*◌, ◌^◌, ◌∷◌, ℕ, List, IfNone, IfSome, min, true, false};
 ghost use Rattle.std.specs.List.{list_all};
 ghost use Rattle.mdb_vcd.specs.Numbers.{are_digits as digits, behind as rest_behind, is_digit};
-ghost use Rattle.mdb_vcd.specs.Numbers.{number_of as number_in, scale_by as scale_with};
+ghost use Rattle.mdb_vcd.specs.Numbers.{number_of as number_told, scale_by as scale_with};
 ghost use Rattle.mdb_vcd.specs.Numbers.{scale_in as scale_told, scale_of as scale_written};
 ghost use Rattle.mdb_vcd.specs.Numbers.{small_unit as unit_of_letter, times as many_times};
 ghost use Rattle.mdb_vcd.specs.Numbers.{unit_of as unit_in};
 ghost use Rattle.mdb_vcd.specs.Text.{words_of};
 
 use super::words::next_word;
+use mdb_words::Time;
 
 /// So many of a unit are more than any time.
 pub(crate) const LIMIT: u128 = 10_000_000_000_000_000_000_000_000_000_000_000;
@@ -117,7 +118,7 @@ pub(crate) fn scale_in(text: &[u8]) -> Option<u128>
 }
 
 /// Whether a text is digits, one or more.
-pub(crate) fn are_digits(text: &[u8]) -> bool
+fn are_digits(text: &[u8]) -> bool
     ensures { result ≡ digits text.now }
 {
     if text.is_empty() {
@@ -132,9 +133,9 @@ pub(crate) fn are_digits(text: &[u8]) -> bool
 }
 
 /// The number that digits write, if it is below a limit; else the limit.
-pub(crate) fn number_of(digits: &[u8]) -> u128
+fn number_of(digits: &[u8]) -> u128
     requires { list_all is_digit digits.now ≡ true }
-    ensures { result ≡ min (number_in digits.now) LIMIT }
+    ensures { result ≡ min (number_told digits.now) LIMIT }
 {
     let mut number = 0;
     for c in digits {
@@ -142,4 +143,22 @@ pub(crate) fn number_of(digits: &[u8]) -> u128
         number = if next < LIMIT { next } else { LIMIT };
     }
     number
+}
+
+/// The number that a text writes, if it is digits and the number is below a limit; else the limit,
+/// or `None` where a byte is no digit, or there is none.
+pub(crate) fn number_in(text: &[u8]) -> Option<u128>
+    ensures some { IfSome result (λ number. (digits text.now ≡ true)
+        × (number ≡ min (number_told text.now) LIMIT)) }
+    ensures none { IfNone result (digits text.now ≡ false) }
+{
+    // Few digits are read faster.
+    if let Some(few) = Time::read(text) {
+        return Some(u128::from(few.value()));
+    }
+    if are_digits(text) {
+        Some(number_of(text))
+    } else {
+        None
+    }
 }
