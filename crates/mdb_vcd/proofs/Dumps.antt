@@ -53,7 +53,7 @@ passed_none before now same =
 pub reached : (o : VcdOptions) (dump : Dump) (words : List (List ℕ)) (has : HasRead o dump words)
     → IsReached o words (place_of dump.stand) has.done
 reached o dump words has =
-    record { reads = has.reads; fine = are_fine dump.lines has.done has.heard }
+    record { reads = has.reads; fine = are_fine o.skip_damaged dump.lines has.done has.heard }
 
 pub stopped : (o : VcdOptions) (dump : Dump) (words : List (List ℕ)) (word : List ℕ) (why : Stop)
     → HasRead o dump words → IsToldOf why (after_word o (place_of dump.stand) word)
@@ -84,8 +84,8 @@ pub read_later : (o : VcdOptions) (old new : Dump) (words : List (List ℕ)) (wo
     (moment : Moment) → HasRead o old words
     → after_word o (place_of old.stand) word ≡ Ok (place_of new.stand)
     → old.stand.now.at < new.stand.now.at → moment ≡ moment_of old.stand.now
-    → ((done : List Moment) → HaveHeard old.lines done → end_of 0 done ≤ moment.at
-    → HaveHeard new.lines (done ++ moment ∷ []))
+    → ((done : List Moment) → HaveHeard o.skip_damaged old.lines done → end_of 0 done ≤ moment.at
+    → HaveHeard o.skip_damaged new.lines (done ++ moment ∷ []))
     → HasRead o new (words ++ word ∷ [])
 read_later o old new words word moment has goes later is hears =
     let at : moment.at ≡ old.stand.now.at = ap (λ m. m.at) is in
@@ -112,7 +112,7 @@ read_same o old new words word has goes same order lines = record {
       ∙ append-nil has.done)
       (reads_on o start words word (place_of old.stand) (place_of new.stand) has.done has.reads
       goes);
-  heard = subst (λ l. HaveHeard l has.done) (sym lines) has.heard;
+  heard = subst (λ l. HaveHeard o.skip_damaged l has.done) (sym lines) has.heard;
   before = omega (arith, has.before, order);
 }
 
@@ -122,10 +122,10 @@ pub shown_before : (o : VcdOptions) (old : Dump) (next : Place) (words : List (L
     (word : List ℕ) (moment : Moment) (fault : LevelsFault) → HasRead o old words
     → after_word o (place_of old.stand) word ≡ Ok next → old.stand.now.at < next.now.at
     → moment ≡ moment_of old.stand.now
-    → ((done : List Moment) → HaveHeard old.lines done → end_of 0 done ≤ moment.at
-    → Claims fault (λ _ _ _. AreBarred (done ++ moment ∷ [])))
-    → ((done : List Moment) → HaveHeard old.lines done → end_of 0 done ≤ moment.at
-    → Claims fault (IsShown (done ++ moment ∷ []) moment.at))
+    → ((done : List Moment) → HaveHeard o.skip_damaged old.lines done → end_of 0 done ≤ moment.at
+    → Claims fault (λ _ _ _. AreBarred o.skip_damaged (done ++ moment ∷ [])))
+    → ((done : List Moment) → HaveHeard o.skip_damaged old.lines done → end_of 0 done ≤ moment.at
+    → Claims fault (IsShown o.skip_damaged (done ++ moment ∷ []) moment.at))
     → Claims fault (λ line from what. IsShownBefore o words word line from what)
 shown_before o old next words word moment levels.Memory has goes later is bars shows = tt
 shown_before o old next words word moment (levels.Line line wrong) has goes later is bars shows =
@@ -138,9 +138,9 @@ shown_before o old next words word moment (levels.Line line wrong) has goes late
       reached = reached o old words has;
       goes = goes;
       later = later;
-      shown = subst (λ m. IsShown (has.done ++ m ∷ []) m.at line wrong.start wrong.fault) is
+      shown = subst (λ m. IsShown o.skip_damaged (has.done ++ m ∷ []) m.at line wrong.start wrong.fault) is
           (shows has.done has.heard before);
-      barred = subst (λ m. AreBarred (has.done ++ m ∷ [])) is (bars has.done has.heard before);
+      barred = subst (λ m. AreBarred o.skip_damaged (has.done ++ m ∷ [])) is (bars has.done has.heard before);
     }
 
 -- the end
@@ -157,9 +157,9 @@ cut_at_end o dump words has other = record {
 pub ended : (o : VcdOptions) (dump : Dump) (heard last : Lines) (words : List (List ℕ))
     (moment : Moment) → HasRead o dump words → dump.stand.mode ≡ Body
     → moment ≡ moment_of dump.stand.now
-    → ((done : List Moment) → HaveHeard dump.lines done → end_of 0 done ≤ moment.at
-    → HaveHeard heard (done ++ moment ∷ []))
-    → ((moments : List Moment) → HaveHeard heard moments → HaveEnded last moments)
+    → ((done : List Moment) → HaveHeard o.skip_damaged dump.lines done → end_of 0 done ≤ moment.at
+    → HaveHeard o.skip_damaged heard (done ++ moment ∷ []))
+    → ((moments : List Moment) → HaveHeard o.skip_damaged heard moments → HaveEnded o.skip_damaged last moments)
     → HasEnded o last words
 ended o dump heard last words moment has body is hears ends =
     let at : moment.at ≡ dump.stand.now.at = ap (λ m. m.at) is in
@@ -173,18 +173,19 @@ ended o dump heard last words moment has body is hears ends =
       ended = ends (has.done ++ moment ∷ []) all;
     }
 
-last_barred : (moments : List Moment) → AreRising 0 moments → AreBarred moments → HaveNoRows moments
-last_barred moments rising barred =
-    subst HaveNoRows (append-nil moments)
+last_barred : (skip : Bool) (moments : List Moment) → AreRising 0 moments
+    → AreBarred skip moments → HaveNoRows skip moments
+last_barred skip moments rising barred =
+    subst (HaveNoRows skip) (append-nil moments)
     (barred [] (subst (AreRising 0) (sym (append-nil moments)) rising))
 
 pub shown_after : (o : VcdOptions) (dump : Dump) (words : List (List ℕ)) (moment : Moment)
     (fault : LevelsFault) → HasRead o dump words → dump.stand.mode ≡ Body
     → moment ≡ moment_of dump.stand.now
-    → ((done : List Moment) → HaveHeard dump.lines done → end_of 0 done ≤ moment.at
-    → Claims fault (λ _ _ _. AreBarred (done ++ moment ∷ [])))
-    → ((done : List Moment) → HaveHeard dump.lines done → end_of 0 done ≤ moment.at
-    → Claims fault (IsShown (done ++ moment ∷ []) moment.at))
+    → ((done : List Moment) → HaveHeard o.skip_damaged dump.lines done → end_of 0 done ≤ moment.at
+    → Claims fault (λ _ _ _. AreBarred o.skip_damaged (done ++ moment ∷ [])))
+    → ((done : List Moment) → HaveHeard o.skip_damaged dump.lines done → end_of 0 done ≤ moment.at
+    → Claims fault (IsShown o.skip_damaged (done ++ moment ∷ []) moment.at))
     → Claims fault (λ line from what. IsShownAfter o words line from what)
 shown_after o dump words moment levels.Memory has body is bars shows = tt
 shown_after o dump words moment (levels.Line line wrong) has body is bars shows =
@@ -192,25 +193,25 @@ shown_after o dump words moment (levels.Line line wrong) has body is bars shows 
     let before : end_of 0 has.done ≤ moment.at = omega (arith, at, has.before) in
     let rising = rising_more 0 has.done moment has.heard.rising before in
     let none =
-    last_barred (has.done ++ moment ∷ []) rising (bars has.done has.heard before) in
+    last_barred o.skip_damaged (has.done ++ moment ∷ []) rising (bars has.done has.heard before) in
     record {
       place = place_of dump.stand;
       done = has.done;
       reached = reached o dump words has;
       body = body;
-      shown = inl (subst (λ m. IsShown (has.done ++ m ∷ []) m.at line wrong.start wrong.fault) is
+      shown = inl (subst (λ m. IsShown o.skip_damaged (has.done ++ m ∷ []) m.at line wrong.start wrong.fault) is
           (shows has.done has.heard before));
-      none = subst (λ m. HaveNoRows (has.done ++ m ∷ [])) is none;
+      none = subst (λ m. HaveNoRows o.skip_damaged (has.done ++ m ∷ [])) is none;
     }
 
 pub shown_at_end : (o : VcdOptions) (dump : Dump) (heard : Lines) (words : List (List ℕ))
     (moment : Moment) (fault : LevelsFault) → HasRead o dump words → dump.stand.mode ≡ Body
     → moment ≡ moment_of dump.stand.now
-    → ((done : List Moment) → HaveHeard dump.lines done → end_of 0 done ≤ moment.at
-    → HaveHeard heard (done ++ moment ∷ []))
-    → ((moments : List Moment) → HaveHeard heard moments
-    → Claims fault (λ _ _ _. HaveNoRows moments))
-    → ((moments : List Moment) → HaveHeard heard moments → Claims fault (IsShownAtEnd moments))
+    → ((done : List Moment) → HaveHeard o.skip_damaged dump.lines done → end_of 0 done ≤ moment.at
+    → HaveHeard o.skip_damaged heard (done ++ moment ∷ []))
+    → ((moments : List Moment) → HaveHeard o.skip_damaged heard moments
+    → Claims fault (λ _ _ _. HaveNoRows o.skip_damaged moments))
+    → ((moments : List Moment) → HaveHeard o.skip_damaged heard moments → Claims fault (IsShownAtEnd o.skip_damaged moments))
     → Claims fault (λ line from what. IsShownAfter o words line from what)
 shown_at_end o dump heard words moment levels.Memory has body is hears bars shows = tt
 shown_at_end o dump heard words moment (levels.Line line wrong) has body is hears bars shows =
@@ -223,9 +224,9 @@ shown_at_end o dump heard words moment (levels.Line line wrong) has body is hear
       reached = reached o dump words has;
       body = body;
       shown = inr (
-        subst (λ m. AreFine (has.done ++ m ∷ [])) is (are_fine heard moments all),
-        subst (λ m. IsShownAtEnd (has.done ++ m ∷ []) line wrong.start wrong.fault) is
+        subst (λ m. AreFine o.skip_damaged (has.done ++ m ∷ [])) is (are_fine o.skip_damaged heard moments all),
+        subst (λ m. IsShownAtEnd o.skip_damaged (has.done ++ m ∷ []) line wrong.start wrong.fault) is
             (shows moments all),
       );
-      none = subst (λ m. HaveNoRows (has.done ++ m ∷ [])) is (bars moments all);
+      none = subst (λ m. HaveNoRows o.skip_damaged (has.done ++ m ∷ [])) is (bars moments all);
     }

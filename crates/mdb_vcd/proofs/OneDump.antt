@@ -3,6 +3,7 @@ use Rattle.std.proofs.Common.{◌≡◌, ℕ, List, [], ◌∷◌, ◌++◌, sym
 use Rattle.std.specs.List.{AllPairs}
 use Rattle.mdb_words.specs.declared.event.Event.{Event}
 use Rattle.mdb_exports.specs.Order.{Precedes}
+use Rattle.mdb_exports.specs.declared.places.Place.{Place as Passed}
 use Rattle.mdb_levels.specs.Moments.{AreRowsOfBus}
 use Rattle.mdb_levels.specs.declared.moment.Moment.{Moment}
 use Rattle.mdb_levels.proofs.OneBus.{bus_in_order, one_bus}
@@ -21,12 +22,16 @@ one_told o p (word ∷ words) one other told too =
     ∙ (ap (λ x. passed p.now x.now ++ too.1) (sym same) ∙ sym too.3))
 
 pub one_dump : (o : VcdOptions) (text : List ℕ) (rows others : List Event)
-    → AreRowsOfDump o text rows → AreRowsOfDump o text others → others ≡ rows
-one_dump o text rows others one other =
-    one_bus one.moments rows others one.are
-    (subst (λ l. AreRowsOfBus l others)
+    (pulses pulses2 damaged damaged2 : List Passed) → AreRowsOfDump o text rows pulses damaged
+    → AreRowsOfDump o text others pulses2 damaged2
+    → (others ≡ rows) × (pulses2 ≡ pulses) × (damaged2 ≡ damaged)
+one_dump o text rows others pulses pulses2 damaged damaged2 one other =
+    one_bus o.skip_damaged one.moments rows others pulses pulses2 damaged damaged2 one.are
+    (subst (λ l. AreRowsOfBus o.skip_damaged l others pulses2 damaged2)
     (one_told o _ _ other.moments one.moments other.told one.told) other.are)
 
-pub dump_in_order : (o : VcdOptions) (text : List ℕ) (rows : List Event) → AreRowsOfDump o text rows
+pub dump_in_order : (o : VcdOptions) (text : List ℕ) (rows : List Event)
+    (pulses damaged : List Passed) → AreRowsOfDump o text rows pulses damaged
     → AllPairs Precedes rows
-dump_in_order o text rows dump = bus_in_order dump.moments rows dump.are
+dump_in_order o text rows pulses damaged dump =
+    bus_in_order o.skip_damaged dump.moments rows pulses damaged dump.are

@@ -1,11 +1,12 @@
 -- A dump, as it is read from a reader.
-use Rattle.std.proofs.Common.{◌≡◌, ◌≢◌, ◌==◌, ◌⊎◌, ◌+◌, true, false, length, inl, inr, ℕ, List, [], ◌∷◌, ◌++◌, Option, Some, None, IfSome, refl, sym, ap, subst, ◌∙◌, append-nil, append_assoc, arith}
+use Rattle.std.proofs.Common.{◌≡◌, ◌≢◌, ◌==◌, ◌⊎◌, ◌+◌, true, false, length, inl, inr, ℕ, Bool, List, [], ◌∷◌, ◌++◌, Option, Some, None, IfSome, refl, sym, ap, subst, ◌∙◌, append-nil, append_assoc, arith}
 use Rattle.std.specs.Io.BufRead.{DropsThrough, drop_through, take_through}
 use Rattle.mdb_words.specs.declared.event.Event.{Event}
 use Rattle.mdb_words.specs.declared.word.Line.{Line}
 use Rattle.mdb_words.specs.declared.word.Line.TheVariants.{Controller, Peripheral}
 use Rattle.mdb_levels.specs.Faults.{line_of}
-use Rattle.mdb_levels.specs.Lines.{HaveEnded}
+use Rattle.mdb_levels.specs.Lines.{HaveEnded, IsBus}
+use Rattle.mdb_levels.specs.declared.lines.Bus.{Bus}
 use Rattle.mdb_levels.specs.declared.lines.Lines.{Lines}
 use Rattle.mdb_levels.specs.Moments.{AreRising, AreRowsOfBus}
 use Rattle.mdb_levels.specs.declared.fault.LevelsFault.TheVariants as levels
@@ -24,7 +25,7 @@ use Rattle.mdb_vcd.specs.declared.fault.Stop.TheVariants as stop
 use Rattle.mdb_vcd.specs.declared.fault.VcdFault.{VcdFault}
 use Rattle.mdb_vcd.specs.declared.fault.VcdFault.TheVariants as told
 use Rattle.mdb_vcd.specs.declared.options.VcdOptions.{VcdOptions}
-use Rattle.mdb_vcd.specs.inner.Reading.{HasCome, HasComeBy, HasEnded, HasRead, IsFault, IsHaltedAtEnd, IsHaltedIn, told_at, wire_of}
+use Rattle.mdb_vcd.specs.inner.Reading.{HasCome, HasComeBy, HasEnded, HasRead, IsBusOf, IsFault, IsHaltedAtEnd, IsHaltedIn, told_at, wire_of}
 use Rattle.mdb_vcd.proofs.Dumps.{passed_later}
 use Rattle.mdb_vcd.proofs.Steps.{moments_left}
 use Rattle.mdb_vcd.proofs.Texts.{counted, line_ended, lines_behind, none_taken, one_line, through, words_behind}
@@ -34,7 +35,7 @@ use Rattle.mdb_vcd.proofs.Texts.{counted, line_ended, lines_behind, none_taken, 
 pub stopped_none : (o : VcdOptions) (text : List ℕ) (words rest : List (List ℕ)) (word : List ℕ)
     (why : Stop) → words_of text ≡ words ++ word ∷ rest → IsStopped o words word why
     → HasNoRows o text
-stopped_none o text words rest word why is stops rows has =
+stopped_none o text words rest word why is stops rows pulses damaged has =
     let told = subst (λ l. AreMoments o start l has.moments) is has.told in
     let left =
     moments_left o start words stops.place (word ∷ rest) stops.done has.moments
@@ -44,7 +45,7 @@ stopped_none o text words rest word why is stops rows has =
 pub shown_none : (o : VcdOptions) (text : List ℕ) (words rest : List (List ℕ)) (word : List ℕ)
     (line : Line) (from : ℕ) (fault : LineFault) → words_of text ≡ words ++ word ∷ rest
     → IsShownBefore o words word line from fault → HasNoRows o text
-shown_none o text words rest word line from fault is shown rows has =
+shown_none o text words rest word line from fault is shown rows pulses damaged has =
     let told = subst (λ l. AreMoments o start l has.moments) is has.told in
     let left =
     moments_left o start words shown.place (word ∷ rest) shown.done has.moments
@@ -59,11 +60,11 @@ shown_none o text words rest word line from fault is shown rows has =
     left.parts
     ∙ (ap (λ l. shown.done ++ l) more
     ∙ sym (append_assoc shown.done (moment ∷ []) left.told.1)) in
-    shown.barred left.told.1 (subst (AreRising 0) all has.rising) rows
-    (subst (λ l. AreRowsOfBus l rows) all has.are)
+    shown.barred left.told.1 (subst (AreRising 0) all has.rising) rows pulses damaged
+    (subst (λ l. AreRowsOfBus o.skip_damaged l rows pulses damaged) all has.are)
 
 pub cut_none : (o : VcdOptions) (text : List ℕ) → IsCut o (words_of text) → HasNoRows o text
-cut_none o text cut rows has =
+cut_none o text cut rows pulses damaged has =
     let told =
     subst (λ l. AreMoments o start l has.moments) (sym (append-nil (words_of text))) has.told in
     let left =
@@ -73,14 +74,14 @@ cut_none o text cut rows has =
 
 pub after_none : (o : VcdOptions) (text : List ℕ) (line : Line) (from : ℕ) (fault : LineFault)
     → IsShownAfter o (words_of text) line from fault → HasNoRows o text
-after_none o text line from fault shown rows has =
+after_none o text line from fault shown rows pulses damaged has =
     let told =
     subst (λ l. AreMoments o start l has.moments) (sym (append-nil (words_of text))) has.told in
     let left =
     moments_left o start (words_of text) shown.place [] shown.done has.moments
     shown.reached.reads told in
-    shown.none rows
-    (subst (λ l. AreRowsOfBus l rows)
+    shown.none rows pulses damaged
+    (subst (λ l. AreRowsOfBus o.skip_damaged l rows pulses damaged)
     (left.parts ∙ ap (λ l. shown.done ++ l) left.told.1) has.are)
 
 -- how a line is told of
@@ -394,14 +395,23 @@ read_fault o (Some text) fault (inl is) =
 read_fault o (Some text) fault (inr is) =
     subst (IsFault o text) (sym is) (tt, tt, λ is. absurd cc)
 
-pub rows_by : (o : VcdOptions) (known : Option (List ℕ)) (lines : Lines) (rows : List Event)
+pub bus_by : (o : VcdOptions) (known : Option (List ℕ)) (lines : Lines) (bus : Bus)
     → IfSome known (λ text. HasEnded o lines (words_of text))
-    → ((moments : List Moment) → HaveEnded lines moments → AreRowsOfBus moments rows)
-    → IfSome known (λ text. AreRowsOfDump o text rows)
-rows_by o None lines rows ends all = tt
-rows_by o (Some text) lines rows ends all = record {
-  moments = ends.moments;
-  told = ends.told;
-  rising = ends.rising;
-  are = all ends.moments ends.ended;
-}
+    → ((skip : Bool) (moments : List Moment) → HaveEnded skip lines moments
+    → IsBus skip moments bus)
+    → IfSome known (λ text. IsBusOf o text bus)
+bus_by o None lines bus ends all = tt
+bus_by o (Some text) lines bus ends all =
+    let is = all o.skip_damaged ends.moments ends.ended in
+    record {
+      pulses = is.pulses;
+      damaged = is.damaged;
+      are = record {
+        moments = ends.moments;
+        told = ends.told;
+        rising = ends.rising;
+        are = is.are;
+      };
+      pulses_noted = is.pulses_noted;
+      damaged_noted = is.damaged_noted;
+    }

@@ -1,6 +1,7 @@
 -- A dump, and its rows.
 use Rattle.std.specs.Prelude.{◌≡◌, ◌==◌, ◌++◌, if◌then◌else◌, nat_lt, ℕ, List, [], ◌∷◌, Option, Some, None, Result, Ok, Err}
 use Rattle.mdb_words.specs.declared.event.Event.{Event}
+use Rattle.mdb_exports.specs.declared.places.Place.{Place as Passed}
 use Rattle.mdb_levels.specs.Moments.{AreRising, AreRowsOfBus}
 use Rattle.mdb_levels.specs.declared.moment.Moment.{Moment}
 use Rattle.mdb_vcd.specs.Body.{at_time, bits_value, digit_value, kind_of, moment_of, with_change}
@@ -141,9 +142,11 @@ start = record {
   now = record { at = 0; controller = None; peripheral = None };
 }
 
--- The rows of a dump: those of the bus by its moments, each of which is later than the one before it.
-pub record AreRowsOfDump (options : VcdOptions) (text : List ℕ) (rows : List Event) : Type 0 where
+-- The rows of a dump, and what was passed over: those of the bus by its moments, each of which is
+-- later than the one before it.
+pub record AreRowsOfDump (options : VcdOptions) (text : List ℕ) (rows : List Event)
+    (pulses damaged : List Passed) : Type 0 where
   pub moments : List Moment
   pub told : AreMoments options start (words_of text) moments
   pub rising : AreRising 0 moments
-  pub are : AreRowsOfBus moments rows
+  pub are : AreRowsOfBus options.skip_damaged moments rows pulses damaged

@@ -29,7 +29,7 @@ Reads options place (word ∷ words) to done =
 pub record IsReached (options : VcdOptions) (words : List (List ℕ)) (place : Place)
     (done : List Moment) : Type 0 where
   pub reads : Reads options start words place done
-  pub fine : AreFine done
+  pub fine : AreFine options.skip_damaged done
 
 -- how many lines a text has; the last one may have no end (10)
 abbrev pub lines_in : List ℕ → ℕ
@@ -76,8 +76,9 @@ pub record IsShownBefore (options : VcdOptions) (words : List (List ℕ)) (word 
   pub reached : IsReached options words place done
   pub goes : after_word options place word ≡ Ok next
   pub later : place.now.at < next.now.at
-  pub shown : IsShown (done ++ moment_of place.now ∷ []) place.now.at line from fault
-  pub barred : AreBarred (done ++ moment_of place.now ∷ [])
+  pub shown : IsShown options.skip_damaged (done ++ moment_of place.now ∷ []) place.now.at line
+      from fault
+  pub barred : AreBarred options.skip_damaged (done ++ moment_of place.now ∷ [])
 
 -- all words lead among the times and changes, and the last moment or the end shows what is wrong
 -- with a line since a start
@@ -87,10 +88,11 @@ pub record IsShownAfter (options : VcdOptions) (words : List (List ℕ)) (line :
   pub done : List Moment
   pub reached : IsReached options words place done
   pub body : place.mode ≡ Body
-  pub shown : IsShown (done ++ moment_of place.now ∷ []) place.now.at line from fault
-      ⊎ (AreFine (done ++ moment_of place.now ∷ [])
-      × IsShownAtEnd (done ++ moment_of place.now ∷ []) line from fault)
-  pub none : HaveNoRows (done ++ moment_of place.now ∷ [])
+  pub shown : IsShown options.skip_damaged (done ++ moment_of place.now ∷ []) place.now.at line
+      from fault
+      ⊎ (AreFine options.skip_damaged (done ++ moment_of place.now ∷ [])
+      × IsShownAtEnd options.skip_damaged (done ++ moment_of place.now ∷ []) line from fault)
+  pub none : HaveNoRows options.skip_damaged (done ++ moment_of place.now ∷ [])
 
 -- all words lead to a place at which a dump can't end
 pub record IsCut (options : VcdOptions) (words : List (List ℕ)) : Type 0 where

@@ -2,6 +2,7 @@
 use Rattle.std.specs.Prelude.{⊤, ◌⊎◌, ℕ, List, Option}
 use Rattle.std.specs.Io.KnownBytes.{Appends}
 use Rattle.mdb_words.specs.declared.event.Event.{Event}
+use Rattle.mdb_exports.specs.declared.places.Place.{Place}
 use Rattle.mdb_exports.specs.Refusal.{refusal_line}
 use Rattle.mdb_exports.specs.Rows.{rows_text}
 use Rattle.mdb_levels.specs.Told.{IsWritten, part_of}
@@ -13,23 +14,29 @@ use Rattle.mdb_vcd.specs.declared.fault.VcdFault.{VcdFault}
 use Rattle.mdb_vcd.specs.declared.fault.VcdFault.TheVariants.{Form, Early, Level, Line, Read, Write, Memory}
 use Rattle.mdb_vcd.specs.declared.options.VcdOptions.{VcdOptions}
 
--- the rows of the dump that are in the part were written, and all rows are told of
+-- the rows of the dump that are in the part were written, and all rows are told of, and what was
+-- passed over
 pub record IsImported (options : VcdOptions) (text : List ℕ) (told : LevelsImported)
     (before after : Option (List ℕ)) : Type 0 where
   pub rows : List Event
-  pub of_dump : AreRowsOfDump options text rows
-  pub written : IsWritten options.from options.until rows told before after
+  pub pulses : List Place
+  pub damaged : List Place
+  pub of_dump : AreRowsOfDump options text rows pulses damaged
+  pub written : IsWritten options.from options.until rows pulses damaged told before after
 
 -- the dump has rows, and of those in the part a front was written
 pub record IsPartial (options : VcdOptions) (text : List ℕ) (before after : Option (List ℕ)) :
     Type 0 where
   pub rows : List Event
-  pub of_dump : AreRowsOfDump options text rows
+  pub pulses : List Place
+  pub damaged : List Place
+  pub of_dump : AreRowsOfDump options text rows pulses damaged
   pub written : HasTaken before after (rows_text (part_of options.from options.until rows))
 
 -- the dump has no rows
 abbrev pub HasNoRows : VcdOptions → List ℕ → Type 0
-HasNoRows options text = (rows : List Event) → AreRowsOfDump options text rows → ⊥
+HasNoRows options text = (rows : List Event) (pulses damaged : List Place) →
+    AreRowsOfDump options text rows pulses damaged → ⊥
 
 -- a fault of the dump says so
 abbrev pub IsRefutedBy : VcdFault → Type 0 → Type 0

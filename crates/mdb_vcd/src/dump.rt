@@ -29,12 +29,12 @@ pub(crate) struct Dump {
 
 impl Dump {
     /// Before the first word.
-    pub(crate) fn new(alloc: Global) -> Dump
-        ensures { (options : VcdOptions) → HasRead options result [] }
+    pub(crate) fn new(alloc: Global, options: &VcdOptions) -> Dump
+        ensures { HasRead options.now result [] }
     {
         Dump {
             stand: Stand::new(alloc),
-            lines: Lines::new(alloc),
+            lines: Lines::new(alloc, options.skip_damaged),
         }
     }
 

@@ -6,7 +6,7 @@ ghost use Rattle.mdb_vcd.specs.inner.Ends.{IsClosed};
 
 use super::fault::VcdFault;
 use super::options::VcdOptions;
-use super::source::rows_of_dump;
+use super::source::bus_of_dump;
 use mdb_exports::write_refusal;
 use mdb_levels::{LevelsImported, PartFault, write_part};
 use mdb_writing::WriteFailed;
@@ -36,11 +36,11 @@ pub fn import_vcd<R: Read + Drop, W: Write>(
     ensures refused { IfErr result (λ fault. IfSome (R.remaining reader) (λ text.
         IsRefused options.now text fault (W.contents writer.old) (W.contents writer.new))) }
 {
-    let rows = match rows_of_dump(alloc, options, reader) {
-        Ok(rows) => rows,
+    let bus = match bus_of_dump(alloc, options, reader) {
+        Ok(bus) => bus,
         Err(fault) => return Err(closed(fault, writer)),
     };
-    match write_part(alloc, options.from, options.until, rows.as_slice(), writer) {
+    match write_part(alloc, options.from, options.until, bus, writer) {
         Ok(told) => Ok(told),
         Err(PartFault::Write) => Err(VcdFault::Write),
         Err(PartFault::Memory) => Err(closed(VcdFault::Memory, writer)),

@@ -9,6 +9,8 @@ pub struct VcdOptions {
     pub peripheral: Option<String>,
     /// Whether the levels are inverted, so that 0 is high.
     pub invert: bool,
+    /// Whether damaged words are left out, and told. Otherwise they are refused.
+    pub skip_damaged: bool,
     /// The first microsecond of the part that is asked for. `None`: from the beginning.
     pub from: Option<u64>,
     /// The last microsecond of the part that is asked for. `None`: to the end.

@@ -1,28 +1,27 @@
 //! A dump from its reader.
 
 ghost use Rattle.std.specs.Prelude.{◌≡◌, ◌≢◌, ◌⊎◌, [], IfErr, IfOk, IfSome, OnOk};
-ghost use Rattle.mdb_vcd.specs.Dump.{AreRowsOfDump};
 ghost use Rattle.mdb_vcd.specs.Text.{words_of};
-ghost use Rattle.mdb_vcd.specs.inner.Reading.{HasEnded, HasRead, IsFault};
+ghost use Rattle.mdb_vcd.specs.inner.Reading.{HasEnded, HasRead, IsBusOf, IsFault};
 
 use super::dump::Dump;
 use super::fault::VcdFault;
 use super::options::VcdOptions;
-use mdb_words::Event;
+use mdb_levels::Bus;
 use std::alloc::Global;
 use std::io::{BufRead, BufReader, ErrorKind, Read};
 
 /// How many bytes of a dump are asked for at once.
 const READ_SIZE: usize = 65_536;
 
-/// The rows of a dump.
-pub(crate) fn rows_of_dump<R: Read + Drop>(
+/// The rows of a dump, and what was passed over.
+pub(crate) fn bus_of_dump<R: Read + Drop>(
     alloc: Global,
     options: &VcdOptions,
     reader: R,
-) -> Result<Vec<Event>, VcdFault>
-    ensures ok { IfOk result (λ rows. IfSome (R.remaining reader) (λ text.
-        AreRowsOfDump options.now text rows.items)) }
+) -> Result<Bus, VcdFault>
+    ensures ok { IfOk result (λ bus. IfSome (R.remaining reader) (λ text.
+        IsBusOf options.now text bus)) }
     ensures err { IfErr result (λ fault. IfSome (R.remaining reader) (λ text.
         IsFault options.now text fault)) }
 {
@@ -30,13 +29,13 @@ pub(crate) fn rows_of_dump<R: Read + Drop>(
         Ok(reader) => reader,
         Err(_) => return Err(VcdFault::Memory),
     };
-    let mut dump = Dump::new(alloc);
+    let mut dump = Dump::new(alloc, options);
     match read_lines(alloc, options, &mut reader, &mut dump) {
         Ok(()) => (),
         Err(fault) => return Err(fault),
     }
-    match dump.lines.rows(alloc) {
-        Ok(rows) => Ok(rows),
+    match dump.lines.bus(alloc) {
+        Ok(bus) => Ok(bus),
         Err(_) => Err(VcdFault::Memory),
     }
 }

@@ -10,9 +10,12 @@ use Rattle.mdb_levels.specs.Moments.{AreRising, end_of}
 use Rattle.mdb_levels.specs.declared.fault.LevelsFault.TheVariants as levels
 use Rattle.mdb_levels.specs.declared.fault.Wire.{Wire}
 use Rattle.mdb_levels.specs.declared.fault.Wire.TheVariants as wire
+use Rattle.mdb_exports.specs.Places.{AreNoted}
+use Rattle.mdb_exports.specs.declared.places.Place.{Place as Passed}
+use Rattle.mdb_levels.specs.declared.lines.Bus.{Bus}
 use Rattle.mdb_levels.specs.declared.lines.Lines.{Lines}
 use Rattle.mdb_levels.specs.declared.moment.Moment.{Moment}
-use Rattle.mdb_vcd.specs.Dump.{AreMoments, start}
+use Rattle.mdb_vcd.specs.Dump.{AreMoments, AreRowsOfDump, start}
 use Rattle.mdb_vcd.specs.Faults.{AreLines, IsCut, IsFirstFault, IsShownAfter, IsShownBefore, IsStopped, Reads, lines_in}
 use Rattle.mdb_vcd.specs.Import.{HasNoRows, IsRefutedBy}
 use Rattle.mdb_vcd.specs.Text.{words_of}
@@ -31,7 +34,7 @@ use Rattle.mdb_vcd.specs.inner.Places.{place_of}
 pub record HasRead (options : VcdOptions) (dump : Dump) (words : List (List ℕ)) : Type 0 where
   pub done : List Moment
   pub reads : Reads options start words (place_of dump.stand) done
-  pub heard : HaveHeard dump.lines done
+  pub heard : HaveHeard options.skip_damaged dump.lines done
   pub before : end_of 0 done ≤ dump.stand.now.at
 
 -- why a word stops a reading behind these words
@@ -70,7 +73,7 @@ pub record HasEnded (options : VcdOptions) (lines : Lines) (words : List (List �
   pub moments : List Moment
   pub told : AreMoments options start words moments
   pub rising : AreRising 0 moments
-  pub ended : HaveEnded lines moments
+  pub ended : HaveEnded options.skip_damaged lines moments
 
 -- how a line is told of
 abbrev pub wire_of : Line → Wire
@@ -107,3 +110,11 @@ HasComeBy options (Some text) (Some rest) number dump = HasCome options text res
 abbrev pub IsFault : VcdOptions → List ℕ → VcdFault → Type 0
 IsFault options text fault =
     IsFirstFault options text fault × IsRefutedBy fault (HasNoRows options text) × (fault ≢ told.Write)
+
+-- the rows of a dump and what was passed over, as they are held
+pub record IsBusOf (options : VcdOptions) (text : List ℕ) (bus : Bus) : Type 0 where
+  pub pulses : List Passed
+  pub damaged : List Passed
+  pub are : AreRowsOfDump options text bus.rows.items pulses damaged
+  pub pulses_noted : AreNoted bus.pulses pulses
+  pub damaged_noted : AreNoted bus.damaged damaged
