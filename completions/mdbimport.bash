@@ -17,8 +17,9 @@ _mdbimport() {
                 rows) words='--unit --controller --peripheral --from --until' ;;
                 saleae) words='--controller --peripheral --break --skip-damaged --from --until' ;;
                 edges) words='--unit --controller --peripheral --invert --skip-damaged --from --until' ;;
-                manual) [ "$COMP_CWORD" -gt 2 ] || words='sigrok rows saleae edges manual' ;;
-                *) words='sigrok rows saleae edges manual' ;;
+                vcd) words='--controller --peripheral --invert --skip-damaged --from --until' ;;
+                manual) [ "$COMP_CWORD" -gt 2 ] || words='sigrok rows saleae edges vcd manual' ;;
+                *) words='sigrok rows saleae edges vcd manual' ;;
             esac
             ;;
     esac

@@ -23,10 +23,12 @@ use Rattle.mdbimport_run.specs.Program.{common_of_rows, common_of_saleae, edges_
 use Rattle.mdbimport_run.specs.Program.{manual_command, mdbimport_manual, of_edges, of_manual}
 use Rattle.mdbimport_run.specs.Program.{of_rows, of_saleae, of_sigrok, rows_command}
 use Rattle.mdbimport_run.specs.Program.{saleae_command, sigrok_command}
+use Rattle.mdb_vcd.specs.declared.options.VcdOptions.{VcdOptions}
+use Rattle.mdbimport_run.specs.Program.{AskForVcd, AskTheSameOfDump, NameVcd, common_of_vcd, of_vcd, vcd_command}
 use Rattle.mdbimport_run.specs.inner.CommandLine.{AskFor, FindSigrok, FindTask, commands}
 use Rattle.mdbimport_run.specs.declared.command_line.Task.{Task}
 use Rattle.mdbimport_run.specs.declared.command_line.Task.TheVariants.{Edges, Manual, Rows, Saleae}
-use Rattle.mdbimport_run.specs.declared.command_line.Task.TheVariants.{Sigrok}
+use Rattle.mdbimport_run.specs.declared.command_line.Task.TheVariants.{Sigrok, Vcd}
 use Rattle.mdbimport_run.proofs.Values.{one_length, one_name, one_time, one_unit, one_unit_told}
 
 -- words that ask for a task name a command
@@ -36,6 +38,7 @@ names_a_command words (Rows options) (uses, names, asks) = (rows_command, uses, 
 names_a_command words (Sigrok options) (uses, names, asks) = (sigrok_command, uses, refl, names)
 names_a_command words (Saleae options) (uses, names, asks) = (saleae_command, uses, refl, names)
 names_a_command words (Edges options) (uses, names, asks) = (edges_command, uses, refl, names)
+names_a_command words (Vcd options) (uses, names, asks) = (vcd_command, uses, refl, names)
 names_a_command words (Manual part) (uses, names, asks) = (manual_command, uses, refl, names)
 
 -- what values of the word of `manual` ask for
@@ -69,6 +72,12 @@ module _ (words : List Text) (found : Named) (read : IsReadFrom commands words f
     asked_by found read.uses
         read.has (λ values used. AskForEdges values used options) finds,
   )
+  asked (Vcd options) (is, finds) = (
+    read.uses,
+    named_as commands words found read vcd_command refl is,
+    asked_by found read.uses
+        read.has (λ values used. AskForVcd values used options) finds,
+  )
   asked (Manual part) (is, finds) = (
     read.uses,
     named_as commands words found read manual_command refl is,
@@ -90,6 +99,9 @@ module _ (words : List Text) (found : Named) (read : IsReadFrom commands words f
   finds (Edges options) (uses, names, asks) =
       let (is, has) = found_as commands words found read edges_command uses refl names in
       (is, found_by found uses has (λ values used. AskForEdges values used options) asks)
+  finds (Vcd options) (uses, names, asks) =
+      let (is, has) = found_as commands words found read vcd_command uses refl names in
+      (is, found_by found uses has (λ values used. AskForVcd values used options) asks)
   finds (Manual part) (uses, names, asks) =
       let (is, has) = found_as commands words found read manual_command uses refl names in (
         is,
@@ -105,6 +117,7 @@ kind_at name =
     if get_or name 1 0 == 111 then of_rows
     else if get_or name 1 0 == 105 then of_sigrok
     else if get_or name 1 0 == 100 then of_edges
+    else if get_or name 1 0 == 99 then of_vcd
     else if get_or name 0 0 == 115 then of_saleae
     else of_manual
 
@@ -113,6 +126,7 @@ kind_again of_rows = refl
 kind_again of_sigrok = refl
 kind_again of_saleae = refl
 kind_again of_edges = refl
+kind_again of_vcd = refl
 kind_again of_manual = refl
 
 pub one_kind : (a b : Kind) → (command_of a).name ≡ (command_of b).name → a ≡ b
@@ -124,6 +138,7 @@ kind_of (Rows options) = of_rows
 kind_of (Sigrok options) = of_sigrok
 kind_of (Saleae options) = of_saleae
 kind_of (Edges options) = of_edges
+kind_of (Vcd options) = of_vcd
 kind_of (Manual part) = of_manual
 
 name_found : (found : Named) (task : Task) → FindTask found task
@@ -132,6 +147,7 @@ name_found found (Rows options) finds = finds.0
 name_found found (Sigrok options) finds = finds.0
 name_found found (Saleae options) finds = finds.0
 name_found found (Edges options) finds = finds.0
+name_found found (Vcd options) finds = finds.0
 name_found found (Manual part) finds = finds.0
 
 -- what was read is of `sigrok`, or of `manual`, where its name is
@@ -146,6 +162,7 @@ sigrok_found found named task finds =
     by (Sigrok options) (is, finds) same = (options, finds)
     by (Saleae options) (is, finds) bad = absurd (cc bad)
     by (Edges options) (is, finds) bad = absurd (cc bad)
+    by (Vcd options) (is, finds) bad = absurd (cc bad)
     by (Manual part) (is, finds) bad = absurd (cc bad)
 
 pub manual_found : (found : Named) → name_in found ≡ codes "manual" → (task : Task)
@@ -160,6 +177,7 @@ manual_found found named task finds =
     by (Sigrok options) (is, finds) bad = absurd (cc bad)
     by (Saleae options) (is, finds) bad = absurd (cc bad)
     by (Edges options) (is, finds) bad = absurd (cc bad)
+    by (Vcd options) (is, finds) bad = absurd (cc bad)
     by (Manual part) (is, finds) same =
         (manual_text mdbimport_manual (option_map (λ text. text.now) part), finds)
 
@@ -208,6 +226,7 @@ known of_rows = refl
 known of_sigrok = refl
 known of_saleae = refl
 known of_edges = refl
+known of_vcd = refl
 known of_manual = refl
 
 named_by : (words : List Text) (kind : Kind) → NameTask kind words
@@ -216,6 +235,7 @@ named_by words of_rows (options, (uses, named, asks)) = (uses, named)
 named_by words of_sigrok (options, (uses, named, asks)) = (uses, named)
 named_by words of_saleae (options, (uses, named, asks)) = (uses, named)
 named_by words of_edges (options, (uses, named, asks)) = (uses, named)
+named_by words of_vcd (options, (uses, named, asks)) = (uses, named)
 named_by words of_manual (page, (uses, named, asks)) = (uses, named)
 
 module _ (one : WordsNameOneCommand) where
@@ -280,6 +300,16 @@ module _ (one : WordsNameOneCommand) where
         skips = sym asks.skips ∙ alike.flags (codes "skip-damaged") ∙ asks_too.skips;
         common = common_same (λ name. chosen name uses) (λ name. chosen name other) alike.values
             (common_of_edges a) (common_of_edges b) asks.common asks_too.common;
+      }
+
+  pub one_vcd : (words : List Text) (a b : VcdOptions) → NameVcd words a → NameVcd words b
+      → AskTheSameOfDump a b
+  one_vcd words a b (uses, named, asks) (other, also, asks_too) =
+      let alike = alike_in words of_vcd uses other named also in record {
+        invert = sym asks.invert ∙ alike.flags (codes "invert") ∙ asks_too.invert;
+        skips = sym asks.skips ∙ alike.flags (codes "skip-damaged") ∙ asks_too.skips;
+        common = common_same (λ name. chosen name uses) (λ name. chosen name other) alike.values
+            (common_of_vcd a) (common_of_vcd b) asks.common asks_too.common;
       }
 
   pub one_manual : (words : List Text) (page other : Text) → NameManual words page

@@ -9,6 +9,10 @@ use Rattle.mdb_edges.specs.declared.fault.EdgesFault.{EdgesFault}
 use Rattle.mdb_edges.specs.declared.options.EdgesOptions.{EdgesOptions}
 use Rattle.mdb_levels.specs.declared.part.LevelsImported.{LevelsImported}
 use Rattle.mdbimport_run.specs.Program.{IsEdgesAnswer, IsManualWritten, Kind, NameATask, NameManual, NameTask, Says, no_memory, of_edges, of_manual, of_rows, of_saleae, of_sigrok}
+use Rattle.mdb_vcd.specs.Import as vcd
+use Rattle.mdb_vcd.specs.declared.fault.VcdFault.{VcdFault}
+use Rattle.mdb_vcd.specs.declared.options.VcdOptions.{VcdOptions}
+use Rattle.mdbimport_run.specs.Program.{IsVcdAnswer, of_vcd}
 use Rattle.mdb_exports.specs.Records.{export_records}
 use Rattle.mdb_rows_import.specs.Imports.{Imports}
 use Rattle.mdb_rows_import.specs.declared.fault.ImportFault.{ImportFault}
@@ -24,7 +28,7 @@ use Rattle.mdbimport_run.specs.declared.ended.Ended.TheVariants as ended
 use Rattle.mdbimport_run.specs.declared.refusal.Refusal.{Refusal}
 use Rattle.mdbimport_run.specs.inner.CommandLine.{AskFor}
 use Rattle.mdbimport_run.specs.declared.command_line.Task.{Task}
-use Rattle.mdbimport_run.specs.declared.command_line.Task.TheVariants.{Edges, Manual, Rows, Saleae, Sigrok}
+use Rattle.mdbimport_run.specs.declared.command_line.Task.TheVariants.{Edges, Manual, Rows, Saleae, Sigrok, Vcd}
 use Rattle.mdbimport_run.specs.Program.{mdbimport_manual}
 use Rattle.command_words.specs.Grammar.{chosen}
 use Rattle.command_words.specs.Manual.{AskForManual}
@@ -45,6 +49,7 @@ why_none words refusal why of_rows (options, asks) = why (Rows options) asks
 why_none words refusal why of_sigrok (options, asks) = why (Sigrok options) asks
 why_none words refusal why of_saleae (options, asks) = why (Saleae options) asks
 why_none words refusal why of_edges (options, asks) = why (Edges options) asks
+why_none words refusal why of_vcd (options, asks) = why (Vcd options) asks
 why_none words refusal why of_manual (page, (uses, named, asks)) =
     let (part, is) = asked_part mdbimport_manual _ page asks in
     why (Manual part) (
@@ -93,6 +98,12 @@ pub edges_say : (words : List (List ℕ)) (options : EdgesOptions) (before after
     → Says words text before after (ended.Edges answer)
 edges_say words options before after answer asks text answers = (options, asks, answers)
 
+pub vcd_says : (words : List (List ℕ)) (options : VcdOptions) (before after : Option (List ℕ))
+    (answer : Result LevelsImported VcdFault) → AskFor words (Vcd options) → (text : List ℕ)
+    → IsVcdAnswer options text before after answer
+    → Says words text before after (ended.Vcd answer)
+vcd_says words options before after answer asks text answers = (options, asks, answers)
+
 pub manual_says : (words : List (List ℕ)) (page : List ℕ) (before after : Option (List ℕ))
     (answer : Result (Prim.Unit {0}) WriteFailed) → NameManual words page
     → IsManualWritten page before after answer → (known : Option (List ℕ))
@@ -112,3 +123,13 @@ edges_answer Come text options before after (Ok told) written refused come =
     written (export_records text) come
 edges_answer Come text options before after (Err fault) written refused come =
     refused (export_records text) come
+
+-- the same of both answers to a dump
+pub vcd_answer : (known : Option (List ℕ)) (options : VcdOptions) (before after : Option (List ℕ))
+    (answer : Result LevelsImported VcdFault)
+    → IfOk answer (λ told. IfSome known (λ text. vcd.IsImported options text told before after))
+    → IfErr answer (λ fault. IfSome known (λ text. vcd.IsRefused options text fault before after))
+    → IfSome known (λ text. IsVcdAnswer options text before after answer)
+vcd_answer None options before after answer written refuses = tt
+vcd_answer (Some text) options before after (Ok told) written refuses = written
+vcd_answer (Some text) options before after (Err fault) written refuses = refuses

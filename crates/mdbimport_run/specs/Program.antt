@@ -23,10 +23,14 @@ use Rattle.mdb_edges.specs.Import as edges
 use Rattle.mdb_edges.specs.declared.fault.EdgesFault.{EdgesFault}
 use Rattle.mdb_edges.specs.declared.options.EdgesOptions.{EdgesOptions}
 use Rattle.mdb_levels.specs.declared.part.LevelsImported.{LevelsImported}
+use Rattle.mdb_vcd.specs.Import as vcd
+use Rattle.mdb_vcd.specs.declared.fault.VcdFault.{VcdFault}
+use Rattle.mdb_vcd.specs.declared.options.VcdOptions.{VcdOptions}
 use Rattle.mdbimport_run.specs.declared.manual.TheConstants.{ABOUT, EDGES, MANUAL, REST, ROWS, SALEAE, SIGROK}
+use Rattle.mdbimport_run.specs.declared.manual.TheConstants.{VCD}
 use Rattle.mdbimport_run.specs.declared.ended.Ended.{Ended}
 use Rattle.mdbimport_run.specs.declared.ended.Ended.TheVariants.{Rows, Sigrok, Saleae, Edges}
-use Rattle.mdbimport_run.specs.declared.ended.Ended.TheVariants.{Manual, Refused}
+use Rattle.mdbimport_run.specs.declared.ended.Ended.TheVariants.{Manual, Refused, Vcd}
 use Rattle.mdbimport_run.specs.declared.refusal.Refusal.{Refusal}
 use Rattle.mdbimport_run.specs.declared.refusal.Refusal.TheVariants.{Words}
 
@@ -71,6 +75,13 @@ edges_command = record rows_command {
   flags = codes "invert" ∷ codes "skip-damaged" ∷ [];
 }
 
+-- what `vcd` knows
+abbrev pub vcd_command : Command
+vcd_command = record edges_command {
+  name = codes "vcd";
+  options = codes "controller" ∷ codes "peripheral" ∷ codes "from" ∷ codes "until" ∷ [];
+}
+
 -- what `manual` knows: the name of a command, which may be missing
 abbrev pub manual_command : Command
 manual_command = record {
@@ -87,6 +98,7 @@ pub data Kind : Type 0 where
   of_sigrok : Kind
   of_saleae : Kind
   of_edges : Kind
+  of_vcd : Kind
   of_manual : Kind
 
 abbrev pub command_of : Kind → Command
@@ -94,6 +106,7 @@ command_of of_rows = rows_command
 command_of of_sigrok = sigrok_command
 command_of of_saleae = saleae_command
 command_of of_edges = edges_command
+command_of of_vcd = vcd_command
 command_of of_manual = manual_command
 
 -- the texts of the manual
@@ -102,7 +115,7 @@ mdbimport_manual = record {
   about = ABOUT.now;
   parts = (codes "rows", ROWS.now) ∷ (codes "sigrok", SIGROK.now)
       ∷ (codes "saleae", SALEAE.now) ∷ (codes "edges", EDGES.now)
-      ∷ (codes "manual", MANUAL.now) ∷ [];
+      ∷ (codes "vcd", VCD.now) ∷ (codes "manual", MANUAL.now) ∷ [];
   rest = REST.now;
 }
 
@@ -180,7 +193,7 @@ abbrev pub TellsUnit : List (List ℕ) → Unit → Type 0
 TellsUnit values is = (told : Option Unit) × TellsOnce IsUnit values told
     × (is ≡ unwrap_or told unit.Seconds)
 
--- what the options of `rows`, of `saleae` and of `edges` have of these
+-- what the options of `rows`, of `saleae`, of `edges` and of `vcd` have of these
 abbrev pub common_of_rows : RowsOptions → Common
 common_of_rows options =
     common_of options.controller options.peripheral options.from options.until
@@ -191,6 +204,10 @@ common_of_saleae options =
 
 abbrev pub common_of_edges : EdgesOptions → Common
 common_of_edges options =
+    common_of options.controller options.peripheral options.from options.until
+
+abbrev pub common_of_vcd : VcdOptions → Common
+common_of_vcd options =
     common_of options.controller options.peripheral options.from options.until
 
 -- The values of the options of `rows` ask for an import with these options.
@@ -221,6 +238,13 @@ pub record AskForEdges (values : List ℕ → List (List ℕ)) (used : List ℕ 
   pub skips : used (codes "skip-damaged") ≡ options.skip_damaged
   pub common : TellCommon values (common_of_edges options)
 
+-- Those of `vcd`, and whether each flag was used, ask for an import with these.
+pub record AskForVcd (values : List ℕ → List (List ℕ)) (used : List ℕ → Bool)
+    (options : VcdOptions) : Type 0 where
+  pub invert : used (codes "invert") ≡ options.invert
+  pub skips : used (codes "skip-damaged") ≡ options.skip_damaged
+  pub common : TellCommon values (common_of_vcd options)
+
 -- Two ways of importing rows that are told by the same.
 pub record AskTheSame (a b : RowsOptions) : Type 0 where
   pub unit : a.unit ≡ b.unit
@@ -238,6 +262,12 @@ pub record AskTheSameOfEdges (a b : EdgesOptions) : Type 0 where
   pub invert : a.invert ≡ b.invert
   pub skips : a.skip_damaged ≡ b.skip_damaged
   pub common : common_of_edges a ≡ common_of_edges b
+
+-- two ways of importing a dump that are told by the same
+pub record AskTheSameOfDump (a b : VcdOptions) : Type 0 where
+  pub invert : a.invert ≡ b.invert
+  pub skips : a.skip_damaged ≡ b.skip_damaged
+  pub common : common_of_vcd a ≡ common_of_vcd b
 
 -- ---- what words name
 
@@ -261,6 +291,11 @@ abbrev pub NameEdges : List (List ℕ) → EdgesOptions → Type 0
 NameEdges words options = (uses : Uses) × NameCommand words edges_command uses
     × AskForEdges (λ name. chosen name uses) (λ name. is_used name uses) options
 
+-- they name `vcd` with these options
+abbrev pub NameVcd : List (List ℕ) → VcdOptions → Type 0
+NameVcd words options = (uses : Uses) × NameCommand words vcd_command uses
+    × AskForVcd (λ name. chosen name uses) (λ name. is_used name uses) options
+
 -- they name `manual`, and ask for this text of it
 abbrev pub NameManual : List (List ℕ) → List ℕ → Type 0
 NameManual words page = (uses : Uses) × NameCommand words manual_command uses
@@ -272,6 +307,7 @@ NameTask of_rows words = (options : RowsOptions) × NameRows words options
 NameTask of_sigrok words = (options : SigrokOptions) × NameSigrok words options
 NameTask of_saleae words = (options : SaleaeOptions) × NameSaleae words options
 NameTask of_edges words = (options : EdgesOptions) × NameEdges words options
+NameTask of_vcd words = (options : VcdOptions) × NameVcd words options
 NameTask of_manual words = (page : List ℕ) × NameManual words page
 
 -- they name one of the tasks
@@ -291,6 +327,7 @@ IsAnswerTo words (Rows answer) = NameTask of_rows words
 IsAnswerTo words (Sigrok answer) = NameTask of_sigrok words
 IsAnswerTo words (Saleae answer) = NameTask of_saleae words
 IsAnswerTo words (Edges answer) = NameTask of_edges words
+IsAnswerTo words (Vcd answer) = NameTask of_vcd words
 IsAnswerTo words (Manual answer) = NameTask of_manual words
 IsAnswerTo words (Refused refusal) = NameATask words → refusal ≡ no_memory
 
@@ -301,6 +338,14 @@ IsEdgesAnswer options text before after (Ok told) =
     edges.IsImported options text told before after
 IsEdgesAnswer options text before after (Err fault) =
     edges.IsRefused options text fault before after
+
+-- what the answer to a dump says of its text
+abbrev pub IsVcdAnswer : VcdOptions → List ℕ → Option (List ℕ) → Option (List ℕ)
+    → Result LevelsImported VcdFault → Type 0
+IsVcdAnswer options text before after (Ok told) =
+    vcd.IsImported options text told before after
+IsVcdAnswer options text before after (Err fault) =
+    vcd.IsRefused options text fault before after
 
 -- the manual was written, or a front of it, where the writer failed
 abbrev pub IsManualWritten : List ℕ → Option (List ℕ) → Option (List ℕ)
@@ -320,6 +365,8 @@ Says words text before after (Saleae answer) = (options : SaleaeOptions)
     × NameSaleae words options × table.Imports options (export_records text) before after answer
 Says words text before after (Edges answer) = (options : EdgesOptions)
     × NameEdges words options × IsEdgesAnswer options text before after answer
+Says words text before after (Vcd answer) = (options : VcdOptions)
+    × NameVcd words options × IsVcdAnswer options text before after answer
 Says words text before after (Manual answer) = (page : List ℕ)
     × NameManual words page × IsManualWritten page before after answer
 Says words text before after (Refused refusal) =
@@ -331,6 +378,7 @@ IsRefused (Rows answer) = ⊥
 IsRefused (Sigrok answer) = ⊥
 IsRefused (Saleae answer) = ⊥
 IsRefused (Edges answer) = ⊥
+IsRefused (Vcd answer) = ⊥
 IsRefused (Manual answer) = ⊥
 IsRefused (Refused refusal) = ⊤
 
@@ -344,6 +392,8 @@ status_of (Saleae (Ok imported)) = 0
 status_of (Saleae (Err fault)) = 2
 status_of (Edges (Ok imported)) = 0
 status_of (Edges (Err fault)) = 2
+status_of (Vcd (Ok imported)) = 0
+status_of (Vcd (Err fault)) = 2
 status_of (Manual (Ok done)) = 0
 status_of (Manual (Err fault)) = 2
 status_of (Refused refusal) = 2

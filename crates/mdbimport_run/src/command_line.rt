@@ -11,11 +11,12 @@ ghost use Rattle.mdb_exports.specs.declared.units.Unit.{Unit};
 ghost use Rattle.mdb_sigrok.specs.declared.options.SigrokOptions.{SigrokOptions};
 ghost use Rattle.mdb_saleae.specs.declared.options.SaleaeOptions.{SaleaeOptions};
 ghost use Rattle.mdb_edges.specs.declared.options.EdgesOptions.{EdgesOptions};
+ghost use Rattle.mdb_vcd.specs.declared.options.VcdOptions.{VcdOptions};
 ghost use Rattle.mdbimport_run.specs.Program.{AreApart, Common, IsLength, IsLineName, IsUnit};
 ghost use Rattle.mdbimport_run.specs.Program.{TellCommon, TellNames, TellsOnce, common_of, letters};
 ghost use Rattle.mdbimport_run.specs.Program.{mdbimport_manual, no_memory};
 ghost use Rattle.mdbimport_run.specs.inner.CommandLine.{AskFor, FindEdges, FindRows, FindSaleae};
-ghost use Rattle.mdbimport_run.specs.inner.CommandLine.{FindSigrok, FindTask, names};
+ghost use Rattle.mdbimport_run.specs.inner.CommandLine.{FindSigrok, FindTask, FindVcd, names};
 
 use super::manual;
 use super::refusal::{Refusal, ValueFault};
@@ -26,6 +27,7 @@ use mdb_exports::Unit;
 use mdb_rows_import::RowsOptions;
 use mdb_saleae::SaleaeOptions;
 use mdb_sigrok::SigrokOptions;
+use mdb_vcd::VcdOptions;
 use mdb_words::{Span, Time};
 use std::alloc::Global;
 
@@ -53,7 +55,7 @@ const SWAP: &str = "swap";
 /// The option that tells how long each break is.
 pub(crate) const BREAK: &str = "break";
 
-/// The option that takes the levels of a table of edges upside down.
+/// The option that takes levels upside down.
 const INVERT: &str = "invert";
 
 /// The option that leaves damaged words out.
@@ -107,6 +109,16 @@ pub(crate) const PROGRAM: Program<'static> = Program {
             manual: manual::EDGES,
         },
         CommandRow {
+            name: "vcd",
+            options: &[CONTROLLER, PERIPHERAL, FROM, UNTIL],
+            flags: &[INVERT, SKIP_DAMAGED],
+            words: &[],
+            further: &[],
+            usage: "vcd [--controller NAME] [--peripheral NAME] [--invert] [--skip-damaged] \
+[--from T] [--until T] < DUMP",
+            manual: manual::VCD,
+        },
+        CommandRow {
             name: "manual",
             options: &[],
             flags: &[],
@@ -116,8 +128,8 @@ pub(crate) const PROGRAM: Program<'static> = Program {
             manual: manual::MANUAL,
         },
     ],
-    summary: "rows (CSV rows), sigrok (a trace), saleae (a table), edges (a scope's CSV); \
-all: mdbimport manual",
+    summary: "rows (CSV rows), sigrok (a trace), saleae (a table), edges (a scope's CSV), \
+vcd (a dump); all: mdbimport manual",
     about: manual::ABOUT,
     rest: manual::REST,
 };
@@ -133,6 +145,8 @@ pub(crate) enum Task {
     Saleae(SaleaeOptions),
     /// `edges`: the import of a table of edges.
     Edges(EdgesOptions),
+    /// `vcd`: the import of a value change dump.
+    Vcd(VcdOptions),
     /// `manual`: this part of it, or, where there is none, the whole manual.
     Manual(Option<&'static str>),
 }
@@ -168,6 +182,7 @@ fn task_in(alloc: Global, found: &Named<'_>) -> Result<Task, Refusal>
         "sigrok" => Ok(Task::Sigrok(sigrok_options(found)?)),
         "saleae" => Ok(Task::Saleae(saleae_options(alloc, found)?)),
         "edges" => Ok(Task::Edges(edges_options(alloc, found)?)),
+        "vcd" => Ok(Task::Vcd(vcd_options(alloc, found)?)),
         "manual" => Ok(Task::Manual(part_asked(found)?)),
         _ => unreachable!(),
     }
@@ -252,6 +267,25 @@ fn edges_options(alloc: Global, found: &Named<'_>) -> Result<EdgesOptions, Refus
     let skip_damaged = skips_in(found);
     Ok(EdgesOptions {
         unit: told.unwrap_or(Unit::Seconds),
+        controller: common.controller,
+        peripheral: common.peripheral,
+        invert,
+        skip_damaged,
+        from: common.from,
+        until: common.until,
+    })
+}
+
+/// What the options of `vcd` ask for.
+fn vcd_options(alloc: Global, found: &Named<'_>) -> Result<VcdOptions, Refusal>
+    ensures asked { IfOk result (FindVcd found.now) }
+    ensures refused { IfErr result (λ refusal. (options : VcdOptions)
+        → FindVcd found.now options → refusal ≡ no_memory) }
+{
+    let common = common_in(alloc, found)?;
+    let invert = found.is_used(INVERT);
+    let skip_damaged = skips_in(found);
+    Ok(VcdOptions {
         controller: common.controller,
         peripheral: common.peripheral,
         invert,

@@ -9,6 +9,7 @@ use mdb_records::{ReadCause, Record, Records};
 use mdb_rows_import::ImportFault;
 use mdb_saleae::SaleaeFault;
 use mdb_sigrok::{SigrokFault, SigrokRows};
+use mdb_vcd::VcdFault;
 use mdb_writing::Excerpt;
 use std::fmt::Display;
 use std::io::{Read, Write};
@@ -58,6 +59,14 @@ pub(crate) fn tell_of_edges<R: Read + Drop, E: Write>(
     match answer {
         Ok(imported) => Notes::of_levels(imported).tell(err),
         Err(fault) => complain_of_edges(options, *fault, records, err),
+    }
+}
+
+/// Tells the same of a dump.
+pub(crate) fn tell_of_dump<E: Write>(answer: &Result<LevelsImported, VcdFault>, err: &mut E) {
+    match answer {
+        Ok(imported) => Notes::of_levels(imported).tell(err),
+        Err(fault) => complain_of(fault, None, "", err),
     }
 }
 

@@ -10,6 +10,7 @@ use mdb_levels::LevelsImported;
 use mdb_rows_import::ImportFault;
 use mdb_saleae::SaleaeFault;
 use mdb_sigrok::{SigrokFault, SigrokRows};
+use mdb_vcd::VcdFault;
 use mdb_writing::WriteFailed;
 
 /// The status of an import whose rows are all written, and of a manual that is.
@@ -29,6 +30,8 @@ pub enum Ended {
     Saleae(Result<Imported, SaleaeFault>),
     /// The words name `edges`, and that import returned this.
     Edges(Result<LevelsImported, EdgesFault>),
+    /// The words name `vcd`, and that import returned this.
+    Vcd(Result<LevelsImported, VcdFault>),
     /// The words name `manual`, and its text was written, or the writer failed.
     Manual(Result<(), WriteFailed>),
     /// The words were refused, and there was no import.
@@ -46,9 +49,11 @@ impl Ended {
             | Ended::Sigrok(Ok(_))
             | Ended::Saleae(Ok(_))
             | Ended::Edges(Ok(_))
+            | Ended::Vcd(Ok(_))
             | Ended::Manual(Ok(())) => DONE,
             Ended::Rows(Err(_)) | Ended::Sigrok(Err(_)) | Ended::Manual(Err(_)) => NOT_DONE,
-            Ended::Saleae(Err(_)) | Ended::Edges(Err(_)) | Ended::Refused(_) => NOT_DONE,
+            Ended::Saleae(Err(_)) | Ended::Edges(Err(_)) | Ended::Vcd(Err(_)) => NOT_DONE,
+            Ended::Refused(_) => NOT_DONE,
         }
     }
 }

@@ -11,7 +11,9 @@ ghost use Rattle.mdb_sigrok.specs.Trace.{AreRowsOfTrace};
 ghost use Rattle.mdb_sigrok.specs.declared.options.SigrokOptions.{SigrokOptions};
 ghost use Rattle.mdb_saleae.specs.declared.options.SaleaeOptions.{SaleaeOptions};
 ghost use Rattle.mdb_edges.specs.declared.options.EdgesOptions.{EdgesOptions};
-ghost use Rattle.mdbimport_run.specs.Program.{AskTheSame, AskTheSameOfEdges, AskTheSameOfTable};
+ghost use Rattle.mdb_vcd.specs.declared.options.VcdOptions.{VcdOptions};
+ghost use Rattle.mdbimport_run.specs.Program.{AskTheSame, AskTheSameOfDump, AskTheSameOfEdges};
+ghost use Rattle.mdbimport_run.specs.Program.{AskTheSameOfTable, NameVcd};
 ghost use Rattle.mdbimport_run.specs.Program.{Kind, NameEdges, NameManual, NameRows, NameSaleae};
 ghost use Rattle.mdbimport_run.specs.Program.{NameSigrok, NameTask};
 
@@ -31,6 +33,8 @@ pub fn command_lines_name_one_task()
         → NameEdges words a → NameEdges words b → AskTheSameOfEdges a b }
     ensures manual { (words : List (List ℕ)) (page other : List ℕ)
         → NameManual words page → NameManual words other → page ≡ other }
+    ensures vcd { (words : List (List ℕ)) (a b : VcdOptions)
+        → NameVcd words a → NameVcd words b → AskTheSameOfDump a b }
     ensures alone { (words : List (List ℕ)) (a b : Kind)
         → NameTask a words → NameTask b words → a ≡ b }
 {

@@ -10,6 +10,7 @@ SYNOPSIS
         mdbimport rows < EXPORT > ROWS
         mdbimport saleae < CSV > ROWS
         mdbimport edges < CSV > ROWS
+        mdbimport vcd < DUMP > ROWS
         mdbimport manual [COMMAND]
 
 DESCRIPTION
@@ -111,6 +112,25 @@ EDGES
     --skip-damaged   As with sigrok.
     --from T, --until T
                      A part of the table. T is a time in the microseconds of
+                     the rows, and both ends belong to the part.
+
+";
+
+/// `vcd`.
+pub const VCD: &str = "\
+VCD
+        mdbimport vcd [--controller NAME] [--peripheral NAME] [--invert]
+            [--skip-damaged] [--from T] [--until T] < DUMP > ROWS
+
+    Decodes a value change dump, which most logic analysers and sigrok-cli
+    write. vcd.md has its form.
+
+    --controller NAME, --peripheral NAME
+                     The names or the paths of the two lines' variables.
+    --invert         The levels of the dump are upside down.
+    --skip-damaged   As with sigrok.
+    --from T, --until T
+                     A part of the dump. T is a time in the microseconds of
                      the rows, and both ends belong to the part.
 
 ";

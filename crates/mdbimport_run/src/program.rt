@@ -5,12 +5,12 @@ ghost use Rattle.command_words.specs.Manual.{manual_text};
 ghost use Rattle.mdb_exports.specs.Records.{export_records};
 ghost use Rattle.mdb_rows_import.specs.Imports.{Imports};
 ghost use Rattle.mdbimport_run.specs.Program.{IsAnswerTo, IsEdgesAnswer, IsManualWritten, IsRefused};
-ghost use Rattle.mdbimport_run.specs.Program.{Says, mdbimport_manual};
+ghost use Rattle.mdbimport_run.specs.Program.{IsVcdAnswer, Says, mdbimport_manual};
 ghost use Rattle.mdb_saleae.specs.Imports.{Imports as ImportsTable};
 ghost use Rattle.mdb_sigrok.specs.Import.{AnswersTo};
 
 use super::command_line::{PROGRAM, Task, task_of};
-use super::complaint::{tell, tell_of_edges, tell_of_table, tell_of_trace};
+use super::complaint::{tell, tell_of_dump, tell_of_edges, tell_of_table, tell_of_trace};
 use super::ended::Ended;
 use super::refused::tell_refusal;
 use command_words::write_manual;
@@ -20,6 +20,7 @@ use mdb_levels::LevelsImported;
 use mdb_rows_import::{ImportFault, RowsOptions, import_records};
 use mdb_saleae::{SaleaeFault, SaleaeOptions, import_table};
 use mdb_sigrok::{SigrokFault, SigrokOptions, SigrokRows, import_sigrok};
+use mdb_vcd::{VcdFault, VcdOptions, import_vcd};
 use mdb_writing::WriteFailed;
 use std::alloc::Global;
 use std::io::{Read, Write};
@@ -48,6 +49,7 @@ pub fn run<R: Read + Drop, W: Write, E: Write>(
         Ok(Task::Sigrok(options)) => Ended::Sigrok(run_sigrok(alloc, &options, reader, out, err)),
         Ok(Task::Saleae(options)) => Ended::Saleae(run_saleae(alloc, &options, reader, out, err)),
         Ok(Task::Edges(options)) => Ended::Edges(run_edges(alloc, &options, reader, out, err)),
+        Ok(Task::Vcd(options)) => Ended::Vcd(run_vcd(alloc, &options, reader, out, err)),
         Ok(Task::Manual(part)) => Ended::Manual(run_manual(part, out, err)),
         Err(refusal) => {
             tell_refusal(alloc, refusal, words.as_slice(), err);
@@ -120,6 +122,22 @@ fn run_edges<R: Read + Drop, W: Write, E: Write>(
     let mut records = records_of(alloc, reader);
     let answer = import_edge_records(alloc, options, &mut records, out);
     tell_of_edges(options, &answer, &records, err);
+    answer
+}
+
+/// Imports the dump that the reader has left.
+fn run_vcd<R: Read + Drop, W: Write, E: Write>(
+    alloc: Global,
+    options: &VcdOptions,
+    reader: R,
+    out: &mut W,
+    err: &mut E,
+) -> Result<LevelsImported, VcdFault>
+    ensures { IfSome (R.remaining reader) (λ text. IsVcdAnswer options.now text
+        (W.contents out.old) (W.contents out.new) result) }
+{
+    let answer = import_vcd(alloc, options, reader, out);
+    tell_of_dump(&answer, err);
     answer
 }
 

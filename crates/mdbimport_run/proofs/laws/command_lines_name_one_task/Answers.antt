@@ -1,4 +1,4 @@
-use Rattle.mdbimport_run.proofs.CommandLine.{alone, one_edges, one_manual, one_rows, one_saleae, one_sigrok}
+use Rattle.mdbimport_run.proofs.CommandLine.{alone, one_edges, one_manual, one_rows, one_saleae, one_sigrok, one_vcd}
 use Rattle.mdbimport_run.proofs.laws.command_lines_name_one_task.Goals as goal
 
 pub returns-clause-rows : goal.returns-clause-rows
@@ -12,6 +12,9 @@ returns-clause-saleae c = one_saleae c.words_name_one_command.ensures
 
 pub returns-clause-edges : goal.returns-clause-edges
 returns-clause-edges c = one_edges c.words_name_one_command.ensures
+
+pub returns-clause-vcd : goal.returns-clause-vcd
+returns-clause-vcd c = one_vcd c.words_name_one_command.ensures
 
 pub returns-clause-alone : goal.returns-clause-alone
 returns-clause-alone c = alone c.words_name_one_command.ensures

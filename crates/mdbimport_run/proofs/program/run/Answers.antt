@@ -1,7 +1,7 @@
 use Rattle.std.proofs.Common.{refl}
 use Rattle.std.proofs.lemmas.Option.{IfSome_then}
-use Rattle.mdbimport_run.specs.declared.command_line.Task.TheVariants.{Edges, Manual, Rows, Saleae, Sigrok}
-use Rattle.mdbimport_run.proofs.Status.{asked, edges_say, manual_says, refused, refused_says, rows_say, saleae_says, sigrok_says}
+use Rattle.mdbimport_run.specs.declared.command_line.Task.TheVariants.{Edges, Manual, Rows, Saleae, Sigrok, Vcd}
+use Rattle.mdbimport_run.proofs.Status.{asked, edges_say, manual_says, refused, refused_says, rows_say, saleae_says, sigrok_says, vcd_says}
 use Rattle.mdbimport_run.proofs.program.run.Goals as goal
 
 pub returns-clause-says : goal.returns-clause-says
@@ -76,6 +76,22 @@ returns-in-Ok-Edges-clause-task g c = (
   c.in-Ok-Edges.options,
   asked _ c.args.words.items _ (Edges c.in-Ok-Edges.options) c.as_slice.ensures.value
       c.in-Ok-Edges.field-0-is c.in-Ok-Edges.ensures.asked,
+)
+
+pub returns-in-Ok-Vcd-clause-says : goal.returns-in-Ok-Vcd-clause-says
+returns-in-Ok-Vcd-clause-says g c =
+    let asks =
+    asked _ c.args.words.items _ (Vcd c.in-Ok-Vcd.options) c.as_slice.ensures.value
+    c.in-Ok-Vcd.field-0-is c.in-Ok-Vcd.ensures.asked in
+    IfSome_then _ c.run_vcd.ensures (vcd_says _ c.in-Ok-Vcd.options
+    (g.W.Write.contents c.args.out.now) (g.W.Write.contents c.run_vcd.new.out)
+    c.run_vcd.result asks)
+
+pub returns-in-Ok-Vcd-clause-task : goal.returns-in-Ok-Vcd-clause-task
+returns-in-Ok-Vcd-clause-task g c = (
+  c.in-Ok-Vcd.options,
+  asked _ c.args.words.items _ (Vcd c.in-Ok-Vcd.options) c.as_slice.ensures.value
+      c.in-Ok-Vcd.field-0-is c.in-Ok-Vcd.ensures.asked,
 )
 
 pub returns-in-Ok-Manual-clause-says : goal.returns-in-Ok-Manual-clause-says
