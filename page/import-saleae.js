@@ -114,8 +114,8 @@ class SaleaeImport {
     const word = this.dataOf(record);
     if (typeof word === "string") return word;
     if (isClean && this.is(record, "framing", "")) return this.add(time, line, word);
-    if (line === PERIPHERAL) return "wanted a stop bit: only the controller sends a break";
-    if (word) return "wanted a stop bit: a word that isn't 0 is no break";
+    if (line === PERIPHERAL) return this.spoil(time, line, "wanted a stop bit: only the controller sends a break");
+    if (word) return this.spoil(time, line, "wanted a stop bit: a word that isn't 0 is no break");
     const {length = null} = this.options;
     if (length === null) return "the table doesn't tell how long the break is: give --break MICROSECONDS";
     return this.add(time, BREAK, length);
@@ -132,6 +132,13 @@ class SaleaeImport {
     if (word > (address === undefined ? 511 : 255))
       return "wanted data of at most 0x1FF, and of at most 0xFF beside a column address";
     return isMarked ? word + 256 : word;
+  }
+
+  // A damaged word: it is left out, or is what is wrong.
+  spoil(time, line, words) {
+    if (!this.options.skip) return words + SKIPPABLE;
+    this.part.damaged.note(time, line);
+    return null;
   }
 
   add(time, line, value) {

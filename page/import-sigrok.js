@@ -10,7 +10,11 @@ const TRACE_KINDS = {
   " break/Break condition": "break",
 };
 const OTHER_KIND = "wanted something of RX or TX that was asked for: see the annotations (-A)";
-const NO_BREAK = "wanted a stop bit after the word: a framing error that is no break";
+const NO_BREAK = "wanted a stop bit after the word: a framing error that is no break" + SKIPPABLE;
+// Three times the millionths of a microsecond within which a frame error is of the word before it: 10 1/4 bits.
+const OWN_ERROR = 3203125000;
+const OTHER_BREAK = "wanted no break on the line of the devices: are the lines exchanged (--swap)?" + SKIPPABLE;
+const LONG_TRACE_BREAK = "wanted a break of at most 999999999 microseconds" + SKIPPABLE;
 const EARLY = "wanted a time after that of the row before it on this line";
 const NO_END = "wanted the last line of a trace, ]}, after a record without a comma";
 
@@ -38,23 +42,48 @@ function lengthOf(from, to) {
   return micros < 0 ? -1 : wholeMicros({micros, parts});
 }
 
-// What was read of one line of the bus: its rows, and what its next record goes on from.
+// Whether a frame error is of a word, by the times at which both begin.
+function isOwnError(word, error) {
+  const micros = error.micros - word.micros;
+  return micros < 2000 && 3 * (micros * MILLION + error.parts - word.parts) < OWN_ERROR;
+}
+
+// What was read of one line of the bus: its rows, and what its next record goes on from. What is passed over is noted
+// in the part.
 class TraceLine {
-  constructor(line) {
-    this.line = line;
+  constructor(line, part, skips) {
+    Object.assign(this, {line, part, skips});
     this.rows = new LineRows();
-    this.state = "free"; // or "started", "zero", "low"
+    this.state = "free"; // or "started", "worded", "low"
     this.number = 0;
     this.time = 0;
+    this.start = null; // of the last word, and the word
+    this.word = 0;
+    this.last = -1; // the time of the last row, pulse or damaged word, and that of the one before a word
+    this.before = -1;
   }
 
   wrong(number, time, words) {
     return {number, time, line: this.line, words};
   }
 
-  // What is wrong where something else than a break comes after a frame error.
+  // What is wrong where no break comes after a frame error.
   noBreak() {
     return this.state === "low" ? this.wrong(this.number, this.time, NO_BREAK) : null;
+  }
+
+  // The same, or null where the word is left out as damaged.
+  endLow() {
+    if (!this.skips) return this.noBreak();
+    if (this.state === "low") this.spoil();
+    return null;
+  }
+
+  // The last word is damaged: its row is taken back.
+  spoil() {
+    this.rows.pop();
+    this.part.damaged.note(this.last, this.line);
+    this.state = "free";
   }
 
   keep(state, number, time) {
@@ -62,22 +91,20 @@ class TraceLine {
   }
 
   take(kind, {number, name, start, end}) {
-    const time = wholeMicros(start), low = kind === "break" ? null : this.noBreak();
-    if (low) return low;
-    if (kind === "start") return this.takeStart(number, time);
-    if (kind === "word") return this.takeWord(number, time, name);
+    const time = wholeMicros(start);
+    if (kind === "start") return this.endLow() ?? this.takeStart(number, time, start);
+    if (kind === "frame") return this.takeError(number, time, start);
     if (kind === "break") return this.takeBreak(number, time, start, end);
-    if (kind === "parity") return this.wrong(number, time, "wanted no parity: decode with parity=none");
-    if (this.state !== "zero") return this.wrong(number, time, NO_BREAK);
-    this.keep("low", number, time);
-    return null;
+    if (kind === "word") return (this.skips ? null : this.noBreak()) ?? this.takeWord(number, time, name);
+    return this.noBreak() ?? this.wrong(number, time, "wanted no parity: decode with parity=none");
   }
 
-  takeStart(number, time) {
+  takeStart(number, time, start) {
     if (this.state === "started")
       return this.wrong(this.number, this.time, "wanted the word of the start bit before the next start bit");
-    if (time <= this.rows.last) return this.wrong(number, time, EARLY);
+    if (time <= this.last) return this.wrong(number, time, EARLY);
     this.keep("started", number, time);
+    this.start = start;
     return null;
   }
 
@@ -88,22 +115,51 @@ class TraceLine {
     const word = parseInt(name, 16);
     if (word > 511) return this.wrong(number, time, "wanted a word of at most 1FF: decode with nine data bits");
     this.rows.push(this.time, word, false);
-    this.keep(word ? "free" : "zero", 0, 0);
+    this.before = this.last;
+    this.last = this.time;
+    this.word = word;
+    this.state = "worded";
+    return null;
+  }
+
+  // A frame error: of the word before it, or a pulse.
+  takeError(number, time, start) {
+    const isOwn = this.state === "started" || this.state !== "free" && isOwnError(this.start, start);
+    if (this.state === "low") return isOwn ? this.noBreak() : this.endLow() ?? this.passPulse(number, time);
+    if (!isOwn) return this.passPulse(number, time);
+    if (this.state === "started" || this.word && !this.skips) return this.wrong(number, time, NO_BREAK);
+    this.keep("low", number, time);
+    return null;
+  }
+
+  passPulse(number, time) {
+    if (time <= this.last) return this.wrong(number, time, EARLY);
+    this.part.pulses.note(time, this.line);
+    this.last = time;
+    this.state = "free";
     return null;
   }
 
   takeBreak(number, time, start, end) {
     if (this.state !== "low")
       return this.wrong(number, time, "wanted a word 000 and its framing error right before the break");
-    if (this.line !== CONTROLLER)
-      return this.wrong(number, time, "wanted no break on the line of the devices: are the lines exchanged (--swap)?");
-    const length = lengthOf(start, end);
+    const length = lengthOf(start, end), isOther = this.line !== CONTROLLER, isLong = length >= MOST_LENGTH;
+    if (isOther && !this.skips) return this.wrong(number, time, OTHER_BREAK);
     if (length < 0) return this.wrong(number, time, "wanted the end of the break after its beginning");
-    if (length >= MOST_LENGTH) return this.wrong(number, time, "wanted a break of at most 999999999 microseconds");
+    if (isLong && !this.skips) return this.wrong(number, time, LONG_TRACE_BREAK);
+    if (!this.skips || !isOther && !this.word && !isLong && length >= LEAST_BREAK)
+      return this.addBreak(number, time, length);
+    this.spoil();
+    return null;
+  }
+
+  // A break takes the place of its word 000.
+  addBreak(number, time, length) {
     this.rows.pop();
-    if (time <= this.rows.last) return this.wrong(number, time, EARLY);
+    if (time <= this.before) return this.wrong(number, time, EARLY);
     this.rows.push(time, length, true);
-    this.keep("free", 0, 0);
+    this.last = time;
+    this.state = "free";
     return null;
   }
 }
@@ -113,7 +169,7 @@ class SigrokImport {
   constructor(options, give) {
     this.part = new Part(options, give);
     this.records = new Lines((line) => this.take(line));
-    this.lines = [new TraceLine(CONTROLLER), new TraceLine(PERIPHERAL)];
+    this.lines = [CONTROLLER, PERIPHERAL].map((line) => new TraceLine(line, this.part, options.skip));
     const [controller, devices] = this.lines;
     this.of = options.swap ? {TX: devices, RX: controller} : {TX: controller, RX: devices};
     this.next = "head"; // or "record", "end", "nothing"
@@ -191,7 +247,7 @@ class SigrokImport {
   }
 
   endLines() {
-    const wrong = this.lines[0].noBreak() ?? this.lines[1].noBreak();
+    const wrong = this.lines[0].endLow() ?? this.lines[1].endLow();
     if (wrong) {
       this.refuse(wrong.number, wrong.words, wrong.time, wrong.line);
       return;

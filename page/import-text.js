@@ -358,8 +358,28 @@ class RowText {
   }
 }
 
+// Where something was passed over: how many places, and the first five by their times, at one time M before S.
+class Places {
+  constructor() {
+    this.count = 0;
+    this.first = [];
+  }
+
+  note(time, line) {
+    this.count++;
+    this.first.push({time, line});
+    this.first.sort((a, b) => a.time - b.time || a.line - b.line);
+    this.first.length = Math.min(this.first.length, 5);
+  }
+}
+
+const placeWords = ({time, line}) => `${time} on ${"MS"[line]}`;
+
+// What the words end with of a fault that --skip-damaged passes over.
+const SKIPPABLE = "; --skip-damaged leaves out what is damaged";
+
 // The rows of a part: those outside it are counted, the others are written. What is told of an
-// import stands here too.
+// import stands here too: pulses and damaged words are those of the whole.
 class Part {
   constructor({from = null, until = null}, give) {
     this.from = from;
@@ -367,6 +387,7 @@ class Part {
     this.text = new RowText(give);
     Object.assign(this, {rows: 0, before: 0, after: 0, passed: 0, header: false});
     Object.assign(this, {marked: false, controller: false, peripheral: false});
+    Object.assign(this, {pulses: new Places(), damaged: new Places()});
   }
 
   isBefore(time) {
@@ -399,12 +420,26 @@ class Part {
   }
 }
 
+function pulsesNote({count, first}) {
+  const at = placeWords(first[0]);
+  return count === 1 ? `passed over 1 pulse shorter than half a bit, at ${at}` :
+                       `passed over ${count} pulses shorter than half a bit; the first at ${at}`;
+}
+
+function damagedNote({count, first}) {
+  const places = first.map(placeWords).join(", "), at = count > first.length ? "the first at" : "at";
+  return `left out ${count} damaged ${count === 1 ? "word" : "words"}, ${at} ${
+      places}; mdbcheck survey shows what is missing`;
+}
+
 // What mdbimport reports of a whole import, a line each.
-function notesOf({header, before, after, passed, marked, controller, peripheral}) {
+function notesOf({header, before, after, passed, pulses, damaged, marked, controller, peripheral}) {
   const notes = [];
   if (header) notes.push("the first record is taken for a header");
   if (before || after) notes.push(`left out ${before} rows before the part and ${after} after it`);
   if (passed) notes.push(`left out ${passed} records outside the part that are no rows, or not in order`);
+  if (pulses.count) notes.push(pulsesNote(pulses));
+  if (damaged.count) notes.push(damagedNote(damaged));
   if (!controller && !peripheral)
     notes.push("there is no word on either line");
   else if (!peripheral)
