@@ -243,10 +243,10 @@ function showUnread(it) {
 
 // A line that is no row.
 function showBadRow(it) {
-  const line = it.lines.find((l) => l.row === it.row), fault = ROW_FAULTS[it.fault];
+  const line = it.lines.find((l) => l.row === it.row), fault = ROW_FAULTS[it.fault], found = foundText(line);
+  const words = found === REFUSED_LINE ? `${NO_PART} ${IMPORT_AGAIN}` : FAULT_WORDS[fault];
   fillCard(
-      "none", `No verdict: row ${number(it.row)} is no row`, FAULT_WORDS[fault],
-      h("p", {},
-        h("code", {id: "bad-row"}, `row ${it.row}: ${fault}: wanted TIME,LINE,VALUE, found "${foundText(line)}"`)),
+      "none", `No verdict: row ${number(it.row)} is no row`, words,
+      h("p", {}, h("code", {id: "bad-row"}, `row ${it.row}: ${fault}: wanted TIME,LINE,VALUE, found "${found}"`)),
       nameWords(it));
 }

@@ -39,6 +39,9 @@ const ZIP = "a zip: take the file out of it, and choose that";
 const lettersOf = (bytes) => new TextDecoder("latin1").decode(bytes);
 const other = (words, command) => ({kind: "other", words, command});
 
+// Whether a text's last line is the one that mdbimport writes where it refuses an export. (UTF-16 has zeros between.)
+const isRefused = (end) => /(^|\n)mdbimport refused this export[\r\n]*$/.test(lettersOf(end).replaceAll("\0", ""));
+
 // A file that is no text, or null.
 function otherKind(bytes) {
   const front = String.fromCharCode(...bytes.subarray(0, 4096));
@@ -142,10 +145,11 @@ function knownText(first, text) {
 
 const isUtf16 = (encoding) => encoding === "utf-16le" || encoding === "utf-16be";
 
-// What a file is whose first bytes these are, and that has so many of them.
-function known(bytes, size) {
+// What a file is that has so many bytes, these first ones and these last ones.
+function known(bytes, size, end) {
   const isWhole = bytes.length >= size;
   if (!size) return {kind: "ours"};
+  if (isRefused(end)) return {...other("what mdbimport wrote of an export that it refused"), isRefused: true};
   const odd = otherKind(bytes);
   if (odd) return odd;
   const front = frontRecords(bytes, isWhole, 30), {records, encoding, hasMark} = front;

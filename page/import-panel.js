@@ -157,15 +157,30 @@ function showImport(title, ...inner) {
 
 // A file that the page can't read: what it is, and what to do.
 function showOther(it) {
-  const {words, command} = it.found;
-  it.words = `This is ${words}.`;
-  showImport(
-      it.words, h("p", {}, fileName(it.file), " has no rows that the page can read."),
-      command &&
-          h("p", {},
-            "On a computer with sigrok-cli this makes a trace, which the page reads. Put the names of your channels for M and S:"),
-      command && h("pre", {}, command));
+  const {words, command, isRefused} = it.found, title = `This is ${words}.`;
+  it.words = isRefused ? NO_PART : title;
+  if (isRefused)
+    showImport(title, ...refusedFile(it.file));
+  else
+    showImport(title, h("p", {}, fileName(it.file), " has no rows that the page can read."), ...commandWords(command));
 }
+
+function commandWords(command) {
+  const words =
+      "On a computer with sigrok-cli this makes a trace, which the page reads. Put the names of your channels for M and S:";
+  return command ? [h("p", {}, words), h("pre", {}, command)] : [];
+}
+
+const NO_PART = "mdbimport refused the export, and no verdict is given on a part of one.";
+const IMPORT_AGAIN =
+    "Import the export again, as the message of mdbimport says. Or drop the export itself on this page: it imports it.";
+
+// What a file is that mdbimport left where it refused an export, and what to do.
+const refusedFile = (file) =>
+    [h("p", {}, fileName(file), " ends with the line ", h("code", {}, REFUSED_LINE),
+       ". Rows of the export are missing: those after the refused place, or all."),
+     h("p", {}, "mdbimport wrote a message too, which isn't in this file. It says what is wrong, and where. ",
+       IMPORT_AGAIN)];
 
 // A recording with quotes: the same rows without them, as a file.
 async function unquoted(it) {

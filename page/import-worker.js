@@ -1,6 +1,6 @@
 // Runs imports away from the page: reads a file in pieces, and answers what it is, the first rows, or all of them
 // as a file.
-const FRONT_SIZE = 1 << 20, PIECE = 1 << 22, HELD = 1 << 23;
+const FRONT_SIZE = 1 << 20, END_SIZE = 1 << 10, PIECE = 1 << 22, HELD = 1 << 23;
 
 const bytesOf = (part) => new Uint8Array(new FileReaderSync().readAsArrayBuffer(part));
 
@@ -36,7 +36,7 @@ class Pieces {
 const WORK = {
   known: ({file}) => {
     try {
-      return known(frontOfFile(file), file.size);
+      return known(frontOfFile(file), file.size, bytesOf(file.slice(-END_SIZE)));
     } catch (fault) {
       return other("a folder, or a file that can't be read any more");
     }

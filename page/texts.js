@@ -7,6 +7,8 @@ const BLAMES = {
   "cashless-2": "the card reader at 60H",
   other: "a device that nobody had asked"
 };
+// What mdbimport writes at the end of an export that it refuses.
+const REFUSED_LINE = "mdbimport refused this export";
 const number = (n) => String(n).replace(/\B(?=(\d{3})+$)/g, ",");
 const capital = (words) => words[0].toUpperCase() + words.slice(1);
 const small = (words) => words[0].toLowerCase() + words.slice(1);

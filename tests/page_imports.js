@@ -32,7 +32,7 @@ const WORK = {
   import: imported,
   known: ({text, size}) => {
     const bytes = new Uint8Array(Buffer.from(text, "base64"));
-    return of.known(bytes, size ?? bytes.length);
+    return of.known(bytes, size ?? bytes.length, bytes);
   },
 };
 
