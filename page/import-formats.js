@@ -46,20 +46,23 @@ class PlainImport {
 }
 
 // An import of any format, over pieces of bytes: `take` each piece, then `end`. The rows are given on
-// in pieces of text. mdbimport reads a trace as it stands; one that was saved as UTF-16 or with a byte
-// order mark is decoded first where `options.decoded` says so.
+// in pieces of text.
 const IMPORTS = {
   plain: PlainImport,
   rows: RowsImport,
   saleae: SaleaeImport,
   edges: EdgesImport,
-  sigrok: SigrokImport
+  sigrok: SigrokImport,
+  vcd: VcdImport
 };
+// mdbimport reads these as they stand. One that was saved as UTF-16 or with a byte order mark is decoded first where
+// `options.decoded` says so.
+const RAW = ["sigrok", "vcd"];
 
 function newImport(format, options, give, each = null) {
   const made = new IMPORTS[format](options, give), {records} = made;
   if (each) watch(made, each);
-  const isRaw = format === "sigrok" && !options.decoded;
+  const isRaw = RAW.includes(format) && !options.decoded;
   const decoder = isRaw ? null : new Decoder((bytes) => records.take(bytes));
   const answers = {
     take: (bytes) => (decoder ?? records).take(bytes),

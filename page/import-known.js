@@ -15,15 +15,13 @@ const BEGINS = [
   ["\x7FELF", "a program of Linux"],
   ["RIFF", "a sound or a picture (RIFF)"],
 ];
-const SIGROK_COMMAND =
-    "sigrok-cli -i bus.sr -P uart:rx=S:tx=M:baudrate=9600:data_bits=9:format=hex -A uart=rx-start:tx-start:rx-data:tx-data:rx-break:tx-break:rx-warnings:tx-warnings --protocol-decoder-jsontrace > bus.json";
-const VCD_COMMAND = SIGROK_COMMAND.replace("-i bus.sr", "-i bus.vcd -I vcd");
+const DUMP_COMMAND = "sigrok-cli -i bus.sr -O vcd > bus.vcd";
 
 // Archives of the kind zip, by a name or a text in their front.
 const ZIPS = [
   [
     /PK\x03\x04.{26}(version|metadata|logic-1)/s, "a session of sigrok (PulseView), in which nothing is decoded",
-    SIGROK_COMMAND
+    DUMP_COMMAND
   ],
   [
     /digital-\d+\.bin|analog-\d+\.bin|meta\.json/,
@@ -134,11 +132,9 @@ const SIGROK_TEXT = /^(\d+-\d+ )?uart-\d+: /;
 // A text that is no table, by its first record and its letters; or null.
 function knownText(first, text) {
   if (text.startsWith(TRACE_HEAD)) return {kind: "sigrok"};
-  if (/^\s*\$(date|version|timescale|comment|scope)\b/.test(text))
-    return other("a waveform (VCD), in which nothing is decoded", VCD_COMMAND);
-  if (SIGROK_TEXT.test(text))
-    return other("the text of sigrok-cli, which has no times: let it write a trace", SIGROK_COMMAND);
-  if (/^\s*[{[]/.test(text)) return other("JSON, and no trace of sigrok-cli: let sigrok-cli write one", SIGROK_COMMAND);
+  if (/^\s*\$(date|version|timescale|comment|scope|var)\b/.test(text)) return {kind: "vcd"};
+  if (SIGROK_TEXT.test(text)) return other("the text of sigrok-cli, which has no times", DUMP_COMMAND);
+  if (/^\s*[{[]/.test(text)) return other("JSON, and no trace of sigrok-cli", DUMP_COMMAND);
   if (/^\s*<(!doctype|html|\?xml)/i.test(text)) return other("a page of the Web or XML");
   return null;
 }
@@ -192,6 +188,7 @@ const LOOKED = 20000;
 
 // What an import's fields can be filled with, of a piece of a text: names, titles, and what is asked.
 function look(bytes, isWhole, kind) {
+  if (kind === "vcd") return lookAtVcd(bytes);
   const {records} = frontRecords(bytes, isWhole, LOOKED), lines = records.slice(0, 3).map(({text}) => text);
   const made = {rows: lookAtRows, saleae: lookAtSaleae, edges: lookAtEdges}[kind];
   return {lines, ...made?.(records)};
@@ -204,7 +201,7 @@ const SEPARATORS = {
 };
 const unique = (all) => [...new Set(all)];
 // The names of lines, apart from the letters that need none.
-const namesIn = (all) => unique(all).filter((it) => it && !LINE_LETTERS.includes(it)).slice(0, 12);
+const namesIn = (all) => unique(all).filter((it) => it && !LINE_LETTERS.includes(it)).slice(0, 32);
 const hasLetter = (all, letter) => all.some((it) => it.toUpperCase() === letter);
 
 function lookAtRows(records) {
@@ -239,5 +236,23 @@ function lookAtEdges([header, ...rest]) {
     names: namesIn(names.length > 1 ? names : titles),
     hasM: hasLetter(titles, "M"),
     hasS: hasLetter(titles, "S")
+  };
+}
+
+// The variables of one bit by names that call no other variable, and by paths where their names do.
+function lookAtVcd(bytes) {
+  const all = [], header = new DumpHeader((variable) => all.push(variable));
+  const tokens = new Tokens((token) => header.take(letters(token)) === null && !header.isWhole);
+  new Decoder((part) => tokens.take(part)).take(bytes);
+  const calls = (name) => all.filter((it) => it.name === name || it.path === name);
+  const isOne = (found) => found.length > 0 && found.every(({size, code}) => size === "1" && code === found[0].code);
+  const isThere = (letter) => isOne(all.filter(({name}) => name === letter || name === letter.toLowerCase()));
+  const names = all.flatMap(({name, path}) => [name, path].find((it) => isOne(calls(it))) ?? []);
+  const words = (text) => new TextDecoder().decode(Uint8Array.from(text, (it) => LATIN_BYTES.get(it)));
+  return {
+    lines: all.slice(0, 8).map(({size, path}) => words(`${path} (${size} bit)`)),
+    names: namesIn(names).map(words),
+    hasM: isThere("M"),
+    hasS: isThere("S")
   };
 }

@@ -5,6 +5,7 @@ const FORMATS = {
   saleae: "a table of Saleae Logic (Async Serial)",
   edges: "a table of edges",
   sigrok: "a trace of sigrok-cli",
+  vcd: "a value change dump (VCD)",
 };
 const UNIT_WORDS = {
   s: "seconds",
@@ -17,7 +18,10 @@ const FORMAT_FIELDS = {
   saleae: ["controller", "peripheral", "length"],
   edges: ["controller", "peripheral", "unit", "invert"],
   sigrok: ["swap"],
+  vcd: ["controller", "peripheral", "invert"],
 };
+// mdbimport reads these as they stand.
+const RAW_FORMATS = ["sigrok", "vcd"];
 const PROGRAM_WORDS = {
   unit: "--unit",
   controller: "--controller",
@@ -165,11 +169,12 @@ function showOther(it) {
     showImport(title, h("p", {}, fileName(it.file), " has no rows that the page can read."), ...commandWords(command));
 }
 
-function commandWords(command) {
-  const words =
-      "On a computer with sigrok-cli this makes a trace, which the page reads. Put the names of your channels for M and S:";
-  return command ? [h("p", {}, words), h("pre", {}, command)] : [];
-}
+const commandWords = (command) => command ?
+    [
+      h("p", {}, "PulseView saves a capture as a value change dump (VCD), which the page reads. So does sigrok-cli:"),
+      h("pre", {}, command)
+    ] :
+    [];
 
 const NO_PART = "mdbimport refused the export, and no verdict is given on a part of one.";
 const IMPORT_AGAIN =
@@ -257,7 +262,7 @@ const button = (id, words, onclick) => h("button", {type: "button", id, onclick}
 // What the page took for what.
 function tookList({format, look, found}) {
   const encoding = encodingWords(format, found);
-  const items = {rows: rowsTook, saleae: saleaeTook, edges: edgesTook, sigrok: sigrokTook}[format](look);
+  const items = {rows: rowsTook, saleae: saleaeTook, edges: edgesTook, sigrok: sigrokTook, vcd: vcdTook}[format](look);
   return h("ul", {id: "import-took"}, [...items, encoding].filter(Boolean).map((words) => h("li", {}, words)));
 }
 
@@ -265,8 +270,9 @@ function encodingWords(format, {encoding, hasMark}) {
   const isWide = encoding?.startsWith("utf-16");
   if (!isWide && !hasMark) return null;
   const words = isWide ? "The text was saved as UTF-16." : "The text has a byte order mark.";
-  return format === "sigrok" ? `${words} The page reads it all the same. mdbimport wants it as UTF-8 without a mark.` :
-                               words;
+  return RAW_FORMATS.includes(format) ?
+      `${words} The page reads it all the same. mdbimport wants it as UTF-8 without a mark.` :
+      words;
 }
 
 function rowsTook({titles, separators = []}) {
@@ -294,6 +300,12 @@ function edgesTook({timeTitle = ""}) {
 
 function sigrokTook() {
   return ["TX is the controller's line (M), RX that of the devices (S). Times are in microseconds."];
+}
+
+function vcdTook() {
+  return [
+    "Each variable of one bit may be a line: 1 is high, 0 is low. The file tells the unit of its times. Words are read at 9600 baud."
+  ];
 }
 
 // A title that names another unit than seconds.
@@ -354,7 +366,7 @@ function importOptions({format, look, found}) {
     if (value === "" || value === false) continue;
     options[name] = name === "controller" || name === "peripheral" ? namedLine(name, value, look) : value;
   }
-  if (format === "sigrok" && (found.hasMark || found.encoding?.startsWith("utf-16"))) options.decoded = true;
+  if (RAW_FORMATS.includes(format) && (found.hasMark || found.encoding?.startsWith("utf-16"))) options.decoded = true;
   return options;
 }
 
@@ -397,7 +409,9 @@ async function showFirstRows() {
   canImport(it.format !== "edges" || Boolean(options.unit));
   if (asks.length) {
     by("import-first")
-        .replaceChildren(h("p", {}, "The file begins:"), h("pre", {}, it.look.lines.map(shownName).join("\n")));
+        .replaceChildren(
+            h("p", {}, it.format === "vcd" ? "Its variables:" : "The file begins:"),
+            h("pre", {}, it.look.lines.map(shownName).join("\n")));
     return;
   }
   const first = await it.importer.ask({work: "preview", format: it.format, options});

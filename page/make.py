@@ -20,7 +20,7 @@ SCRIPTS = ("layout words news elements texts report options runs import-panel la
 # Those of the worker.
 WORKERS = "sha256 layout worker".split()
 # Those of the worker that imports an export.
-IMPORT_SCRIPTS = ["sha256", *(f"import-{name}" for name in "text rows levels saleae edges sigrok formats known worker".split())]
+IMPORT_SCRIPTS = ["sha256", *(f"import-{name}" for name in "text rows levels saleae edges sigrok vcd formats known worker".split())]
 # Recordings of examples/ that the page has for those who want to try it, each with what it is.
 EXAMPLES = {
     "coin-told-twice": "A coin that was reported twice: was it one or two?",
