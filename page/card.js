@@ -57,6 +57,30 @@ const storyList = (story, heading = "What to do next") => {
   ];
 };
 
+// What a card says where damaged words were left out.
+function leftOut(it) {
+  const damaged = leftOutOf(it.file);
+  if (!damaged) return null;
+  const {count, first} = damaged, all = first.map(({time, line}) => `${seconds(time)} on ${"MS"[line]}`);
+  const places = count > first.length ? `the first at ${all.join(", ")}` : `at ${listed(all)}`;
+  return h(
+      "p", {id: "left-out"},
+      `${count === 1 ? "A damaged word was" : `${number(count)} damaged words were`} left out of this recording, ${
+          places}. What follows such a place may break a rule because a word is missing there.`);
+}
+
+// Whether a word was left out before the row that cannot be.
+function isAfterDamage(it) {
+  const damaged = leftOutOf(it.file), line = it.lines.find(({row}) => row === it.row);
+  return Boolean(damaged && line) && damaged.first[0].time < Number(shown(line).split(",")[0]);
+}
+
+// The story of a row that perhaps cannot be because a word is missing before it.
+const storyAfterDamage = (it) =>
+    [...storyOf(it).filter(({kind}) => kind !== "next"),
+     nextStep(
+         "Go on with the survey of the whole recording. A fault that isn't near such a place has another reason.")];
+
 const nameWords = (it) => h("p", {class: "soft"}, "Recording: ", nameShown(it.name), `. ${wayWords(it)}`);
 
 // The answer in a word or two, for the window's title.
@@ -92,7 +116,7 @@ function showYes(it) {
   const r = it.report;
   if (r.rows !== "0" && isUnfollowed(it)) return showIdle(it);
   fillCard(
-      "yes", "Yes: this recording is possible", yesLead(it), storyList(r.rows === "0" ? [] : storyOf(it)),
+      "yes", "Yes: this recording is possible", yesLead(it), leftOut(it), storyList(r.rows === "0" ? [] : storyOf(it)),
       valueButton(it),
       h("p", {class: "soft"},
         "A yes says that an honest explanation of the recording exists. It doesn't say that the money is honest."),
@@ -141,16 +165,17 @@ function openSetups() {
 
 function showNo(it) {
   const r = it.report, isExchanged = isPerhapsExchanged(it);
-  const isLate = isPerhapsLate(it) && !isExchanged, isFile = isFileLikely(it);
+  const isLate = isPerhapsLate(it) && !isExchanged, isFile = isFileLikely(it) || isAfterDamage(it);
   const word = `No: row ${number(it.row)} cannot be`, broken = `the row breaks the rule ${r.rule}`;
   const sent = `${capital(broken)}, and ${BLAMES[r.blame]} sent it.`;
   const lead = isLate ? h("strong", {}, "Was the machine already running when the recording began?") :
       isFile          ? sent :
                         `${capital(BLAMES[r.blame])} broke the protocol here: ${broken}.`;
   fillCard(
-      "no", word, lead,
+      "no", word, lead, leftOut(it),
       isLate ? [lateNotes(it), h("p", {}, `If the recording does begin at power-on: ${small(sent)}`)] : null,
-      storyList(storyOf(it), isLate ? "What to do next, in that case" : undefined),
+      storyList(
+          isAfterDamage(it) ? storyAfterDamage(it) : storyOf(it), isLate ? "What to do next, in that case" : undefined),
       isExchanged ? exchangeButton() : null,
       isLate || !it.late ? null :
           isExchanged    ? lateAside(it) :
@@ -183,7 +208,8 @@ function showUnfollowed(it) {
   const row = number(it.row);
   fillCard(
       "limit", `Not followed from row ${row} on: ${unfollowed(it).what}`,
-      "This is a limit of the checker. It shows no fault of anybody.", storyList(profileStory(it)), leaveOut(it),
+      "This is a limit of the checker. It shows no fault of anybody.", leftOut(it), storyList(profileStory(it)),
+      leaveOut(it),
       h("p", {class: "soft"},
         `Row ${row} falls under the rule Profile. ${it.row > 1 ? `The rows before it are possible together. ` : ""}`,
         unjudgedWords(it)),

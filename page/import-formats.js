@@ -73,7 +73,7 @@ function newImport(format, options, give, each = null) {
       made.end();
       return answerOf(made);
     },
-    front: (isWhole) => isWhole ? answers.end() : frontOf(made, give)
+    front: (isWhole) => ({...(isWhole ? answers.end() : frontOf(made, give)), isEarly: isEarly(made)})
   };
   return answers;
 }
@@ -99,10 +99,17 @@ function frontOf(made, give) {
   return {...answerOf(made), notes: []};
 }
 
-// What mdbimport says at the end: why a record is refused, or what is reported of the whole.
+// Whether fewer than 20 words and breaks were found so far, where they are read from levels.
+function isEarly(made) {
+  let count = 0;
+  made.addFirst?.(20, () => count++);
+  return count < 20;
+}
+
+// What mdbimport says at the end: why a record is refused, or what is reported of the whole. And what was left out.
 function answerOf(made) {
-  const {refused, goOn = null, part} = made;
-  return {refused, goOn, rows: part.rows, notes: refused || made instanceof PlainImport ? [] : notesOf(part)};
+  const {refused, goOn = null, part} = made, {rows, damaged = null} = part;
+  return {refused, goOn, rows, damaged, notes: refused || made instanceof PlainImport ? [] : notesOf(part)};
 }
 
 const LINE_LETTERS = ["M", "m", "S", "s", "B", "b"];
@@ -130,8 +137,8 @@ function optionsOf({from, until, length, ...rest}) {
   return {...rest, from: value(from), until: value(until), length: value(length)};
 }
 
-// The first rows that a piece of a text gives, with the records of those that are made of one; and why a
-// record of it is refused, or what is reported of the whole.
+// The first rows that a piece of a text gives, with the records of those that are made of one; and what answerOf says
+// of that piece.
 function preview(bytes, isWhole, format, options, most = 5) {
   const parts = [], records = [];
   const made = newImport(format, options, (part) => parts.push(part), (record) => {
@@ -139,6 +146,6 @@ function preview(bytes, isWhole, format, options, most = 5) {
   });
   made.take(bytes);
   const answer = made.front(isWhole);
-  const rows = parts.map(lettersOf).join("").split("\n").slice(0, most);
-  return {...answer, rows: rows.filter(Boolean), records, isWhole};
+  const first = parts.map(lettersOf).join("").split("\n").slice(0, most);
+  return {...answer, first: first.filter(Boolean), records, isWhole};
 }

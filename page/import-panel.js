@@ -15,13 +15,11 @@ const UNIT_WORDS = {
 };
 const FORMAT_FIELDS = {
   rows: ["unit", "controller", "peripheral"],
-  saleae: ["controller", "peripheral", "length"],
-  edges: ["controller", "peripheral", "unit", "invert"],
-  sigrok: ["swap"],
-  vcd: ["controller", "peripheral", "invert"],
+  saleae: ["controller", "peripheral", "length", "skip"],
+  edges: ["controller", "peripheral", "unit", "invert", "skip"],
+  sigrok: ["swap", "skip"],
+  vcd: ["controller", "peripheral", "invert", "skip"],
 };
-// mdbimport reads these as they stand.
-const RAW_FORMATS = ["sigrok", "vcd"];
 const PROGRAM_WORDS = {
   unit: "--unit",
   controller: "--controller",
@@ -29,6 +27,7 @@ const PROGRAM_WORDS = {
   length: "--break",
   invert: "--invert",
   swap: "--swap",
+  skip: "--skip-damaged",
   from: "--from",
   until: "--until",
 };
@@ -109,7 +108,6 @@ async function recordingOf(file, then = run) {
     return null;
   }
   const format = found.kind === "unknown" ? null : found.kind;
-  openImport.words = `${capital(kindWords(format))}. Answer what is asked above, and press “Import and check”.`;
   await takeAs(format);
   return format ? null : file;
 }
@@ -200,7 +198,8 @@ async function unquoted(it) {
   const words =
       "The page has taken off quotes, and ends of lines that are a CR alone. The numbers of the rows are the same.";
   showImport(
-      "Rows with fields between quotes", h("p", {}, fileName(it.file), ": ", words), h("p", {}, saveButton(answer)));
+      "Rows with fields between quotes", h("p", {}, fileName(it.file), ": ", words),
+      h("p", {}, button("import-save-rows", "Save the rows", () => saveFile(answer.file))));
   return answer.file;
 }
 
@@ -211,7 +210,7 @@ const rowsName = (file) => savedName({file}, "-rows.csv");
 async function takeAs(format, isChosen = false) {
   const it = openImport;
   it.format = format;
-  it.answer = it.made = null;
+  it.answer = it.made = it.refusal = null;
   it.look = format ? await it.importer.ask({work: "look", kind: format}) : {};
   if (it !== openImport) return;
   drawImport(it);
@@ -241,16 +240,16 @@ function formatField(format) {
 function importBody(it) {
   return [
     tookList(it),
+    h("p", {id: "import-asks", role: "status"}),
     h("div", {class: "tools", id: "import-fields", oninput: () => showFirstRows()},
       FORMAT_FIELDS[it.format].map((name) => FIELDS[name](it))),
     h("details", {oninput: () => showFirstRows()}, h("summary", {}, "Only a part of it"),
       h("div", {class: "tools"}, microsField("from", "From (microseconds)"),
         microsField("until", "Until (microseconds)"))),
-    h("p", {id: "import-asks", role: "status"}),
     h("div", {id: "import-first"}),
-    h("p", {}, button("import-go", it.then === run ? "Import and check" : "Import and take the set-up", importAndCheck),
-      " ", button("import-save", "Save the rows", importAndSave)),
-    h("div", {id: "import-told", role: "status"}),
+    h("p", {}, button("import-go", goWords(it), importAndCheck), " ",
+      button("import-save", "Save the rows", importAndSave)),
+    h("div", {id: "import-told", role: "status", tabindex: -1}),
     h("p", {class: "soft"},
       "This import is the page's own. It is tested against the program mdbimport, and not proved. The same by that program: ",
       h("code", {id: "import-command"})),
@@ -258,6 +257,7 @@ function importBody(it) {
 }
 
 const button = (id, words, onclick) => h("button", {type: "button", id, onclick}, words);
+const goWords = (it) => it.then === run ? "Import and check" : "Import and take the set-up";
 
 // What the page took for what.
 function tookList({format, look, found}) {
@@ -289,7 +289,8 @@ function saleaeTook({columns = {}}) {
   const errors = [error, parity, framing].filter(Boolean).map(quoted).join(" and ");
   return [
     `The time is the column ${quoted(time)}, in seconds. The word is ${quoted(data)}. The line is ${quoted(name)}.`,
-    `Errors are ${errors || "in no column"}.${address ? ` The mode bit is ${quoted(address)}.` : ""}`,
+    `${errors ? `Errors stand in ${errors}` : "No column tells errors"}.${
+        address ? ` The mode bit is ${quoted(address)}.` : ""}`,
   ];
 }
 
@@ -356,6 +357,7 @@ const FIELDS = {
   length: () => microsField("length", "Length of each break (microseconds)"),
   invert: checkField("invert", "The levels are upside down"),
   swap: checkField("swap", "RX is the controller's line"),
+  skip: checkField("skip", "Leave damaged words out"),
 };
 
 // What stands in the fields, as the words of mdbimport's options.
@@ -399,15 +401,14 @@ function importCommand({format, file}, options) {
 
 // Shows the first rows by what stands in the fields, or what is asked.
 async function showFirstRows() {
-  const it = openImport, options = importOptions(it), asks = asksOf(it, options), mine = it.preview = {};
+  const it = openImport, options = importOptions(it), mine = it.preview = {};
+  Object.assign(it, {options, asks: asksOf(it, options)});
   it.answer = it.made?.key === JSON.stringify(options) ? it.made.answer : null;
-  const isOld = it.isChecked && !it.answer;
-  const told = isOld ? ["The answer below is of rows that were made with other settings. Import again."] : [];
-  by("import-told").replaceChildren(...(it.answer ? toldOf(it, it.answer) : told));
+  it.refusal = it.answer?.refused ? it.answer : null;
   by("import-command").textContent = shownName(importCommand(it, options));
-  by("import-asks").replaceChildren(...asks.flatMap((words) => [h("strong", {}, words), h("br", {})]));
-  canImport(it.format !== "edges" || Boolean(options.unit));
-  if (asks.length) {
+  by("import-asks").replaceChildren(...it.asks.flatMap((words) => [h("strong", {}, words), h("br", {})]));
+  showTold(it);
+  if (it.asks.length) {
     by("import-first")
         .replaceChildren(
             h("p", {}, it.format === "vcd" ? "Its variables:" : "The file begins:"),
@@ -417,43 +418,136 @@ async function showFirstRows() {
   const first = await it.importer.ask({work: "preview", format: it.format, options});
   if (it !== openImport || it.preview !== mine) return;
   by("import-first").replaceChildren(...firstRows(first));
+  it.isEarly = first.isEarly;
+  if (it.answer || !first.refused) return;
+  it.refusal = first;
+  showTold(it);
 }
 
-function firstRows({rows, records, refused, isWhole, goOn}) {
-  const isOfRecords = records.length === rows.length && rows.length > 0;
+// Shows what is told of the import, with what can be done: below the buttons, and in the card if that has no verdict.
+function showTold(it) {
+  const isOld = it.isChecked && !it.answer, answer = it.answer ?? it.refusal;
+  const old = isOld ? ["The answer below is of rows that were made with other settings. Import again."] : [];
+  by("import-told").replaceChildren(...old, ...(answer ? toldOf(it, answer) : []));
+  canImport(!it.refusal && (it.format !== "edges" || Boolean(it.options.unit)));
+  it.words = standing(it);
+  if (it.then === run && file === it.file && !state && !isWorking) by("lead").textContent = it.words;
+}
+
+// How an import stands that has made no rows yet, for the card.
+function standing(it) {
+  const what = `${capital(kindWords(it.format))}.`;
+  if (it.asks.length) return `${what} Answer what is asked above, and press “${goWords(it)}”.`;
+  if (!it.refusal) return `${what} Press “${goWords(it)}” above.`;
+  const can = canSkip(it) ? " It can leave the damaged words out." : it.refusal.goOn ? " It can go on after that." : "";
+  return `${what} The import is refused. The reason, and what can be done, stand above.${can}`;
+}
+
+function firstRows({first, records, refused, isWhole}) {
+  const isOfRecords = records.length === first.length && first.length > 0;
   const heads = isOfRecords ? [["record", "number"], ["in the file"], ["row"]] : [["row"]];
   const cell = (words) => h("td", {}, h("code", {}, words));
-  const lines = rows.map(
+  const lines = first.map(
       (row, i) => isOfRecords ?
           h("tr", {}, h("td", {class: "number"}, number(records[i].number)), cell(records[i].found), cell(row)) :
           h("tr", {}, cell(row)));
-  const made = rows.length ? table(`The first ${rows.length} rows that are made`, heads, lines) : null;
-  const none = !rows.length && !refused ?
-      h("p", {}, isWhole ? "No row is made of it." : "No row is made of its beginning.") :
-      null;
-  return [made, none, ...(refused ? refusedWords({refused, goOn}) : [])].filter(Boolean);
+  if (first.length) return [table(`The first ${first.length} rows that are made`, heads, lines)];
+  return refused ? [] : [h("p", {}, isWhole ? "No row is made of it." : "No row is made of its beginning.")];
 }
 
-// What to do where the import refuses something: the words of mdbimport, and where the page has what they name.
-const ADVICE = [
-  [/--unit/, "Choose the unit of the times above."],
-  [/--break/, "Fill in the length of each break above. The breaks of one machine are mostly of the same length."],
-  [/--swap/, "Tick “RX is the controller's line” above, if the lines were exchanged."],
-  [/--controller|as --controller/, "Choose above which name is which line."],
-];
+// Whether an import that is refused would leave out what refuses it.
+const canSkip = ({refusal, options}) => refusal.refused.includes("--skip-damaged") && !options.skip;
 
-function refusedWords({refused, goOn}) {
-  const isRecord = refused.startsWith("record ");
-  const advice = ADVICE.find(([words]) => words.test(refused.replace(/; go on with.*|; found ".*/g, "")));
+// What the words of mdbimport name that the page can be told, if it wasn't.
+const ADVICE = [
+  [/--unit/, "unit", "Choose the unit of the times above."],
+  [
+    /--break/, "length",
+    "Fill in the length of each break above. The breaks of one machine are mostly of the same length."
+  ],
+  [/--swap/, "swap", "Were the two lines exchanged? Then tick “RX is the controller's line” above."],
+  [/--controller/, "controller", "Choose above which name is which line."],
+  [/--controller/, "peripheral", "Choose above which name is which line."],
+];
+const UPSIDE_DOWN = "That is near the beginning. Are the levels upside down? Then tick that above first.";
+
+function adviceOf({format, options, isEarly}, refused) {
+  const isTold = (name) => !FORMAT_FIELDS[format].includes(name) || options[name] !== undefined;
+  const bare = refused.replace(/; go on with.*|; found ".*/g, "");
+  if (isEarly && bare.includes("--skip-damaged") && !isTold("invert")) return UPSIDE_DOWN;
+  return ADVICE.find(([words, name]) => words.test(bare) && !isTold(name))?.[2];
+}
+
+// What can be done where nothing that the page asks for would help.
+const CUT_TABLE =
+    "Cut the file before or after that record. Each piece needs the header, and is a recording of its own.";
+const CUT_CAPTURE =
+    "Cut the capture before or after that time, in the program that recorded it, and export each piece.";
+const AS_DUMP = "Or export the same capture as a value change dump (VCD), and choose that.";
+const WAYS = {
+  rows: ["Correct that line of the file, or take it out. Then choose the file again."],
+  saleae: [
+    "Export the table again: both analysers, all columns, hexadecimal, times in seconds.", CUT_TABLE,
+    "Or export the raw digital data of the same capture from Logic, as CSV, and choose that."
+  ],
+  edges: [
+    "Export the table again: commas between the fields, and times with a point and all decimals.", CUT_TABLE, AS_DUMP
+  ],
+  sigrok: [
+    "Let sigrok-cli write the trace again, to its end, with the options that sigrok-trace.md names.", CUT_CAPTURE,
+    AS_DUMP
+  ],
+  vcd: [
+    "Export the dump again, to its end.", CUT_CAPTURE,
+    "Or export the same capture as a table of edges (CSV), and choose that."
+  ],
+};
+// mdbimport reads these as they stand.
+const RAW_FORMATS = ["sigrok", "vcd"];
+
+// Why an import is refused, and what can be done: each button goes on, and a field is named that would help.
+function refusedWords(it, {refused, goOn}) {
+  const isOption = refused.startsWith("--"), advice = adviceOf(it, refused);
+  const isStuck = !isOption && !advice && !goOn && !canSkip(it);
   return [
-    h("p", {}, h("strong", {}, isRecord ? "The import stops there: " : "This can't be used: "),
+    h("p", {}, h("strong", {}, isOption ? "This can't be used: " : "The import is refused: "),
       h("code", {class: "refused"}, `mdbimport: ${refused}`)),
-    advice ? h("p", {}, advice[1]) : null,
-    goOn ?
-        h("p", {}, button("import-go-on", `Import what comes from ${goOn} on`, () => goOnFrom(goOn)),
-          " What was recorded before and after that isn't one recording: check each by itself, and this one as of a machine that was running already.") :
-        null,
+    advice ? h("p", {}, advice) : null,
+    canSkip(it) ? skipOffer() : null,
+    goOn ? goOnOffer(goOn) : null,
+    ...(isStuck ? stuckWords(it) : []),
+  ].filter(Boolean);
+}
+
+const skipOffer = () => h(
+    "p", {}, button("import-skip-on", "Leave damaged words out and go on", skipAndGoOn),
+    " A damaged word has no stop bit: a spike on the line may be the reason. The page then says which words it left out.");
+
+const goOnOffer = (micros) => h(
+    "p", {}, button("import-go-on", `Import what comes from ${micros} on`, () => goOnFrom(micros)),
+    " What was recorded before and after that isn't one recording: check each by itself, and this one as of a machine that was running already.");
+
+function stuckWords({format, found, refusal}) {
+  const isOther = format !== found.kind, isAt = / at \d/.test(refusal.refused);
+  const ways = WAYS[format].filter((words) => words !== CUT_CAPTURE || isAt);
+  return [
+    h("p", {},
+      "No answer in the fields above changes that. This file can't be used as it is, and has no verdict. What can be done:"),
+    h("ul", {id: "import-ways"},
+      [...(isOther ? ["Choose above what the file is, if it is something else."] : []), ...ways].map(
+          (words) => h("li", {}, words))),
   ];
+}
+
+async function skipAndGoOn() {
+  const it = openImport;
+  by("import-skip").checked = true;
+  await showFirstRows();
+  if (it !== openImport) return;
+  if (it.refusal)
+    by("import-told").focus();
+  else
+    importAndCheck();
 }
 
 function goOnFrom(micros) {
@@ -477,42 +571,39 @@ function stopImport(it) {
 
 // The whole import by what stands in the fields; null where another file came in between.
 async function importAll() {
-  const it = openImport, {preview} = it, told = by("import-told"), pressed = document.activeElement;
+  const it = openImport, {preview, options} = it, pressed = document.activeElement;
   if (it.answer) return it.answer;
-  const bar = h("progress", {max: 1, value: 0, "aria-label": "Importing"}), options = importOptions(it);
-  told.replaceChildren("Importing ", bar, " ", button("import-stop", "Stop", () => stopImport(it)));
+  const bar = h("progress", {max: 1, value: 0, "aria-label": "Importing"});
+  by("import-told").replaceChildren("Importing ", bar, " ", button("import-stop", "Stop", () => stopImport(it)));
   canImport(false);
   const isNow = () => it === openImport && it.preview === preview;
+  let words = null;
   try {
     const answer = await it.importer.ask(
         {work: "import", format: it.format, options, name: rowsName(it.file)}, (part) => bar.value = part);
     if (!isNow()) return null;
-    madeFiles.set(answer.file, {file: it.file, sha256: answer.sha256, command: importCommand(it, options)});
+    const {sha256, damaged, notes} = answer;
+    madeFiles.set(answer.file, {file: it.file, sha256, command: importCommand(it, options), damaged, notes});
     if (!answer.refused) lastNames = {controller: options.controller, peripheral: options.peripheral};
     it.answer = answer;
+    it.refusal = answer.refused ? answer : null;
     it.made = {key: JSON.stringify(options), answer};
-    told.replaceChildren(...toldOf(it, answer));
     return answer;
   } catch (fault) {
-    if (isNow()) told.replaceChildren(`The import failed: ${fault.message}.`);
+    words = `The import failed: ${fault.message}.`;
     return null;
   } finally {
     if (isNow()) {
-      canImport(true);
+      showTold(it);
+      if (words) by("import-told").replaceChildren(words);
       if (document.activeElement === document.body) pressed.focus({preventScroll: true});
     }
   }
 }
 
 function toldOf(it, answer) {
-  const {refused, rows, notes, file} = answer;
-  if (refused) {
-    const check = () => it.then(file, true);
-    const before = rows ? h("p", {}, `${number(rows)} rows stand before it. They are a recording by themselves. `,
-                            button("import-before", "Check these rows", check), " ", saveButton(answer)) :
-                          null;
-    return [...refusedWords(answer), before].filter(Boolean);
-  }
+  const {refused, rows, notes, damaged, file} = answer;
+  if (refused) return [...refusedWords(it, answer), ...(rows ? [rowsBefore(it, rows)] : [])];
   const list = notes.length ?
       h("ul", {id: "import-notes"}, notes.map((words) => h("li", {}, h("code", {}, `mdbimport: ${words}`)))) :
       null;
@@ -522,8 +613,27 @@ function toldOf(it, answer) {
           number(
               rows)} rows were made. The numbers of rows on this page are those of the made rows, not of the lines of `,
       fileName(it.file), "."),
-    list
+    list, damaged?.count ? h("p", {}, missingWords(damaged, rows)) : null
   ].filter(Boolean);
+}
+
+// What it means that words were left out.
+function missingWords({count}, rows) {
+  const many = count * 10 > rows ? " These are many: are the levels, the rate and the lines right?" : "";
+  return `Where a word was left out, it is missing now. So the check mostly answers no at the row after it. Then go on with the survey of the whole recording: it shows each such place.${
+      many}`;
+}
+
+// The rows before a refused record, which can be used.
+function rowsBefore(it, rows) {
+  const use = async (then) => {
+    const answer = await importAll();
+    if (answer) then(answer.file);
+  };
+  return h(
+      "p", {}, `${number(rows)} rows stand before it. They are a recording by themselves. `,
+      button("import-before", "Check these rows", () => use((rows) => it.then(rows, true))), " ",
+      button("import-save-rows", "Save these rows", () => use(saveFile)));
 }
 
 async function importAndCheck() {
@@ -532,19 +642,24 @@ async function importAndCheck() {
   it.isChecked = !answer.refused;
   if (!answer.refused)
     it.then(answer.file, true);
-  else if (it.then === run)
+  else
     refuseImport(it);
 }
 
-const seeTold = () => by("import-told").scrollIntoView({block: "nearest"});
-
 // No verdict is of the rows of an earlier import any more. The reason stands above the card, and is in sight.
 function refuseImport(it) {
-  endChecker();
-  file = it.file;
-  recording = null;
-  trouble("The import was refused. The reason stands above.", false);
+  if (it.then === run) {
+    endChecker();
+    file = it.file;
+    recording = null;
+    trouble(it.words, false);
+  }
   seeTold();
+}
+
+function seeTold() {
+  by("import-told").scrollIntoView({block: "nearest"});
+  by("import-told").focus({preventScroll: true});
 }
 
 async function importAndSave() {
@@ -556,7 +671,6 @@ async function importAndSave() {
     saveFile(answer.file);
 }
 
-const saveButton = ({file}) => button("import-save-rows", "Save the rows", () => saveFile(file));
 
 function saveFile(file) {
   const url = URL.createObjectURL(file), link = h("a", {href: url, download: file.name});
@@ -582,10 +696,16 @@ async function takeQuotesOff() {
 function sourceOf(rows) {
   const source = madeFiles.get(rows);
   if (!source) return null;
-  const {file, sha256, command} = source, how = command ? " as by the command " : " without its quotes";
+  const {file, sha256, command, notes = []} = source, how = command ? " as by the command " : " without its quotes";
   const sum = sha256 ? `, SHA-256 ${sha256}` : "";
   return [
     h("bdi", {}, shownName(file.name)), `, ${number(file.size)} bytes${sum}, by this page,${how}`,
-    h("code", {}, command ?? "")
+    h("code", {}, command ?? ""), ...notes.map((words) => h("div", {}, h("code", {}, `mdbimport: ${words}`)))
   ];
+}
+
+// The damaged words that were left out when rows were made: how many, and the first by their times. Null if none were.
+function leftOutOf(rows) {
+  const damaged = madeFiles.get(rows)?.damaged;
+  return damaged?.count ? damaged : null;
 }

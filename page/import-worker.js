@@ -44,7 +44,7 @@ const WORK = {
   look: ({file, kind}) => look(frontOfFile(file), file.size <= FRONT_SIZE, kind),
   preview: ({file, format, options}) => {
     const fault = optionsFault(options);
-    if (fault) return {refused: fault, rows: [], records: [], notes: [], goOn: null, isWhole: true};
+    if (fault) return {refused: fault, rows: 0, first: [], records: [], notes: [], goOn: null, isWhole: true};
     return preview(frontOfFile(file), file.size <= FRONT_SIZE, format, optionsOf(options));
   },
   import: ({file, format, options, name}, tell) => {
