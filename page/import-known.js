@@ -223,7 +223,8 @@ function lookAtSaleae([header, ...rest]) {
   const titleOf = (column) => header.fields.find((it) => TITLES[column].includes(it)) ?? null;
   const columns = Object.fromEntries(Object.keys(TITLES).map((it) => [it, titleOf(it)]));
   const at = header.fields.indexOf(columns.name), lines = at < 0 ? [] : rest.map(({fields}) => fields[at] ?? "");
-  const hasBreak = rest.some(({fields}) => fields.includes("framing"));
+  const data = header.fields.indexOf(columns.data), isZero = ({fields}) => /^0[xX]0+$/.test(fields[data]);
+  const hasBreak = rest.some((it) => it.fields.includes("framing") && isZero(it));
   return {columns, names: namesIn(lines), hasM: hasLetter(lines, "M"), hasS: hasLetter(lines, "S"), hasBreak};
 }
 
