@@ -132,7 +132,7 @@ const SIGROK_TEXT = /^(\d+-\d+ )?uart-\d+: /;
 // A text that is no table, by its first record and its letters; or null.
 function knownText(first, text) {
   if (text.startsWith(TRACE_HEAD)) return {kind: "sigrok"};
-  if (/^\s*\$(date|version|timescale|comment|scope|var)\b/.test(text)) return {kind: "vcd"};
+  if (/^\s*\$[a-z]\S*\s[^]*\$end\b/.test(text)) return {kind: "vcd"};
   if (SIGROK_TEXT.test(text)) return other("the text of sigrok-cli, which has no times", DUMP_COMMAND);
   if (/^\s*[{[]/.test(text)) return other("JSON, and no trace of sigrok-cli", DUMP_COMMAND);
   if (/^\s*<(!doctype|html|\?xml)/i.test(text)) return other("a page of the Web or XML");
