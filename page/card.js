@@ -78,8 +78,7 @@ function isAfterDamage(it) {
 // The story of a row that perhaps cannot be because a word is missing before it.
 const storyAfterDamage = (it) =>
     [...storyOf(it).filter(({kind}) => kind !== "next"),
-     nextStep(
-         "Go on with the survey of the whole recording. A fault that isn't near such a place has another reason.")];
+     nextStep("See the survey of the whole recording. A fault that isn't near such a place has another reason.")];
 
 const nameWords = (it) => h("p", {class: "soft"}, "Recording: ", nameShown(it.name), `. ${wayWords(it)}`);
 
