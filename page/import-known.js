@@ -242,7 +242,7 @@ function lookAtEdges([header, ...rest]) {
 
 // The variables of one bit by names that call no other variable, and by paths where their names do.
 function lookAtVcd(bytes) {
-  const all = [], header = new DumpHeader((variable) => all.push(variable));
+  const all = [], header = new DumpHeader((variable) => void all.push(variable));
   const tokens = new Tokens((token) => header.take(letters(token)) === null && !header.isWhole);
   new Decoder((part) => tokens.take(part)).take(bytes);
   const calls = (name) => all.filter((it) => it.name === name || it.path === name);

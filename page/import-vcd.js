@@ -1,15 +1,21 @@
 // The import of a value change dump (docs/bench/vcd.md).
-const NO_DUMP = "wanted a dump, which begins with $ and a word";
-const HALF_HEADER = "wanted the rest of the header, up to $enddefinitions";
-const TIMESCALE = "wanted one $timescale: 1, 10 or 100, and s, ms, us, ns, ps or fs";
-const NO_SCOPE = "wanted a scope with a type and a name";
-const NO_VARIABLE = "wanted a variable with a type, a size, a code and a name";
-const VARIABLES = "wanted one variable of one bit for each line: as --controller and --peripheral say, or M and S";
-const NO_CHANGE = "wanted a time, a change or a command";
-const EARLY_TIME = "wanted a time that isn't before the one above it";
-const NO_LEVEL = "wanted a level, 0 or 1";
-const LOST_LEVEL = "wanted a level, 0 or 1, as the line had before";
-const CUT_DUMP = "wanted the rest of a change or of a comment: the dump is cut";
+const NO_COMMAND = "wanted a command of the header, up to $enddefinitions $end";
+const BAD_TIMESCALE = "wanted a timescale of 1, 10 or 100 s, ms, us, ns, ps or fs";
+const SECOND_TIMESCALE = "wanted one timescale, and this is another one";
+const BAD_SCOPE = "wanted a type and a name of the scope";
+const NO_SCOPE = "wanted an open scope before $upscope";
+const BAD_VARIABLE = "wanted a type, a size, a code and a name of the variable";
+const WIDE_VARIABLE = "wanted a variable of one bit for the line";
+const SECOND_VARIABLE = "wanted one variable of each line: several are called so; give a path";
+const NO_TIMESCALE = "wanted a timescale in the header";
+const NO_VARIABLE = "wanted one variable of each line: as --controller and --peripheral say, or M and S";
+const SAME_CODE = "wanted another variable for each line, and it is the same";
+const NO_ENTRY = "wanted a time, a change of a value, or a command of the dump";
+const BAD_TIME = "wanted a time: digits behind #";
+const EARLY_TIME = "wanted a time that isn't before the time before it";
+const NO_LEVEL = "wanted a level, 0 or 1, and the value is none";
+const LOST_LEVEL = "wanted a level, 0 or 1, after the first one, and it is x or z";
+const CUT_DUMP = "wanted more of the dump: it is cut";
 const HASH = 35, DOLLAR = 36;
 // How many zeros a unit has in 10^-15 of a second.
 const FEMTO_ZEROS = {
@@ -67,7 +73,7 @@ class Tokens {
 
 const letters = ({all, from, to}) => LATIN.decode(all.subarray(from, to));
 
-// The header of a dump, token by token. Each of its variables is given on.
+// The header of a dump, token by token. Each of its variables is given on, and what is wrong with it is answered.
 class DumpHeader {
   constructor(each) {
     this.each = each;
@@ -81,7 +87,7 @@ class DumpHeader {
   // Answers what is wrong with a token, or null.
   take(token) {
     if (!this.command) {
-      if (token[0] !== "$") return NO_DUMP;
+      if (token[0] !== "$" || token === "$end") return NO_COMMAND;
       this.command = token;
       this.words = [];
       return null;
@@ -95,7 +101,7 @@ class DumpHeader {
     const {command, words} = this;
     this.command = null;
     this.isWhole = command === "$enddefinitions";
-    if (this.isWhole) return this.zeros === null ? TIMESCALE : null;
+    if (this.isWhole) return this.zeros === null ? NO_TIMESCALE : null;
     return COMMANDS[command]?.(this, words) ?? null;
   }
 }
@@ -103,24 +109,21 @@ class DumpHeader {
 const COMMANDS = {
   $timescale: (header, words) => {
     const found = /^1(0{0,2}) ?(s|[munpf]s)$/.exec(words.join(" "));
-    if (!found || header.zeros !== null) return TIMESCALE;
+    if (header.zeros !== null) return SECOND_TIMESCALE;
+    if (!found) return BAD_TIMESCALE;
     header.zeros = found[1].length + FEMTO_ZEROS[found[2]];
     return null;
   },
   $scope: ({scopes}, words) => {
-    if (words.length !== 2) return NO_SCOPE;
+    if (words.length !== 2) return BAD_SCOPE;
     scopes.push(words[1]);
     return null;
   },
-  $upscope: ({scopes}) => {
-    scopes.pop();
-    return null;
-  },
+  $upscope: ({scopes}) => scopes.pop() === undefined ? NO_SCOPE : null,
   $var: ({scopes, each}, [, size, code, ...rest]) => {
-    if (!rest.length) return NO_VARIABLE;
+    if (!rest.length) return BAD_VARIABLE;
     const name = rest.join("");
-    each({size, code, name, path: [...scopes, name].join(".")});
-    return null;
+    return each({size, code, name, path: [...scopes, name].join(".")}) ?? null;
   },
 };
 
@@ -138,20 +141,21 @@ function dumpTime(digits, zeros) {
 // The bytes of letters that LATIN made of them.
 const LATIN_BYTES = new Map([...LATIN.decode(Uint8Array.from({length: 256}, (_, i) => i))].map((it, i) => [it, i]));
 
-// A line's variable, as an option calls it or else by a letter: its code; and whether what is called so isn't one
-// variable of one bit.
+// A line's variable, as an option calls it or else by a letter: its code.
 class Called {
   constructor(name, letters) {
     this.name = name ? LATIN.decode(name) : null;
     this.names = name ? [this.name] : letters;
     this.code = null;
-    this.isWrong = false;
   }
 
+  // Answers what is wrong with a variable that is called so, or null.
   note({size, code, name, path}) {
-    if (!this.names.includes(name) && path !== this.name) return;
-    this.isWrong ||= size !== "1" || this.code !== null && this.code !== code;
+    if (!this.names.includes(name) && path !== this.name) return null;
+    if (size !== "1") return WIDE_VARIABLE;
+    if (this.code !== null && this.code !== code) return SECOND_VARIABLE;
     this.code = code;
+    return null;
   }
 }
 
@@ -162,8 +166,8 @@ class VcdImport {
     this.options = options;
     this.part = new Part(options, give);
     this.records = new Tokens((token) => this.take(token));
-    this.called = [new Called(controller, ["M", "m"]), new Called(peripheral, ["S", "s"])];
-    this.header = new DumpHeader((variable) => this.called.forEach((it) => it.note(variable)));
+    const [one, other] = this.called = [new Called(controller, ["M", "m"]), new Called(peripheral, ["S", "s"])];
+    this.header = new DumpHeader((variable) => one.note(variable) ?? other.note(variable));
     this.waves = new Waves(this.part, options.skip);
     this.time = {micros: 0, thirds: 0, rest: 0};
     this.levels = [null, null];
@@ -173,7 +177,6 @@ class VcdImport {
   }
 
   take(token) {
-    this.isBegun = true;
     if (this.header.isWhole) return this.takeBody(token);
     const wrong = this.header.take(letters(token)) ?? (this.header.isWhole ? this.wrongCalled() : null);
     return wrong ? this.refuse(wrong) : true;
@@ -181,8 +184,8 @@ class VcdImport {
 
   wrongCalled() {
     const [one, other] = this.called;
-    if (one.isWrong || other.isWrong || one.code === null || other.code === null || one.code === other.code)
-      return VARIABLES;
+    if (one.code === null || other.code === null) return NO_VARIABLE;
+    if (one.code === other.code) return SAME_CODE;
     this.codes = [one, other].map(({code}) => Uint8Array.from(code, (it) => LATIN_BYTES.get(it)));
     return null;
   }
@@ -202,7 +205,7 @@ class VcdImport {
     if (first === DOLLAR) return this.takeCommand(letters(token));
     const value = String.fromCharCode(first);
     if (/[01xz]/i.test(value) && to - from > 1) return this.takeValue(value, {all, from: from + 1, to});
-    if (!/[brs]/i.test(value)) return this.refuse(NO_CHANGE);
+    if (!/[brs]/i.test(value)) return this.refuse(NO_ENTRY);
     // Of a number or a text the letter stays, so that it is no level.
     this.opened = /b/i.test(value) ? letters(token).slice(1) : value;
     return true;
@@ -210,11 +213,11 @@ class VcdImport {
 
   takeCommand(word) {
     this.isComment = word === "$comment";
-    return this.isComment || MARKS.includes(word) || this.refuse(NO_CHANGE);
+    return this.isComment || MARKS.includes(word) || this.refuse(NO_ENTRY);
   }
 
   takeTime(digits) {
-    if (!/^[0-9]+$/.test(digits)) return this.refuse(NO_CHANGE);
+    if (!/^[0-9]+$/.test(digits)) return this.refuse(BAD_TIME);
     const time = dumpTime(digits, this.header.zeros);
     if (!time) return this.refuse(LONG_TIME);
     if (isLess(time, this.time)) return this.refuse(EARLY_TIME, rounded(time));
@@ -252,12 +255,8 @@ class VcdImport {
 
   end() {
     if (this.refused) return;
-    const cut = !this.isBegun                  ? NO_DUMP :
-        !this.header.isWhole                   ? HALF_HEADER :
-        this.opened !== null || this.isComment ? CUT_DUMP :
-                                                 null;
-    if (cut) {
-      this.refuse(cut);
+    if (!this.header.isWhole || this.opened !== null || this.isComment) {
+      this.refuse(CUT_DUMP);
       return;
     }
     const wrong = this.tellLevels() ?? this.waves.end();
