@@ -29,13 +29,6 @@ function isNearlyNamed(header, name) {
 
 const asciiSmall = (bytes) => Array.from(bytes, (it) => it >= 65 && it < 91 ? it + 32 : it).join();
 
-function hasDigitsAlone(record, place) {
-  const {all, from, to} = fieldOf(record, place);
-  for (let i = from; i < to; i++)
-    if (!isDigit(all[i])) return false;
-  return to > from;
-}
-
 const COLUMNS = "wanted one column of each line: as --controller and --peripheral say, or M and S";
 const FIELDS = "wanted as many fields as the header has";
 
@@ -92,7 +85,7 @@ class EdgesImport {
     const {controller, peripheral} = this.options;
     if (wrong === COLUMNS && (isNearlyNamed(record, controller) || isNearlyNamed(record, peripheral)))
       return "; does a name differ by great and small letters alone?";
-    if (wrong === FIELDS && record.count > 3 && hasDigitsAlone(record, 0) && hasDigitsAlone(record, 1))
+    if (wrong === FIELDS && record.count > 3 && areDigits(fieldOf(record, 0)) && areDigits(fieldOf(record, 1)))
       return "; is there a decimal comma that doesn't stand in quotes?";
     return "";
   }

@@ -21,6 +21,13 @@ function digitsOf(all, from, to) {
   return number;
 }
 
+// Whether a field has digits alone.
+function areDigits({all, from, to}) {
+  for (let i = from; i < to; i++)
+    if (!isDigit(all[i])) return false;
+  return to > from;
+}
+
 // The number that a field writes: 1 to 15 digits, perhaps a point or a comma and 1 to 15 more; or null.
 function numberOf(field) {
   const {all, from, to} = field;

@@ -127,16 +127,23 @@ const COMMANDS = {
   },
 };
 
-// The time that digits tell, with so many zeros behind them, in 10^-15 of a second; or null, where it has more than 15
-// digits of microseconds.
-function dumpTime(digits, zeros) {
-  const femtos = (digits + "0".repeat(zeros)).replace(/^0+/, "").padStart(10, "0");
-  if (femtos.length > 24) return null;
-  const part = (from, to) => Number(femtos.slice(from, to)), tail = part(-6) * 3e9;
-  const thirds = part(-9, -6) * 3 + Math.floor(tail / REST);
-  const time = {micros: part(0, -9), thirds, rest: tail % REST};
+// The time that the digits of a field tell, with so many zeros behind them, in 10^-15 of a second; or null, where it
+// has more than 15 digits of microseconds.
+function dumpTime({all, from, to}, zeros) {
+  const end = Math.max(from, to - Math.max(0, 9 - zeros));
+  let begin = from;
+  while (begin < end && all[begin] === 48) begin++;
+  if (end - begin > 15) return null;
+  const micros = Math.max(0, digitsOf(all, begin, end)) * 10 ** Math.max(0, zeros - 9);
+  const part = Math.max(0, digitsOf(all, end, to)) * 10 ** zeros, tail = part % 1e6 * 3e9;
+  const time = {micros, thirds: Math.floor(part / 1e6) * 3 + Math.floor(tail / REST), rest: tail % REST};
   return rounded(time) < MOST_TIME ? time : null;
 }
+
+// What a change tells: 0, 1, that there is no level, or something else.
+const OPEN = 2, OTHER = 3;
+const valueOf = (byte) => byte === 48 ? 0 : byte === 49 ? 1 : isAnyOf("xXzZ", byte) ? OPEN : OTHER;
+const isAnyOf = (signs, byte) => signs.includes(String.fromCharCode(byte));
 
 // The bytes of letters that LATIN made of them.
 const LATIN_BYTES = new Map([...LATIN.decode(Uint8Array.from({length: 256}, (_, i) => i))].map((it, i) => [it, i]));
@@ -163,14 +170,15 @@ class Called {
 class VcdImport {
   constructor(options, give) {
     const {controller, peripheral} = withNames(options);
-    this.options = options;
+    this.isUpsideDown = Boolean(options.invert);
     this.part = new Part(options, give);
     this.records = new Tokens((token) => this.take(token));
     const [one, other] = this.called = [new Called(controller, ["M", "m"]), new Called(peripheral, ["S", "s"])];
     this.header = new DumpHeader((variable) => one.note(variable) ?? other.note(variable));
     this.waves = new Waves(this.part, options.skip);
     this.time = {micros: 0, thirds: 0, rest: 0};
-    this.levels = [null, null];
+    this.levels = [false, false];
+    this.isKnown = [false, false];
     this.opened = null; // the value whose code comes next
     this.isComment = false;
     this.refused = null;
@@ -201,13 +209,13 @@ class VcdImport {
       this.opened = null;
       return this.takeValue(value, token);
     }
-    if (first === HASH) return this.takeTime(letters(token).slice(1));
+    const rest = {all, from: from + 1, to};
+    if (first === HASH) return this.takeTime(rest);
+    const value = valueOf(first);
+    if (value !== OTHER && to - from > 1) return this.takeValue(value, rest);
     if (first === DOLLAR) return this.takeCommand(letters(token));
-    const value = String.fromCharCode(first);
-    if (/[01xz]/i.test(value) && to - from > 1) return this.takeValue(value, {all, from: from + 1, to});
-    if (!/[brs]/i.test(value)) return this.refuse(NO_ENTRY);
-    // Of a number or a text the letter stays, so that it is no level.
-    this.opened = /b/i.test(value) ? letters(token).slice(1) : value;
+    if (!isAnyOf("bBrRsS", first)) return this.refuse(NO_ENTRY);
+    this.opened = isAnyOf("bB", first) && to - from === 2 ? valueOf(all[from + 1]) : OTHER;
     return true;
   }
 
@@ -217,29 +225,24 @@ class VcdImport {
   }
 
   takeTime(digits) {
-    if (!/^[0-9]+$/.test(digits)) return this.refuse(BAD_TIME);
+    if (!areDigits(digits)) return this.refuse(BAD_TIME);
     const time = dumpTime(digits, this.header.zeros);
     if (!time) return this.refuse(LONG_TIME);
     if (isLess(time, this.time)) return this.refuse(EARLY_TIME, rounded(time));
     if (isSame(time, this.time)) return true;
-    const wrong = this.tellLevels();
+    const wrong = this.waves.take(this.time, this.levels);
     this.time = time;
     return wrong ? this.refuse(wrong.words, wrong.time, wrong.line) : true;
   }
 
-  // Gives the levels of the time so far on. Answers what is wrong before it or with it.
-  tellLevels() {
-    return this.waves.take(this.time, this.levels.map(Boolean));
-  }
-
   // Takes the change of a variable.
   takeValue(value, code) {
-    const line = this.codes.findIndex((own) => isText(code, own));
+    const line = isText(code, this.codes[0]) ? 0 : isText(code, this.codes[1]) ? 1 : -1;
     if (line < 0) return true;
-    const digit = "01xXzZ".indexOf(value), at = rounded(this.time);
-    if (value.length !== 1 || digit < 0) return this.refuse(NO_LEVEL, at, line);
-    if (digit > 1 && this.levels[line] !== null) return this.refuse(LOST_LEVEL, at, line);
-    if (digit < 2) this.levels[line] = (digit === 1) !== Boolean(this.options.invert);
+    if (value === OTHER) return this.refuse(NO_LEVEL, rounded(this.time), line);
+    if (value === OPEN) return !this.isKnown[line] || this.refuse(LOST_LEVEL, rounded(this.time), line);
+    this.isKnown[line] = true;
+    this.levels[line] = (value === 1) !== this.isUpsideDown;
     return true;
   }
 
@@ -259,7 +262,7 @@ class VcdImport {
       this.refuse(CUT_DUMP);
       return;
     }
-    const wrong = this.tellLevels() ?? this.waves.end();
+    const wrong = this.waves.take(this.time, this.levels) ?? this.waves.end();
     if (wrong) this.refuse(wrong.words, wrong.time, wrong.line);
   }
 }
