@@ -251,8 +251,10 @@ function exchanged(bytes) {
 
 async function checkExchanged() {
   const {name} = file, ending = " (M and S exchanged)", isBack = name.endsWith(ending), before = newest;
-  const made = exchanged(new Uint8Array(await recording.arrayBuffer()));
-  if (newest === before) run(new File([made], isBack ? name.slice(0, -ending.length) : name + ending), true);
+  const source = madeFiles.get(recording), bytes = exchanged(new Uint8Array(await recording.arrayBuffer()));
+  const made = new File([bytes], isBack ? name.slice(0, -ending.length) : name + ending);
+  if (source) madeFiles.set(made, exchangedSource(source));
+  if (newest === before) run(made, true);
 }
 
 // A row with quotes, far down.

@@ -696,12 +696,20 @@ async function takeQuotesOff() {
 function sourceOf(rows) {
   const source = madeFiles.get(rows);
   if (!source) return null;
-  const {file, sha256, command, notes = []} = source, how = command ? " as by the command " : " without its quotes";
+  const {file, sha256, command, notes = [], isExchanged} = source;
+  const how =
+      `${isExchanged ? " with M and S exchanged," : ""}${command ? " as by the command " : " without its quotes"}`;
   const sum = sha256 ? `, SHA-256 ${sha256}` : "";
   return [
     h("bdi", {}, shownName(file.name)), `, ${number(file.size)} bytes${sum}, by this page,${how}`,
     h("code", {}, command ?? ""), ...notes.map((words) => h("div", {}, h("code", {}, `mdbimport: ${words}`)))
   ];
+}
+
+// What rows were made from, where M and S are exchanged in them.
+function exchangedSource({damaged, isExchanged = false, ...rest}) {
+  const first = damaged?.first.map(({time, line}) => ({time, line: 1 - line}));
+  return {...rest, damaged: damaged && {...damaged, first}, isExchanged: !isExchanged};
 }
 
 // The damaged words that were left out when rows were made: how many, and the first by their times. Null if none were.

@@ -7,8 +7,8 @@ with.
                                   [--until MICROSECONDS] < TRACE
 
 prints the rows, or the line that is no row and on standard error one that tells why, with status 2. As
-a module: `read_sigrok(text, swap)` answers a list of rows, each (time, line, value) with the value as
-it stands in a row, or a Refusal; `read(text, swap, skip)` answers the pulses and the damaged words too.
+a module: `read(text, swap, skip)` answers the rows, each (time, line, value) with the value as it stands
+in a row, the pulses and the damaged words; or a Refusal.
 """
 
 import re
@@ -266,12 +266,6 @@ def read(text: bytes, swap: bool = False, skip: bool = False):
     return Trace(*(sorted(two[0] + two[1], key=lambda row: (row[0], row[1] == "S"))
                    for two in ((controller.rows, device.rows), (controller.pulses, device.pulses),
                                (controller.damaged, device.damaged))))
-
-
-def read_sigrok(text: bytes, swap: bool = False):
-    """The rows alone, without --skip-damaged, or a Refusal."""
-    came = read(text, swap)
-    return came if isinstance(came, Refusal) else came.rows
 
 
 def part_of(rows, first=None, last=None):
