@@ -109,9 +109,8 @@ class Header:
         elif command == b"$enddefinitions":
             if self.timescale is None:
                 raise Refused(end, NO_TIMESCALE)
-            for line in "MS":
-                if line not in self.codes:
-                    raise Refused(end, NO_VARIABLE, None, line)
+            if len(self.codes) < 2:
+                raise Refused(end, NO_VARIABLE)
             if self.codes["M"] == self.codes["S"]:
                 raise Refused(end, SAME)
 
@@ -119,9 +118,9 @@ class Header:
         for line in "MS":
             if self.is_called(line, name):
                 if size != b"1":
-                    raise Refused(end, SIZE, None, line)
+                    raise Refused(end, SIZE)
                 if self.codes.setdefault(line, code) != code:
-                    raise Refused(end, SEVERAL, None, line)
+                    raise Refused(end, SEVERAL)
 
     def read(self, tokens):
         command = None
