@@ -128,7 +128,7 @@ pub(crate) const PROGRAM: Program<'static> = Program {
             manual: manual::MANUAL,
         },
     ],
-    summary: "rows (CSV rows), sigrok (a trace), saleae (a table), edges (a scope's CSV), \
+    summary: "rows (CSV rows), sigrok (a trace), saleae (a table), edges (CSV edges), \
 vcd (a dump); all: mdbimport manual",
     about: manual::ABOUT,
     rest: manual::REST,
