@@ -128,8 +128,8 @@ pub(crate) const PROGRAM: Program<'static> = Program {
             manual: manual::MANUAL,
         },
     ],
-    summary: "rows (CSV rows), sigrok (a trace), saleae (a table), edges (CSV edges), \
-vcd (a dump); all: mdbimport manual",
+    summary: "rows (CSV rows), sigrok (trace), saleae (table), edges (CSV edges), \
+vcd (dump); all: mdbimport manual",
     about: manual::ABOUT,
     rest: manual::REST,
 };
