@@ -94,8 +94,8 @@ pub(crate) const PROGRAM: Program<'static> = Program {
             flags: &[SKIP_DAMAGED],
             words: &[],
             further: &[],
-            usage: "saleae [--controller NAME] [--peripheral NAME] [--break T] [--skip-damaged] \
-[--from T] [--until T] < CSV",
+            usage: "saleae [--controller N] [--peripheral N] [--break T] [--skip-damaged] \
+[--from T] [--until T]",
             manual: manual::SALEAE,
         },
         CommandRow {
@@ -105,7 +105,7 @@ pub(crate) const PROGRAM: Program<'static> = Program {
             words: &[],
             further: &[],
             usage: "edges [--unit U] [--controller N] [--peripheral N] [--invert] [--skip-damaged] \
-[--from T] [--until T] < CSV",
+[--from T] [--until T]",
             manual: manual::EDGES,
         },
         CommandRow {
