@@ -67,25 +67,28 @@ function quietPolls(it) {
   return quiet;
 }
 
-// A time that is written: as a length of microseconds from `low` to before `high`. As the page writes it, 0.285 s or
-// 1:32.7, all times that begin so; as the rows have it, 285000. Shorter numbers are amounts and items.
-function readTime(text) {
-  if (/^\d{5,15}$/.test(text)) return {low: Number(text), high: Number(text) + 1};
+// A time that is written: as lengths of microseconds from `low` to before `high`, earliest first. As the page writes
+// it, 14:32, 0.285 s or 1:32.7, all times that begin so; as the rows have it, 285000. Shorter numbers are amounts and
+// items.
+function readTime(text, it) {
+  const times = clockTimes(text, it);
+  if (times) return times;
+  if (/^\d{5,15}$/.test(text)) return [{low: Number(text), high: Number(text) + 1}];
   const found = /^(?:(?:(\d+):)?(\d+):)?(\d+)(?:\.(\d{1,6}))?( ?s)?$/.exec(text);
   if (!found) return null;
   const [, hours, minutes, whole, part = "", unit] = found;
   if (minutes === undefined && part.length < 3 && !unit) return null;
   const low =
       ((Number(hours ?? 0) * 60 + Number(minutes ?? 0)) * 60 + Number(whole)) * 1e6 + Number(part.padEnd(6, "0"));
-  return {low, high: low + 10 ** (6 - part.length)};
+  return [{low, high: low + 10 ** (6 - part.length)}];
 }
 
 // What the field for a text may mean: words, bytes with or without blanks, a time.
-function readQuery(written) {
+function readQuery(written, it) {
   const text = written.trim().toLowerCase();
   const isHex = /^[0-9a-f]{2}(\s*[0-9a-f]{2})*$/.test(text);
   const bytes = isHex ? text.replace(/\s/g, "").match(/../g).map((two) => parseInt(two, 16)) : null;
-  return {text, bytes, time: readTime(text), seen: new Map()};
+  return {text, bytes, times: readTime(text, it), seen: new Map()};
 }
 
 function hasBytes(acts, i, wanted) {
@@ -126,20 +129,20 @@ function hasText(acts, i, {text, seen}) {
 }
 
 function isMeant(acts, i, query) {
-  const {bytes, time} = query;
-  if (time && acts.start(i) < time.high && acts.end(i) >= time.low) return true;
+  const {bytes, times} = query;
+  if (times?.some(({low, high}) => acts.start(i) < high && acts.end(i) >= low)) return true;
   return bytes !== null && hasBytes(acts, i, bytes) || hasText(acts, i, query);
 }
 
 // What the fields above the list ask for.
-function askedActs() {
+function askedActs(it) {
   const value = (id) => by(id).value;
   return {
     device: Number(value("act-device")),
     kind: value("act-kind") === "" ? -1 : Number(value("act-kind")),
     isMoney: by("act-money").checked,
     isPolls: by("act-polls").checked,
-    query: value("act-text").trim() ? readQuery(value("act-text")) : null
+    query: value("act-text").trim() ? readQuery(value("act-text"), it) : null
   };
 }
 
@@ -154,7 +157,7 @@ function isFound(it, i, {device, kind, isMoney, query}) {
 // The acts that the fields above the list find: `then` is called when they are drawn. Long lists are searched piece by
 // piece.
 async function find(it) {
-  const wanted = askedActs(), mine = it.search = {}, hits = [];
+  const wanted = askedActs(it), mine = it.search = {}, hits = [];
   let hidden = 0, until = performance.now() + SEARCH_PIECE;
   it.quiet ??= quietPolls(it);
   for (let i = 0; i < it.list.count; i++) {
@@ -172,7 +175,7 @@ async function find(it) {
   it.hits = hits;
   it.hidden = hidden;
   it.isSearched = wanted.device > 0 || wanted.kind >= 0 || wanted.isMoney || wanted.query !== null;
-  it.nextAct = hits.length || !wanted.query?.time ? -1 : actAfter(it, wanted.query.time.low);
+  it.nextAct = hits.length || !wanted.query?.times?.length ? -1 : actAfter(it, wanted.query.times[0].low);
   it.from = 0;
   drawActs(it);
 }
@@ -217,7 +220,7 @@ function drawActs(it) {
   if (it.nextAct >= 0)
     by("act-count")
         .append(
-            " The next act begins at ", seconds(it.list.start(it.nextAct)), ": ",
+            " The next act begins at ", when(it.list.start(it.nextAct)), ": ",
             rowLink(it.list.first(it.nextAct), it.list.last(it.nextAct)));
   by("act-back").disabled = it.from === 0;
   by("act-more").disabled = it.from + PAGE_ACTS >= count;
@@ -363,8 +366,12 @@ function actTools(it) {
       h("label", {}, "Kind",
         h("select", {id: "act-kind", onchange: again}, option("", "all"),
           KIND_CHOICES.map((words, i) => option(i, words)))),
-      h("label", {}, "Words, bytes or time",
-        h("input", {type: "search", id: "act-text", placeholder: "13 02, 0.285 s, 1:32.7", oninput: soon})),
+      h("label", {}, "Words, bytes or time", h("input", {
+          type: "search",
+          id: "act-text",
+          placeholder: clock ? "13 02, item 8, 14:32" : "13 02, 0.285 s, 1:32.7",
+          oninput: soon
+        })),
       box("act-money", "Only money"), box("act-polls", "Polls without news"), ...rowTools(),
       h("button", {type: "button", id: "act-back", onclick: step(-1)}, "Earlier"),
       h("button", {type: "button", id: "act-more", onclick: step(1)}, "Later"));

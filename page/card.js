@@ -61,7 +61,7 @@ const storyList = (story, heading = "What to do next") => {
 function leftOut(it) {
   const damaged = leftOutOf(it.file);
   if (!damaged) return null;
-  const {count, first} = damaged, all = first.map(({time, line}) => `${seconds(time)} on ${"MS"[line]}`);
+  const {count, first} = damaged, all = first.map(({time, line}) => `${when(time)} on ${"MS"[line]}`);
   const places = count > first.length ? `the first at ${all.join(", ")}` : `at ${listed(all)}`;
   return h(
       "p", {id: "left-out"},

@@ -31,8 +31,9 @@ function recordTable(it) {
       "div", {class: "scroll"},
       h("table", {id: "facts", "aria-labelledby": "record-title"},
         h("tbody", {}, row("Recording", h("bdi", {}, it.name)), source && row("Made from", ...source),
-          row("Size", `${number(it.size)} bytes`), row("SHA-256 of the recording", sum),
-          row("File last changed", clockTime(new Date(it.file.lastModified))), row("Checked", clockTime(it.when)),
+          row("Size", `${number(it.size)} bytes`), clock && row("The recording began at", beganWords()),
+          row("SHA-256 of the recording", sum), row("File last changed", clockTime(new Date(it.file.lastModified))),
+          row("Checked", clockTime(it.when)),
           row("Command with the same answer", h("code", {id: "command"}, commandOf(it))),
           it.survey && row("Command of the survey", h("code", {id: "survey-command"}, surveyCommandOf(it))),
           row("Checked by", by("made").textContent))));

@@ -134,8 +134,10 @@ function faultTools(it) {
 }
 
 function faultCsv({faults}) {
-  const rows = faults.map(({row, time, rule, blame, number}) => [row, time, rule, blame, number]);
-  return [["row", "time_us", "rule", "blame", "ended_stretch"], ...rows].map((row) => row.join(",")).join("\r\n") +
+  const rows = faults.map(({row, time, rule, blame, number}) => [row, time, clockField(time), rule, blame, number]);
+  return [["row", "time_us", "clock", "rule", "blame", "ended_stretch"], ...rows]
+             .map((row) => row.join(","))
+             .join("\r\n") +
       "\r\n";
 }
 
@@ -220,7 +222,7 @@ function allFaultsLane({faults}) {
   const all = faults.filter(({time}) => !Number.isNaN(time));
   return laneOf("faults", "bad", all, {
     begin: (it) => it.time,
-    words: ({row, rule, blame, time}) => `row ${number(row)} ${faultIs(rule)}, ${BLAMES[blame]}, at ${seconds(time)}`,
+    words: ({row, rule, blame, time}) => `row ${number(row)} ${faultIs(rule)}, ${BLAMES[blame]}, at ${when(time)}`,
     jump: jumpToFault
   });
 }

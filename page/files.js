@@ -7,9 +7,10 @@ let batch = null;
 function take(files, isButton = false) {
   stopBatch();
   by("files")?.remove();
-  if (files.length === 1)
+  if (files.length === 1) {
+    forgetClock();
     run(files[0], isButton);
-  else
+  } else
     checkAll(files);
 }
 
@@ -68,6 +69,7 @@ function openFile(file, line) {
   }
   line.setAttribute("aria-current", "true");
   line.classList.add("here");
+  forgetClock();
   run(file);
 }
 

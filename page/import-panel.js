@@ -583,7 +583,14 @@ async function importAll() {
         {work: "import", format: it.format, options, name: rowsName(it.file)}, (part) => bar.value = part);
     if (!isNow()) return null;
     const {sha256, damaged, notes} = answer;
-    madeFiles.set(answer.file, {file: it.file, sha256, command: importCommand(it, options), damaged, notes});
+    madeFiles.set(answer.file, {
+      file: it.file,
+      sha256,
+      command: importCommand(it, options),
+      damaged,
+      notes,
+      hasClocks: Boolean(it.look.hasClocks)
+    });
     if (!answer.refused) lastNames = {controller: options.controller, peripheral: options.peripheral};
     it.answer = answer;
     it.refusal = answer.refused ? answer : null;

@@ -15,8 +15,8 @@ const LINK_NEXT = {
   Message: "Ask the maker of the device which version of the standard it follows.",
 };
 const LINK_LIMITS = {
-  Late: "An answer starts at most 0.006296 s after the word before it.",
-  Spacing: "Words of one block start at most 0.002296 s apart.",
+  Late: "An answer starts at most 6.296 ms after the word before it.",
+  Spacing: "Words of one block start at most 2.296 ms apart.",
   Break: "A break lasts at least 0.1 s.",
 };
 

@@ -2,6 +2,7 @@
 function show(it) {
   const acts = new Acts(it.acts, it.listed);
   it.list = acts;
+  startClock(it);
   noteSetups(acts, it.way.given, it.hole, it.found);
   it.report = it.answer < 2 ? readReport(it.text) : null;
   const parts = [];
@@ -13,6 +14,20 @@ function show(it) {
   parts.push(recordSection(it));
   by("told").replaceChildren(contents(parts), ...parts, jumpBar());
   by("main").classList.add("shown");
+}
+
+// Shows the answer anew, with all times of the clock that is known now.
+function showAgain(it) {
+  const place = it.listed ? actsPlace(it) : null, {hits, from} = it;
+  show(it);
+  if (it.survey) addSurvey(it);
+  by("figures").textContent = figures(it);
+  showSum(it);
+  queueMicrotask(() => {
+    if (!place || !hits) return;
+    putActsPlace(it, place);
+    drawActs(it);
+  });
 }
 
 function figures(it) {
@@ -65,7 +80,9 @@ droppable(document.documentElement, by("drop"), take);
 by("again").addEventListener("click", () => run());
 by("stop").addEventListener("click", stop);
 by("ways").addEventListener("change", showWay);
+by("began").addEventListener("change", takeClock);
 by("setups").addEventListener("input", () => showSetupFault(null));
+forgetClock();
 showWay();
 start().then((made) => {
   module = made;

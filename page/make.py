@@ -16,7 +16,7 @@ import sys
 HERE = pathlib.Path(__file__).resolve().parent
 RULES = "Order Speaker Mode Early Late Spacing Length Sum Break Answer Message Same Profile Changer Bill Cashless".split()
 # The page's scripts, in the order in which they stand in the page. What a script runs at once, needs the ones before it.
-SCRIPTS = ("layout words news elements texts report options runs import-panel late story rowstory linkstory card fault why money timeline statement acts survey faults stretches jumps files evidence setup main").split()
+SCRIPTS = ("layout words news elements texts clock report options runs import-panel late story rowstory linkstory card fault why money timeline statement acts survey faults stretches jumps files evidence setup main").split()
 # Those of the worker.
 WORKERS = "sha256 layout worker".split()
 # Those of the worker that imports an export.
@@ -33,8 +33,9 @@ NEEDED = {"bench", "row", "blame"}
 
 
 def in_seconds(found):
-    """A time in seconds: the page has no other unit."""
-    return f"{int(found[1].replace(',', '')) / 1e6:.6f}".rstrip("0") + " s"
+    """A length of time as the page writes it: in seconds, and below a tenth of one in milliseconds."""
+    micros = int(found[1].replace(",", ""))
+    return f"{micros / 1e3:g} ms" if micros < 100_000 else f"{micros / 1e6:g} s"
 
 
 def plain(text):

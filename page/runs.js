@@ -158,6 +158,8 @@ async function answerNow(isNow) {
     return null;
   }
   file = recording = rows;
+  await fillClock(rows);
+  if (!isNow()) return null;
   const way = options(), isKept = way.words.length > 0 && lastKey === way.key;
   lastKey = way.key;
   checker ??= new Checker(rows);
@@ -188,6 +190,7 @@ async function run(given, isButton = !given) {
     working(false);
     state = {...told, isKept: Boolean(given && told.isKept)};
     show(state);
+    tellClock();
     state.ms.all = performance.now() - begin;
     by("figures").textContent = figures(state);
     settle(isButton);

@@ -253,12 +253,13 @@ function jumpToEntry(entry, from) {
 
 function csv(it) {
   const field = (v) => /[",\r\n]/.test(String(v)) ? `"${String(v).replaceAll('"', '""')}"` : String(v);
-  const rows = [
-    ["time_us", "first_row", "last_row", "device", "what", "type_or_item", "count", "amount", "acknowledged", "judged"]
-  ];
+  const rows = [[
+    "time_us", "clock", "first_row", "last_row", "device", "what", "type_or_item", "count", "amount", "acknowledged",
+    "judged"
+  ]];
   for (const m of it.found.money)
     rows.push([
-      m.at, m.first, m.last, DEVICES[m.device], m.what, m.type, m.count ?? 1,
+      m.at, clockField(m.at), m.first, m.last, DEVICES[m.device], m.what, m.type, m.count ?? 1,
       m.noAmount           ? "" :
           m.units === null ? "" :
                              money(m.units, m.decimals).replace("−", "-"),

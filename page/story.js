@@ -175,8 +175,8 @@ function silenceStory(it) {
       told.push(fact(`The ${DEVICE_NAMES[i]} was silent ${counted(it.report.silences[device], "time")}.`));
     else
       told.push(fact(
-          `The ${small(name)} gave no answer for ${seconds(q.to - q.from)}: from ${seconds(q.from)} to ${
-              seconds(q.to)}, asked ${counted(q.asks, "time")}`,
+          `The ${small(name)} gave no answer for ${seconds(q.to - q.from)}: from ${when(q.from)} to ${
+              when(q.to)}, asked ${counted(q.asks, "time")}`,
           inRows(rowsAt(q.first, q.last)),
           all.length > 1 ? `. It was silent ${counted(it.report.silences[device], "time")} in all.` : "."));
     told.push(nextStep(`Look at the power and the plug of the ${SHORT_NAMES[i]}, and at what it was doing then.`));

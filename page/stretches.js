@@ -47,7 +47,7 @@ function stretchBody(it, stretch) {
   const {number: n, first, last, from, to} = stretch, report = reportOf(stretch), isShown = it.here?.stretch === n;
   const head = [
     h("div", {}, `Stretch ${number(n)}`), h("div", {}, first === last ? "row " : "rows ", rowsShown(it, first, last)),
-    Number.isNaN(from) ? null : h("div", {}, timeLink(from), ` to ${seconds(to)}`), ...stretchNotes(report)
+    Number.isNaN(from) ? null : h("div", {}, timeLink(from), ` to ${when(to)}`), ...stretchNotes(report)
   ];
   return h(
       "tbody", {
@@ -145,7 +145,7 @@ function stretchLane({stretches}) {
     end: (it) => it.to,
     kind: (it) => it.number % 2 ? "stretch" : "stretch even",
     words: ({number: n, first, last, from, to}) =>
-        `stretch ${number(n)}: rows ${number(first)} to ${number(last)}, from ${seconds(from)} to ${seconds(to)}`,
+        `stretch ${number(n)}: rows ${number(first)} to ${number(last)}, from ${when(from)} to ${when(to)}`,
     jump: jumpToStretch
   });
 }

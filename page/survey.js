@@ -141,7 +141,7 @@ function surveyOffer(it) {
       h("span", {id: "survey-told"}));
 }
 
-function showSurvey(it) {
+function addSurvey(it) {
   const after = by("time") ?? by("record"), made = [surveySection(it), stretchSection(it)];
   by("survey-offer")
       .replaceChildren(
@@ -157,6 +157,10 @@ function showSurvey(it) {
   by("figures").textContent = figures(it);
   showSum(it);
   by("contents").replaceWith(contents([...by("told").querySelectorAll(":scope > section")]));
+}
+
+function showSurvey(it) {
+  addSurvey(it);
   announce(`All faults. ${surveyLead(it.survey)}`);
   leave(it, by("survey-offer"));
   land(by("survey-title"));

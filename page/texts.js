@@ -20,16 +20,6 @@ const shownName = (name) => name.replace(/[\p{Cc}\p{Cf}\p{Cs}\p{Zl}\p{Zp}]/gu, (
 });
 const nameShown = (name) => h("strong", {}, h("bdi", {id: "name"}, name));
 
-// A time or a length of time: seconds with their microseconds, as the rows' TIME has them; from a minute on with
-// minutes, from an hour on with hours.
-function seconds(micros) {
-  if (micros < 60e6) return (micros / 1e6).toFixed(6) + " s";
-  const pad = (n, digits) => String(n).padStart(digits, "0"), whole = Math.floor(micros / 1e6);
-  const hours = Math.floor(whole / 3600), minutes = Math.floor(whole / 60) % 60;
-  const end = `${pad(whole % 60, 2)}.${pad(micros % 1e6, 6)}`;
-  return hours ? `${hours}:${pad(minutes, 2)}:${end}` : `${minutes}:${end}`;
-}
-
 // A link to rows of the recording: `jumpToRow` (acts.js) shows the act that has the first of them.
 function rowLink(first, last = first, words = null) {
   const rows = first === last ? String(first) : `${first}–${last}`;

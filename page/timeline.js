@@ -27,14 +27,14 @@ function eventLane({breaks, resets}) {
     begin: (m) => m.at,
     end: (m) => m.at + (m.length ?? 0),
     kind: (m) => m.length === undefined ? "reset" : "quiet",
-    words: (m) => m.length === undefined ? `${DEVICE_NAMES[m.device]}: ${m.what} at ${seconds(m.at)}` :
-                                           `break at ${seconds(m.at)}, ${seconds(m.length)} long`,
+    words: (m) => m.length === undefined ? `${DEVICE_NAMES[m.device]}: ${m.what} at ${when(m.at)}` :
+                                           `break at ${when(m.at)}, ${seconds(m.length)} long`,
     jump: (m, from) => jumpToRow(m.first, from)
   });
 }
 
 function silenceWords(q) {
-  const span = `from ${seconds(q.from)} for ${seconds(q.to - q.from)}`;
+  const span = `from ${when(q.from)} for ${seconds(q.to - q.from)}`;
   return `${DEVICE_NAMES[q.device]} said nothing ${span}, asked ${number(q.asks)} times`;
 }
 
@@ -49,7 +49,7 @@ function moneyLane(it, device) {
   all.forEach((m, i) => m.device === device && own.push(i));
   return laneOf(["", "coin changer", "bill validator", "reader 10H", "reader 60H"][device], "device", own, {
     begin: (i) => all[i].begin,
-    words: (i) => `${toldWords(all[i])} ${moneyAmount(all[i])} at ${seconds(all[i].begin)}`,
+    words: (i) => `${toldWords(all[i])} ${moneyAmount(all[i])} at ${when(all[i].begin)}`,
     jump: jumpToEntry
   });
 }
@@ -123,8 +123,7 @@ function barsOf(lane, {from, to}, room) {
 
 function barWords(lane, bar) {
   if (bar.count === 1) return lane.words(bar.k);
-  return `${number(bar.count)} from ${seconds(Math.round(bar.begin))} to ${seconds(Math.round(bar.last))}; the first: ${
-      lane.words(bar.k)}`;
+  return `${number(bar.count)} from ${when(bar.begin)} to ${when(bar.last)}; the first: ${lane.words(bar.k)}`;
 }
 
 // Where a mark leads: to what it is, or into the range that it has many of.
@@ -190,14 +189,15 @@ function niceStep(span, most) {
 
 function drawTimes(it, room) {
   // A label and a half: at the right edge a label ends at its mark.
-  const {from, to} = it.line, wide = 11 * seconds(Math.round(to)).length + 5;
-  const step = niceStep(to - from, Math.max(2, (room.right - room.left) / wide));
+  const {from, to} = it.line, span = to - from, digits = span < 1e4 ? 6 : span < 1e7 ? 3 : 0;
+  const wide = 11 * when(to, digits).length + 5, zero = clock?.zero ?? 0;
+  const step = niceStep(span, Math.max(2, (room.right - room.left) / wide));
   const made = [], y = room.high - 8;
-  for (let at = Math.ceil(from / step) * step; at <= to; at += step) {
+  for (let at = Math.ceil((from + zero) / step) * step - zero; at <= to; at += step) {
     const x = room.x(at), anchor = x < room.left + 50 ? "start" : x > room.right - 50 ? "end" : "middle";
     made.push(
         s("line", {x1: x, x2: x, y1: room.high - 26, y2: room.high - 21, class: "axis"}),
-        s("text", {x, y, "text-anchor": anchor, class: "faint"}, seconds(at)));
+        s("text", {x, y, "text-anchor": anchor, class: "faint"}, when(at, digits)));
   }
   return made;
 }
@@ -221,7 +221,7 @@ function drawLine(it) {
   made.replaceChildren(
       ...it.line.lanes.map((lane, row) => drawLane(it, lane, row, room)).flat(), ...drawFault(it, room),
       ...drawTimes(it, room), ...drawHere(it, room));
-  by("line-range").textContent = `${seconds(Math.round(it.line.from))} to ${seconds(Math.round(it.line.to))}`;
+  by("line-range").textContent = `${when(it.line.from)} to ${when(it.line.to)}`;
   by("line-all").disabled = by("line-out").disabled = it.line.from <= it.line.begin && it.line.to >= it.line.end;
   by("line-in").disabled = it.line.to - it.line.from <= LEAST_SPAN;
   by("line-left").disabled = it.line.from <= it.line.begin;
@@ -376,7 +376,7 @@ function timeLink(at, first, last) {
         "data-last": last,
         title: "Show it on the time line"
       },
-      seconds(at));
+      when(at));
 }
 
 // Marks a time on the time line and goes there.
@@ -386,7 +386,7 @@ function jumpToTime(at, from) {
   tellRow("");
   showTime(it, at);
   markHere(it, {first: Number(first), last: Number(last), at});
-  tellMark(`${seconds(at)} is marked${first ? `, the start of row ${number(first)}` : ""}`);
+  tellMark(`${when(at)} is marked${first ? `, the start of row ${number(first)}` : ""}`);
   land(by("line").querySelector("svg"));
 }
 
@@ -398,8 +398,11 @@ function lineTools(it) {
       button("line-out", "−", "Zoom out", () => zoom(it, 2)),
       button("line-all", "All", "The whole recording", () => setRange(it, it.line.begin, it.line.end)),
       button("line-left", "◂", "Earlier", () => pan(it, -0.5)), button("line-right", "▸", "Later", () => pan(it, 0.5)),
-      h("span", {id: "line-range", role: "status"}));
+      h("span", {id: "line-range", role: "status"}), clock ? null : clockButton());
 }
+
+const clockButton = () =>
+    h("button", {type: "button", id: "line-clock", onclick: openClock}, "Show times of the clock");
 
 function silenceList(it) {
   const {silences} = it.found;
@@ -436,7 +439,7 @@ function showLine(it) {
 function timeSection(it) {
   it.line = makeLine(it);
   const {found, line} = it;
-  const told = `Time line from ${seconds(line.begin)} to ${seconds(line.end)}: ${found.breaks.length} breaks, ${
+  const told = `Time line from ${when(line.begin)} to ${when(line.end)}: ${found.breaks.length} breaks, ${
       found.resets.length} resets, ${found.silences.length} silences, ${found.money.length} entries of money${
       surveyCounts(it)}`;
   const made = s("svg", {role: "application", "aria-label": told, "aria-describedby": "line-help", tabindex: 0});

@@ -230,12 +230,12 @@ def try_long(page, program, top, want, rows=2_000_000):
     starts = [line.split(b",", 1)[0].decode() for line in path.read_bytes().splitlines() if line]
     wanted = walked(text)["money"]
     saved = list(csv.reader(io.StringIO(page.browser.value("csv(state)"), newline="")))[1:]
-    came = sums_of((it[3], it[4], it[5], it[6], it[7]) for it in saved)
+    came = sums_of(it[4:9] for it in saved)
     made = sums_of((DEVICES[d - 1], what, str(kind), count, decimal(amount)) for _, _, d, what, kind, count, amount, _ in wanted)
     want(came == made, f"sums: {[(it, came[it], made[it]) for it in came | made if came[it] != made[it]][:3]}")
     want(len(saved) == len(wanted), f"{len(saved)} entries are saved, wanted {len(wanted)}")
     for line, (first, last, device, what, kind, count, amount, heard) in zip(saved, wanted):
-        row = [starts[last - 1], str(first), str(last), DEVICES[device - 1], what, str(kind), str(count), decimal(amount),
+        row = [starts[last - 1], "", str(first), str(last), DEVICES[device - 1], what, str(kind), str(count), decimal(amount),
                "yes" if heard else "no", "possible"]
         want(line == row, f"saved {line}, wanted {row}")
     fault = differences(page, text)

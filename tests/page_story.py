@@ -66,8 +66,8 @@ EXAMPLES = {
         "The bill validator sends the message B1 of bill recycling (rows 194–195). The checker doesn't follow this message."],
     "four-devices-on-a-bus": ["The controller and the devices agree for certain: coins in 0.25."],
     "late-acknowledgement": [
-        "The changer answered RESET (rows 1–2) after 0.006297 s (row 3).",
-        "An answer starts at most 0.006296 s after the word before it."],
+        "The changer answered RESET (rows 1–2) after 6.297 ms (row 3).",
+        "An answer starts at most 6.296 ms after the word before it."],
     "other-words-in-a-repeat": [
         "Asked to repeat its answer (rows 18–20), the changer sent the word 008 (row 23). The first time it was 009 (row 19)."],
     "sale-answered-by-a-reset-message": [
@@ -79,7 +79,7 @@ EXAMPLES = {
         "The controller reported item 8 as sold all the same (rows 71–75). No approval of the reader pays for this 1.50."],
     "sale-of-one-item": ["The controller and the devices agree for certain: approved by the reader at 10H 0.10 and sold by the reader at 10H 0.10."],
     "silent-changer": [
-        "The coin changer gave no answer for 3.007200 s: from 0.531800 s to 3.539000 s, asked 7 times (rows 9–22)."],
+        "The coin changer gave no answer for 3.007 s: from 0.531 s to 3.539 s, asked 7 times (rows 9–22)."],
     "wrong-sum-in-a-poll-reply": [
         "The bytes of the answer of the changer to POLL (rows 4–5) add up to 0B (row 6), and its last byte says 0C (row 7)."],
 }

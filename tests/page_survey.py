@@ -101,11 +101,11 @@ class Survey:
 
 def seconds(micros):
     """A time as the page writes it."""
-    if micros < 60_000_000:
-        return f"{micros / 1e6:.6f} s"
-    whole, part = divmod(micros, 1_000_000)
+    whole, part = divmod(micros // 1000, 1000)
+    if whole < 60:
+        return f"{whole}.{part:03} s"
     hours, minutes, rest = whole // 3600, whole // 60 % 60, whole % 60
-    end = f"{rest:02}.{part:06}"
+    end = f"{rest:02}.{part:03}"
     return f"{hours}:{minutes:02}:{end}" if hours else f"{minutes}:{end}"
 
 
@@ -200,8 +200,8 @@ def compare_faults(made, came):
     got = [[plain(it[0]), plain(it[1]), *it[2:5]] for it in came["faults"]]
     want(got == wanted, f"the faults: {next(((a, b) for a, b in zip(got + [None], wanted + [None]) if a != b), None)}")
     want(all(len(it[5]) > 20 and it[5].endswith(".") for it in came["faults"]), f"in words: {came['faults'][:1]}")
-    csv = [["row", "time_us", "rule", "blame", "ended_stretch"]]
-    csv += [[str(row), str(made.time(row)), rule, blame, str(i + 1)] for i, (row, rule, blame) in enumerate(made.faults[:MOST])]
+    csv = [["row", "time_us", "clock", "rule", "blame", "ended_stretch"]]
+    csv += [[str(row), str(made.time(row)), "", rule, blame, str(i + 1)] for i, (row, rule, blame) in enumerate(made.faults[:MOST])]
     want([it.split(",") for it in came["csv"].split("\r\n")[:-1]] == csv, "the CSV of the faults")
     rules = {}
     for _, rule, blame in made.faults[:MOST]:
@@ -561,7 +561,7 @@ def try_report(page):
     report = evidence.Report(text)
     want(report.texts["survey-text"] == made.text, "the survey's text in the report")
     want(report.texts["survey-command"] == "mdbcheck survey < FILE", "the survey's command in the report")
-    want(all(it in report.texts["survey"] for it in ("2:00:04.669090", "Changer", "the coin changer")), report.texts["survey"])
+    want(all(it in report.texts["survey"] for it in ("2:00:04.669", "Changer", "the coin changer")), report.texts["survey"])
     want("All stretches" in report.texts["stretches"] and "1.00 to 2.00" in report.texts["stretches"], report.texts["stretches"])
     print("the saved report has the survey")
 
