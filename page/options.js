@@ -10,10 +10,11 @@ class SetupFault extends Error {
 
 const NO_SETUP = "These bytes are no answer of the device to SETUP. Copy a whole answer, with its sum at the end.";
 
+// The bytes in a device's field. A line of `show` is taken as it stands, as --setup takes it.
 function setupBytes(device) {
   const text = by("setup-" + device).value.trim().toUpperCase();
   if (!text) return null;
-  const bare = text.startsWith(device.toUpperCase() + " ") ? text.slice(device.length + 1) : text;
+  const bare = text.replace(new RegExp(`^((\\d{1,15}-\\d{1,15} )?REPLY )?${device.toUpperCase()} `), "");
   if (!/^[0-9A-F]{2}( [0-9A-F]{2})*$/.test(bare))
     throw new SetupFault(
         device,

@@ -5,9 +5,12 @@ is crates/conformance/src/main.rt; there is no third.
 """
 
 import pathlib
+import re
 
 FOLDER = pathlib.Path(__file__).resolve().parent.parent / "crates" / "conformance" / "data"
 ESCAPES = {"n": "\n", "r": "\r", "m": "\xef\xbb\xbf", "x": "\xff", "\\": "\\"}
+# A value of --setup: a line of `show`, perhaps without its rows, perhaps without `reply` too.
+SETUP = re.compile(r"(?:(?:\d+-\d+ )?reply )?(\S+) (.+)")
 
 
 class BadCase(Exception):
@@ -20,6 +23,15 @@ def words_of(text):
     for i, part in enumerate(parts):
         words += [part] if i % 2 else part.split()
     return words
+
+
+def setups_in(words):
+    """The value of each --setup among the words of a command, with its device and its bytes."""
+    for i, word in enumerate(words):
+        if word == "--setup" or word.startswith("--setup="):
+            value = word.partition("=")[2] or words[i + 1]
+            device, data = SETUP.fullmatch(value).groups()
+            yield value, device, bytes.fromhex(data)
 
 
 def text_of(escaped):

@@ -13,6 +13,8 @@ import random
 import subprocess
 import sys
 
+from cases import setups_in
+
 DEVICES = ["changer", "bill", "cashless", "cashless-2"]
 RESETS = {0x08, 0x30, 0x10, 0x60}
 SALES = {0: "vend request", 1: "vend cancel", 2: "vend success", 3: "vend failure", 4: "session complete", 5: "cash sale"}
@@ -172,18 +174,15 @@ class Walk:
             self.add("sessions", rows, device, "session ended")
 
 
-def setups_in(words):
+def setups_of(words):
     """What --setup gives, by device."""
-    for i, word in enumerate(words):
-        if not word.startswith("--setup"):
-            continue
-        name, *data = (word.partition("=")[2] or words[i + 1]).split(" ")
-        device, data = DEVICES.index(name) + 1, [int(it, 16) for it in data][:-1]
-        yield device, setup_of(device, [{1: 0x09, 2: 0x31}.get(device, 0)], data)
+    for _, name, data in setups_in(words):
+        device = DEVICES.index(name) + 1
+        yield device, setup_of(device, [{1: 0x09, 2: 0x31}.get(device, 0)], list(data[:-1]))
 
 
 def walked(text, words=()):
-    walk = Walk(setups_in(list(words)))
+    walk = Walk(setups_of(words))
     for line in text.splitlines():
         if not line.startswith("fault "):
             walk.line(line)

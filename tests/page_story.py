@@ -27,6 +27,7 @@ import tempfile
 sys.dont_write_bytecode = True
 
 from browser import Browser  # noqa: E402
+from cases import setups_in  # noqa: E402
 from firefox import Firefox  # noqa: E402
 from programs import MDBCHECK as PROGRAM  # noqa: E402
 
@@ -125,7 +126,7 @@ class Recording:
 
     def __init__(self, text, options):
         self.acts, values, ask = [], {}, b""
-        for device, data in setups_of(options).items():
+        for _, device, data in setups_in(options):
             values[device] = self.values(device, b"", data)
         for line in text.splitlines():
             found = re.fullmatch(r"(\d+)-(\d+) (\S+)((?: [a-z]\S*)?)((?: [0-9A-F]{2})*)(?: \d+)?", line)
@@ -205,19 +206,6 @@ class Recording:
         first, _, last = rows.partition("–")
         pair = int(first), int(last or first)
         return next((it for it in self.acts if (it["first"], it["last"]) == pair), None)
-
-
-def setups_of(options):
-    """The set-up data in the words of a command, by device."""
-    found, i = {}, 0
-    while i < len(options):
-        word = options[i]
-        if word.startswith("--setup"):
-            value = word.split("=", 1)[1] if "=" in word else options[(i := i + 1)]
-            device, _, data = value.partition(" ")
-            found[device] = bytes.fromhex(data.replace(" ", ""))
-        i += 1
-    return found
 
 
 # A phrase of a sentence, and what one of the acts that the sentence names has to say for it. The part in the phrase
