@@ -173,10 +173,10 @@ class Orders:
             want(time.monotonic() < end, f"it still works after {most} s")
             time.sleep(0.01)
 
-    def until(self, code, most=20):
+    def until(self, code, most=20, rests="!isWorking && !document.querySelector('#import-told progress')"):
         """Waits until the page rests, and this is so."""
         end = time.monotonic() + most
-        while not self.value(f"!isWorking && !document.querySelector('#import-told progress') && Boolean({code})"):
+        while not self.value(f"{rests} && Boolean({code})"):
             want(time.monotonic() < end, f"not after {most} s: {code}")
             time.sleep(0.01)
 
@@ -446,11 +446,13 @@ def try_focus(page):
     want(came["focus"] == "verdict" and came["card"] == "card yes", f"after a stop: {came['focus']}, {came['verdict']!r}")
 
 
-IMPORTED = ["20000,M,108", "21200,M,008", "21200,S,100", "30000,M,000"]
+# More than the page reads before an import is begun (1 MiB), and then a row that can't come after the last of them.
+POLLS = [row for at in range(20_000, 800_020_000, 20_000) for row in (f"{at},M,108", f"{at + 1200},M,008")]
+IMPORTED = [*POLLS, "800001200,S,100", "800030000,M,000"]
 
 
 def open_panel(page):
-    """Chooses rows in milliseconds, of which the third can't come after the second; the panel asks for their unit."""
+    """Chooses these rows in milliseconds; the panel asks for their unit."""
     page.fresh()
     (page.work / "ms.csv").write_text(text_of([f"{int(at) / 1000},{rest}" for at, rest in (row.split(",", 1) for row in IMPORTED)]))
     page.browser.choose("#file", page.work / "ms.csv")
@@ -458,22 +460,22 @@ def open_panel(page):
 
 
 def try_focus_of_panel(page):
-    """The panel of an import has the focus when it comes. Then what was pressed keeps it, or what that filled in or drew
-    anew has it; where the import is refused, the reason is in sight."""
+    """The panel of an import has the focus when it comes, and then what a choice drew anew. Where the import is refused, the
+    reason has it, and is in sight; then the field that a button filled in."""
     open_panel(page)
     want(page.read()["focus"] == "import-title", f"the panel came, and the focus is on {page.read()['focus']}")
     for format in ("saleae", "rows"):
-        page.value("(() => { const it = by('import-format'); it.focus(); it.value = '%s'; it.dispatchEvent(new Event('change')); return 1; })()" % format)
-        page.until(f"openImport.format === '{format}' && by('import-first').childNodes.length")
+        page.value("(() => { const it = by('import-format'); it.focus(); it.value = '%s'; it.dataset.old = 1; it.dispatchEvent(new Event('change')); return 1; })()" % format)
+        page.until("!by('import-format').dataset.old && (by('import-first').childNodes.length || by('import-told').childNodes.length)")
         want(page.read()["focus"] == "import-format", f"a format was chosen, and the focus is on {page.read()['focus']}")
-    page.value("(() => { by('import-unit').value = 'ms'; showFirstRows(); return 1; })()")
-    page.until("by('import-first').querySelector('tbody tr')")
     for name in ("import-save", "import-go"):
-        page.value("(() => { by('import-told').replaceChildren(); openImport.answer = null; return 1; })()")
+        open_panel(page)
+        page.value("(() => { by('import-unit').value = 'ms'; showFirstRows(); return 1; })()")
+        page.until("by('import-first').querySelector('tbody tr')")
         page.push(name)
         page.until("document.getElementById('import-before')")
         focus, told, high = page.value("[document.activeElement.id, by('import-told').getBoundingClientRect().bottom, innerHeight]")
-        want(focus == name and 0 < told < high + 1, f"{name}, refused: {focus}, {told} of {high}")
+        want(focus == "import-told" and 0 < told < high + 1, f"{name}, refused: {focus}, {told} of {high}")
     page.push("import-go-on")
     want(page.read()["focus"] == "import-from", f"the import goes on, and the focus is on {page.read()['focus']}")
 
@@ -483,7 +485,7 @@ def try_focus_of_import(page):
     open_panel(page)
     page.value("(() => { by('import-unit').value = 'ms'; showFirstRows().then(() => by('import-go').click()); return 1; })()")
     page.until("document.getElementById('import-before')")
-    for name, rows in (("import-before", IMPORTED[:2]), ("import-go", IMPORTED[3:])):
+    for name, rows in (("import-before", POLLS), ("import-go", IMPORTED[-1:])):
         (page.work / "ms-rows.csv").write_text(text_of(rows))
         page.answers.clear()
         page.give("ms-rows.csv", lambda: page.push(name))
@@ -491,7 +493,7 @@ def try_focus_of_import(page):
         page.compare(came)
         want(came["focus"] == "verdict" and -1 < came["top"] < came["high"], f"{name}: {came['focus']}, {came['top']}")
         page.push("import-go-on")
-        page.until("by('import-first').querySelectorAll('tbody tr').length === 1")
+        page.until("by('import-first').textContent === 'No row is made of its beginning.'")
 
 
 def try_two_imports(page):
@@ -499,12 +501,14 @@ def try_two_imports(page):
     table = EXAMPLES / "exports" / "saleae.csv"
     for first, second, words in (("#file", "#setup-file", "the card"), ("#setup-file", "#file", "the set-up")):
         open_panel(page)
-        page.value("(() => { by('joined').click(); const ask = Importer.prototype.ask; Importer.prototype.ask = async function(...it) {"
-                   " if (this.file.name === 'saleae.csv') await new Promise((done) => setTimeout(done, 300)); return ask.call(this, ...it); }; return 1; })()")
+        page.value("(() => { by('joined').click(); const ask = Importer.prototype.ask, held = new Promise((done) => window.letGo = done);"
+                   " Importer.prototype.ask = async function(...it) { if (this.file.name === 'saleae.csv') await held; return ask.call(this, ...it); }; return 1; })()")
         page.browser.choose(first, table)
-        page.browser.choose(second, page.work / "ms.csv")
-        page.until("openImport?.file.name === 'ms.csv'")
-        time.sleep(0.5)
+        (page.work / "other.csv").write_bytes((page.work / "ms.csv").read_bytes())
+        page.browser.choose(second, page.work / "other.csv")
+        page.until("openImport?.file.name === 'other.csv' && document.getElementById('import-go')", rests="true")
+        page.value("(letGo(), 1)")
+        page.until("document.body.textContent.includes('nother file was chosen before this one was read')")
         came = page.settled()
         told = came["verdict"] if first == "#file" else came["setupTold"]
         want("nother file was chosen before this one was read" in told and "saleae.csv" in told, f"{words}: {told!r}")
