@@ -1,7 +1,6 @@
 // All that was said, act by act.
 const PAGE_ACTS = 100;
 const ACT_HEADS = [["begins at", "number"], ["rows"], ["who", "wide"], ["kind", "wide"], ["in words"], ["bytes"]];
-const POLLS = [0, 0x0B, 0x33, 0x12, 0x62];
 // So many milliseconds a search works before it lets the page do something else.
 const SEARCH_PIECE = 25, MOST_SEEN = 100000;
 

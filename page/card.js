@@ -38,6 +38,7 @@ function fillCard(kind, word, lead, ...rest) {
   const card = by("verdict");
   card.className = "card " + kind;
   card.removeAttribute("data-unfollowed");
+  card.removeAttribute("data-open");
   card.replaceChildren(h("h2", {class: "word"}, word), h("p", {id: "lead"}, lead), ...rest.flat(3).filter(Boolean));
 }
 
@@ -114,12 +115,14 @@ function showVerdict(it) {
 function showYes(it) {
   const r = it.report;
   if (r.rows !== "0" && isUnfollowed(it)) return showIdle(it);
+  const story = r.rows === "0" ? [] : withOpen(it, storyOf(it));
   fillCard(
-      "yes", "Yes: this recording is possible", yesLead(it), leftOut(it), storyList(r.rows === "0" ? [] : storyOf(it)),
+      "yes", "Yes: this recording is possible", yesLead(it), leftOut(it), openPart(it), storyList(story),
       valueButton(it),
       h("p", {class: "soft"},
         "A yes says that an honest explanation of the recording exists. It doesn't say that the money is honest."),
       nameWords(it));
+  by("verdict").toggleAttribute("data-open", story.some(({kind}) => kind === "next"));
 }
 
 function yesLead(it) {
@@ -130,6 +133,7 @@ function yesLead(it) {
   if (all.some(([, a]) => isOpen(a))) return `${count}. Not all of the money is certain: ${titles(isOpen)}.`;
   const silent = DEVICES.filter((d) => r.silences[d]).map((d) => DEVICE_NAMES[DEVICES.indexOf(d)]);
   if (silent.length) return `${count}, but the ${listed(silent)} gave no answer for too long.`;
+  if (openMoneyOf(it).length) return `${count}, but ${openLead(it)}.`;
   return `${count}.`;
 }
 
@@ -173,8 +177,10 @@ function showNo(it) {
   fillCard(
       "no", word, lead, leftOut(it),
       isLate ? [lateNotes(it), h("p", {}, `If the recording does begin at power-on: ${small(sent)}`)] : null,
+      openPart(it),
       storyList(
-          isAfterDamage(it) ? storyAfterDamage(it) : storyOf(it), isLate ? "What to do next, in that case" : undefined),
+          isAfterDamage(it) ? storyAfterDamage(it) : withOpen(it, storyOf(it)),
+          isLate ? "What to do next, in that case" : undefined),
       isExchanged ? exchangeButton() : null,
       isLate || !it.late ? null :
           isExchanged    ? lateAside(it) :
@@ -207,8 +213,8 @@ function showUnfollowed(it) {
   const row = number(it.row);
   fillCard(
       "limit", `Not followed from row ${row} on: ${unfollowed(it).what}`,
-      "This is a limit of the checker. It shows no fault of anybody.", leftOut(it), storyList(profileStory(it)),
-      leaveOut(it),
+      "This is a limit of the checker. It shows no fault of anybody.", leftOut(it), openPart(it),
+      storyList(withOpen(it, profileStory(it))), leaveOut(it),
       h("p", {class: "soft"},
         `Row ${row} falls under the rule Profile. ${it.row > 1 ? `The rows before it are possible together. ` : ""}`,
         unjudgedWords(it)),

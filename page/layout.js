@@ -38,9 +38,9 @@ const STRUCTURES = {
 };
 // For each structure its size, and the place of each field.
 const layout = {};
-// So many numbers the worker tells of a fault: its row, its place, and the times of the row, the row before it and the
-// row after it.
-const FAULT_NUMBERS = 5;
+// So many numbers the worker tells of a fault: its row, its place, the times of the row, the row before it and the row
+// after it, and whether it is of alternative payout.
+const FAULT_NUMBERS = 6;
 
 // The places of the fields of a structure of so many bytes.
 function placesOf(fields, size) {

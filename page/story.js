@@ -154,7 +154,8 @@ function differingStory(it, name, a, d) {
   const told = [fact(`${title}: the books differ for certain. ${
       low < 0n ? `The controller counted ${amount} more than ${who}` :
                  `${capital(who)} counted ${amount} more than the controller`}.`)];
-  const last = it.found.money.filter((m) => isOf(name, m)).at(-1);
+  const last = it.found.money.filter((m) => isOf(name, m)).at(-1), reason = payoutReason(it, name, a);
+  if (reason) return [...told, ...reason];
   if (!last || last.acknowledged)
     return [...told, nextStep(`Send the makers of the controller and of the ${SHORT_NAMES[device]} this recording.`)];
   return [
@@ -211,6 +212,6 @@ function agreedStory(it) {
           .map(
               ([name, a]) =>
                   `${small(ACCOUNTS[name].title)} ${money(a.device[0], it.report.decimals[ACCOUNTS[name].device])}`);
-  if (!sums.length) return [fact("No money was reported.")];
+  if (!sums.length) return openMoneyOf(it).length ? [] : [fact("No money was reported.")];
   return [fact(`The controller and the devices agree for certain: ${listed(sums)}.`)];
 }

@@ -3,8 +3,6 @@ const PAGE_STRETCHES = 100;
 const STRETCH_HEADS =
     [["stretch"], ["money"], ["device", "number"], ["controller", "number"], ["difference", "number"]];
 
-const accountsOf = (report) => Object.keys(ACCOUNTS).filter((name) => !isZero(report.accounts[name]));
-
 // What is to be said of a stretch, beside its sums.
 function stretchNotes(report) {
   const named = (devices) => listed(devices.map((it) => DEVICE_NAMES[DEVICES.indexOf(it)])), notes = [];
@@ -21,11 +19,21 @@ function stretchNotes(report) {
 const noneWords = ({unvalued}) =>
     Object.values(unvalued ?? {}).some((n) => n > 0) ? "no amount with a known value" : "no money";
 
-// The rows of a table for a report: a heading over them all, and a row for each account that has something.
-function sumRows(report, decimals, head, isTotal = false) {
-  const names = accountsOf(report);
+// The accounts that a table has, and those of which nothing is known from a row on.
+const namesOf = (report, unknown) =>
+    Object.keys(ACCOUNTS).filter((name) => !isZero(report.accounts[name]) || unknown && name === "paid-out");
+
+const unknownCells = (title, row) =>
+    [h("th", {scope: "row", role: "rowheader"}, title),
+     h("td", {role: "cell", colspan: 3, class: "unknown"}, "not known from row ", rowLink(row), " on")];
+
+// The rows of a table for a report: a heading over them all, and a row for each account that has something. From the
+// row `unknown` on, paid-out isn't known.
+function sumRows(report, decimals, head, unknown, isTotal = false) {
+  const names = namesOf(report, unknown);
   const cells = (name) => {
     const {device, title} = ACCOUNTS[name], a = report.accounts[name];
+    if (unknown && name === "paid-out") return unknownCells(title, unknown);
     return [
       h("th", {scope: "row", role: "rowheader"}, title), ...["device", "controller", "difference"].map((side, i) => {
         const words = rangeWords(a[side], decimals(device)), label = STRETCH_HEADS[i + 2][0];
@@ -56,7 +64,7 @@ function stretchBody(it, stretch) {
         class: isShown ? "here" : undefined,
         "aria-current": isShown ? "true" : undefined
       },
-      sumRows(report, (device) => report.decimals[device], head));
+      sumRows(report, (device) => report.decimals[device], head, first > choiceRow(it) ? choiceRow(it) : 0));
 }
 
 // The decimal places that a device shows in the stretches, each number once.
@@ -65,14 +73,16 @@ function placesIn({stretches}, device) {
 }
 
 // The sums of all stretches. Where the decimal places of a device changed, its sums stand without any.
-function totalBody(made) {
+function totalBody(it) {
+  const {survey: made} = it;
   if (!made.totals) return null;
   const places = Object.fromEntries(DEVICES.slice(1).map((device) => [device, placesIn(made, device)]));
   const changed = DEVICES.slice(1).filter((device) => places[device].length > 1);
   const head = [h("div", {}, "All stretches"), ...stretchNotes(made.totals), ...changed.map(changedNote)];
   return h(
       "tbody", {role: "rowgroup", id: "stretch-total", class: "total"},
-      sumRows(made.totals, (device) => places[device].length === 1 ? places[device][0] : null, head, true));
+      sumRows(
+          made.totals, (device) => places[device].length === 1 ? places[device][0] : null, head, choiceRow(it), true));
 }
 
 const changedNote = (device) =>
@@ -88,7 +98,7 @@ function drawStretches(it) {
   by("stretch-table")
       .append(
           ...made.stretches.slice(made.stretchFrom, last).map((one) => stretchBody(it, one)),
-          ...[totalBody(made)].filter(Boolean));
+          ...[totalBody(it)].filter(Boolean));
   tellPage("stretch", "Stretches", made.stretchFrom, last, count);
 }
 

@@ -44,8 +44,8 @@ const reportOf = (stretch) => stretch.report ??= readReport(stretch.lines.join("
 
 // What is told of the fault with an index: its row, its place, and the times of it and of the rows beside it.
 function placeOfFault({faults}, i) {
-  const [row, offset, time, before, after] = faults.subarray(i * FAULT_NUMBERS, (i + 1) * FAULT_NUMBERS);
-  return {row, offset, time, before, after};
+  const [row, offset, time, before, after, isChoice] = faults.subarray(i * FAULT_NUMBERS, (i + 1) * FAULT_NUMBERS);
+  return {row, offset, time, before, after, isChoice: isChoice > 0};
 }
 
 // A survey with the time of each fault, and with those of each stretch's first and last row.
@@ -149,6 +149,7 @@ function addSurvey(it) {
           h("span", {class: "noprint"}, partLink("survey", "All faults")));
   after.before(...made);
   by("unjudged").remove();
+  showOpen(it);
   by("fault")?.replaceWith(faultSection(it));
   showLine(it);
   relistActs(it);

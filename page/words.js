@@ -12,6 +12,8 @@ const KIND_CHOICES = KIND_WORDS.map(
                                        words);
 const ASK = 0, ACK = 1, NAK = 2, REPLY = 3, VMC_ACK = 4, VMC_NAK = 5, VMC_RET = 6, REPEAT = 7, FOREIGN = 8, BREAK = 9,
       CUT = 10;
+// The address byte of POLL, by device.
+const POLLS = [0, 0x0B, 0x33, 0x12, 0x62];
 const CHANGER_COMMANDS = {
   8: "RESET",
   9: "SETUP",

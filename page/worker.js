@@ -274,6 +274,16 @@ function timeAt(text, place) {
   return place >= 0 && at > from ? time : NaN;
 }
 
+// The line and the value of the row at a place.
+function saidAt(text, place) {
+  const from = text.indexOf(44, place) + 1;
+  return place < 0 ? "" : String.fromCharCode(...text.subarray(from, from + 5));
+}
+
+// Whether a row makes a command of alternative payout of the one before: 0F, and then 02, 03 or 04.
+const isChoice = (text, place) =>
+    /^M,10F$/i.test(saidAt(text, rowBefore(text, place))) && /^M,00[234]$/.test(saidAt(text, place));
+
 // What is told of the faults that lie in memory.
 function faultNumbers(text, {faults}, count) {
   const view = new DataView(call.memory.buffer, faults), made = new Float64Array(count * FAULT_NUMBERS);
@@ -281,7 +291,7 @@ function faultNumbers(text, {faults}, count) {
   for (let i = 0; i < count; i++) {
     const offset = u64(i, "offset");
     const times = [offset, rowBefore(text, offset), rowAfter(text, offset)].map((place) => timeAt(text, place));
-    made.set([u64(i, "row"), offset, ...times], i * FAULT_NUMBERS);
+    made.set([u64(i, "row"), offset, ...times, isChoice(text, offset)], i * FAULT_NUMBERS);
   }
   return made;
 }

@@ -39,6 +39,7 @@ STORY = """JSON.stringify({
   word: document.querySelector("#verdict .word").textContent, lead: document.getElementById("lead").textContent,
   sentences: [...document.querySelectorAll("#story li, #next li")].map((it) => ({kind: it.dataset.kind, text: it.textContent,
     rows: [...it.querySelectorAll("[data-row]")].map((a) => a.textContent)})),
+  open: [...document.querySelectorAll("#open li")].map((it) => it.dataset.device),
 })"""
 
 EXAMPLES = {
@@ -331,6 +332,7 @@ def compare_yes(sentences, recording, report, values):
 def involved(story, recording, report, values, data, row):
     """The devices that a story may name."""
     found = {it["device"] for s in story["sentences"] for rows in s["rows"] if (it := recording.at(rows))} | {report.get("blame", "")}
+    found |= set(story["open"])
     if report["verdict"] == "yes":
         for name, device in ACCOUNTS.items():
             if any(it != (0, 0) for it in bounds(values[name])):

@@ -1,0 +1,234 @@
+// The list of open money in the card: each entry with its amount, its time, and what it was, and what is to be done.
+const OPEN_TITLE = "Open money";
+// What a device reported as trouble, by the code of the report; a reader's malfunction by the high half of its code.
+const TROUBLE_WORDS = [
+  {}, {
+    3: "that a coin gave no credit",
+    4: "a defective tube sensor",
+    6: "that its acceptor is unplugged",
+    7: "a tube jam",
+    8: "a checksum error of its ROM",
+    9: "a coin routing error",
+    0x0C: "a coin jam",
+    0x0D: "that a credited coin was perhaps removed"
+  },
+  {
+    1: "a defective motor",
+    2: "a sensor problem",
+    4: "a checksum error of its ROM",
+    5: "a jam",
+    7: "that a bill was removed",
+    8: "its cash box out of position",
+    0x0C: "that a credited bill was perhaps removed",
+    0x36: "a full stacker"
+  }
+];
+const MALFUNCTIONS = {
+  0: "of the card (payment media error)",
+  1: "of the card (invalid payment media)",
+  2: "tamper error",
+  4: "communications error",
+  5: "it needs service",
+  8: "reader failure",
+  9: "communications error",
+  0x0A: "the card is jammed",
+  0x0C: "refund error, the money may be lost"
+};
+// What came in place of an end, before its rows.
+const CAME_WORDS = {
+  request: "the next VEND REQUEST",
+  complete: "SESSION COMPLETE",
+  reset: "a RESET by the controller",
+  restarted: "the report of a reset",
+  begun: "the begin of a session",
+  denied: "a denial",
+  ended: "the end of the session",
+  bill: "the next bill",
+  break: "a break, as when power goes off,"
+};
+const OPEN_NEXT = {
+  approved: "Ask the card company whether it booked the amount that was approved.",
+  failed: "Ask the card company whether the amount was given back.",
+  escrow: "Look whether the bill is in the validator, and why the controller gave no order for it.",
+  lever: "Ask the customer whether something was bought: not every controller reports a sale for cash on the bus.",
+  payout: "Ask the customer whether the change came, and look at the tubes.",
+  choice: "Count the tubes, or read the audit of the machine.",
+  trouble: "See whether what was reported as trouble still stands."
+};
+
+const moneyOf = ({units, decimals, unvalued}) => units === null ?
+    "value not known" :
+    `${money(units, decimals ?? 0)}${unvalued ? ` and ${number(unvalued)} of unknown value` : ""}`;
+
+const openRows = (rows) => rows.length === 1 ? rowsAt(...rows[0]) : rowsAt(rows[0][0], rows[0][1]);
+const restRows = ({rows}) => rows.slice(1).map((it) => rowsAt(...it));
+const ofAmount = (it) => it.units === null ? "of unknown value" : `of ${moneyOf(it)}`;
+
+// Up to where nothing else was found.
+function untilWords(it, {came, cameRows, last}) {
+  const acts = it.list, end = acts.start(acts.count - 1);
+  if (came === "end") return [`up to the end of the recording, ${seconds(end - last)} later.`];
+  if (came === "gap") return ["in the rows that are listed here."];
+  const rows = inRows(rowsAt(...cameRows));
+  if (came === "fault") return ["up to where the list of what was said ends", ...rows, "."];
+  return [`before ${CAME_WORDS[came]} at ${when(acts.start(actAtRow(it, cameRows[0])))}`, ...rows, "."];
+}
+
+const itemWords = ({item}) => item === null ? "" : ` for item ${item}`;
+
+// What an entry was, as the parts of a sentence or two.
+const OPEN_SENTENCES = {
+  approved: (it, e) =>
+      [...approvedParts(e), ", and the controller acknowledged it. It reported neither a sale nor a failure ",
+       untilWords(it, e)],
+  failed: (it, e) =>
+      [...approvedParts(e), ", and the controller reported VEND FAILURE", inRows(...restRows(e)),
+       ". The reader has to give it back. Whether it did, the bus doesn't show."],
+  escrow: (it, e) =>
+      [`A bill ${ofAmount(e.amounts[0])} went into escrow`, inRows(openRows(e.rows)),
+       ", and was reported neither as stacked nor as returned ", untilWords(it, e)],
+  lever: (it, e) =>
+      [`The return lever was pressed${timesWords(e)}`, inRows(openRows(e.rows), ...restRows(e)),
+       ` with ${paidWords(e)} in, and nothing was paid out `, e.came === "time" ? "within 30 s." : untilWords(it, e)],
+  payout: (it, e) =>
+      [`The controller asked the changer to pay out ${coinsOf(e.amounts[0])}`, inRows(openRows(e.rows)),
+       ...payoutEnd(e)],
+  choice: (it, e) =>
+      ["Paid-out isn't known from ", openRows(e.rows), " on: the controller lets the changer choose the coins ",
+       "(0F 02 to 0F 04), which isn't followed. What was paid in is known."],
+  trouble: (it, e) =>
+      [`${capital(theDevice(e.device))} reported ${troubleWords(e)}`, inRows(openRows(e.rows)),
+       ...e.count === 1 ? ["."] : [`,${timesWords(e)}, the last at ${when(e.last)}`, inRows(...restRows(e)), "."]]
+};
+
+const coinsOf = (it) => it.units === null ? "coins of unknown value" : moneyOf(it);
+const timesWords = ({count}) => count > 1 ? ` ${number(count)} times` : "";
+
+const approvedParts = (e) => {
+  const amount = e.amounts[0].units === null ? "an amount of unknown value" : moneyOf(e.amounts[0]);
+  return [`${capital(theDevice(e.device))} approved ${amount}${itemWords(e)}`, inRows(openRows(e.rows))];
+};
+
+const paidWords = ({amounts}) => listed(amounts.map((it) => `${["", "coins", "bills"][it.device]} ${ofAmount(it)}`));
+
+function troubleWords({device, code}) {
+  if (device < 3) return `${TROUBLE_WORDS[device][code]} (${code === STACKER ? "STACKER" : hex(code)})`;
+  const kind = MALFUNCTIONS[code >> 4];
+  return `a malfunction (0A ${hex(code)}${kind ? ": " + kind : ""})`;
+}
+
+const NOT_PAID = " The controller counts it as paid out, and the changer doesn't.";
+
+// What became of a DISPENSE.
+function payoutEnd(e) {
+  if (e.answer === "taken")
+    return [
+      ". The changer acknowledged that, and then gave no answer for more than 2 s. ",
+      "Whether it paid, the bus doesn't show."
+    ];
+  const rest = restRows(e),
+        nak = e.answer === "refused" ? [", and the changer refused it (NAK, ", rest.pop(), ")"] : null;
+  return [
+    ...rest.length ? [` and again${timesWords(e).replace(" ", ", ")} in all`, inRows(...rest)] : [],
+    ...nak ?? [", and the changer didn't answer"], ".", NOT_PAID,
+    ...e.came === "dispense" ? [" Then it asked for other coins", inRows(rowsAt(...e.cameRows)), "."] : []
+  ];
+}
+
+// Orders to pay out that the changer didn't take, as the reason why the books differ.
+function payoutReason(it, name, {difference: [low, high]}) {
+  const left = openMoneyOf(it).filter(({kind, answer}) => kind === "payout" && answer !== "taken");
+  if (name !== "paid-out" || !left.length || high >= 0n) return null;
+  const sum = left.reduce((all, {amounts: [{units}]}) => all + BigInt(units ?? 0), 0n),
+        isAll = low === -sum && low === high;
+  const rows = left.slice(0, 3).map(({rows}) => openRows(rows)), orders = left.length === 1 ? "order" : "orders";
+  const words = `the changer didn't take the ${orders} to pay out ${money(sum, left[0].amounts[0].decimals)}`;
+  return isAll ? [fact(`This is the reason: ${words}`, inRows(...rows), ". It is no fault of either book.")] :
+                 [likely(`Perhaps this is a part of it: ${words}`, inRows(...rows), ".")];
+}
+
+// The row from which on paid-out isn't known; 0 if there is none.
+const choiceRow = (it) => openMoneyOf(it).find(({kind}) => kind === "choice")?.rows[0][0] ?? 0;
+
+// The list of an answer: after a no, it ends where the list of acts ends.
+function openMoneyOf(it) {
+  if (it.openMoney) return it.openMoney;
+  const isCut = it.link.answer === ANSWERS.NO, fault = isCut ? it.link.row : 0;
+  it.openMoney =
+      it.listed ? openMoney(it.list, {gaps: it.hole < 0 ? [] : [it.hole], fault, choices: choicesOf(it)}) : [];
+  return it.openMoney;
+}
+
+// The rows at which a payout by the changer's choice stops the reading: that of the answer, or those of a survey.
+function choicesOf(it) {
+  const isOf = ({rule, blame}) => rule === "Profile" && blame === "controller";
+  if (it.survey) return it.survey.faults.filter((fault) => fault.isChoice && isOf(fault));
+  if (it.answer !== ANSWERS.NO || !isOf(it.report)) return [];
+  const [before, at] = [it.row - 1, it.row].map((row) => it.lines.find((line) => line.row === row));
+  if (!before || !at) return [];
+  const parts = shown(at).split(",");
+  return isChoiceRow(shown(before).split(","), parts) ? [{row: it.row, time: Number(parts[0])}] : [];
+}
+
+const isChoiceRow = ([, sideBefore, before], [, side, value]) =>
+    sideBefore === "M" && side === "M" && /^10f$/i.test(before) && /^00[234]$/.test(value.trim());
+
+// A story, and before its steps those for what is open.
+const openKinds = (it) => [...new Set(openMoneyOf(it).map(({kind}) => kind))];
+const withOpen = (it, story) => [...openKinds(it).map((kind) => nextStep(OPEN_NEXT[kind])), ...story];
+
+// What the card says of an answer in which something is open.
+function openLead(it) {
+  const all = openMoneyOf(it);
+  return all.every(({kind}) => kind === "trouble") ? "a device reported trouble" : "not all of the money has an end";
+}
+
+function openItem(it, entry) {
+  const amount = entry.amounts.map(moneyOf).join(" + ");
+  return h(
+      "li", {"data-open": entry.kind, "data-device": DEVICES[entry.device]},
+      amount ? h("strong", {class: "amount"}, amount) : null, amount ? " at " : null,
+      timeLink(entry.time, ...entry.rows[0]), ": ", OPEN_SENTENCES[entry.kind](it, entry).flat(2).flatMap(partOf));
+}
+
+// Of which rows the list speaks, where acts of others aren't listed.
+function openScope(it) {
+  if (it.hole < 0) return null;
+  const from = it.list.last(it.hole - 1) + 1, to = it.list.first(it.hole) - 1;
+  return h(
+      "p", {id: "open-scope", class: "soft"},
+      `${OPEN_TITLE}: this recording is too long to list all acts. Rows ${number(from)} to ${
+          number(to)} weren't looked at for it.`);
+}
+
+// The list in the card, and of which rows it speaks.
+function openInner(it) {
+  const all = openMoneyOf(it), most = 20, shownOnes = all.slice(0, most);
+  if (!all.length) return [openScope(it)].filter(Boolean);
+  return [
+    h("h3", {id: "open-title"}, OPEN_TITLE),
+    h("ul", {id: "open", "aria-labelledby": "open-title"}, shownOnes.map((entry) => openItem(it, entry))),
+    all.length > most ? moreOpen(it, all, most) : null, openScope(it)
+  ].filter(Boolean);
+}
+
+const openPart = (it) => h("div", {id: "open-money"}, openInner(it));
+
+// The list anew, and the steps of what is new in it, after a survey.
+function showOpen(it) {
+  const before = openKinds(it);
+  it.openMoney = null;
+  by("open-money").replaceChildren(...openInner(it));
+  const steps = openKinds(it).filter((kind) => !before.includes(kind)).map((kind) => nextStep(OPEN_NEXT[kind]));
+  by("next")?.querySelector("ul").append(...steps.map(sentence));
+}
+
+function moreOpen(it, all, most) {
+  const more = () => {
+    by("open").append(...all.slice(most).map((entry) => openItem(it, entry)));
+    by("open-more").remove();
+  };
+  return h(
+      "p", {class: "noprint", id: "open-more"},
+      h("button", {type: "button", onclick: more}, `Show all ${number(all.length)} entries`));
+}

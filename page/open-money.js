@@ -1,0 +1,328 @@
+// Open money: the money of which the acts show no end, and the trouble that devices reported, by
+// docs/bench/open-money.md. It needs the acts alone, and their set-ups (`noteSetups`, words.js).
+const OPEN_KINDS = ["approved", "failed", "escrow", "lever", "payout", "choice", "trouble"];
+const LEVER_WAIT = 30e6, PAYOUT_WAIT = 2e6, STACKER = 0x36, MALFUNCTION = 0x0A;
+const VEND = {
+  REQUEST: 0,
+  SUCCESS: 2,
+  FAILURE: 3,
+  COMPLETE: 4,
+  CASH_SALE: 5
+};
+// The reports of trouble, by device: a changer's and a validator's messages. A reader's malfunctions each have a code.
+const TROUBLES = [[], [3, 4, 6, 7, 8, 9, 0x0C, 0x0D], [1, 2, 4, 5, 7, 8, 0x0C]];
+// What a reader's message ends an open approval with.
+const READER_ENDS = {
+  0: "restarted",
+  3: "begun",
+  6: "denied",
+  7: "ended"
+};
+
+// So much of a device's money: the units that are known, null if none are, and how many of its parts have no value.
+const amountOf = (device, setup, units) =>
+    ({device, units, decimals: setup?.decimals ?? null, unvalued: units === null ? 1 : 0});
+
+const isNothing = (amounts) => amounts.length > 0 && amounts.every((it) => it.units === 0 && !it.unvalued);
+
+// Two amounts of one device together.
+const moreOf = (sum, more) => ({
+  ...more,
+  units: sum.units === null ? more.units : sum.units + (more.units ?? 0),
+  unvalued: sum.unvalued + more.unvalued
+});
+
+// The messages of a changer's or validator's answer to POLL, by their first bytes.
+function pollBytes(device, bytes) {
+  const found = [];
+  for (let i = 0; i < bytes.length - 1; i += device === 1 && bytes[i] >= 0x40 ? 2 : 1) found.push(bytes[i]);
+  return found;
+}
+
+const NO_ENTRY = {
+  kind: "",
+  device: 0,
+  time: 0,
+  rows: [],
+  amounts: [],
+  came: null,
+  cameRows: null,
+  count: 1,
+  item: null,
+  code: null,
+  answer: null,
+  last: 0
+};
+
+// A walk over the acts. What may still end is open: an approval of each reader, a bill in escrow, a DISPENSE that
+// wasn't taken, and presses of the return lever.
+class OpenWalk {
+  constructor(acts, gaps) {
+    this.acts = acts;
+    this.gaps = new Set(gaps);
+    this.entries = [];
+    this.troubles = new Map();
+    this.begin();
+  }
+  // At the start, and after a gap, nothing is open.
+  begin() {
+    this.approvals = [];
+    this.items = [];
+    this.bill = this.payout = this.taken = null;
+    this.presses = [];
+    this.paidIn = [];
+    this.isPressed = false;
+  }
+  rows(i) {
+    return [this.acts.first(i), this.acts.last(i)];
+  }
+  made(kind, i, more) {
+    const {acts} = this, time = acts.start(i);
+    return {...NO_ENTRY, kind, device: acts.device(i), time, rows: [this.rows(i)], last: time, ...more};
+  }
+  list(entry, came = null, cameRows = null) {
+    if (entry && !isNothing(entry.amounts)) this.entries.push({...entry, came, cameRows});
+  }
+  // Another act of an entry: its rows come after those of the first one, in place of an earlier other one.
+  again(entry, i) {
+    entry.count++;
+    entry.last = this.acts.start(i);
+    if (this.acts.first(i) !== entry.rows[0][0]) entry.rows[1] = this.rows(i);
+  }
+  endApproval(device, came, rows) {
+    this.list(this.approvals[device], came, rows);
+    this.approvals[device] = null;
+  }
+  endBill(came, rows) {
+    this.list(this.bill, came, rows);
+    this.bill = null;
+  }
+  endPayout(came, rows) {
+    this.list(this.payout, came, rows);
+    this.payout = null;
+  }
+  // What a break ends.
+  endAll(came, rows) {
+    for (const device of [3, 4]) this.endApproval(device, came, rows);
+    this.items = [];
+    this.endBill(came, rows);
+    this.endPayout(came, rows);
+    this.taken = null;
+  }
+  // The acts end here, or some aren't listed. `last` is the time of the last act before.
+  end(came, rows, last) {
+    this.endAll(came, rows);
+    for (const press of this.presses)
+      if (last > press.last + LEVER_WAIT)
+        this.list(press, "time");
+      else
+        this.list(press, came, rows);
+    this.begin();
+  }
+  act(i) {
+    const {acts} = this, kind = acts.kind(i);
+    if (acts.device(i) === 1) this.heardChanger(i, kind);
+    if (kind === BREAK)
+      this.endAll("break", this.rows(i));
+    else if (kind === ASK)
+      this.asked(i, acts.device(i), acts.bytes(i));
+    else if (kind === REPLY)
+      this.replied(i, acts.device(i), acts.bytes(i));
+  }
+  asked(i, device, bytes) {
+    if (device > 2)
+      this.askedReader(i, device, bytes);
+    else if (bytes[0] === 0x08)
+      this.endPayout("reset", this.rows(i));
+    else if (bytes[0] === 0x30)
+      this.endBill("reset", this.rows(i));
+    else if (bytes[0] === 0x0D)
+      this.dispense(i, bytes[1]);
+  }
+  askedReader(i, device, bytes) {
+    const command = bytes[0] & 7, rows = this.rows(i);
+    if (command === 0) {
+      this.endApproval(device, "reset", rows);
+      this.items[device] = null;
+    }
+    if (command !== 3) return;
+    switch (bytes[1]) {
+      case VEND.REQUEST:
+        this.endApproval(device, "request", rows);
+        this.items[device] = two(bytes, 4);
+        return;
+      case VEND.SUCCESS:
+        this.approvals[device] = null;
+        return;
+      case VEND.FAILURE:
+        this.failed(i, device);
+        return;
+      case VEND.COMPLETE:
+        this.endApproval(device, "complete", rows);
+        return;
+      case VEND.CASH_SALE:
+        this.settled(i);
+    }
+  }
+  failed(i, device) {
+    const open = this.approvals[device];
+    this.approvals[device] = null;
+    if (open) this.list({...open, kind: "failed", rows: [...open.rows, this.rows(i)], last: this.acts.start(i)});
+  }
+  // The answer to a command, if it is the next act: an ACK or a NAK. Null if there is none.
+  answerOf(i) {
+    const {acts} = this, at = i + 1;
+    if (at >= acts.count || this.gaps.has(at) || acts.device(at) !== acts.device(i)) return null;
+    return acts.kind(at) === ACK || acts.kind(at) === NAK ? acts.kind(at) : null;
+  }
+  dispense(i, code) {
+    const {acts} = this, answer = this.answerOf(i), setup = acts.setupAt(1, i);
+    this.settled(i);
+    if (this.payout && this.payout.code !== code) this.endPayout("dispense", this.rows(i));
+    const value = worth(setup, code & 15), units = value === null ? null : value * (code >> 4);
+    const made = this.made("payout", i, {code, amounts: [amountOf(1, setup, units)]});
+    if (answer === ACK) {
+      this.payout = null;
+      this.taken = {...made, answer: "taken", at: i + 1};
+    } else
+      this.leftPayout(i, made, answer === NAK);
+  }
+  // A DISPENSE that isn't taken: the first one, or the same one again.
+  leftPayout(i, made, isRefused) {
+    if (this.payout)
+      this.again(this.payout, i);
+    else
+      this.payout = made;
+    Object.assign(this.payout, {answer: isRefused ? "refused" : "none", nak: isRefused ? this.rows(i + 1) : null});
+    if (isRefused) this.payout.last = this.acts.start(i + 1);
+  }
+  // After a DISPENSE that was taken, the changer answers, or is silent for too long.
+  heardChanger(i, kind) {
+    const {taken} = this;
+    if (!taken || i <= taken.at) return;
+    if ([ACK, NAK, REPLY].includes(kind)) this.taken = null;
+    if (kind !== ASK || this.acts.start(i) <= taken.time + PAYOUT_WAIT) return;
+    this.list(taken, "silent", this.rows(i));
+    this.taken = null;
+  }
+  // Whether the controller acknowledged a reply, perhaps after it had asked for it again.
+  isHeard(i) {
+    const {acts} = this;
+    let at = i + 1;
+    while (at < acts.count && !this.gaps.has(at) && [VMC_RET, REPEAT].includes(acts.kind(at))) at++;
+    return at < acts.count && !this.gaps.has(at) && acts.kind(at) === VMC_ACK;
+  }
+  replied(i, device, bytes) {
+    const {acts} = this, isAsked = i > 0 && !this.gaps.has(i) && acts.kind(i - 1) === ASK;
+    const command = isAsked ? acts.byte(i - 1, 0) : 0, isHeard = this.isHeard(i);
+    if (device > 2)
+      for (const message of readerMessages(bytes)) this.readerSays(i, device, message, isHeard);
+    else if (command === STACKER)
+      this.trouble(i, device, STACKER, bytes[0] > 0x7F);
+    else if (command === POLLS[device])
+      for (const byte of pollBytes(device, bytes))
+        if (device === 1)
+          this.changerSays(i, byte, isHeard);
+        else
+          this.billSays(i, byte, isHeard);
+  }
+  trouble(i, device, code, is) {
+    const key = device * 256 + code, known = this.troubles.get(key);
+    if (!is) return;
+    if (known)
+      this.again(known, i);
+    else
+      this.troubles.set(key, this.made("trouble", i, {code}));
+  }
+  readerSays(i, device, message, isHeard) {
+    const setup = this.acts.setupAt(device, i);
+    if (message[0] in READER_ENDS)
+      this.endApproval(device, READER_ENDS[message[0]], this.rows(i));
+    else if (message[0] === 5 && isHeard)
+      this.approvals[device] ??= this.made("approved", i, {
+        amounts: [amountOf(device, setup, setup ? two(message, 1) * setup.scale : null)],
+        item: this.items[device] ?? null
+      });
+    else if (message[0] === MALFUNCTION)
+      this.trouble(i, device, message[1], true);
+  }
+  changerSays(i, byte, isHeard) {
+    this.trouble(i, 1, byte, TROUBLES[1].includes(byte));
+    if (byte === 1)
+      this.pressed(i);
+    else if (byte === 0x0B && isHeard)
+      this.endPayout("restarted", this.rows(i));
+    else if (byte >> 5 === 2 && isHeard)
+      this.pay(i, 1, byte & 15);
+    else if (byte > 0x8F)
+      this.settled(i);
+  }
+  billSays(i, byte, isHeard) {
+    const type = byte & 15, sort = byte >> 4;
+    this.trouble(i, 2, byte, TROUBLES[2].includes(byte));
+    if (byte === 6) this.endBill("restarted", this.rows(i));
+    if (sort < 8 || sort > 0x0A) return;
+    if (this.bill && this.bill.type !== type) this.endBill("bill", this.rows(i));
+    if (sort === 9) {
+      const setup = this.acts.setupAt(2, i);
+      this.bill ??= this.made("escrow", i, {type, amounts: [amountOf(2, setup, worth(setup, type))]});
+      return;
+    }
+    this.bill = null;
+    if (sort === 0x0A)
+      this.settled(i);
+    else if (isHeard)
+      this.pay(i, 2, type);
+  }
+  // A coin or a bill is paid in: what presses come now are others.
+  pay(i, device, type) {
+    const setup = this.acts.setupAt(device, i), more = amountOf(device, setup, worth(setup, type));
+    const before = this.paidIn[device];
+    this.paidIn[device] = before ? moreOf(before, more) : more;
+    this.isPressed = false;
+  }
+  pressed(i) {
+    const {acts} = this, amounts = this.paidIn.filter(Boolean), press = this.presses.at(-1);
+    if (press && this.isPressed)
+      this.again(press, i);
+    else if (amounts.length) {
+      const now = amounts.map((it) => ({...it, decimals: acts.setupAt(it.device, i)?.decimals ?? null}));
+      this.presses.push(this.made("lever", i, {amounts: now}));
+      this.isPressed = true;
+    }
+  }
+  // A payout or a sale for cash: the presses of the last 30 s got what they asked for.
+  settled(i) {
+    for (const press of this.presses)
+      if (this.acts.start(i) > press.last + LEVER_WAIT) this.list(press, "time");
+    this.presses = [];
+    this.paidIn = [];
+    this.isPressed = false;
+  }
+}
+
+// The rows that an entry names; what only the walk needs is left out.
+function openEntry({type, nak, at, ...entry}) {
+  return nak ? {...entry, rows: [...entry.rows, nak]} : entry;
+}
+
+// The payouts by the changer's choice, as one entry: `choices` has the row and the time of each such fault.
+function choiceEntry(choices) {
+  const [first, last] = [choices[0], choices.at(-1)], rows = [[first.row, first.row]];
+  if (last.row !== first.row) rows.push([last.row, last.row]);
+  return {...NO_ENTRY, kind: "choice", device: 1, time: first.time, rows, count: choices.length, last: last.time};
+}
+
+// The list. Before the acts of `gaps` acts are missing; `fault` is the row at which the acts end early, or 0.
+function openMoney(acts, {gaps = [], fault = 0, choices = []} = {}) {
+  const walk = new OpenWalk(acts, gaps), {entries} = walk, place = ({kind}) => OPEN_KINDS.indexOf(kind);
+  for (let i = 0; i < acts.count; i++) {
+    if (walk.gaps.has(i)) walk.end("gap", null, acts.start(i - 1));
+    walk.act(i);
+  }
+  if (acts.count) walk.end(fault ? "fault" : "end", fault ? [fault, fault] : null, acts.start(acts.count - 1));
+  entries.push(...walk.troubles.values());
+  if (choices.length) entries.push(choiceEntry(choices));
+  return entries.map(openEntry).sort(
+      (a, b) => a.rows[0][0] - b.rows[0][0] || place(a) - place(b) || (a.code ?? -1) - (b.code ?? -1));
+}
