@@ -159,19 +159,11 @@ function openMoneyOf(it) {
   return it.openMoney;
 }
 
-// The rows at which a payout by the changer's choice stops the reading: that of the answer, or those of a survey.
-function choicesOf(it) {
-  const isOf = ({rule, blame}) => rule === "Profile" && blame === "controller";
-  if (it.survey) return it.survey.faults.filter((fault) => fault.isChoice && isOf(fault));
-  if (it.answer !== ANSWERS.NO || !isOf(it.report)) return [];
-  const [before, at] = [it.row - 1, it.row].map((row) => it.lines.find((line) => line.row === row));
-  if (!before || !at) return [];
-  const parts = shown(at).split(",");
-  return isChoiceRow(shown(before).split(","), parts) ? [{row: it.row, time: Number(parts[0])}] : [];
+// The rows at which a payout by the changer's choice ends the acts, or those of a survey.
+function choicesOf({survey, link}) {
+  if (!survey) return link.isChoice ? [link] : [];
+  return survey.faults.filter(({isChoice, rule, blame}) => isChoice && rule === "Profile" && blame === "controller");
 }
-
-const isChoiceRow = ([, sideBefore, before], [, side, value]) =>
-    sideBefore === "M" && side === "M" && /^10f$/i.test(before) && /^00[234]$/.test(value.trim());
 
 // A story, and before its steps those for what is open.
 const openKinds = (it) => [...new Set(openMoneyOf(it).map(({kind}) => kind))];

@@ -201,7 +201,9 @@ class OpenWalk {
     const {taken} = this;
     if (!taken || i <= taken.at) return;
     if ([ACK, NAK, REPLY].includes(kind)) this.taken = null;
-    if (kind !== ASK || this.acts.start(i) <= taken.time + PAYOUT_WAIT) return;
+    if (kind !== ASK) return;
+    taken.asked ??= this.acts.start(i);
+    if (this.acts.start(i) <= taken.asked + PAYOUT_WAIT) return;
     this.list(taken, "silent", this.rows(i));
     this.taken = null;
   }
@@ -302,7 +304,7 @@ class OpenWalk {
 }
 
 // The rows that an entry names; what only the walk needs is left out.
-function openEntry({type, nak, at, ...entry}) {
+function openEntry({type, nak, at, asked, ...entry}) {
   return nak ? {...entry, rows: [...entry.rows, nak]} : entry;
 }
 

@@ -116,6 +116,12 @@ function listedActs(all) {
   return acts.buffer;
 }
 
+// Whether the acts end at a payout by the changer's choice, and when.
+function choiceAt(answer, offset) {
+  const text = new Uint8Array(call.memory.buffer, at.text, size);
+  return answer === 1 ? {isChoice: isChoice(text, offset), time: timeAt(text, offset)} : {};
+}
+
 // Gives the page news that lie in memory. It reads them while the module goes on.
 function sayNews(count) {
   const news = new Uint8Array(call.memory.buffer, at.news, count * layout.news.size).slice().buffer;
@@ -125,14 +131,20 @@ function sayNews(count) {
 // The first and the last acts of the recording, as far as there is room, and all news, piece by piece. One walk over
 // the rows gives both; where there are many news, further walks give the rest of them.
 function listAll() {
-  const {acts: all, news: allNews, answer, row} = list(at.room, 0, at.roomNews), isWhole = all <= at.room;
+  const {acts: all, news: allNews, answer, row, offset} = list(at.room, 0, at.roomNews), isWhole = all <= at.room;
   sayNews(Math.min(at.roomNews, allNews));
   const acts = listedActs(all);
   for (let got = at.roomNews; got < allNews; got += at.roomNews) {
     list(0, got, at.roomNews);
     sayNews(Math.min(at.roomNews, allNews - got));
   }
-  return {acts, listed: Math.min(all, at.room), all, hole: isWhole ? -1 : HALF, link: {answer, row}};
+  return {
+    acts,
+    listed: Math.min(all, at.room),
+    all,
+    hole: isWhole ? -1 : HALF,
+    link: {answer, row, ...choiceAt(answer, offset)}
+  };
 }
 
 // The lines about a place in the text: up to 40 before it (a whole block and more), that one, and up to four after it.
@@ -280,9 +292,11 @@ function saidAt(text, place) {
   return place < 0 ? "" : String.fromCharCode(...text.subarray(from, from + 5));
 }
 
-// Whether a row makes a command of alternative payout of the one before: 0F, and then 02, 03 or 04.
-const isChoice = (text, place) =>
-    /^M,10F$/i.test(saidAt(text, rowBefore(text, place))) && /^M,00[234]$/.test(saidAt(text, place));
+// Whether a row makes a command of alternative payout of the one before: 0F, and then in time 02, 03 or 04.
+function isChoice(text, place) {
+  const before = rowBefore(text, place), gap = timeAt(text, place) - timeAt(text, before);
+  return /^M,10F$/i.test(saidAt(text, before)) && /^M,00[234]$/.test(saidAt(text, place)) && gap >= 996 && gap <= 2296;
+}
 
 // What is told of the faults that lie in memory.
 function faultNumbers(text, {faults}, count) {

@@ -1,0 +1,270 @@
+#!/usr/bin/env python3
+"""tests/page_open_money.py [--firefox] [GENERATED [SEED]]: whether the card lists open money, in the colours that go with it.
+
+Gives the page in out/mdbcheck.html recordings of small scenes. What happened in each, and so what the card has to list, is
+written beside it: the money, a phrase of the sentence, what is to be done, and whether anything is left to do. So many
+generated recordings (30), those of tests/open-money, follow. Of each recording the entries that the page has of its
+module's acts are those of tests/second_open_money.py, and the rows that a sentence names are those of its entry. Ends with
+status 1 at the first difference.
+"""
+
+import importlib.machinery
+import importlib.util
+import json
+import pathlib
+import random
+import sys
+import tempfile
+from typing import NamedTuple
+
+sys.dont_write_bytecode = True
+
+from browser import Browser  # noqa: E402
+from firefox import Firefox  # noqa: E402
+import second_open_money  # noqa: E402
+
+TOP = pathlib.Path(__file__).resolve().parent.parent
+# What the card shows, and what the page has of it.
+READ = """(() => {
+  const it = by("verdict"), text = (all) => [...all].map((one) => one.textContent);
+  return JSON.stringify({
+    kind: it.className, isOpen: it.hasAttribute("data-open"), colour: getComputedStyle(it).borderLeftColor,
+    open: text(it.querySelectorAll("#open > li")), story: text(it.querySelectorAll("#story > li")),
+    next: text(it.querySelectorAll("#next li")), scope: it.querySelector("#open-scope")?.textContent ?? "", lead: by("lead").textContent,
+    rows: [...it.querySelectorAll("#open > li")].map((one) => [...one.querySelectorAll("[data-row]")].map((a) => [Number(a.dataset.row), Number(a.dataset.last)])),
+    entries: openMoneyOf(state).map((one) => ({...one, device: DEVICES[one.device],
+      amounts: one.amounts.map((part) => ({...part, device: DEVICES[part.device]}))})),
+    total: text(document.querySelectorAll("#stretch-total tr[data-account='paid-out'] td")),
+  });
+})()"""
+AMBER, GREEN, RED = "rgb(122, 79, 1)", "rgb(17, 99, 41)", "rgb(164, 14, 38)"
+
+
+class Wrong(Exception):
+    """The card says something else than happened."""
+
+
+def want(is_so, words):
+    if not is_so:
+        raise Wrong(words)
+
+
+def loaded(name):
+    loader = importlib.machinery.SourceFileLoader(name.replace("-", "_"), str(TOP / "tests" / name))
+    module = importlib.util.module_from_spec(importlib.util.spec_from_loader(loader.name, loader))
+    loader.exec_module(module)
+    return module
+
+
+class Bus:
+    """A recording, written as it is sent."""
+
+    def __init__(self):
+        self.rows, self.time = [], 0
+
+    def word(self, line, value, gap=1500):
+        self.time += gap
+        self.rows.append(f"{self.time},{line},{value:03X}")
+
+    def block(self, line, content, gap, marked):
+        content = [*content, sum(content) % 256]
+        for i, byte in enumerate(content):
+            self.word(line, byte + 256 * (i == marked % len(content)), 1200 if i else gap)
+
+    def ask(self, *content, after=0):
+        """A command, and no answer."""
+        self.block("M", content, 8000 + after, 0)
+        return self
+
+    def ack(self, *content, after=0):
+        """A command with ACK."""
+        self.ask(*content, after=after).word("S", 0x100)
+        return self
+
+    def nak(self, *content):
+        self.ask(*content).word("S", 0x1FF)
+        return self
+
+    def told(self, command, *content, after=0):
+        """A command, its data, and the controller's ACK."""
+        self.ask(*command, after=after).block("S", content, 1500, -1)
+        self.word("M", 0)
+        return self
+
+    def off(self):
+        """Power goes off and comes back: the controller sends a break."""
+        self.time += 300_000
+        self.rows.append(f"{self.time},B,120000")
+        self.time += 330_000
+        return self
+
+    # What devices do after power-on: coins of 0.05, 0.10, 0.20, 0.50, 1.00, 2.00; bills of 5.00, 10.00.
+
+    def changer(self, level=2):
+        self.ack(0x08).told([0x0B], 0x0B).told([0x09], level, 0x19, 0x78, 5, 2, 0, 0x3F, 1, 2, 4, 10, 20, 40)
+        return self.told([0x0A], 0, 0, 20, 18, 15, 12, 10, 8).ack(0x0C, 0, 0x3F, 0, 0x3F)
+
+    def validator(self):
+        self.ack(0x30).told([0x33], 6).told([0x31], 1, 0x19, 0x78, 1, 0xF4, 2, 2, 0x58, 0, 0, 0xFF, 1, 2)
+        return self.told([0x36], 0, 12).ack(0x34, 0, 3, 0, 3)
+
+    def reader(self, base=0x10, level=1, is_late=False):
+        config = [1, level, 0x19, 0x78, 1, 2, 5, 9]
+        self.ack(base).told([base + 2], 0)
+        if is_late:
+            self.ack(base + 1, 0, 1, 0, 0, 0).told([base + 2], *config)
+        else:
+            self.told([base + 1, 0, 1, 0, 0, 0], *config)
+        return self.ack(base + 4, 1)
+
+    def polls(self, count, gap=50_000, device=0x0B):
+        for _ in range(count):
+            self.ack(device, after=gap)
+        return self
+
+    def coin(self, kind, tube=9):
+        return self.told([0x0B], 0x50 + kind, tube)
+
+    def approved(self, base=0x10, cents=150, item=7):
+        """A session with a request that the reader approves."""
+        self.told([base + 2], 3, 3, 0xE8).ack(base + 3, 0, 0, cents, 0, item)
+        return self.told([base + 2], 5, 0, cents)
+
+    def over(self, base=0x10):
+        return self.ack(base + 3, 4).told([base + 2], 7)
+
+    @property
+    def data(self):
+        return "".join(f"{it}\n" for it in self.rows).encode()
+
+
+class Scene(NamedTuple):
+    """A recording, and what its card has to show: each entry has its kind, its amount and phrases of its sentence."""
+
+    name: str
+    bus: Bus
+    colour: str
+    entries: list
+    says: "tuple" = ()  # phrases that the story and the steps have
+    never: "tuple" = ()  # phrases that the card hasn't
+    options: "tuple" = ()
+    is_surveyed: bool = False
+
+
+def scenes():
+    card = lambda: Bus().changer().reader()
+    cash = lambda: Bus().changer().coin(4)
+    makers = ("makers", "Send")
+    yield Scene("coins, a sale, change", cash().coin(3).ack(0x0D, 0x12).ack(0x0D, 0x11).told([0x0B], 2).polls(9), GREEN, [])
+    yield Scene("a bill returned, another one stacked", Bus().validator().told([0x33], 0x91).ack(0x35, 0).told([0x33], 0xA1)
+                .told([0x33], 0x90).ack(0x35, 1).told([0x33], 0x80), GREEN, [])
+    sale = card().approved().ack(0x13, 2, 0, 7).over()
+    yield Scene("a card sale", sale, GREEN, [])
+    yield Scene("a reader of level 3", Bus().changer().reader(level=3).approved().ack(0x13, 2, 0, 7).over(), GREEN, [])
+    yield Scene("config in a later POLL", Bus().reader(is_late=True).approved().ack(0x13, 2, 0, 7).over(), GREEN, [])
+    yield Scene("a session that is cancelled", card().told([0x12], 3, 3, 0xE8).told([0x12], 4).over(), GREEN, [])
+    yield Scene("VEND FAILURE", card().approved().ack(0x13, 3).over(), AMBER,
+                [("failed", "1.50", "item 7", "VEND FAILURE", "give it back")], ("given back",), makers)
+    yield Scene("power went off", card().approved().off().changer().reader(), AMBER,
+                [("approved", "1.50", "item 7", "neither a sale nor a failure", "break")], ("card company",), makers)
+    yield Scene("no outcome", card().approved().polls(40), AMBER,
+                [("approved", "1.50", "item 7", "up to the end of the recording")], ("card company",), makers)
+    yield Scene("the session ends without an outcome", card().approved().over(), RED,
+                [("approved", "1.50", "item 7", "before SESSION COMPLETE")], ("card company",))
+    yield Scene("the next sale", card().approved().off().reader().approved(item=8).ack(0x13, 2, 0, 8).over(), AMBER,
+                [("approved", "1.50", "item 7", "break")])
+    both = Bus().reader().reader(0x60).approved(0x60, 100, 5).approved(0x10).ack(0x13, 2, 0, 7).over()
+    yield Scene("two readers", both, AMBER, [("approved", "1.00", "reader at 60H", "item 5", "end of the recording")])
+    silent = Bus().changer().coin(4).told([0x0B], 0x0C).ack(0x0D, 0x12)
+    for _ in range(40):
+        silent.ask(0x0B, after=250_000)
+    yield Scene("a jam, and then silence", silent, AMBER, [("trouble", "", "coin jam", "0C"), ("payout", "0.20", "Whether it paid")],
+                ("gave no answer for 10.", "what was reported as trouble"))
+    yield Scene("the lever", cash().told([0x0B], 1).polls(100), AMBER, [("lever", "1.00", "coins of 1.00", "nothing was paid out")],
+                ("Ask the customer",), makers)
+    yield Scene("the lever, and a minute", cash().told([0x0B], 1).told([0x0B], 1).polls(2, 31_000_000), AMBER,
+                [("lever", "1.00", "2 times", "within 30 s")])
+    yield Scene("the lever, and change", cash().told([0x0B], 1).polls(9).ack(0x0D, 0x14).polls(2, 31_000_000), GREEN, [])
+    yield Scene("the lever with nothing in", Bus().changer().told([0x0B], 1).polls(2, 31_000_000), GREEN, [])
+    yield Scene("a bill in escrow", Bus().validator().told([0x33], 0x91).polls(100, device=0x33), AMBER,
+                [("escrow", "10.00", "neither as stacked nor as returned")], ("in the validator",), ("No money was reported", *makers))
+    yield Scene("DISPENSE without an answer", cash().ask(0x0D, 0x43).polls(3), AMBER, [("payout", "2.00", "didn't answer")],
+                ("differ for certain", "This is the reason"), makers)
+    yield Scene("DISPENSE refused", cash().nak(0x0D, 0x43).polls(3), AMBER, [("payout", "2.00", "refused it (NAK")],
+                ("differ for certain", "This is the reason"), makers)
+    yield Scene("DISPENSE refused, others paid", Bus().changer().coin(5).nak(0x0D, 0x15).polls(2).ack(0x0D, 0x24).told([0x0B], 2).polls(5),
+                AMBER, [("payout", "2.00", "refused it (NAK", "other coins")], ("differ for certain", "This is the reason"), makers)
+    yield Scene("DISPENSE refused, and then taken", cash().nak(0x0D, 0x14).ack(0x0D, 0x14).told([0x0B], 2).polls(5), GREEN, [])
+    yield Scene("the stacker is full", Bus().validator().told([0x36], 0x80, 200).told([0x36], 0x80, 200), AMBER,
+                [("trouble", "", "a full stacker", "2 times")])
+    yield Scene("a malfunction", card().told([0x12], 0x0A, 0xC0), AMBER, [("trouble", "", "malfunction (0A C0: refund error")])
+    choice = Bus().changer(3).coin(5).coin(4, 8).ask(0x0F, 2, 0x0F)
+    choice.word("S", 0x100)
+    choice = choice.told([0x0B], 0x53, 7)
+    for surveyed in (False, True):
+        yield Scene("a payout by the changer's choice", choice, AMBER, [("choice", "", "Paid-out isn't known from row", "What was paid in is known")],
+                    ("Count the tubes",), ("makers",), is_surveyed=surveyed)
+    late = Bus()
+    late.rows = sale.rows[next(i for i, it in enumerate(sale.rows) if it.endswith("M,113")):-12]
+    late.time = sale.time
+    cut = Bus()
+    cut.rows, cut.time = [it for it in late.rows], late.time
+    cut.rows = cut.rows[:next(i for i, it in enumerate(cut.rows) if i and it.endswith("M,113"))]
+    yield Scene("an approval without a known value", cut, AMBER, [("approved", "value not known", "an amount of unknown value")],
+                ("no known value",), options=("--joined",))
+
+
+def compare(page, name, data, options, without, setups=None):
+    """What the page has is what the second reader finds, and its rows are linked."""
+    page.give(data, [*options, *(word for it in without for word in ("--without", it))], "scene.csv")
+    came = json.loads(page.browser.value(READ))
+    wanted = second_open_money.entries(data, page.show(data, without), setups)
+    want(came["entries"] == wanted, f"{name}: the page has {came['entries']}, wanted {wanted}")
+    for entry, rows in zip(wanted, came["rows"]):
+        named = [tuple(it) for it in rows]
+        first = (entry["rows"][0][0], entry["rows"][0][-1])
+        want(first in named and set(named) <= {*map(tuple, entry["rows"]), tuple(entry["cameRows"] or ())}, f"{name}: rows {named} of {entry}")
+    return came
+
+
+def try_scene(page, scene):
+    came = compare(page, scene.name, scene.bus.data, scene.options, ())
+    if scene.is_surveyed:
+        before = page.shown()
+        page.browser.value("survey(); 1")
+        page.wait(before)
+        came = json.loads(page.browser.value(READ))
+        want(len(came["total"]) == 1 and came["total"][0].startswith("not known from row"), f"{scene.name}: the total is {came['total']}")
+    whole = " ".join([came["lead"], *came["open"], *came["story"], *came["next"]])
+    want(came["colour"] == scene.colour, f"{scene.name}: the colour is {came['colour']}, the card says {whole}")
+    want([it["kind"] for it in came["entries"]] == [kind for kind, *_ in scene.entries], f"{scene.name}: the card lists {came['open']}")
+    for text, (_, money, *phrases) in zip(came["open"], scene.entries):
+        want(text.startswith(money) and all(it in text for it in phrases), f"{scene.name}: {text!r} hasn't {money!r} and {phrases}")
+    want(all(it in whole for it in scene.says), f"{scene.name}: {scene.says} isn't in {whole}")
+    want(not any(it in whole for it in scene.never), f"{scene.name}: {scene.never} is in {whole}")
+    want(bool(came["next"]) == (scene.colour != GREEN), f"{scene.name}: what to do next is {came['next']}")
+
+
+def main():
+    given = [int(it) for it in sys.argv[1:] if it != "--firefox"]
+    count, seed = (given + [30, 1][len(given):])[:2]
+    driver, generator = loaded("page"), loaded("open-money")
+    entries, tried = 0, list(scenes())
+    with tempfile.TemporaryDirectory() as work:
+        page = driver.Page(pathlib.Path(work), Firefox() if "--firefox" in sys.argv else Browser())
+        page.show = generator.show
+        try:
+            for scene in tried:
+                try_scene(page, scene)
+            for i in range(count):
+                data, _, without = generator.recording(random.Random(f"{seed} page {i}"))
+                entries += len(compare(page, f"{seed} {i}", data, (), without)["entries"])
+        except Wrong as wrong:
+            sys.exit(f"page_open_money: {wrong}")
+        finally:
+            page.browser.close()
+    print(f"page_open_money: the cards of {len(tried)} scenes, and {entries} entries of {count} generated recordings")
+
+
+if __name__ == "__main__":
+    main()
