@@ -107,5 +107,5 @@ class Browser:
             self.ask("Browser.close")
         except (RuntimeError, OSError):
             pass
-        self.process.wait(20)
+        self.process.wait(120)
         self.home.cleanup()

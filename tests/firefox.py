@@ -138,6 +138,6 @@ class Firefox:
             self.ask("browser.close")
         except (RuntimeError, OSError):
             self.process.kill()
-        self.process.wait(20)
+        self.process.wait(120)
         time.sleep(0.1)
         self.home.cleanup()

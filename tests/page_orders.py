@@ -173,7 +173,7 @@ class Orders:
             want(time.monotonic() < end, f"it still works after {most} s")
             time.sleep(0.01)
 
-    def until(self, code, most=20, rests="!isWorking && !document.querySelector('#import-told progress')"):
+    def until(self, code, most=120, rests="!isWorking && !document.querySelector('#import-told progress')"):
         """Waits until the page rests, and this is so."""
         end = time.monotonic() + most
         while not self.value(f"{rests} && Boolean({code})"):
@@ -188,7 +188,7 @@ class Orders:
         """Gives a file, and waits for its run to begin."""
         before = self.value("newest")
         begin()
-        end = time.monotonic() + 20
+        end = time.monotonic() + 120
         while self.value("newest") == before:
             want(time.monotonic() < end, f"{name} was given, and no run began")
             time.sleep(0.002)
