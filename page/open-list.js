@@ -65,38 +65,37 @@ const restRows = ({rows}) => rows.slice(1).map((it) => rowsAt(...it));
 const ofAmount = (it) => it.units === null ? "of unknown value" : `of ${moneyOf(it)}`;
 
 // Up to where nothing else was found.
-function untilWords(it, {came, cameRows, last}) {
-  const acts = it.list, end = acts.start(acts.count - 1);
-  if (came === "end") return [`up to the end of the recording, ${seconds(end - last)} later.`];
+function untilWords({came, cameRows, last, until}) {
+  if (came === "end") return [`up to the end of the recording, ${seconds(until - last)} later.`];
   if (came === "gap") return ["in the rows that are listed here."];
-  const rows = inRows(rowsAt(...cameRows));
-  if (came === "fault") return ["up to where the list of what was said ends", ...rows, "."];
-  return [`before ${CAME_WORDS[came]} at ${when(acts.start(actAtRow(it, cameRows[0])))}`, ...rows, "."];
+  const rows = rowsAt(...cameRows);
+  if (came === "fault") return ["up to ", rows, ", which breaks a rule: what was said about there isn't known."];
+  return [`before ${CAME_WORDS[came]} at ${when(until)}`, ...inRows(rows), "."];
 }
 
 const itemWords = ({item}) => item === null ? "" : ` for item ${item}`;
 
 // What an entry was, as the parts of a sentence or two.
 const OPEN_SENTENCES = {
-  approved: (it, e) =>
+  approved: (e) =>
       [...approvedParts(e), ", and the controller acknowledged it. It reported neither a sale nor a failure ",
-       untilWords(it, e)],
-  failed: (it, e) =>
+       untilWords(e)],
+  failed: (e) =>
       [...approvedParts(e), ", and the controller reported VEND FAILURE", inRows(...restRows(e)),
        ". The reader has to give it back. Whether it did, the bus doesn't show."],
-  escrow: (it, e) =>
+  escrow: (e) =>
       [`A bill ${ofAmount(e.amounts[0])} went into escrow`, inRows(openRows(e.rows)),
-       ", and was reported neither as stacked nor as returned ", untilWords(it, e)],
-  lever: (it, e) =>
+       ", and was reported neither as stacked nor as returned ", untilWords(e)],
+  lever: (e) =>
       [`The return lever was pressed${timesWords(e)}`, inRows(openRows(e.rows), ...restRows(e)),
-       ` with ${paidWords(e)} in, and nothing was paid out `, e.came === "time" ? "within 30 s." : untilWords(it, e)],
-  payout: (it, e) =>
+       ` with ${paidWords(e)} in, and nothing was paid out `, e.came === "time" ? "within 30 s." : untilWords(e)],
+  payout: (e) =>
       [`The controller asked the changer to pay out ${coinsOf(e.amounts[0])}`, inRows(openRows(e.rows)),
        ...payoutEnd(e)],
-  choice: (it, e) =>
+  choice: (e) =>
       ["Paid-out isn't known from ", openRows(e.rows), " on: the controller lets the changer choose the coins ",
        "(0F 02 to 0F 04), which isn't followed. What was paid in is known."],
-  trouble: (it, e) =>
+  trouble: (e) =>
       [`${capital(theDevice(e.device))} reported ${troubleWords(e)}`, inRows(openRows(e.rows)),
        ...e.count === 1 ? ["."] : [`,${timesWords(e)}, the last at ${when(e.last)}`, inRows(...restRows(e)), "."]]
 };
@@ -153,9 +152,8 @@ const choiceRow = (it) => openMoneyOf(it).find(({kind}) => kind === "choice")?.r
 // The list of an answer: after a no, it ends where the list of acts ends.
 function openMoneyOf(it) {
   if (it.openMoney) return it.openMoney;
-  const isCut = it.link.answer === ANSWERS.NO, fault = isCut ? it.link.row : 0;
-  it.openMoney =
-      it.listed ? openMoney(it.list, {gaps: it.hole < 0 ? [] : [it.hole], fault, choices: choicesOf(it)}) : [];
+  const cuts = it.cuts ?? (it.link.answer === ANSWERS.NO ? [it.link.row] : []);
+  it.openMoney = it.listed ? openMoney(it.list, {hole: it.hole, cuts, choices: choicesOf(it)}) : [];
   return it.openMoney;
 }
 
@@ -180,7 +178,7 @@ function openItem(it, entry) {
   return h(
       "li", {"data-open": entry.kind, "data-device": DEVICES[entry.device]},
       amount ? h("strong", {class: "amount"}, amount) : null, amount ? " at " : null,
-      timeLink(entry.time, ...entry.rows[0]), ": ", OPEN_SENTENCES[entry.kind](it, entry).flat(2).flatMap(partOf));
+      timeLink(entry.time, ...entry.rows[0]), ": ", OPEN_SENTENCES[entry.kind](entry).flat(2).flatMap(partOf));
 }
 
 // Of which rows the list speaks, where acts of others aren't listed.

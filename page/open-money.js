@@ -59,7 +59,8 @@ const NO_ENTRY = {
 class OpenWalk {
   constructor(acts, gaps) {
     this.acts = acts;
-    this.gaps = new Set(gaps);
+    this.gaps = gaps;
+    this.now = 0;
     this.entries = [];
     this.troubles = new Map();
     this.begin();
@@ -81,7 +82,7 @@ class OpenWalk {
     return {...NO_ENTRY, kind, device: acts.device(i), time, rows: [this.rows(i)], last: time, ...more};
   }
   list(entry, came = null, cameRows = null) {
-    if (entry && !isNothing(entry.amounts)) this.entries.push({...entry, came, cameRows});
+    if (entry && !isNothing(entry.amounts)) this.entries.push({...entry, came, cameRows, until: this.now});
   }
   // Another act of an entry: its rows come after those of the first one, in place of an earlier other one.
   again(entry, i) {
@@ -109,11 +110,11 @@ class OpenWalk {
     this.endPayout(came, rows);
     this.taken = null;
   }
-  // The acts end here, or some aren't listed. `last` is the time of the last act before.
-  end(came, rows, last) {
+  // The acts end here, or some aren't listed.
+  end(came, rows) {
     this.endAll(came, rows);
     for (const press of this.presses)
-      if (last > press.last + LEVER_WAIT)
+      if (this.now > press.last + LEVER_WAIT)
         this.list(press, "time");
       else
         this.list(press, came, rows);
@@ -121,6 +122,7 @@ class OpenWalk {
   }
   act(i) {
     const {acts} = this, kind = acts.kind(i);
+    this.now = acts.start(i);
     if (acts.device(i) === 1) this.heardChanger(i, kind);
     if (kind === BREAK)
       this.endAll("break", this.rows(i));
@@ -315,14 +317,43 @@ function choiceEntry(choices) {
   return {...NO_ENTRY, kind: "choice", device: 1, time: first.time, rows, count: choices.length, last: last.time};
 }
 
-// The list. Before the acts of `gaps` acts are missing; `fault` is the row at which the acts end early, or 0.
-function openMoney(acts, {gaps = [], fault = 0, choices = []} = {}) {
-  const walk = new OpenWalk(acts, gaps), {entries} = walk, place = ({kind}) => OPEN_KINDS.indexOf(kind);
+// The first act that begins after a row; the number of all acts if there is none.
+function actAfterRow(acts, row) {
+  let low = 0, high = acts.count;
+  while (low < high) {
+    const mid = (low + high) >> 1;
+    if (acts.first(mid) > row)
+      high = mid;
+    else
+      low = mid + 1;
+  }
+  return low;
+}
+
+// The acts before which others are missing, each with the row of the fault there, or 0.
+function gapsOf(acts, hole, cuts) {
+  const gaps = new Map(hole > 0 ? [[hole, 0]] : []);
+  for (const row of cuts) {
+    const at = actAfterRow(acts, row);
+    if (!gaps.has(at)) gaps.set(at, row);
+  }
+  return gaps;
+}
+
+// The list. Before the act `hole` acts aren't listed, if it isn't negative. The list begins anew after each of the rows
+// `cuts`, which are faults in their order.
+function openMoney(acts, {hole = -1, cuts = [], choices = []} = {}) {
+  const gaps = gapsOf(acts, hole, cuts), walk = new OpenWalk(acts, gaps), {entries} = walk;
+  const place = ({kind}) => OPEN_KINDS.indexOf(kind);
+  const end = (i, word) => {
+    const row = gaps.get(i);
+    walk.end(row ? "fault" : word, row ? [row, row] : null);
+  };
   for (let i = 0; i < acts.count; i++) {
-    if (walk.gaps.has(i)) walk.end("gap", null, acts.start(i - 1));
+    if (gaps.has(i)) end(i, "gap");
     walk.act(i);
   }
-  if (acts.count) walk.end(fault ? "fault" : "end", fault ? [fault, fault] : null, acts.start(acts.count - 1));
+  end(acts.count, "end");
   entries.push(...walk.troubles.values());
   if (choices.length) entries.push(choiceEntry(choices));
   return entries.map(openEntry).sort(

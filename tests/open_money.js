@@ -25,13 +25,13 @@ function actsOf(acts) {
   return new of.Acts(buffer, acts.length);
 }
 
-function entriesOf({acts, setups = {}, gaps = [], fault = 0, choices = []}) {
+function entriesOf({acts, setups = {}, cuts = [], choices = []}) {
   const list = actsOf(acts), given = of.DEVICES.map((device, i) => {
     const hex = setups[device];
     return hex ? of.readSetup(i, hex.split(" ").map((it) => parseInt(it, 16))) : null;
   });
-  of.noteSetups(list, given, gaps[0] ?? -1, {setups: []});
-  return of.openMoney(list, {gaps, fault, choices}).map((it) => ({
+  of.noteSetups(list, given, -1, {setups: []});
+  return of.openMoney(list, {cuts, choices}).map(({until, ...it}) => ({
     ...it,
     device: of.DEVICES[it.device],
     amounts: it.amounts.map((one) => ({...one, device: of.DEVICES[one.device]})),

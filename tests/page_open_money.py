@@ -32,7 +32,7 @@ READ = """(() => {
     open: text(it.querySelectorAll("#open > li")), story: text(it.querySelectorAll("#story > li")),
     next: text(it.querySelectorAll("#next li")), scope: it.querySelector("#open-scope")?.textContent ?? "", lead: by("lead").textContent,
     rows: [...it.querySelectorAll("#open > li")].map((one) => [...one.querySelectorAll("[data-row]")].map((a) => [Number(a.dataset.row), Number(a.dataset.last)])),
-    entries: openMoneyOf(state).map((one) => ({...one, device: DEVICES[one.device],
+    entries: openMoneyOf(state).map(({until, ...one}) => ({...one, device: DEVICES[one.device],
       amounts: one.amounts.map((part) => ({...part, device: DEVICES[part.device]}))})),
     total: text(document.querySelectorAll("#stretch-total tr[data-account='paid-out'] td")),
   });
