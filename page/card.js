@@ -15,8 +15,8 @@ function wayWords(it) {
         given = names.filter((_, i) => bytes[layout.options.setups + layout.setup.size * i]);
   const words =
       [bytes[0] ? "Read as a recording of a machine that was already running." : "Read as a recording from power-on."];
-  if (given.length) words.push(`The values of the ${listed(given)} come from an earlier recording.`);
-  words.push(left.length ? `Left out: the ${listed(left)}.` : "All devices are checked.");
+  if (given.length) words.push(`The values of ${listed(given.map(the))} come from an earlier recording.`);
+  words.push(left.length ? `Left out: ${listed(left.map(the))}.` : "All devices are checked.");
   if (it.isKept)
     words.push("These settings were kept from the recording before: change them under “How this recording is read”.");
   return words.join(" ");
@@ -132,7 +132,7 @@ function yesLead(it) {
   if (all.some(([, a]) => isDiffering(a))) return `${count}, but the books differ for certain: ${titles(isDiffering)}.`;
   if (all.some(([, a]) => isOpen(a))) return `${count}. Not all of the money is certain: ${titles(isOpen)}.`;
   const silent = DEVICES.filter((d) => r.silences[d]).map((d) => DEVICE_NAMES[DEVICES.indexOf(d)]);
-  if (silent.length) return `${count}, but the ${listed(silent)} gave no answer for too long.`;
+  if (silent.length) return `${count}, but ${listed(silent.map(the))} gave no answer for too long.`;
   if (openMoneyOf(it).length) return `${count}, but ${openLead(it)}.`;
   return `${count}.`;
 }
@@ -146,7 +146,7 @@ function showIdle(it) {
       h("p", {}, h("strong", {}, "Nothing was followed:"), " each sum is 0, and nobody could be blamed. ",
         isExchanged ?
             "Most likely lines M and S are exchanged (M must be the controller's line), or the mode bits are lost." :
-            `Left out: the ${listed(left)}. Perhaps no other device is on this bus.`),
+            `Left out: ${listed(left.map(the))}. Perhaps no other device is on this bus.`),
       isExchanged ? exchangeButton() : null, nameWords(it));
   by("verdict").toggleAttribute("data-unfollowed", true);
 }
@@ -231,7 +231,7 @@ function leaveOut(it) {
   return h(
       "p", {class: "noprint"},
       h("button", {type: "button", id: "leave-out", onclick: check},
-        `Leave out the ${DEVICE_NAMES[DEVICES.indexOf(device)]}, and check again`));
+        `Leave out ${the(DEVICE_NAMES[DEVICES.indexOf(device)])}, and check again`));
 }
 
 // Exchanged lines ----

@@ -57,9 +57,9 @@ function askedWords(it, i) {
   return i < 0 ? ["a command"] : [commandName(acts.bytes(i)), ...inRows(actRows(acts, i))];
 }
 
-const senderOf = (blame) => blame === "controller" ? "controller" :
-    blame === "other"                              ? "device" :
-                                                     SHORT_NAMES[DEVICES.indexOf(blame)];
+const senderOf = (blame) => blame === "controller" ? "the controller" :
+    blame === "other"                              ? "the device" :
+                                                     the(SHORT_NAMES[DEVICES.indexOf(blame)]);
 
 function linkStory(it) {
   const {rule, blame} = it.report, near = rowsNear(it), here = near.find((r) => r.row === it.row);
@@ -148,7 +148,7 @@ function lateFacts(it, ask, sender, gap, at, before) {
     return [fact(
         `The controller acknowledged`, ...inRows(at), ` ${seconds(gap)} after the answer of the device ended`,
         ...inRows(rowsAt(before.row)), ".")];
-  return [fact(`The ${sender} answered `, ...askedWords(it, ask), ` after ${seconds(gap)}`, ...inRows(at), ".")];
+  return [fact(`${capital(sender)} answered `, ...askedWords(it, ask), ` after ${seconds(gap)}`, ...inRows(at), ".")];
 }
 
 function speakerFacts(it, here, sender, ask) {
@@ -163,16 +163,16 @@ function speakerFacts(it, here, sender, ask) {
         " could still go on.")];
   return [fact(
       `A word came on the line of the devices`, ...inRows(at), ` out of turn. The last command was `,
-      ...askedWords(it, ask), `, so it is put down to the ${sender}.`)];
+      ...askedWords(it, ask), `, so it is put down to ${sender}.`)];
 }
 
 function sumFacts(sender, block, near, it, ask) {
   const bytes = bytesOf(block),
-        what = sender === "controller" ? "command of the controller" : `answer of the ${sender} to`;
+        what = sender === "the controller" ? "command of the controller" : `answer of ${sender} to`;
   if (block.length < 2)
-    return [fact("The last byte", ...inRows(rowsAt(it.row)), ` of a ${sender}'s block isn't the sum of the others.`)];
+    return [fact("The last byte", ...inRows(rowsAt(it.row)), ` of a block of ${sender} isn't the sum of the others.`)];
   const sum = bytes.slice(0, -1).reduce((a, b) => a + b, 0) & 255,
-        asked = sender === "controller" ? [] : [" ", ...askedWords(it, ask)];
+        asked = sender === "the controller" ? [] : [" ", ...askedWords(it, ask)];
   return [fact(
       `The bytes of the ${what}`, ...asked, ` add up to ${hex(sum)}`, ...inRows(rowsAt(block[0].row, block.at(-2).row)),
       `, and its last byte says ${hex(bytes.at(-1))}`, ...inRows(rowsAt(it.row)), ".")];
@@ -185,16 +185,16 @@ function sameFacts(it, here, sender) {
   while (i >= 0 && acts.kind(i) !== REPLY && acts.kind(i) !== ASK) i--;
   const was = i >= 0 && acts.kind(i) === REPLY && block.length ? acts.first(i) + block.length - 1 : 0;
   if (!was || was > acts.last(i))
-    return [fact(`Asked to repeat its answer, the ${sender} sent another word`, ...inRows(rowsAt(here.row)), ".")];
+    return [fact(`Asked to repeat its answer, ${sender} sent another word`, ...inRows(rowsAt(here.row)), ".")];
   const word = (was === acts.last(i) ? "1" : "0") + hex(acts.byte(i, block.length - 1));
   return [fact(
-      "Asked to repeat its answer", ...inRows(actRows(acts, i)), `, the ${sender} sent the word ${here.value}`,
+      "Asked to repeat its answer", ...inRows(actRows(acts, i)), `, ${sender} sent the word ${here.value}`,
       ...inRows(rowsAt(here.row)), `. The first time it was ${word}`, ...inRows(rowsAt(was)), ".")];
 }
 
 function answerFacts(it, here, block, sender, ask) {
   const {rule} = it.report, rows = block.length ? rowsAt(block[0].row, here.row) : rowsAt(here.row);
-  if (sender === "controller")
+  if (sender === "the controller")
     return [fact(
         `After a data block the controller sent ${here.value}`, ...inRows(rowsAt(here.row)),
         ". It may send ACK, NAK or RET there.")];
@@ -204,7 +204,7 @@ function answerFacts(it, here, block, sender, ask) {
     Message: " contains something that can't be read",
   }[rule] ??
       " is no answer to it";
-  return [fact(`What the ${sender} sent after `, ...askedWords(it, ask), how, ...inRows(rows), blockWords(block), ".")];
+  return [fact(`What ${sender} sent after `, ...askedWords(it, ask), how, ...inRows(rows), blockWords(block), ".")];
 }
 
 // A block's bytes, or its word where it is only one.
@@ -226,16 +226,16 @@ function unfollowedDevice(it) {
 
 // What isn't followed, in words: {what, facts}.
 function unfollowed(it) {
-  const d = unfollowedDevice(it), name = DEVICE_NAMES[d] || "device", block = blockOf(rowsNear(it), it.row);
+  const d = unfollowedDevice(it), name = the(DEVICE_NAMES[d] || "device"), block = blockOf(rowsNear(it), it.row);
   const rows = block.length ? rowsAt(block[0].row, it.row) : rowsAt(it.row), bytes = bytesOf(block);
   const level = d > 2 && it.report.blame !== "controller" ? greatestLevel(bytes) : 0;
   if (level > 1) return levelWords(it, d, level, rows);
   const isCommand = it.report.blame === "controller", what = isCommand ? commandNamed(bytes) : messageNamed(d, bytes);
-  const who = isCommand ? `controller sends the ${name} ` : `${name} sends `;
+  const who = isCommand ? `the controller sends ${name} ` : `${name} sends `;
   return {
-    what: `the ${who}${what}`,
+    what: `${who}${what}`,
     facts: [fact(
-        `The ${who}${what}`, ...inRows(rows),
+        `${capital(who)}${what}`, ...inRows(rows),
         `. The checker doesn't follow this ${isCommand ? "command" : "message"}.`)]
   };
 }
@@ -272,19 +272,19 @@ function levelWords(it, d, level, rows) {
       "." :
       [", and so does the controller, with level ", String(acts.byte(i, 2)), ...inRows(actRows(acts, i)), "."];
   facts.push(fact(
-      `The ${DEVICE_NAMES[d]} reports feature level ${level} in its answer to SETUP`, ...inRows(rows),
+      `${capital(the(DEVICE_NAMES[d]))} reports feature level ${level} in its answer to SETUP`, ...inRows(rows),
       ...[asked].flat()));
   facts.push(fact("From level 2 on the messages of a session have other forms, which the checker doesn't know."));
-  return {what: `the ${DEVICE_NAMES[d]} uses feature level ${level}`, facts, isLevel: true};
+  return {what: `${the(DEVICE_NAMES[d])} uses feature level ${level}`, facts, isLevel: true};
 }
 
 function profileStory(it) {
-  const d = unfollowedDevice(it), name = DEVICE_NAMES[d], {facts, isLevel} = unfollowed(it);
+  const d = unfollowedDevice(it), name = the(DEVICE_NAMES[d] || "device"), {facts, isLevel} = unfollowed(it);
   const feature = isLevel ? "set the controller or the reader to level 1, if it can be," : "switch the feature off";
   return [
     ...facts,
     nextStep(
-        d ? `If your question is about another device, leave out the ${name} and check again.` :
+        d ? `If your question is about another device, leave out ${name} and check again.` :
             "If your question is about another device, leave out the device that this row is of, and check again."),
     nextStep(`If it is about this device, ${feature} and record again.`)
   ];

@@ -7,10 +7,10 @@ function rangeWords([least, greatest], d) {
 
 // What the two books say, and whether they agree.
 function sentences(name, a, d, isCut) {
-  const {owner, did, counted, worth} = ACCOUNTS[name];
+  const {owner, did, worth} = ACCOUNTS[name];
   return [
     `${owner} ${did} ${rangeWords(a.device, d)}${worth ?? ""}.`,
-    `The controller ${counted} ${rangeWords(a.controller, d)}.`, differenceWords(name, a, d, isCut)
+    `The controller counted ${rangeWords(a.controller, d)}.`, differenceWords(name, a, d, isCut)
   ];
 }
 
@@ -69,35 +69,53 @@ function bars(name, a, d) {
   return made;
 }
 
-// One account: its three ranges as numbers, as bars, and in words.
-function accountArticle(r, name, a, d, isCut) {
-  const {device, title, counts} = ACCOUNTS[name], whose = small(ACCOUNTS[name].owner);
-  const heads = {device: `${whose}`, controller: "the controller", difference: `${whose} less the controller`};
-  const asked = (side, bound, amount) =>
-      isCut || a[side][0] === a[side][1] ? amount : whyButton(name, side, bound, amount);
-  const rows = ["device", "controller", "difference"].map(
-      (side) =>
-          h("tr", {"data-account": name, "data-side": side}, h("th", {scope: "row"}, capital(heads[side])),
-            h("td", {class: "number least"}, asked(side, "least", money(a[side][0], d))),
-            h("td", {class: "number greatest"}, asked(side, "greatest", money(a[side][1], d)))));
+const SIDES = ["device", "controller", "difference"];
+const isSingle = ([least, greatest]) => least === greatest;
+
+// What is missing from an account's sums: amounts without a known value.
+function missingAmounts(r, device) {
   const missing = r.unvalued?.[device] ?? 0;
-  const words = !isZero(a) ? sentences(name, a, d, isCut) :
-      missing              ? ["Nothing with a known value was reported."] :
-                             ["Nothing was reported, and nothing was counted."];
+  return missing ?
+      h("p", {},
+        h("strong", {},
+          `${counted(missing, "amount")} without a known value ${missing === 1 ? "is" : "are"} missing from it.`)) :
+      null;
+}
+
+// The ranges of an account, side by side. Where a limit is no other one, one number stands for both.
+function rangeTable(name, a, d, isCut) {
+  const whose = small(ACCOUNTS[name].owner), isWide = SIDES.some((side) => !isSingle(a[side]));
+  const heads = {device: whose, controller: "the controller", difference: `${whose} less the controller`};
+  const bound = (side, i, kind) =>
+      h("td", {class: "number " + kind},
+        isCut ? money(a[side][i], d) : whyButton(name, side, kind, money(a[side][i], d)));
+  const cells = (side) => isSingle(a[side]) ?
+      [h("td", {class: "number least greatest", colspan: isWide ? 2 : undefined}, money(a[side][0], d))] :
+      [bound(side, 0, "least"), bound(side, 1, "greatest")];
+  const head = (words) => h("th", {scope: "col", class: "number"}, words);
+  return h(
+      "table", {"aria-label": ACCOUNTS[name].title},
+      h("thead", {}, h("tr", {}, h("td", {}), isWide ? [head("at least"), head("at most")] : [head("for certain")])),
+      h("tbody", {},
+        SIDES.map(
+            (side) =>
+                h("tr", {"data-account": name, "data-side": side}, h("th", {scope: "row"}, capital(heads[side])),
+                  cells(side)))));
+}
+
+// One account: one number where both books have it for certain, else its ranges as numbers, as bars, and in words.
+function accountArticle(r, name, a, d, isCut) {
+  const {device, title, owner} = ACCOUNTS[name], isWide = SIDES.some((side) => !isSingle(a[side]));
+  const isAgreed = !isWide && a.difference[0] === 0n;
+  const agreed = () =>
+      h("p", {class: "agreed", "data-account": name}, h("strong", {class: "sum"}, money(a.device[0], d)),
+        ` for certain: ${small(owner)} and the controller counted the same${isCut ? " up to there" : ""}.`);
+  const ranges = () =>
+      [rangeTable(name, a, d, isCut), h("p", {class: "why-told", role: "status"}), isWide ? bars(name, a, d) : null,
+       sentences(name, a, d, isCut).map((it) => h("p", {}, it))];
   return h(
       "article", {class: "account", id: "account-" + name}, h("h3", {}, title),
-      h("table", {"aria-label": title},
-        h("thead", {},
-          h("tr", {}, h("td", {}), h("th", {scope: "col", class: "number"}, "at least"),
-            h("th", {scope: "col", class: "number"}, "at most"))),
-        h("tbody", {}, rows)),
-      h("p", {class: "why-told", role: "status"}), isZero(a) ? null : bars(name, a, d),
-      words.map((it) => h("p", {}, it)),
-      missing ?
-          h("p", {},
-            h("strong", {},
-              `${counted(missing, "amount")} without a known value ${missing === 1 ? "is" : "are"} missing from it.`)) :
-          null);
+      (isAgreed ? [agreed()] : ranges()).flat(), missingAmounts(r, device));
 }
 
 // What the ranges mean.
@@ -109,29 +127,39 @@ const RANGES = [
 const CUT_RANGES =
     "The rows end here in the middle of the traffic, perhaps between a report and its acknowledgement. The controller may then have counted that report a moment later.";
 
-// The accounts of a report: those with values, and a line on the others.
+// The accounts of a report: those in which something moved, and a line on the others.
 function accounts(r, isCut) {
-  const known = [], silent = [];
+  const moved = [], zero = [], silent = [], ranges = [];
   for (const [name, a] of Object.entries(r.accounts)) {
     const {device} = ACCOUNTS[name], d = r.decimals[device];
-    if (isZero(a) && d === null)
-      silent.push(name);
-    else
-      known.push(accountArticle(r, name, a, d, isCut));
+    if (isZero(a))
+      (d === null ? silent : zero).push(name);
+    else {
+      moved.push(accountArticle(r, name, a, d, isCut));
+      ranges.push(...SIDES.map((side) => a[side]));
+    }
   }
-  const out = [];
-  if (known.length)
-    out.push(
-        h("div", {class: "accounts"}, known),
-        [...RANGES, ...isCut ? [CUT_RANGES] : []].map((it) => h("p", {class: "soft"}, it)));
-  if (silent.length) out.push(silentWords(r, silent));
-  return out.flat();
+  const isOpen = !ranges.every(isSingle), told = [...isOpen ? RANGES : [], ...isCut ? [CUT_RANGES] : []];
+  return [
+    moved.length ? h("div", {class: "accounts"}, moved) : null, ...told.map((it) => h("p", {class: "soft"}, it)),
+    zero.length ? zeroWords(r, zero) : null, silent.length ? silentWords(r, silent) : null
+  ].filter(Boolean);
+}
+
+// The accounts in which nothing moved: one line.
+function zeroWords(r, names) {
+  const title = (name) => h("span", {"data-zero": name}, small(ACCOUNTS[name].title));
+  const comma = (it, i) => i ? [", ", it] : [it];
+  const missing = names.filter((name) => r.unvalued?.[ACCOUNTS[name].device]);
+  return h(
+      "p", {id: "zero"}, "No money, for either side: ", names.map(title).flatMap(comma), ".",
+      missing.length ? " Amounts without a known value aren't in these." : null);
 }
 
 // The devices that have no sums, and why.
 function silentWords(r, silent) {
   const devices = [...new Set(silent.map((name) => ACCOUNTS[name].device))];
-  const named = (these) => "the " + listed(these.map((it) => DEVICE_NAMES[DEVICES.indexOf(it)]));
+  const named = (these) => listed(these.map((it) => the(DEVICE_NAMES[DEVICES.indexOf(it)])));
   const left = devices.filter((it) => r.without.includes(it)), other = devices.filter((it) => !r.without.includes(it)),
         inner = [];
   if (other.length)
@@ -172,13 +200,16 @@ function deviceNotes(r, device) {
   return notes;
 }
 
+// Where a reader is found on the bus: two of them differ in nothing else.
+const ADDRESSES = ["", "", " (10H)", " (60H)"];
+
 function devicesSection(r) {
   const heads = [["device"], ["decimal places", "number"], ["silences", "number"]];
   if (r.unvalued) heads.push(["without a value", "number"]);
   heads.push(["notes"]);
   const rows = DEVICES.slice(1).map(
       (device, i) =>
-          h("tr", {"data-device": device}, h("th", {scope: "row"}, DEVICE_NAMES[i + 1]),
+          h("tr", {"data-device": device}, h("th", {scope: "row"}, DEVICE_NAMES[i + 1], ADDRESSES[i]),
             h("td", {class: "number decimals"}, r.decimals[device] === null ? "–" : r.decimals[device]),
             h("td", {class: "number silences"}, r.silences[device]),
             r.unvalued ? h("td", {class: "number unvalued"}, r.unvalued[device]) : null,

@@ -87,7 +87,7 @@ function showWay() {
   const joined = by("joined").checked;
   const out = DEVICES.slice(1).filter((it) => by("without-" + it).checked);
   by("way").textContent = (joined ? "machine already running" : "from power-on") +
-      (out.length ? `, without the ${listed(out.map((it) => DEVICE_NAMES[DEVICES.indexOf(it)]))}` : ", all devices") +
+      (out.length ? `, without ${listed(out.map((it) => the(DEVICE_NAMES[DEVICES.indexOf(it)])))}` : ", all devices") +
       (clock ? `, began at ${by("began").value.trim()}` : "");
   by("setups").hidden = !joined;
   for (const device of DEVICES.slice(1)) by("setup-" + device).disabled = by("without-" + device).checked;

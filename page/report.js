@@ -1,50 +1,12 @@
 // The lines of the verdict's text, as values.
 const ACCOUNTS = {
-  "coins-in":
-      {title: "Coins in", device: "changer", owner: "The changer", did: "took", worth: " in coins", counted: "counted"},
-  "bills-in": {
-    title: "Bills in",
-    device: "bill",
-    owner: "The validator",
-    did: "stacked",
-    worth: " in bills",
-    counted: "counted"
-  },
-  "paid-out": {
-    title: "Coins paid out",
-    device: "changer",
-    owner: "The changer",
-    did: "paid out",
-    counted: "counted as paid out"
-  },
-  approved: {
-    title: "Approved by the reader at 10H",
-    device: "cashless",
-    owner: "The reader at 10H",
-    did: "approved",
-    counted: "knows as approved"
-  },
-  sold: {
-    title: "Sold by the reader at 10H",
-    device: "cashless",
-    owner: "The reader at 10H",
-    did: "booked",
-    counted: "counted as sold"
-  },
-  "approved-2": {
-    title: "Approved by the reader at 60H",
-    device: "cashless-2",
-    owner: "The reader at 60H",
-    did: "approved",
-    counted: "knows as approved"
-  },
-  "sold-2": {
-    title: "Sold by the reader at 60H",
-    device: "cashless-2",
-    owner: "The reader at 60H",
-    did: "booked",
-    counted: "counted as sold"
-  },
+  "coins-in": {title: "Coins in", device: "changer", owner: "The changer", did: "took", worth: " in coins"},
+  "bills-in": {title: "Bills in", device: "bill", owner: "The validator", did: "stacked", worth: " in bills"},
+  "paid-out": {title: "Coins paid out", device: "changer", owner: "The changer", did: "paid out"},
+  approved: {title: "Approved by card reader 1", device: "cashless", owner: "Card reader 1", did: "approved"},
+  sold: {title: "Sold by card reader 1", device: "cashless", owner: "Card reader 1", did: "booked"},
+  "approved-2": {title: "Approved by card reader 2", device: "cashless-2", owner: "Card reader 2", did: "approved"},
+  "sold-2": {title: "Sold by card reader 2", device: "cashless-2", owner: "Card reader 2", did: "booked"},
 };
 
 function readReport(text) {

@@ -57,7 +57,7 @@ function deviceNext(it, i) {
   if (rule === "Bill") return ["Count the bills in the stacker, and send the maker of the validator this recording."];
   return blame === "controller" ?
       [SALE_NEXT, " Send the maker of the controller this recording."] :
-      [SALE_NEXT, ` Send the maker of the ${SHORT_NAMES[it.list.device(i)]} this recording.`];
+      [SALE_NEXT, ` Send the maker of ${the(SHORT_NAMES[it.list.device(i)])} this recording.`];
 }
 
 // Sessions and sales ----
@@ -90,14 +90,14 @@ function eventWords(e, reader) {
     success: `the controller reported item ${e.item} as sold`,
     failure: "the controller reported that the goods didn't come",
     complete: "the controller ended the session",
-    enable: `the controller enabled the ${reader}`,
-    disable: `the controller disabled the ${reader}`,
-    restarted: `the ${reader} reported that it was reset`,
-    begun: `the ${reader} began a session`,
-    asked: `the ${reader} asked for the end of the session`,
-    approved: `the ${reader} approved ${of}`,
-    denied: `the ${reader} denied the request`,
-    ended: `the ${reader} ended the session`,
+    enable: `the controller enabled ${reader}`,
+    disable: `the controller disabled ${reader}`,
+    restarted: `${reader} reported that it was reset`,
+    begun: `${reader} began a session`,
+    asked: `${reader} asked for the end of the session`,
+    approved: `${reader} approved ${of}`,
+    denied: `${reader} denied the request`,
+    ended: `${reader} ended the session`,
   }[e.what];
 }
 
@@ -115,7 +115,7 @@ const present = (...sentences) => sentences.filter(Boolean);
 
 // A command that the controller may not send there.
 function commandStory(it, i, {begin, found}) {
-  const reader = SHORT_NAMES[it.list.device(i)], [here] = saleEvents(it, i);
+  const reader = the(SHORT_NAMES[it.list.device(i)]), [here] = saleEvents(it, i);
   if (!here) return [];
   const events = found.flatMap((k) => saleEvents(it, k));
   const at = events.findLastIndex((e) => e.what === "request");
@@ -135,7 +135,7 @@ function unpaidStory(here, request, after, reader) {
     return [
       fact(
           `The controller asked for ${asked} for item ${request.item}`, ...inRows(request.rows),
-          `, and the ${reader} denied it`, ...inRows(decision.rows), "."),
+          `, and ${reader} denied it`, ...inRows(decision.rows), "."),
       fact(
           `The controller ${sold} all the same`, ...inRows(here.rows),
           `. No approval of the reader pays for ${isItem ? "this " + asked : "it"}.`),
@@ -149,13 +149,13 @@ function unpaidStory(here, request, after, reader) {
     fact(
         `The controller asked for ${asked} for item ${request.item}`, ...inRows(request.rows), `, and ${sold}`,
         ...inRows(here.rows), "."),
-    fact(`In between, the ${reader} neither approved nor denied it.`)
+    fact(`In between, ${reader} neither approved nor denied it.`)
   ];
 }
 
 // An answer of a reader that can't be.
 function readerStory(it, i, {begin, found}) {
-  const acts = it.list, reader = SHORT_NAMES[acts.device(i)], events = found.flatMap((k) => saleEvents(it, k));
+  const acts = it.list, reader = the(SHORT_NAMES[acts.device(i)]), events = found.flatMap((k) => saleEvents(it, k));
   const here = saleEvents(it, i), first = here.find((e) => ["begun", "approved", "denied", "ended"].includes(e.what));
   const open = unrepeated(it, i, found);
   if (open)
@@ -195,11 +195,10 @@ function whyNot(first, events, begin, reader) {
     const on = lastOf(events, "begun", "ended"), switched = lastOf(events, "enable", "disable");
     if (on?.what === "begun") return ["A session was on already", ...inRows(on.rows), "."];
     if (switched?.heard === false) return null;
-    if (switched?.what === "disable")
-      return [`The controller had disabled the ${reader}`, ...inRows(switched.rows), "."];
+    if (switched?.what === "disable") return [`The controller had disabled ${reader}`, ...inRows(switched.rows), "."];
     return switched || begin.what === "unknown" ?
         null :
-        [`The controller hadn't enabled the ${reader} `, ...beginWords(begin), "."];
+        [`The controller hadn't enabled ${reader} `, ...beginWords(begin), "."];
   }
   const isUnknown = begin.what === "unknown" || lastOf(events, "begun", "complete")?.what === "complete";
   if (isUnknown) return null;
@@ -234,7 +233,7 @@ const isJoined = (it) => it.way.bytes[0] === 1;
 function answerWords(it, i) {
   const acts = it.list, at = acts.askOf(i), name = at >= 0 ? commandName(acts.bytes(at)) : "a command";
   const how = acts.kind(i) === ACK ? "with a mere ACK" : acts.kind(i) === NAK ? "with NAK" : "with data";
-  return [`The ${SHORT_NAMES[acts.device(i)]} answered ${name} ${how}`, ...inRows(actRows(acts, i)), "."];
+  return [`${capital(the(SHORT_NAMES[acts.device(i)]))} answered ${name} ${how}`, ...inRows(actRows(acts, i)), "."];
 }
 
 // Coins and bills ----
@@ -348,6 +347,6 @@ function notEnabled(it, device, begin, found, reports) {
       mask |= two(acts.bytes(k), 1);
   const r = reports.find((e) => !(mask >> e.type & 1) && /deposited|stacked|escrow/.test(e.what));
   return r ?
-      [`No command that the ${SHORT_NAMES[device]} took has enabled type ${r.type} `, ...beginWords(begin), "."] :
+      [`No command that ${the(SHORT_NAMES[device])} took has enabled type ${r.type} `, ...beginWords(begin), "."] :
       null;
 }

@@ -210,7 +210,7 @@ function failed(fault, isButton) {
     trouble(`There is no verdict: ${fault.message}`, isButton);
     return;
   }
-  trouble(`The set-up bytes of the ${DEVICE_NAMES[DEVICES.indexOf(fault.device)]} can't be used.`, false);
+  trouble(`The set-up bytes of ${the(DEVICE_NAMES[DEVICES.indexOf(fault.device)])} can't be used.`, false);
   showSetupFault(fault);
 }
 

@@ -7,8 +7,8 @@ function unlistedSetups({found, hole}, acts) {
   const from = acts.last(hole - 1), to = acts.first(hole), missed = [null, null, null, null, null];
   for (const it of found.setups)
     if (it.first > from) missed[it.device] = it.last < to ? it : null;
-  const words = ({first, last, device}) => ` Rows ${number(first)}–${number(last)} have a later answer of the ` +
-      `${DEVICE_NAMES[device]}, which isn't listed. Cut the recording after them, and choose it again.`;
+  const words = ({first, last, device}) => ` Rows ${number(first)}–${number(last)} have a later answer of ` +
+      `${the(DEVICE_NAMES[device])}, which isn't listed. Cut the recording after them, and choose it again.`;
   return missed.filter(Boolean).map(words).join("");
 }
 
@@ -24,7 +24,7 @@ function takeSetups(told, name) {
     }
   if (names.length) showSetupFault(null);
   if (!names.length && more) return `${name}:${more}`;
-  return names.length ? `${name} shows the set-up of the ${listed(names)}.${more}` :
+  return names.length ? `${name} shows the set-up of ${listed(names.map(the))}.${more}` :
                         `${name} shows no answer to SETUP. The bytes below are as they were.`;
 }
 

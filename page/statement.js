@@ -34,7 +34,7 @@ const SUM_TITLES = {
   sold: "sold",
   cash: "sold for cash"
 };
-const DEVICE_LABELS = ["", "changer", "validator", "reader 10H", "reader 60H"];
+const DEVICE_LABELS = ["", "changer", "validator", "card reader 1", "card reader 2"];
 
 function moneyAmount(m) {
   if (m.noAmount) return "";

@@ -8,8 +8,7 @@ const actRows = (acts, i) => rowsAt(acts.first(i), acts.last(i));
 const inRows = (...rows) => [" (", ...rows.flatMap((it, i) => i ? [", ", it] : [it]), ")"];
 
 // Names in a story: of a device, and of whom a no is about.
-const SHORT_NAMES = ["", "changer", "validator", "reader at 10H", "reader at 60H"];
-const theDevice = (d) => "the " + SHORT_NAMES[d];
+const SHORT_NAMES = ["", "changer", "validator", "card reader 1", "card reader 2"];
 
 const listed = (words) =>
     words.length < 2 ? words.join("") : `${words.slice(0, -1).join(", ")} and ${words[words.length - 1]}`;
@@ -126,8 +125,8 @@ function earlierWords(m) {
 }
 
 function bookWords(name, a, d) {
-  const {owner, did, counted} = ACCOUNTS[name];
-  return `${owner} ${did} ${rangeWords(a.device, d)}; the controller ${counted} ${rangeWords(a.controller, d)}.`;
+  const {owner, did} = ACCOUNTS[name];
+  return `${owner} ${did} ${rangeWords(a.device, d)}; the controller counted ${rangeWords(a.controller, d)}.`;
 }
 
 // Entries that were answered by a message of a reset: whether the device kept them isn't certain.
@@ -137,7 +136,7 @@ function resetStory(it, entries) {
     const reset = it.found.resets.find((r) => r.device === m.device && r.what !== "RESET" && r.first === m.last + 1);
     if (reset)
       told.push(likely(
-          `Perhaps this is why: the ${SHORT_NAMES[m.device]} answered ${entryWords(m)}`,
+          `Perhaps this is why: ${the(SHORT_NAMES[m.device])} answered ${entryWords(m)}`,
           inRows(rowsAt(m.first, m.last)), " with the report that it was reset",
           inRows(rowsAt(reset.first, reset.last)), ". Whether it had booked it by then isn't certain."));
   }
@@ -157,7 +156,7 @@ function differingStory(it, name, a, d) {
   const last = it.found.money.filter((m) => isOf(name, m)).at(-1), reason = payoutReason(it, name, a);
   if (reason) return [...told, ...reason];
   if (!last || last.acknowledged)
-    return [...told, nextStep(`Send the makers of the controller and of the ${SHORT_NAMES[device]} this recording.`)];
+    return [...told, nextStep(`Send the makers of the controller and of ${the(SHORT_NAMES[device])} this recording.`)];
   return [
     ...told,
     likely(
@@ -171,16 +170,16 @@ function silenceStory(it) {
   const told = [];
   for (const [i, device] of DEVICES.entries()) {
     if (!device || !it.report.silences[device]) continue;
-    const all = it.found.silences.filter((q) => q.device === i), q = all[0], name = capital(DEVICE_NAMES[i]);
+    const all = it.found.silences.filter((q) => q.device === i), q = all[0], name = capital(the(DEVICE_NAMES[i]));
     if (!q)
-      told.push(fact(`The ${DEVICE_NAMES[i]} was silent ${counted(it.report.silences[device], "time")}.`));
+      told.push(fact(`${name} was silent ${counted(it.report.silences[device], "time")}.`));
     else
       told.push(fact(
-          `The ${small(name)} gave no answer for ${seconds(q.to - q.from)}: from ${when(q.from)} to ${
-              when(q.to)}, asked ${counted(q.asks, "time")}`,
+          `${name} gave no answer for ${seconds(q.to - q.from)}: from ${when(q.from)} to ${when(q.to)}, asked ${
+              counted(q.asks, "time")}`,
           inRows(rowsAt(q.first, q.last)),
           all.length > 1 ? `. It was silent ${counted(it.report.silences[device], "time")} in all.` : "."));
-    told.push(nextStep(`Look at the power and the plug of the ${SHORT_NAMES[i]}, and at what it was doing then.`));
+    told.push(nextStep(`Look at the power and the plug of ${the(SHORT_NAMES[i])}, and at what it was doing then.`));
   }
   return told;
 }
@@ -196,7 +195,7 @@ function valuelessStory(it) {
     const many = n || without.length,
           first = without.length ? [", the first in ", rowsAt(without[0].first, without[0].last)] : [];
     told.push(fact(
-        `${counted(many, "amount")} of the ${DEVICE_NAMES[i]} ${many === 1 ? "has" : "have"} no known value, and ${
+        `${counted(many, "amount")} of ${the(DEVICE_NAMES[i])} ${many === 1 ? "has" : "have"} no known value, and ${
             many === 1 ? "is" : "are"} in no sum`,
         many === 1 && without.length ? inRows(rowsAt(without[0].first, without[0].last)) : first, "."));
     told.push(nextStep("Give an earlier recording of a start of this machine: it shows the values."));

@@ -5,11 +5,11 @@ const STRETCH_HEADS =
 
 // What is to be said of a stretch, beside its sums.
 function stretchNotes(report) {
-  const named = (devices) => listed(devices.map((it) => DEVICE_NAMES[DEVICES.indexOf(it)])), notes = [];
+  const named = (devices) => listed(devices.map((it) => the(DEVICE_NAMES[DEVICES.indexOf(it)]))), notes = [];
   for (const device of DEVICES.slice(1)) {
     const silences = report.silences[device], missing = report.unvalued?.[device];
-    if (silences) notes.push(`${counted(silences, "silence")} of the ${named([device])}`);
-    if (missing) notes.push(`${counted(missing, "amount")} of the ${named([device])} without a known value`);
+    if (silences) notes.push(`${counted(silences, "silence")} of ${named([device])}`);
+    if (missing) notes.push(`${counted(missing, "amount")} of ${named([device])} without a known value`);
   }
   if (report.without.length) notes.push(`left out: ${named(report.without)}`);
   if (report.setup.length) notes.push(`set-up known of: ${named(report.setup)}`);
@@ -87,7 +87,7 @@ function totalBody(it) {
 
 const changedNote = (device) =>
     h("div", {class: "soft"},
-      `the decimal places of the ${DEVICE_NAMES[DEVICES.indexOf(device)]} changed: its sums here have none`);
+      `the decimal places of ${the(DEVICE_NAMES[DEVICES.indexOf(device)])} changed: its sums here have none`);
 
 function drawStretches(it) {
   if (!by("stretch-table")) return;

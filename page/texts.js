@@ -3,12 +3,14 @@ const BLAMES = {
   controller: "the controller (VMC)",
   changer: "the coin changer",
   bill: "the bill validator",
-  cashless: "the card reader at 10H",
-  "cashless-2": "the card reader at 60H",
+  cashless: "card reader 1",
+  "cashless-2": "card reader 2",
   other: "a device that nobody had asked"
 };
 // What mdbimport writes at the end of an export that it refuses.
 const REFUSED_LINE = "mdbimport refused this export";
+// A device's name in a sentence: a reader's has no article.
+const the = (name) => name.startsWith("card reader") ? name : `the ${name}`;
 const number = (n) => String(n).replace(/\B(?=(\d{3})+$)/g, ",");
 const capital = (words) => words[0].toUpperCase() + words.slice(1);
 const small = (words) => words[0].toLowerCase() + words.slice(1);

@@ -47,7 +47,7 @@ function silenceLane({silences}) {
 function moneyLane(it, device) {
   const all = it.found.money, own = [];
   all.forEach((m, i) => m.device === device && own.push(i));
-  return laneOf(["", "coin changer", "bill validator", "reader 10H", "reader 60H"][device], "device", own, {
+  return laneOf(DEVICE_NAMES[device], "device", own, {
     begin: (i) => all[i].begin,
     words: (i) => `${toldWords(all[i])} ${moneyAmount(all[i])} at ${when(all[i].begin)}`,
     jump: jumpToEntry

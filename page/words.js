@@ -1,7 +1,7 @@
 // The acts of a recording in words. It reads the bytes that the module lists, as
 // docs/bench/commands-and-messages.md has them. No verdict and no bound rests on it.
 const DEVICES = ["", "changer", "bill", "cashless", "cashless-2"];
-const DEVICE_NAMES = ["", "coin changer", "bill validator", "card reader at 10H", "card reader at 60H"];
+const DEVICE_NAMES = ["", "coin changer", "bill validator", "card reader 1", "card reader 2"];
 const KINDS = ["ask", "ack", "nak", "reply", "vmc-ack", "vmc-nak", "vmc-ret", "repeat", "foreign", "break", "cut"];
 // What an act of a kind is, in a word or two.
 const KIND_WORDS =
@@ -403,7 +403,7 @@ function actWords(acts, i) {
 
 // The same, short, for a narrow page.
 function shortSpeaker(acts, i) {
-  const kind = acts.kind(i), device = ["", "changer", "validator", "10H", "60H"][acts.device(i)];
+  const kind = acts.kind(i), device = ["", "changer", "validator", "reader 1", "reader 2"][acts.device(i)];
   if (kind === BREAK) return "VMC";
   if (!device) return "–";
   return [ASK, VMC_ACK, VMC_NAK, VMC_RET].includes(kind) ? `VMC → ${device}` : `${device} → VMC`;

@@ -97,7 +97,8 @@ SHOWN = """(() => {
   const text = (it) => it ? it.textContent : null, all = (q) => [...document.querySelectorAll(q)];
   return JSON.stringify({word: text(document.querySelector("#verdict .word")), card: document.getElementById("verdict").className, text: text(document.getElementById("text")),
     command: text(document.getElementById("command")), sum: text(document.getElementById("sum")), name: text(document.getElementById("name")),
-    bounds: all("tr[data-side]").map((it) => [it.dataset.account, it.dataset.side, ...[...it.children].slice(1).map(text)]),
+    bounds: [...all("tr[data-side]").map((it) => [it.dataset.account, it.dataset.side, ...[...it.children].slice(1).map(text)]),
+      ...all(".agreed").map((it) => [it.dataset.account, "both", text(it.querySelector(".sum"))])],
     isOff: document.getElementById("save-report").disabled, when: state.when.getTime()});
 })()"""
 

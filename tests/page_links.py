@@ -10,14 +10,14 @@ import time
 from programs import MDBCHECK
 
 TOP = pathlib.Path(__file__).resolve().parent.parent
-NAMES = {"changer": "changer", "bill": "validator", "cashless": "reader 10H", "cashless-2": "reader 60H"}
+NAMES = {"changer": "changer", "bill": "validator", "cashless": "card reader 1", "cashless-2": "card reader 2"}
 NUMBERS = {"changer": 1, "bill": 2, "cashless": 3, "cashless-2": 4}
 KINDS = "ask ack nak reply vmc-ack vmc-nak vmc-ret repeat foreign break cut".split()
 SIZES = [1, 8, 99, 3, 1, 3, 1, 1, 1, 30, 2, 1]
 
 # What the table of several files calls those whom the program blames.
 SENDERS = {"controller": "the controller (VMC)", "changer": "the coin changer", "bill": "the bill validator",
-           "cashless": "the card reader at 10H", "cashless-2": "the card reader at 60H", "other": "a device that nobody had asked"}
+           "cashless": "card reader 1", "cashless-2": "card reader 2", "other": "a device that nobody had asked"}
 
 
 class Act:
@@ -481,7 +481,7 @@ def try_marks(page, want):
     """A mark is named when the pointer or a key is at it, and leads to what it is."""
     left, top, place = try_zoom(page, want)
     at = page.browser.value("state.found.money[2].begin")
-    row = page.browser.value("state.line.lanes.findIndex((it) => it.name === 'reader 10H')")
+    row = page.browser.value("state.line.lanes.findIndex((it) => it.name === 'card reader 1')")
     y = top + page.browser.value(f"state.line.room.top({row})") + 12
     mouse(page, (place(at), y, None))
     told = page.browser.value("by('line-told').textContent")
@@ -538,7 +538,7 @@ def try_counts(page, want, path):
     devices = [acts[index].device for index in Walk(acts).money]
     for name, drawn, there in counts:
         want(drawn == there, f"{name}: {drawn} of {there} are drawn")
-    names = {"coin changer": "changer", "bill validator": "bill", "reader 10H": "cashless", "reader 60H": "cashless-2"}
+    names = {"coin changer": "changer", "bill validator": "bill", "card reader 1": "cashless", "card reader 2": "cashless-2"}
     for name, drawn, _ in counts:
         if name in names and not page.browser.value("state.found.money.some((m) => /session/.test(m.what))"):
             want(drawn == devices.count(names[name]), f"{name}: {drawn} drawn, wanted {devices.count(names[name])}")
@@ -638,7 +638,7 @@ def try_links(page, want, address):
     page.give(less)
     lines += try_statement(page, want, less, "less is approved than was asked for")
     shown = json.loads(page.browser.value(LINES))
-    want(any("reader 10H 0.50" in line[5] and "controller 0.50" in line[5] for line in shown), f"less is approved: {shown}")
+    want(any("card reader 1 0.50" in line[5] and "controller 0.50" in line[5] for line in shown), f"less is approved: {shown}")
     long = page.work / "mixed.csv"
     with long.open("wb") as file:
         subprocess.run([TOP / "bench" / "generate", "mixed", "20000"], stdout=file, check=True)

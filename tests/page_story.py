@@ -32,7 +32,7 @@ from firefox import Firefox  # noqa: E402
 from programs import MDBCHECK as PROGRAM  # noqa: E402
 
 TOP = pathlib.Path(__file__).resolve().parent.parent
-NAMES = {"changer": "changer", "validator": "bill", "reader at 10H": "cashless", "reader at 60H": "cashless-2"}
+NAMES = {"changer": "changer", "validator": "bill", "card reader 1": "cashless", "card reader 2": "cashless-2"}
 ACCOUNTS = {"coins-in": "changer", "bills-in": "bill", "paid-out": "changer", "approved": "cashless", "sold": "cashless",
             "approved-2": "cashless-2", "sold-2": "cashless-2"}
 STORY = """JSON.stringify({
@@ -62,7 +62,7 @@ EXAMPLES = {
         "0.25 isn't certain: a coin of 0.25 was reported in rows 32–34 and again in rows 38–40. It was one coin or two.",
         "The changer took 0.25 to 0.50; the controller counted 0.50."],
     "coins-beside-a-level-3-reader": [
-        "The card reader at 10H reports feature level 3 in its answer to SETUP (rows 99–107), and so does the controller, with level 3 (rows 92–98).",
+        "Card reader 1 reports feature level 3 in its answer to SETUP (rows 99–107), and so does the controller, with level 3 (rows 92–98).",
         "From level 2 on the messages of a session have other forms, which the checker doesn't know."],
     "coins-beside-a-recycler": [
         "The bill validator sends the message B1 of bill recycling (rows 194–195). The checker doesn't follow this message."],
@@ -73,13 +73,13 @@ EXAMPLES = {
     "other-words-in-a-repeat": [
         "Asked to repeat its answer (rows 18–20), the changer sent the word 008 (row 23). The first time it was 009 (row 19)."],
     "sale-answered-by-a-reset-message": [
-        "Up to 0.10 isn't certain. The reader at 10H booked 0.00 to 0.10; the controller counted as sold 0.10.",
-        "Perhaps this is why: the reader at 10H answered the sale of item 5 (rows 55–59) with the report that it was reset (rows 60–61). Whether it had booked it by then isn't certain."],
-    "sale-by-card": ["The controller and the devices agree for certain: approved by the reader at 10H 1.00 and sold by the reader at 10H 1.00."],
+        "Up to 0.10 isn't certain. Card reader 1 booked 0.00 to 0.10; the controller counted 0.10.",
+        "Perhaps this is why: card reader 1 answered the sale of item 5 (rows 55–59) with the report that it was reset (rows 60–61). Whether it had booked it by then isn't certain."],
+    "sale-by-card": ["The controller and the devices agree for certain: approved by card reader 1 1.00 and sold by card reader 1 1.00."],
     "sale-never-approved": [
-        "The controller asked for 1.50 for item 8 (rows 58–64), and the reader at 10H denied it (rows 68–69).",
+        "The controller asked for 1.50 for item 8 (rows 58–64), and card reader 1 denied it (rows 68–69).",
         "The controller reported item 8 as sold all the same (rows 71–75). No approval of the reader pays for this 1.50."],
-    "sale-of-one-item": ["The controller and the devices agree for certain: approved by the reader at 10H 0.10 and sold by the reader at 10H 0.10."],
+    "sale-of-one-item": ["The controller and the devices agree for certain: approved by card reader 1 0.10 and sold by card reader 1 0.10."],
     "silent-changer": [
         "The coin changer gave no answer for 3.007 s: from 0.531 s to 3.539 s, asked 7 times (rows 9–22)."],
     "wrong-sum-in-a-poll-reply": [
@@ -214,10 +214,10 @@ class Recording:
 PHRASES = [
     (r"\bitem (\d+)", "item {0}"), (r"asked for (\d[\d.]*) for item", "money {0}"), (r"asked for \S+ for item", "request"),
     (r"item \d+ as sold", "sold"), (r"the sale of", "sold"), (r"(?<!nor )denied (?:it|the request)\b", "denied"),
-    (r"reader at \d\dH approved (\d[\d.]*)(?= for| \(|[.,] )", "money {0}"), (r"reader at \d\dH approved \S+(?: for item \d+)? \(", "approved"),
+    (r"card reader \d approved (\d[\d.]*)(?= for| \(|[.,] )", "money {0}"), (r"card reader \d approved \S+(?: for item \d+)? \(", "approved"),
     (r"(?:coin|bill|payout|order to pay out|approval) of (\d[\d.]*)", "money {0}"), (r"a coin of", "coin"),
     (r"a bill of \S+ stacked", "stacked"), (r"escrow \(rows", "escrow"), (r"began a session", "begun"),
-    (r"the reader at \d\dH ended the session", "ended"), (r"the controller ended the session \(", "complete"),
+    (r"card reader \d ended the session", "ended"), (r"the controller ended the session \(", "complete"),
     (r"cancelled its request", "cancel"), (r"didn't come", "failure"), (r"(?:report that it|reported that it) was reset", "reset"),
     (r"(?:coin|bill) of type (\d+)", "type {0}"), (r"taken the order", "order"),
 ]
@@ -240,7 +240,7 @@ def compare_phrases(sentence, recording):
     """What a sentence says of items, amounts and events is said in the rows that it names."""
     says = set().union(*(it["says"] for it in map(recording.at, sentence["rows"]) if it))
     for phrase, wanted in PHRASES:
-        for found in re.finditer(phrase, sentence["text"]):
+        for found in re.finditer(phrase, sentence["text"], re.I):
             it = wanted.format(*found.groups())
             want(it in says, f"{it!r} isn't in what the rows say ({sorted(says)}): {sentence['text']}")
     if "didn't acknowledge" in sentence["text"]:
@@ -279,7 +279,7 @@ def compare_missing(sentence, recording, row):
         "hadn't reported its reset": lambda: [it for it in after if "reset" in it["says"]],
         "hadn't asked for a sale": lambda: [it for it in after if "request" in it["says"]],
         "No session stands before it": lambda: [it for it in after if it["says"] & EVENTS],
-        "hadn't enabled the": lambda: [it for it in after if it["kind"] == "ask" and it["data"][0] & 7 == 4 and it["data"][1] == 1],
+        "hadn't enabled card reader": lambda: [it for it in after if it["kind"] == "ask" and it["data"][0] & 7 == 4 and it["data"][1] == 1],
         "has enabled type": lambda: [it for it in after if it["kind"] == "ask" and it["data"][0] in (0x0C, 0x34) and taken(it)
                                      and (it["data"][1] * 256 + it["data"][2]) >> int(type_of[1]) & 1],
         "hadn't ordered to stack it": lambda: [it for it in between(named[0]["last"]) if "order" in it["says"]],
@@ -312,12 +312,12 @@ def compare_yes(sentences, recording, report, values):
     for it in sentences:
         found = re.match(r"(?:Up to )?([−\d.]+) isn't certain", it["text"])
         want(not found or found[1] in widths, f"{found and found[1]} isn't {widths}")
-        for said in re.findall(r"(?:took|stacked|paid out|approved|booked|counted(?: as (?:sold|paid out))?|knows as approved) ([−\d.]+(?: to [−\d.]+)?)[;.]$|; the controller \D+([−\d.]+(?: to [−\d.]+)?)\.", it["text"]):
+        for said in re.findall(r"(?:took|stacked|paid out|approved|booked|counted) ([−\d.]+(?: to [−\d.]+)?)[;.]$|; the controller \D+([−\d.]+(?: to [−\d.]+)?)\.", it["text"]):
             want(set(said) - {""} <= ranges, f"{said} isn't among {ranges}: {it['text']}")
         asked = re.search(r"asked (\d+) times? \(rows (\d+)–(\d+)\)", it["text"])
         if asked:
             first, last = int(asked[2]), int(asked[3])
-            device = next(slug for name, slug in NAMES.items() if name in it["text"])
+            device = next(slug for name, slug in NAMES.items() if name in it["text"].lower())
             count = sum(a["kind"] == "ask" and a["device"] == device and first <= a["first"] and a["last"] <= last for a in recording.acts)
             want(count == int(asked[1]), f"asked {count} times: {it['text']}")
     is_open = any(low != high for name in ACCOUNTS for low, high in bounds(values[name]))
@@ -325,7 +325,7 @@ def compare_yes(sentences, recording, report, values):
     is_differing = any(low > 0 or high < 0 for name in ACCOUNTS for low, high in bounds(values[name])[2:])
     want(any("differ for certain" in it["text"] for it in sentences) == is_differing, f"differ: {[it['text'] for it in sentences]}")
     silent = {d for d, n in zip(values["silences"][::2], values["silences"][1::2]) if n != "0"}
-    told = {slug for name, slug in NAMES.items() for it in sentences if re.search(rf"{name} (gave no answer|was silent)", it["text"])}
+    told = {slug for name, slug in NAMES.items() for it in sentences if re.search(rf"{name} (gave no answer|was silent)", it["text"], re.I)}
     want(silent == told, f"silent: {silent}, told: {told}")
 
 
@@ -361,7 +361,7 @@ def compare_story(story, show, check, options, data):
     text = " ".join([story["word"], *(it["text"] for it in story["sentences"])])
     may = involved(story, recording, report, values, data, row)
     for name, device in NAMES.items():
-        want(name not in text or device in may, f"{name} isn't involved ({may}): {text}")
+        want(name not in text.lower() or device in may, f"{name} isn't involved ({may}): {text}")
     if report["verdict"] == "yes" and report["rows"] != "0" and "nothing was followed" not in story["word"]:
         compare_yes(story["sentences"], recording, report, values)
     return report
