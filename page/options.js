@@ -89,6 +89,8 @@ function showWay() {
   by("way").textContent = (joined ? "machine already running" : "from power-on") +
       (out.length ? `, without ${listed(out.map((it) => the(DEVICE_NAMES[DEVICES.indexOf(it)])))}` : ", all devices") +
       (clock ? `, began at ${by("began").value.trim()}` : "");
+  document.body.classList.toggle("open", file !== null);
+  by("open-name").textContent = file ? shownName(file.name) : "";
   by("setups").hidden = !joined;
   for (const device of DEVICES.slice(1)) by("setup-" + device).disabled = by("without-" + device).checked;
   by("again").disabled = !file || isWorking;
