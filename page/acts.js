@@ -409,7 +409,7 @@ function actsSection(it) {
   made.tabIndex = -1;
   if (it.answer === ANSWERS.NO && ["Changer", "Bill", "Cashless"].includes(it.report.rule))
     made.insertBefore(
-        h("p", {id: "acts-judged", class: "soft"}, "What comes after the impossible row isn't judged."),
+        h("p", {id: "acts-judged", class: "soft"}, "What comes after the row that breaks the rule isn't judged."),
         made.children[1]);
   queueMicrotask(() => {
     listAll(it, false);

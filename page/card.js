@@ -117,32 +117,39 @@ function showYes(it) {
   if (r.rows !== "0" && isUnfollowed(it)) return showIdle(it);
   const story = r.rows === "0" ? [] : withOpen(it, storyOf(it));
   fillCard(
-      "yes", "Yes: this recording is possible", yesLead(it), leftOut(it), openPart(it), storyList(story),
-      valueButton(it),
-      h("p", {class: "soft"},
-        "A yes says that an honest explanation of the recording exists. It doesn't say that the money is honest."),
+      "yes", yesHead(it) ?? KEPT, yesLead(it), leftOut(it), openPart(it), storyList(story), valueButton(it),
+      h("p", {class: "soft", id: "ruling"},
+        `All ${number(r.rows)} rows fit the protocol. That doesn't say that the money is honest.`),
       nameWords(it));
   by("verdict").toggleAttribute("data-open", story.some(({kind}) => kind === "next"));
 }
 
-function yesLead(it) {
-  const r = it.report, all = Object.entries(r.accounts), count = `All ${number(r.rows)} rows fit together`;
+const KEPT = "All devices kept the protocol";
+
+// What a yes leaves to do, in a few words; null if it leaves nothing.
+function yesHead(it) {
+  const r = it.report, all = Object.entries(r.accounts);
   const titles = (which) => listed(all.filter(([, a]) => which(a)).map(([name]) => small(ACCOUNTS[name].title)));
-  if (r.rows === "0") return "All 0 rows fit together: there is no row in this file.";
-  if (all.some(([, a]) => isDiffering(a))) return `${count}, but the books differ for certain: ${titles(isDiffering)}.`;
-  if (all.some(([, a]) => isOpen(a))) return `${count}. Not all of the money is certain: ${titles(isOpen)}.`;
-  const silent = DEVICES.filter((d) => r.silences[d]).map((d) => DEVICE_NAMES[DEVICES.indexOf(d)]);
-  if (silent.length) return `${count}, but ${listed(silent.map(the))} gave no answer for too long.`;
-  if (openMoneyOf(it).length) return `${count}, but ${openLead(it)}.`;
-  return `${count}.`;
+  const silent = DEVICES.filter((d) => r.silences[d]).map((d) => the(DEVICE_NAMES[DEVICES.indexOf(d)]));
+  const differing = titles(isDiffering), open = titles(isOpen);
+  return openHead(it) || (differing && `The books differ for certain: ${differing}`) ||
+      (silent.length && `No answer of ${listed(silent)} for too long`) ||
+      (open && `Not all of the money is certain: ${open}`) || null;
+}
+
+// What money moved, where nothing is left to do.
+function yesLead(it) {
+  if (it.report.rows === "0") return "There is no row in this file.";
+  if (openMoneyOf(it).length) return `${KEPT}, but ${openLead(it)}.`;
+  return yesHead(it) ? `${KEPT}.` : agreedWords(it);
 }
 
 // A yes in which no device was followed.
 function showIdle(it) {
   const left = it.report.without.map((d) => DEVICE_NAMES[DEVICES.indexOf(d)]), isExchanged = !left.length;
   fillCard(
-      "yes", "Yes, but nothing was followed: this proves nothing",
-      `All ${number(it.report.rows)} rows are possible, but none is a command to a device that is checked.`,
+      "yes", "Nothing was followed: this proves nothing",
+      `None of the ${number(it.report.rows)} rows is a command to a device that is checked.`,
       h("p", {}, h("strong", {}, "Nothing was followed:"), " each sum is 0, and nobody could be blamed. ",
         isExchanged ?
             "Most likely lines M and S are exchanged (M must be the controller's line), or the mode bits are lost." :
@@ -169,15 +176,12 @@ function openSetups() {
 function showNo(it) {
   const r = it.report, isExchanged = isPerhapsExchanged(it);
   const isLate = isPerhapsLate(it) && !isExchanged, isFile = isFileLikely(it) || isAfterDamage(it);
-  const word = `No: row ${number(it.row)} cannot be`, broken = `the row breaks the rule ${r.rule}`;
-  const sent = `${capital(broken)}, and ${BLAMES[r.blame]} sent it.`;
   const lead = isLate ? h("strong", {}, "Was the machine already running when the recording began?") :
-      isFile          ? sent :
-                        `${capital(BLAMES[r.blame])} broke the protocol here: ${broken}.`;
+      isFile          ? fileLead(it) :
+                        `${capital(BLAMES[r.blame])} broke the protocol${faultAt(it)}.`;
   fillCard(
-      "no", word, lead, leftOut(it),
-      isLate ? [lateNotes(it), h("p", {}, `If the recording does begin at power-on: ${small(sent)}`)] : null,
-      openPart(it),
+      "no", headOf(it), lead, leftOut(it),
+      isLate ? [lateNotes(it), h("p", {}, "If the recording does begin at power-on:")] : null, openPart(it),
       storyList(
           isAfterDamage(it) ? storyAfterDamage(it) : withOpen(it, storyOf(it)),
           isLate ? "What to do next, in that case" : undefined),
@@ -185,7 +189,30 @@ function showNo(it) {
       isLate || !it.late ? null :
           isExchanged    ? lateAside(it) :
                            lateNotes(it),
-      isLate || isFile ? null : h("p", {class: "soft"}, RECORDER), judgedWords(it), surveyOffer(it), nameWords(it));
+      rulingWords(it), isLate || isFile ? null : h("p", {class: "soft"}, RECORDER), surveyOffer(it), nameWords(it));
+}
+
+// When the row began that breaks a rule.
+function faultAt(it) {
+  const time = /^(\d+),/.exec(shown(it.lines.find((l) => l.row === it.row) ?? {bytes: []}))?.[1];
+  return time === undefined ? "" : ` at ${when(Number(time))}`;
+}
+
+// What comes first where the file, rather than a device, is likely to be the reason.
+function fileLead(it) {
+  if (isAfterDamage(it)) return "A damaged word was left out before it.";
+  return it.report.blame === "other" ? "Check the recording first." :
+                                       "It is at the beginning of the recording. Check the recording first.";
+}
+
+// The row and the rule, and what of the recording they leave.
+function rulingWords(it) {
+  const {rule, blame} = it.report;
+  return h(
+      "p", {class: "soft", id: "ruling"},
+      `Row ${number(it.row)} breaks the rule ${rule}. ${capital(BLAMES[blame])} sent it. ${
+          it.row > 1 ? "The rows before it fit the protocol. " : ""}`,
+      unjudgedWords(it));
 }
 
 const RECORDER = "This blame holds only if the file has every word of both lines, the lines " +
@@ -194,12 +221,8 @@ const RECORDER = "This blame holds only if the file has every word of both lines
 // Whether the file, rather than a device, is likely to be the reason.
 const isFileLikely = (it) => it.report.blame === "other" || it.row <= 3;
 
-const judgedWords = (it) =>
-    h("p", {class: "soft"}, it.row > 1 ? `The rows before row ${number(it.row)} are possible together. ` : "",
-      unjudgedWords(it));
-
 // What the card says of the rest, until a survey takes it.
-const unjudgedWords = (it) => h("span", {id: "unjudged"}, `Nothing after row ${number(it.row)} was judged.`);
+const unjudgedWords = (it) => h("span", {id: "unjudged"}, "Nothing after it was judged.");
 
 // Whether no act that is listed is one of a device that is followed.
 function isUnfollowed(it) {
@@ -212,11 +235,10 @@ function isUnfollowed(it) {
 function showUnfollowed(it) {
   const row = number(it.row);
   fillCard(
-      "limit", `Not followed from row ${row} on: ${unfollowed(it).what}`,
-      "This is a limit of the checker. It shows no fault of anybody.", leftOut(it), openPart(it),
-      storyList(withOpen(it, profileStory(it))), leaveOut(it),
-      h("p", {class: "soft"},
-        `Row ${row} falls under the rule Profile. ${it.row > 1 ? `The rows before it are possible together. ` : ""}`,
+      "limit", `Not followed: ${unfollowed(it).what}`, "This is a limit of the checker. It shows no fault of anybody.",
+      leftOut(it), openPart(it), storyList(withOpen(it, profileStory(it))), leaveOut(it),
+      h("p", {class: "soft", id: "ruling"},
+        `From row ${row} on, by the rule Profile. ${it.row > 1 ? "The rows before it fit the protocol. " : ""}`,
         unjudgedWords(it)),
       surveyOffer(it), nameWords(it));
 }

@@ -66,6 +66,7 @@ const REPORT_PARTS = ["fault", "money", "before", "devices", "survey", "stretche
 
 // Takes away what can be pressed or followed.
 function makeStill(part) {
+  for (const it of part.querySelectorAll("details")) it.open = true;
   for (const it of part.querySelectorAll(".why")) it.replaceWith(it.textContent);
   for (const it of part.querySelectorAll(".noprint, .why-told, button, input, select")) it.remove();
   for (const it of part.querySelectorAll("a")) it.replaceWith(...it.childNodes);

@@ -1,7 +1,7 @@
 // The row that cannot be, or that is no row: what was said up to it, what its rule means, and the rows of the file.
 const FAULT_TITLES = {
   limit: "Where the checker stops following",
-  no: "The row that cannot be",
+  no: "The message that breaks the protocol",
   none: "Where the reading ended",
 };
 
@@ -25,7 +25,7 @@ function fileRows(it) {
       afterWords(it, line.row) :
       line.row < it.row ?
       "" :
-      {limit: "not followed from here on", no: "this row cannot be", none: "this line is no row"}[kind];
+      {limit: "not followed from here on", no: "this row breaks the rule", none: "this line is no row"}[kind];
   const rows = lines.map((line) => {
     const fields = shown(line).split(","), mark = line.row === it.row;
     const sender = fields.length === 3 ? {M: "controller", S: "device", B: "break"}[fields[1]] ?? "" : "";
@@ -52,15 +52,16 @@ function part(title, paragraphs) {
 // blamed, and the card says what to do.
 function ruleWords(it) {
   const {rule, blame} = it.report, texts = RULES[rule], isLimit = rule === "Profile";
-  const parts = [part(`What the rule ${rule} means`, texts.bench)];
-  if (!isLimit) parts.push(...lookParts(texts, blame));
-  parts.push(part("What such a row is", texts.row));
-  if (!isLimit) parts.push(part(`Who sent it: ${BLAMES[blame]}`, texts.blame));
-  if (isPerhapsLate(it) && DEVICE_RULES.includes(rule))
-    parts.push(
-        h("p", {}, h("strong", {}, "Did the recording begin at power-on?"),
-          " If the machine was already running, tick so under “How this recording is read”, and check again."));
-  return h("div", {id: "rule"}, parts.flat().filter(Boolean));
+  const parts = texts.bench.map((words) => h("p", {}, words));
+  if (!isLimit) parts.push(...lookParts(texts, blame).flat());
+  parts.push(...part("What such a row is", texts.row));
+  if (!isLimit) parts.push(...part(`Who sent it: ${BLAMES[blame]}`, texts.blame));
+  const asks = isPerhapsLate(it) && DEVICE_RULES.includes(rule) ?
+      h("p", {}, h("strong", {}, "Did the recording begin at power-on?"),
+        " If the machine was already running, tick so under “How this recording is read”, and check again.") :
+      null;
+  const title = `What the rule ${rule} means${isLimit ? "" : ", and where to look"}`;
+  return h("details", {id: "rule"}, h("summary", {}, title), parts.filter(Boolean), asks);
 }
 
 // Where to look: at the side that sent the row, and in any case.

@@ -39,14 +39,14 @@ function isPerhapsLate(it) {
 function lateWords(it) {
   const {late} = it, row = number(late.row);
   if (isSameLate(it))
-    return "It makes no difference whether the machine was already running: this row can't be in either case.";
+    return "It makes no difference whether the machine was already running: this row breaks the rule in either case.";
   if (late.answer === ANSWERS.YES)
     return late.isFollowed ?
-        "Then the whole recording is possible: it would be a yes." :
+        "Then all devices kept the protocol in the whole recording: it would be a yes." :
         "Then it would be a yes, but nothing would be followed: most likely lines M and S are exchanged.";
   if (late.answer === ANSWERS.NO) {
     const {rule, blame} = readReport(late.text);
-    return `Then row ${row} would be the one that cannot be: it breaks the rule ${rule}, and ${BLAMES[blame]} sent it.`;
+    return `Then row ${row} would be the first that breaks a rule: the rule ${rule}, and ${BLAMES[blame]} sent it.`;
   }
   return `Then there would be no verdict: row ${row} can't be read.`;
 }

@@ -20,6 +20,25 @@ const LINK_LIMITS = {
   Break: "A break lasts at least 0.1 s.",
 };
 
+// What a rule is broken by, in a few words.
+const RULE_HEADS = {
+  Order: () => "The times go back",
+  Early: () => "Two messages too close together",
+  Late: (who) => who === "the controller" ? "Late acknowledgement of the controller" : `Late answer of ${who}`,
+  Spacing: (who) => `A gap inside a message of ${who}`,
+  Break: () => "The break is too short",
+  Speaker: (who) => `${capital(who)} spoke out of turn`,
+  Mode: () => "A wrong mode bit (the ninth bit) of the controller",
+  Answer: (who) => `Wrong answer of ${who}`,
+  Same: (who) => `${capital(who)} didn't repeat the same answer`,
+  Sum: (who) => `Damaged message of ${who}: its sum is wrong`,
+  Length: (who) => `A message of ${who} has a wrong length`,
+  Message: (who) => `A message of ${who} can't be read`,
+  Changer: (who) => `Out of order: a message of ${who}`,
+  Bill: (who) => `Out of order: a message of ${who}`,
+  Cashless: (who) => `Out of order: a message of ${who}`,
+};
+
 // The rows of the file about the one that cannot be, as far as they are rows.
 function rowsNear(it) {
   return it.lines.map((l) => ({row: l.row, fields: shown(l).split(",")}))

@@ -178,7 +178,7 @@ function moneySection(report) {
 function beforeSection(it) {
   const rows = it.row === 2 ? "row 1" : `rows 1 to ${number(it.row - 1)}`;
   return section(
-      "Where the money was before that row", "before",
+      "Where the money was before that", "before",
       h("p", {}, h("strong", {}, `These are the sums of ${rows} alone.`),
         ` Row ${number(it.row)} and the rows after it are in no sum.`),
       ...accounts(readReport(it.before), true));

@@ -173,6 +173,26 @@ function openLead(it) {
   return all.every(({kind}) => kind === "trouble") ? "a device reported trouble" : "not all of the money has an end";
 }
 
+// The first of them, in a few words: trouble comes after money. Null if there is none.
+const OPEN_HEADS = {
+  approved: (amount) => `Approved, and no outcome: ${amount}`,
+  failed: (amount) => `Approved, and failed: ${amount} to give back`,
+  escrow: (amount) => `In escrow, and no end: ${amount}`,
+  lever: (amount) => `Return lever, and nothing paid out: ${amount} in`,
+  payout: (amount, {answer}) =>
+      `Payout ${{taken: "without an end", refused: "refused"}[answer] ?? "not answered"}: ${amount}`,
+  choice: () => "Coins paid out aren't known",
+  trouble: (amount, entry) => `${capital(theDevice(entry.device))} reported ${troubleWords(entry)}`,
+};
+
+function openHead(it) {
+  const all = openMoneyOf(it), first = all.find(({kind}) => kind !== "trouble") ?? all[0];
+  if (!first) return null;
+  const item = first.item === null ? "" : `, item ${first.item}`, more = all.length - 1;
+  const words = OPEN_HEADS[first.kind](first.amounts.map(moneyOf).join(" + "), first) + item;
+  return more ? `${words} (and ${counted(more, "more entry", "more entries")} below)` : words;
+}
+
 function openItem(it, entry) {
   const amount = entry.amounts.map(moneyOf).join(" + ");
   return h(

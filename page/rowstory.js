@@ -120,19 +120,36 @@ function commandStory(it, i, {begin, found}) {
   const events = found.flatMap((k) => saleEvents(it, k));
   const at = events.findLastIndex((e) => e.what === "request");
   const story = here.what === "success" ? unpaidStory(here, events[at], events.slice(at + 1), reader) : null;
-  return story ??
+  return story ?? unfinishedStory(here, events[at], events.slice(at + 1), reader) ??
       present(
+             headline(`Out of order: ${eventWords(here, reader)}`),
              fact(capital(eventWords(here, reader)), ...inRows(here.rows), ". It may not do that there."),
              lastEvent(events, begin, reader));
+}
+
+// A session that the controller ends after an approval, and never says what became of the goods.
+function unfinishedStory(here, request, after, reader) {
+  const approval = here.what === "complete" && lastOf(after, "approved");
+  if (!approval || lastOf(after, "success", "failure", "cancel", "denied", "restarted", "ended", "begun")) return null;
+  const amount = approval.amount ?? "an amount without a known value";
+  return [
+    headline(`Approved, and no outcome: ${amount}, item ${request.item}`),
+    fact(
+        `${capital(reader)} approved ${amount} for item ${request.item}`, ...inRows(approval.rows),
+        ", and the controller ended the session", ...inRows(here.rows), "."),
+    fact("First it had to report the sale (VEND SUCCESS) or its failure (VEND FAILURE)."),
+  ];
 }
 
 // A sale that nothing pays for: the reader denied it, or the controller didn't wait for what it says.
 function unpaidStory(here, request, after, reader) {
   if (!request || lastOf(after, "success", "failure", "complete", "restarted", "ended", "begun")) return null;
   const decision = lastOf(after, "approved", "denied"), asked = request.amount ?? "an amount without a known value";
+  const head = (how) => headline(`Sold ${how}: ${request.amount ? request.amount + ", " : ""}item ${here.item}`);
   const isItem = request.item === here.item, sold = `reported item ${here.item} as sold`;
   if (decision?.what === "denied")
     return [
+      head("although the card was denied"),
       fact(
           `The controller asked for ${asked} for item ${request.item}`, ...inRows(request.rows),
           `, and ${reader} denied it`, ...inRows(decision.rows), "."),
@@ -141,11 +158,15 @@ function unpaidStory(here, request, after, reader) {
           `. No approval of the reader pays for ${isItem ? "this " + asked : "it"}.`),
     ];
   if (decision?.heard === false)
-    return [fact(
-        capital(eventWords(decision, reader)), ` for item ${request.item}`, ...inRows(request.rows, decision.rows),
-        ". The controller didn't acknowledge the approval, and ", sold, " all the same", ...inRows(here.rows), ".")];
+    return [
+      head("on an approval that the controller didn't acknowledge"),
+      fact(
+          capital(eventWords(decision, reader)), ` for item ${request.item}`, ...inRows(request.rows, decision.rows),
+          ". The controller didn't acknowledge the approval, and ", sold, " all the same", ...inRows(here.rows), ".")
+    ];
   if (decision) return null;
   return [
+    head("without an approval"),
     fact(
         `The controller asked for ${asked} for item ${request.item}`, ...inRows(request.rows), `, and ${sold}`,
         ...inRows(here.rows), "."),
@@ -160,6 +181,7 @@ function readerStory(it, i, {begin, found}) {
   const open = unrepeated(it, i, found);
   if (open)
     return [
+      headline(`Not reported again: ${eventWords(open, reader)}`),
       fact(
           capital(eventWords(open, reader)), ...inRows(open.rows),
           ". The controller didn't acknowledge that, so the reader had to report it again."),
@@ -173,6 +195,7 @@ function readerStory(it, i, {begin, found}) {
   const why = isReset ? whyNot(first, events, begin, reader) :
                         ["It hadn't reported its reset ", ...beginWords(begin), ", which must come first."];
   return present(
+      headline(`Out of order: ${eventWords(first, reader)}`),
       fact(capital(eventWords(first, reader)), ...inRows(actRows(acts, i)), "."),
       why ? fact(...why) : lastEvent(events, begin, reader));
 }
@@ -273,6 +296,7 @@ function moneyStory(it, i, {begin, found}) {
   const open = unrepeatedMoney(it, i, found), reports = here.filter((r) => r.what !== "was reset");
   if (open)
     return [
+      headline(`Not reported again: ${reportsWords(open.reports, device)}`),
       fact(
           `The ${name} reported ${reportsWords(open.reports, device)}`, ...inRows(open.rows),
           ". The controller didn't acknowledge that, so the ", name, " had to report it again."),
@@ -283,10 +307,15 @@ function moneyStory(it, i, {begin, found}) {
           ...inRows(actRows(acts, i)), "."),
     ];
   if (!reports.length) return [fact(...answerWords(it, i))];
-  const said = fact(`The ${name} reported ${reportsWords(reports, device)}`, ...inRows(actRows(acts, i)), ".");
-  const why = noReset(it, i, begin, found, here) ?? (device === 2 ? noOrder(it, found, reports) : null) ??
-      notEnabled(it, device, begin, found, reports);
-  return present(said, why && fact(...why));
+  const what = reportsWords(reports, device),
+        said = fact(`The ${name} reported ${what}`, ...inRows(actRows(acts, i)), ".");
+  const whys = [
+    [noReset(it, i, begin, found, here), `Reported before the ${name} told of its reset: ${what}`],
+    [device === 2 ? noOrder(it, found, reports) : null, `Out of order: ${what}`],
+    [notEnabled(it, device, begin, found, reports), `Not enabled: ${what}`]
+  ];
+  const [why, head] = whys.find(([why]) => why) ?? [null, `Out of order: ${what}`];
+  return present(headline(head), said, why && fact(...why));
 }
 
 // The reports that had to be repeated, where an answer doesn't begin with them.

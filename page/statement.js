@@ -185,9 +185,9 @@ function outcomeWords(it, line) {
 
 // What of a line is judged, after a no.
 function partsJudged(it, parts) {
-  if (parts.some((m) => faultIn(it, m))) return h("strong", {}, "this cannot be");
+  if (parts.some((m) => faultIn(it, m))) return h("strong", {}, "breaks the rule");
   const after = parts.filter((m) => isUnjudged(it, m)).length;
-  return after === parts.length ? "not judged" : after ? "possible in part" : "possible";
+  return after === parts.length ? "not judged" : after ? "not judged in part" : "";
 }
 
 // The running sums after a line, of each side.

@@ -1,10 +1,14 @@
 // The story of a recording, told by its acts. A sentence is {kind, parts}: a fact is proved by the acts or by the
-// report, a likely one isn't, and next says what to do. A part is a text, or the rows that it rests on.
+// report, a likely one isn't, a head is the card's headline, and next says what to do. A part is a text, or the rows
+// that it rests on.
 const fact = (...parts) => ({kind: "fact", parts: parts.flat()});
 const likely = (...parts) => ({kind: "likely", parts: parts.flat()});
+// What happened, in a few words: the card's headline.
+const headline = (words) => ({kind: "head", parts: [words]});
 const nextStep = (...parts) => ({kind: "next", parts: parts.flat()});
 const rowsAt = (first, last = first) => ({first, last});
 const actRows = (acts, i) => rowsAt(acts.first(i), acts.last(i));
+const theDevice = (d) => the(SHORT_NAMES[d]);
 const inRows = (...rows) => [" (", ...rows.flatMap((it, i) => i ? [", ", it] : [it]), ")"];
 
 // Names in a story: of a device, and of whom a no is about.
@@ -14,7 +18,16 @@ const listed = (words) =>
     words.length < 2 ? words.join("") : `${words.slice(0, -1).join(", ")} and ${words[words.length - 1]}`;
 const counted = (n, one, many = one + "s") => `${number(n)} ${n === 1 ? one : many}`;
 
-function storyOf(it) {
+const storyOf = (it) => wholeStory(it).filter(({kind}) => kind !== "head");
+
+// What a no is about, in a few words.
+function headOf(it) {
+  const {rule, blame} = it.report;
+  return wholeStory(it).find(({kind}) => kind === "head")?.parts[0] ??
+      RULE_HEADS[rule](blame === "other" ? "a device" : senderOf(blame));
+}
+
+function wholeStory(it) {
   if (it.answer === ANSWERS.YES) return yesStory(it);
   if (it.answer !== ANSWERS.NO) return [];
   const {rule} = it.report;
@@ -31,7 +44,6 @@ function yesStory(it) {
     if (isOpen(a)) told.push(...openStory(it, name, a, d));
   }
   told.push(...silenceStory(it), ...valuelessStory(it));
-  if (!told.length) told.push(...agreedStory(it));
   return told;
 }
 
@@ -204,13 +216,12 @@ function valuelessStory(it) {
 }
 
 // Nothing is open: what both books say.
-function agreedStory(it) {
+function agreedWords(it) {
   const sums =
       Object.entries(it.report.accounts)
           .filter(([, a]) => !isZero(a))
           .map(
               ([name, a]) =>
                   `${small(ACCOUNTS[name].title)} ${money(a.device[0], it.report.decimals[ACCOUNTS[name].device])}`);
-  if (!sums.length) return openMoneyOf(it).length ? [] : [fact("No money was reported.")];
-  return [fact(`The controller and the devices agree for certain: ${listed(sums)}.`)];
+  return sums.length ? `The controller and the devices agree for certain: ${listed(sums)}.` : "No money was reported.";
 }

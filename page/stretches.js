@@ -126,7 +126,7 @@ function stretchSection(it) {
   const none = made.stretches.length ? null : h("p", {}, "Between the faults there is no row, so there are no sums.");
   const parts = none ? [none] : [
     h("p", {},
-      "A stretch has the rows between two faults. They are possible together, and these are their sums: at least to at most. Accounts in which nothing moved aren't shown."),
+      "A stretch has the rows between two faults. They fit the protocol together, and these are their sums: at least to at most. Accounts in which nothing moved aren't shown."),
     stretchTools(it), h("p", {id: "stretch-count", role: "status"}),
     h("div", {class: "scroll"},
       h("table",

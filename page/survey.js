@@ -134,7 +134,7 @@ function sumAgain(it) {
 
 // What the card offers after a no, and what it says when that was done.
 function surveyOffer(it) {
-  const words = `Go on after row ${number(it.row)}: survey the whole recording`;
+  const words = "Go on: survey the whole recording";
   return h(
       "p", {id: "survey-offer"},
       h("button", {type: "button", id: "survey-go", class: "noprint", onclick: () => survey()}, words), " ",
@@ -145,7 +145,7 @@ function addSurvey(it) {
   const after = by("time") ?? by("record"), made = [surveySection(it), stretchSection(it)];
   by("survey-offer")
       .replaceChildren(
-          `The survey went on after this row. ${surveyLead(it.survey)} `,
+          `The survey went on after it. ${surveyLead(it.survey)} `,
           h("span", {class: "noprint"}, partLink("survey", "All faults")));
   after.before(...made);
   by("unjudged").remove();
@@ -205,7 +205,7 @@ function badRowWords(lines, row, fault) {
 }
 
 // What a fault is, in a few words.
-const faultIs = (rule) => rule === "Profile" ? "isn't followed" : `cannot be: ${rule}`;
+const faultIs = (rule) => rule === "Profile" ? "isn't followed" : `breaks the rule ${rule}`;
 
 // Tables of several pages ----
 

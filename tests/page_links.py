@@ -500,7 +500,7 @@ def try_marks(page, want):
     page.browser.value("by('back').click(); setRange(state, 1000, 100000); 1")
     text = page.browser.value("by('line').querySelector('svg').textContent")
     want("row 75 ▸" in text, f"the fault is out of sight: {text}")
-    page.browser.value("state.line.drawn.find((it) => it.words.includes('cannot be')).go(document.body); 1")
+    page.browser.value("state.line.drawn.find((it) => it.words.includes('breaks the rule')).go(document.body); 1")
     begin, end = shown_range(page)
     want(begin <= 289800 <= end, f"the fault's mark leads to {begin} to {end}")
     print("the time line: buttons, keys, wheel and dragging show their ranges; marks are named and lead to what they are")

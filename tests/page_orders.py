@@ -365,7 +365,7 @@ def try_started_before(page):
         came = page.settled()
         page.compare(came)
         want("Was the machine already running" in came["lead"] and "it would be a yes" in came["late"], f"{name}: {came['late']!r}")
-        want("broke the protocol here" not in came["verdict"], f"{name}: {came['verdict']!r}")
+        want("broke the protocol" not in came["verdict"], f"{name}: {came['verdict']!r}")
         want(page.program(name, ["--joined"])[0] == 0, name)
         page.press(button("Check as already running"))
         came = page.settled()
@@ -377,9 +377,9 @@ def try_started_before(page):
         page.choose(name)
         came = page.settled()
         page.compare(came)
-        want(page.program(name, ["--joined"])[0] == 1 and "it breaks the rule Cashless" in came["late"], f"{name}: {came['late']!r}")
-        want("Was the machine already running" in came["lead"] and "broke the protocol here" not in came["verdict"], f"{name}: {came['verdict']!r}")
-    for name, words, status in (("late, then a no.csv", "row 102 would be the one that cannot be: it breaks the rule Cashless", 1), ("late, then no row.csv", "no verdict: row 28 can't be read", 2)):
+        want(page.program(name, ["--joined"])[0] == 1 and "the first that breaks a rule: the rule Cashless" in came["late"], f"{name}: {came['late']!r}")
+        want("Was the machine already running" in came["lead"] and "broke the protocol" not in came["verdict"], f"{name}: {came['verdict']!r}")
+    for name, words, status in (("late, then a no.csv", "row 102 would be the first that breaks a rule: the rule Cashless", 1), ("late, then no row.csv", "no verdict: row 28 can't be read", 2)):
         page.choose(name)
         came = page.settled()
         page.compare(came)
@@ -393,12 +393,12 @@ def try_started_before(page):
         want(page.program(name, ["--joined"])[0] == 0 and came["text"].startswith("verdict no\nrow 1\n"), f"{name}: {came['text']!r}")
         want(words in came["late"] and "No reset" not in came["late"], f"{name}: {came['late']!r}")
         first = "Read it with M and S exchanged" if "exchanged" in name else "Check as already running"
-        want(came["buttons"] == [first, "Go on after row 1: survey the whole recording"], f"{name}: {came['buttons']}")
+        want(came["buttons"] == [first, "Go on: survey the whole recording"], f"{name}: {came['buttons']}")
     page.choose("never approved.csv")
     came = page.settled()
     status, text, _ = page.program("never approved.csv", ["--joined"])
     want(status == 1 and text == came["text"] and "It makes no difference" in came["late"], came["late"])
-    want("broke the protocol here" in came["verdict"] and [it[:5] for it in came["buttons"]] == ["Go on"], came["verdict"])
+    want("broke the protocol" in came["verdict"] and [it[:5] for it in came["buttons"]] == ["Go on"], came["verdict"])
 
 
 def try_focus(page):

@@ -209,6 +209,16 @@ class Recording:
         return next((it for it in self.acts if (it["first"], it["last"]) == pair), None)
 
 
+# What the card's headline says of an example.
+HEADS = {
+    "sale-never-approved": "Sold although the card was denied: 1.50, item 8",
+    "bill-stacked-without-an-order": "Out of order: a bill of 5.00 stacked",
+    "coin-in-mid-session": "Reported before the changer told of its reset: a coin of 0.25 to a tube",
+    "coin-not-told-again": "Not reported again: a coin of 0.25 to a tube",
+    "late-acknowledgement": "Late answer of the changer",
+    "sale-by-card": "All devices kept the protocol",
+}
+
 # A phrase of a sentence, and what one of the acts that the sentence names has to say for it. The part in the phrase
 # that stands between brackets goes into it.
 PHRASES = [
@@ -362,7 +372,7 @@ def compare_story(story, show, check, options, data):
     may = involved(story, recording, report, values, data, row)
     for name, device in NAMES.items():
         want(name not in text.lower() or device in may, f"{name} isn't involved ({may}): {text}")
-    if report["verdict"] == "yes" and report["rows"] != "0" and "nothing was followed" not in story["word"]:
+    if report["verdict"] == "yes" and report["rows"] != "0" and "Nothing was followed" not in story["word"]:
         compare_yes(story["sentences"], recording, report, values)
     return report
 
@@ -408,7 +418,9 @@ def main():
                 try:
                     report = compare_story(story, show, check, options, data)
                     if name.endswith(" ") and name.strip() in EXAMPLES:
-                        told = [it["text"] for it in story["sentences"] if it["kind"] != "next"]
+                        lead = [story["lead"]] if re.match("The controller and the devices agree|No money was", story["lead"]) else []
+                        told = lead + [it["text"] for it in story["sentences"] if it["kind"] != "next"]
+                        want(HEADS.get(name.strip(), story["word"]) == story["word"], f"the headline is {story['word']}")
                         want(told == EXAMPLES[name.strip()], f"the story is {told}")
                 except Wrong as wrong:
                     sys.exit(f"page_story: {name}, {options}: {wrong}")

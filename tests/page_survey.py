@@ -58,7 +58,7 @@ READ = """(() => {
     return state.line.drawn.filter((it) => it.row === row).map((it) => it.words); };
   return JSON.stringify({
     whole: state.survey.whole, text: text(by("survey-text")), command: text(by("survey-command")), lead: text(by("survey-lead")),
-    offer: text(by("survey-offer")), word: text(document.querySelector("#verdict .word")), end: text(by("survey-end")), many: text(by("survey-many")),
+    offer: text(by("survey-offer")), word: text(document.querySelector("#verdict .word")), ruling: text(by("ruling")), end: text(by("survey-end")), many: text(by("survey-many")),
     faults: paged("survey", faults), stretches: paged("stretch", () => all("#stretch-table > tbody:not(#stretch-total)").map(body)),
     total: by("stretch-total") && body(by("stretch-total")), rules: all("#survey-rules tbody tr").map((it) => [...it.children].map(text)),
     lanes: [lane("stretches"), lane("faults")], drawn: [drawn("stretches"), drawn("faults")], csv: faultCsv(state.survey),
@@ -247,7 +247,7 @@ def compare_lanes(made, came):
                   f"stretch {it['number']:,}: rows {it['first']:,} to {it['last']:,}, from {seconds(made.time(it['first']))} to {seconds(made.time(it['last']))}"]
                  for it in made.stretches]
     words = {"Profile": "isn't followed"}
-    faults = [[made.time(row), made.time(row), f"row {row:,} {words.get(rule, f'cannot be: {rule}')}, {SENDERS[blame]}, at {seconds(made.time(row))}"]
+    faults = [[made.time(row), made.time(row), f"row {row:,} {words.get(rule, f'breaks the rule {rule}')}, {SENDERS[blame]}, at {seconds(made.time(row))}"]
               for row, rule, blame in made.faults]
     for name, wanted, lane, drawn in zip(("stretches", "faults"), (stretches, faults), came["lanes"], came["drawn"]):
         want(lane == wanted, f"the lane {name}: {lane[:3]}, wanted {wanted[:3]}")
@@ -268,7 +268,7 @@ def compare_words(made, came, words):
         want((f"{profile:,} row" in came["lead"] and "no fault of anybody" in came["lead"]) if profile else "Profile" not in came["lead"], came["lead"])
     want(came["lead"] in came["offer"] and came["lead"] in came["announced"], f"{came['offer']!r}, {came['announced']!r}")
     row = made.faults[0][0]
-    want(came["word"].startswith((f"No: row {row:,} ", f"Not followed from row {row:,} ")), f"the first no: {came['word']!r}")
+    want(came["ruling"].startswith((f"Row {row:,} breaks ", f"From row {row:,} on, ")), f"the first no: {came['ruling']!r}")
     want(came["contents"] == came["titles"] and {"All faults", "Money by stretch"} < set(came["contents"]), f"{came['contents']}, {came['titles']}")
     quoted = [f"'{it}'" if " " in it else it for it in words]
     want(came["command"].replace("--setup=", "--setup ").split(" ")[:2] == ["mdbcheck", "survey"], came["command"])
@@ -379,7 +379,7 @@ def try_story(page, made, number):
     page.browser.value(f"(() => {{ document.querySelector('#survey-rows [data-number=\"{number}\"] button').click(); return 1; }})()")
     page.until(f"document.querySelector('#survey-rows [data-number=\"{number}\"]').nextSibling?.classList.contains('about')")
     told, marked = page.value(STORY % number)
-    said = {"Profile": "not followed from here on"}.get(rule, "this row cannot be")
+    said = {"Profile": "not followed from here on"}.get(rule, "this row breaks the rule")
     want(marked is not None and plain(marked[0]) == str(row) and marked[1].startswith(made.lines[row - 1][:20]) and marked[2] == said, f"the rows about row {row}: {marked}")
     want(all(words.strip() and not re.search("undefined|null|NaN", words) for words, _ in told), f"row {row}: {told}")
     rows = [it for _, links in told for it in links]
@@ -439,7 +439,7 @@ def try_about(page):
             return [[...tables.at(-1).querySelectorAll("tr.mark")].map((one) => [...one.children].map((c) => c.textContent)),
                 tables.length > 1 ? [...tables[0].querySelectorAll(":scope > tbody > tr")].map((one) => [one.children[1].textContent, one.lastChild.textContent]) : [],
                 document.activeElement.getAttribute("aria-expanded")]; })()""" % number)
-        want(marked and marked[0][:3] == [str(row), made.lines[row - 1], "this row cannot be"], f"the rows about row {row}: {marked}")
+        want(marked and marked[0][:3] == [str(row), made.lines[row - 1], "this row breaks the rule"], f"the rows about row {row}: {marked}")
         before = made.faults[number - 2][0] if number > 1 else 0
         want(acts_about(made, row, before) == acts, f"what was said up to row {row}: {acts}")
         want(isOpen == "true", "the button doesn't say that it is open")
