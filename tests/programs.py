@@ -7,6 +7,7 @@ built, those of release/. tests/programs.sh says the same for scripts of the she
 
 import importlib.machinery
 import importlib.util
+import multiprocessing
 import os
 import pathlib
 
@@ -34,6 +35,29 @@ def load(name):
     module = importlib.util.module_from_spec(importlib.util.spec_from_loader(name, loader))
     loader.exec_module(module)
     return module
+
+
+class Alone:
+    """A pool of one process: this one. It needs no /dev/shm, which a bare chroot lacks."""
+
+    def __init__(self, begin, words):
+        begin(*words)
+
+    def __enter__(self):
+        return self
+
+    def __exit__(self, *_):
+        pass
+
+    def imap(self, function, jobs, chunksize=1):
+        return map(function, jobs)
+
+    imap_unordered = imap
+
+
+def pool(processes, begin, *words):
+    """A pool of so many processes, each of which begins with begin(*words)."""
+    return multiprocessing.Pool(processes, begin, words) if processes > 1 else Alone(begin, words)
 
 
 class Runs:
