@@ -109,6 +109,7 @@ function wordsKey(acts, i) {
   const kind = acts.kind(i), device = acts.device(i), told = toldBy(acts, i);
   if (kind === ASK) return told + setupNumber(acts, device, i);
   if (kind === BREAK) return told + acts.length(i);
+  if (kind === FOREIGN && acts.isFromBefore(i)) return told + acts.first(i);
   if (kind > REPLY && kind !== REPEAT) return told;
   const at = acts.askOf(i);
   return told + setupNumber(acts, device, i) + (at < 0 ? "" : toldBy(acts, at));
@@ -209,12 +210,22 @@ function countWords(it) {
   return words.join(" ");
 }
 
+// The lines of the acts that are shown, with the gaps before them, and after the last one.
+function actLines(it) {
+  const acts = it.list, to = it.from + PAGE_ACTS, made = [];
+  let before = it.from ? acts.last(it.hits[it.from - 1]) : 0;
+  for (const i of it.hits.slice(it.from, to)) {
+    made.push(...gapRow(it, before, acts.first(i)), actRow(it, i, true));
+    before = acts.last(i);
+  }
+  return to < it.hits.length ? made : [...made, ...gapRow(it, before, Infinity)];
+}
+
 function drawActs(it) {
   if (!it.hits || !by("act-rows")) return;
   const count = it.hits.length, greatest = Math.floor(Math.max(0, count - 1) / PAGE_ACTS) * PAGE_ACTS;
   it.from = Math.max(0, Math.min(it.from, greatest));
-  const hits = it.hits.slice(it.from, it.from + PAGE_ACTS);
-  by("act-rows").replaceChildren(...hits.map((i) => actRow(it, i, true)));
+  by("act-rows").replaceChildren(...actLines(it));
   by("act-count").textContent = countWords(it);
   if (it.nextAct >= 0)
     by("act-count")
@@ -269,14 +280,10 @@ function listAll(it, isPolls) {
   it.nextAct = -1;
 }
 
-// Lists all acts anew, of which a survey found more to be wrong.
-function relistActs(it) {
-  by("acts-judged")?.remove();
-  it.quiet = null;
-  if (!it.hits) return;
-  const first = it.hits[it.from] ?? 0;
-  listAll(it, by("act-polls").checked);
-  it.from = Math.floor(shownBefore(it, first) / PAGE_ACTS) * PAGE_ACTS;
+// Shows the list from the row that cannot be on, else from its first act.
+function beginActs(it) {
+  listAll(it, false);
+  if (it.answer === ANSWERS.NO) it.from = Math.floor(shownBefore(it, actAtRow(it, it.row)) / PAGE_ACTS) * PAGE_ACTS;
   drawActs(it);
 }
 
@@ -303,7 +310,10 @@ function tellRow(words, isMissing = false) {
 // in its place.
 function jumpToRow(row, from) {
   const it = state, i = it.listed ? actAtRow(it, row) : -1;
-  if (!hasRow(it.list, i, row)) return jumpToFileRow(it, row, from);
+  if (!hasRow(it.list, i, row)) {
+    const gap = gapAt(it, row);
+    return gap && by("acts") ? jumpToGap(it, gap, from) : jumpToFileRow(it, row, from);
+  }
   leave(it, from);
   tellRow("");
   it.quiet ??= quietPolls(it);
@@ -313,7 +323,7 @@ function jumpToRow(row, from) {
   }
   it.from = Math.floor(hitOf(it, i) / PAGE_ACTS) * PAGE_ACTS;
   markHere(it, {first: it.list.first(i), last: it.list.last(i), at: it.list.start(i)});
-  land(by("act-rows").children[hitOf(it, i) - it.from]);
+  land(by(`row-${it.list.first(i)}`));
   return true;
 }
 
@@ -399,7 +409,7 @@ function actsSection(it) {
   it.hits = null;
   it.from = 0;
   const made = section(
-      "All that was said", "acts", actTools(it), h("p", {id: "act-count", role: "status"}),
+      "All that was said", "acts", gapWords(it), actTools(it), h("p", {id: "act-count", role: "status"}),
       h("div", {class: "scroll"},
         h("table", {},
           h("caption", {},
@@ -407,14 +417,12 @@ function actsSection(it) {
           h("thead", {}, h("tr", {}, ACT_HEADS.map(([words, kind]) => h("th", {scope: "col", class: kind}, words)))),
           h("tbody", {id: "act-rows"}))));
   made.tabIndex = -1;
-  if (it.answer === ANSWERS.NO && ["Changer", "Bill", "Cashless"].includes(it.report.rule))
+  if (it.answer === ANSWERS.NO && !it.survey && DEVICE_RULES.includes(it.report.rule))
     made.insertBefore(
         h("p", {id: "acts-judged", class: "soft"}, "What comes after the row that breaks the rule isn't judged."),
         made.children[1]);
   queueMicrotask(() => {
-    listAll(it, false);
-    if (it.answer === ANSWERS.NO) it.from = Math.floor(shownBefore(it, actAtRow(it, it.row)) / PAGE_ACTS) * PAGE_ACTS;
-    drawActs(it);
+    if (!it.hits) beginActs(it);
   });
   return made;
 }

@@ -84,8 +84,9 @@ function gap(it) {
   return h("p", {}, `Row ${row} starts ${words} of row ${earlier}.`);
 }
 
-// The last acts up to the row.
-function saidUpTo(it) {
+// The last acts up to the row, as they were listed before a survey.
+function saidUpTo(whole) {
+  const it = asAtFirst(whole);
   const at = actAtRow(it, it.row), rows = [];
   for (let i = Math.max(0, at - 7); i <= at; i++) rows.push(actRow(it, i));
   if (!rows.length) return [];

@@ -13,7 +13,7 @@ const FAULT_HEADS = [
 function isSurveyExchanged(it) {
   const {faults, stretches} = it.survey;
   return faults.every(({rule, blame}) => rule === "Speaker" && blame === "other") &&
-      stretches.every(({lines}) => lines[0] === NO_DECIMALS) && isUnfollowed(it);
+      stretches.every(({lines}) => lines[0] === NO_DECIMALS) && isUnfollowed(asAtFirst(it));
 }
 
 // What so many faults most likely come of.
@@ -77,7 +77,7 @@ const ruleShort = (rule) => RULES[rule].bench[0].split(/(?<=\.) |:$/)[0].replace
 
 // Rows with a link where the list of acts has them.
 function rowsShown(it, first, last = first) {
-  if (hasRow(it.list, actAtRow(it, first), first)) return rowLink(first, last);
+  if (it.listed && hasRow(it.list, actAtRow(it, first), first) || gapAt(it, first)) return rowLink(first, last);
   return first === last ? number(first) : `${number(first)}–${number(last)}`;
 }
 
@@ -192,7 +192,7 @@ const asAnswer = ({survey: made}, {row, rule, blame, about}) => ({
 
 // What is wrong with a fault, in sentences: the first one's stand in the card, too.
 function faultStory(whole, fault) {
-  const told = storyOf(fault.number === 1 ? whole : asAnswer(whole, fault)).filter(({kind}) => kind !== "next");
+  const told = storyOf(fault.number === 1 ? asAtFirst(whole) : asAnswer(whole, fault)).filter(({kind}) => kind !== "next");
   return told.length ? [h("ul", {class: "plain"}, told.map(sentence))] : [];
 }
 

@@ -1,12 +1,14 @@
 // Jumps: a link leads to an act, to a line of the statement, to the time line or to a part of the report. What was
 // jumped to is marked until the next jump, and Back leads to where one came from. Each jump notes the place it leaves:
 // how far the page is scrolled, what has the focus, and what each part shows.
-const JUMPS = [["row", jumpToRow], ["entry", jumpToEntry], ["at", jumpToTime], ["part", jumpToPart]];
+const JUMPS =
+    [["row", jumpToRow], ["entry", jumpToEntry], ["at", jumpToTime], ["part", jumpToPart], ["fault", jumpToNumber]];
+const JUMP_LINKS = JUMPS.map(([key]) => `[data-${key}]`).join(", ");
 const MOST_PLACES = 100;
 
 // How an element can be found again after its part was drawn anew.
 function tokenOf(element) {
-  const link = element?.closest?.("[data-row], [data-entry], [data-at], [data-part]");
+  const link = element?.closest?.(JUMP_LINKS);
   if (!link) return element?.id ? {id: element.id} : {element};
   const [key] = JUMPS.find(([name]) => name in link.dataset);
   return {part: link.closest("section[id], nav[id]")?.id, key, value: link.dataset[key]};
@@ -81,6 +83,10 @@ function back(it) {
   by("jumps").hidden = !it.places.length;
 }
 
+function jumpToNumber(n, from) {
+  jumpToFault(state.survey.faults[n - 1], from);
+}
+
 function jumpToPart(id, from) {
   leave(state, from);
   tellJump("");
@@ -107,7 +113,7 @@ function jumpBar() {
 }
 
 document.addEventListener("click", (e) => {
-  const link = e.target.closest?.("[data-row], [data-entry], [data-at], [data-part]");
+  const link = e.target.closest?.(JUMP_LINKS);
   if (!link || !state || e.ctrlKey || e.metaKey || e.shiftKey) return;
   const [key, jump] = JUMPS.find(([name]) => name in link.dataset);
   e.preventDefault();

@@ -41,6 +41,9 @@ const layout = {};
 // So many numbers the worker tells of a fault: its row, its place, the times of the row, the row before it and the row
 // after it, and whether it is of alternative payout.
 const FAULT_NUMBERS = 6;
+// So many numbers the page gives the worker of a fault: its row, its place, whether it breaks a rule of the link, and who
+// is left out after it (a bit for each device).
+const START_NUMBERS = 4;
 
 // The places of the fields of a structure of so many bytes.
 function placesOf(fields, size) {

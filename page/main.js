@@ -1,12 +1,15 @@
 // What is shown of an answer, and the page's own events.
-function show(it) {
-  const acts = new Acts(it.acts, it.listed);
-  it.list = acts;
-  startClock(it);
-  noteSetups(acts, it.way.given, it.hole, it.found);
+function takeActs(it) {
+  it.list = new Acts(it.acts, it.listed);
+  noteSetups(it.list, it.way.given, it.hole, it.found);
   it.report = it.answer < 2 ? readReport(it.text) : null;
+}
+
+function show(it) {
+  if (!it.list) takeActs(it);
+  startClock(it);
   const parts = [];
-  showVerdict(it);
+  showVerdict(asAtFirst(it));
   if (it.lines.length) parts.push(faultSection(it));
   if (it.answer === ANSWERS.YES) parts.push(moneySection(it.report), devicesSection(it.report));
   if (it.before && it.row > 1) parts.push(beforeSection(it));
@@ -34,7 +37,7 @@ function figures(it) {
   const s = (ms) => (ms / 1000).toFixed(2) + " s";
   return `${number(it.size)} bytes, read in ${s(it.ms.read)}, checked in ${s(it.ms.check)}${
       it.survey ?
-          `, surveyed in ${s(it.survey.ms)}` :
+          `, surveyed in ${s(it.survey.ms)}, listed anew in ${s(it.ms.relist)}` :
           ""}${it.before ? `, the rows before row ${number(it.row)} in ${s(it.ms.before)}` : ""}, acts listed in ${
       s(it.ms.list)}, shown after ${s(it.ms.all)}; ${number(Math.round(it.memory / 1048576))} MB of memory.`;
 }

@@ -226,7 +226,7 @@ const openPart = (it) => h("div", {id: "open-money"}, openInner(it));
 
 // The list anew, and the steps of what is new in it, after a survey.
 function showOpen(it) {
-  const before = openKinds(it);
+  const before = openKinds(asAtFirst(it));
   it.openMoney = null;
   by("open-money").replaceChildren(...openInner(it));
   const steps = openKinds(it).filter((kind) => !before.includes(kind)).map((kind) => nextStep(OPEN_NEXT[kind]));

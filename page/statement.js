@@ -86,24 +86,63 @@ function newLine(m, part, index) {
   };
 }
 
-// The lines of all entries, and which line each entry is in. A session's begin or end ends the sale before it.
-function linesOf(entries, sessions) {
-  const lines = [], lineOf = new Uint32Array(entries.length), open = [null, null, null, null, null];
-  let told = 0;
+// The sales that are open, by device, as the entries go on. A session's begin or end ends the sale before it. So does a
+// row after which the list begins anew: what belongs to the sale may be hidden there.
+class OpenSales {
+  constructor(sessions, cuts) {
+    this.ends = {sessions, cuts};
+    this.told = {sessions: 0, cuts: 0};
+    this.lines = [null, null, null, null, null];
+    // The cut since which nothing was asked of a device's sales; 0 if there is none.
+    this.since = [0, 0, 0, 0, 0];
+  }
+  // Goes on to a row.
+  to(row) {
+    const {ends: {sessions, cuts}, told} = this;
+    for (;;) {
+      const session = sessions[told.sessions]?.first ?? Infinity, cut = cuts[told.cuts] ?? Infinity;
+      if (Math.min(session, cut) >= row) return;
+      if (session < cut)
+        this.end(sessions[told.sessions++].device);
+      else
+        this.cut(cuts[told.cuts++]);
+    }
+  }
+  end(device) {
+    this.lines[device] = null;
+    this.since[device] = 0;
+  }
+  cut(row) {
+    for (const line of this.lines)
+      if (line && !line.outcome) line.cutAt = row;
+    this.lines.fill(null);
+    this.since.fill(row);
+  }
+}
+
+// The lines of all entries, and which line each entry is in.
+function linesOf(entries, sessions, cuts) {
+  const lines = [], lineOf = new Uint32Array(entries.length), open = new OpenSales(sessions, cuts);
   entries.forEach((m, i) => {
-    for (; told < sessions.length && sessions[told].first < m.first; told++) open[sessions[told].device] = null;
+    open.to(m.first);
     const part = SALE_PARTS[m.what] ?? null;
-    let line = part ? open[m.device] : null;
+    let line = part ? open.lines[m.device] : null;
     if (!continues(line, part, m)) {
       line = newLine(m, part, lines.length);
       lines.push(line);
-      if (part) open[m.device] = line;
+      if (part === "request") open.since[m.device] = 0;
+      line.run = open.told.cuts;
+      if (part) {
+        open.lines[m.device] = line;
+        line.after = open.since[m.device];
+      }
     }
     line.parts.push({i, part});
     if (line.item === "" && part) line.item = m.type;
     if (OUTCOMES.includes(part)) line.outcome = part;
     lineOf[i] = line.index;
   });
+  open.to(Infinity);
   return {lines, lineOf};
 }
 
@@ -120,15 +159,15 @@ const SUM_OF = {
 };
 
 // The running sums after each line, as told: the side that tells an amount counts it each time, the other side where it
-// acknowledges. A sale counts with the amount that its reader approved last.
+// acknowledges. A sale counts with the amount that its reader approved last, if the list doesn't begin anew in between.
 function addSums({lines}, entries) {
   const running = {}, approved = {}, NONE = {units: null};
   for (const line of lines)
     for (const {i} of line.parts) {
       const m = entries[i], kind = SUM_OF[m.what];
-      if (m.what === "vend approved") approved[m.device] = m;
+      if (m.what === "vend approved") approved[m.device] = {m, run: line.run};
       if (!kind) continue;
-      const amount = m.what === "vend success" ? approved[m.device] ?? NONE : m;
+      const last = approved[m.device], amount = m.what !== "vend success" ? m : last?.run === line.run ? last.m : NONE;
       const now = (running[kind.sum] ??= [])[m.device] ??= {device: NO_SUM, controller: NO_SUM};
       for (const side of ["device", "controller"])
         if (side === kind.by || m.acknowledged) now[side] = sumAfter(now[side], amount);
@@ -150,7 +189,7 @@ function sumAfter({units, known, unknown, decimals}, amount) {
 
 function statementOf(it) {
   if (it.statement) return it.statement;
-  it.statement = linesOf(it.found.money, it.found.sessions ?? []);
+  it.statement = linesOf(it.found.money, it.found.sessions ?? [], it.cuts ?? []);
   addSums(it.statement, it.found.money);
   return it.statement;
 }
@@ -177,8 +216,12 @@ function partWords(m, part) {
 function outcomeWords(it, line) {
   if (!line.isSale) return it.found.money[line.parts[0].i].acknowledged ? "acknowledged" : "not acknowledged";
   const has = (part) => line.parts.some((it) => it.part === part);
-  if (line.outcome !== "sold") return line.outcome ?? (has("denied") ? "denied" : "no outcome reported");
+  if (line.outcome !== "sold")
+    return line.outcome ?? (has("denied")   ? "denied" :
+                                line.cutAt ? ["no outcome before row ", rowLink(line.cutAt), ", which cuts this sale"] :
+                                             "no outcome reported");
   if (has("denied")) return "sold although denied";
+  if (!has("request") && line.after) return ["sold; row ", rowLink(line.after), " cuts this sale"];
   if (!has("request")) return "sold, with no request reported";
   return has("approved") ? "sold" : "sold, with no approval reported";
 }
@@ -209,7 +252,7 @@ function lineCells(it, line, parts) {
   return [
     ["", [timeLink(first.begin, first.first, first.last), h("div", {class: "soft"}, DEVICE_LABELS[line.device])]],
     ["", told], ["item", String(line.item).replace("item ", "")], ["amount", amount, "number"],
-    ["", [outcomeWords(it, line), judged]], ["so far, as reported", sumCell(line), "number"]
+    ["", [outcomeWords(it, line), judged].flat()], ["so far, as reported", sumCell(line), "number"]
   ];
 }
 

@@ -88,13 +88,16 @@ async function survey() {
   surveying = it;
   working(true);
   by("work").focus();
+  const ask = (message) => readyChecker().ask(message, (words) => {
+    if (isNow()) progress(words);
+  });
   try {
-    const told = await readyChecker().ask({surveyed: it.way.bytes}, (words) => {
-      if (isNow()) progress(words);
-    });
+    const told = await ask({surveyed: it.way.bytes});
     if (!isNow()) return;
     if (told.answer > ANSWERS.UNREAD) throw new Error("the module couldn't make it.");
-    it.survey = surveyOf(told);
+    const made = surveyOf(told), lists = await ask({relisted: askedAgain(it, made)});
+    if (!isNow()) return;
+    takeRelisted(it, made, lists);
     endSurvey(it);
     showSurvey(it);
   } catch (fault) {
@@ -151,9 +154,7 @@ function addSurvey(it) {
   by("unjudged").remove();
   showOpen(it);
   by("fault")?.replaceWith(faultSection(it));
-  showLine(it);
-  relistActs(it);
-  drawStatement(it);
+  showLists(it);
   by("record").replaceWith(recordSection(it));
   by("figures").textContent = figures(it);
   showSum(it);
@@ -165,6 +166,13 @@ function showSurvey(it) {
   announce(`All faults. ${surveyLead(it.survey)}`);
   leave(it, by("survey-offer"));
   land(by("survey-title"));
+}
+
+// The time line, the sales and all that was said, with what comes after the faults.
+function showLists(it) {
+  for (const id of ["time", "told-money", "acts"]) by(id)?.remove();
+  by("record").before(timeSection(it), ...it.listed ? [tellSection(it), actsSection(it)] : []);
+  if (it.listed) beginActs(it);
 }
 
 // What it says ----

@@ -62,8 +62,9 @@ function faultTime(it, begin, end) {
   return at >= begin && at <= end * 2 ? Math.min(at, end) : null;
 }
 
-// From when to when the acts go; of a survey also its stretches and its faults, whose times may go back.
-function lineSpan({list: acts, survey}) {
+// From when to when the acts go, and what wasn't read; of a survey also its stretches and its faults, whose times may go
+// back.
+function lineSpan({list: acts, survey}, unread) {
   let begin = Infinity, end = -Infinity;
   const take = (from, to) => {
     if (from < begin) begin = from;
@@ -72,20 +73,23 @@ function lineSpan({list: acts, survey}) {
   if (acts.count) take(acts.start(0), acts.end(acts.count - 1));
   for (const {from, to} of survey?.stretches ?? []) take(from, to);
   for (const {time} of survey?.faults ?? []) take(time, time);
+  for (const [from, to] of unread) take(from, to);
   return [begin, Math.max(begin + 1, end)];
 }
 
 function makeLine(it) {
   statementOf(it);
-  const {found, survey} = it, [begin, end] = lineSpan(it);
-  const lanes = [eventLane(found), silenceLane(found), ...[1, 2, 3, 4].map((device) => moneyLane(it, device))];
-  if (survey) lanes.push(stretchLane(survey), allFaultsLane(survey));
+  const {found, survey} = it, unread = unreadSpans(it), [begin, end] = lineSpan(it, unread);
+  const all = [eventLane(found), silenceLane(found), ...[1, 2, 3, 4].map((device) => moneyLane(it, device))];
+  const lanes = all.filter((lane, i) => i === 0 || lane.begin.length), count = lanes.length;
+  if (survey) lanes.push(...[stretchLane(survey), allFaultsLane(survey)].filter((lane) => lane.begin.length));
   return {
     begin,
     end,
     from: begin,
     to: end,
-    lanes: lanes.filter((lane, i) => i === 0 || lane.begin.length),
+    lanes,
+    unread: {begin: unread.map(([from]) => from), end: unread.map(([, to]) => to), lanes: count},
     fault: survey ? null : faultTime(it, begin, end),
     drawn: [],
     current: null
@@ -155,6 +159,18 @@ function drawLane(it, lane, row, room) {
   return made;
 }
 
+// What wasn't read, hatched over the lanes of what was said.
+function drawUnread(it, room) {
+  const {unread} = it.line, high = room.top(unread.lanes - 1) + LANE;
+  const made = barsOf(unread, it.line, room).map((bar) => {
+    const x = room.left + bar.at * BAR, wide = Math.max(BAR, Math.min(room.right, room.x(bar.end)) - x);
+    return s("rect", {x, y: 0, width: wide, height: high, class: "unread"}, s("title", {}, "not read"));
+  });
+  const line = s("line", {x1: 0, x2: 0, y1: 0, y2: 6, class: "hatch"});
+  const hatch = {id: "hatch", width: 6, height: 6, patternUnits: "userSpaceOnUse", patternTransform: "rotate(45)"};
+  return made.length ? [s("defs", {}, s("pattern", hatch, line)), ...made] : [];
+}
+
 // The fault: always in sight, at the edge if the range doesn't have it.
 function drawFault(it, room) {
   const {fault, from, to, lanes} = it.line, row = lanes.length, top = room.top(row);
@@ -219,7 +235,7 @@ function drawLine(it) {
   made.dataset.from = Math.round(it.line.from);
   made.dataset.to = Math.round(it.line.to);
   made.replaceChildren(
-      ...it.line.lanes.map((lane, row) => drawLane(it, lane, row, room)).flat(), ...drawFault(it, room),
+      ...drawUnread(it, room), ...it.line.lanes.map((lane, row) => drawLane(it, lane, row, room)).flat(), ...drawFault(it, room),
       ...drawTimes(it, room), ...drawHere(it, room));
   by("line-range").textContent = `${when(it.line.from)} to ${when(it.line.to)}`;
   by("line-all").disabled = by("line-out").disabled = it.line.from <= it.line.begin && it.line.to >= it.line.end;
@@ -420,22 +436,6 @@ function silenceList(it) {
 const surveyCounts = ({survey}) =>
     survey ? `, ${survey.stretches.length} stretches, ${survey.faults.length} faults` : "";
 
-// After a row that breaks a rule of the link no act is listed.
-function unlistedAfter({survey, link}) {
-  if (!survey || link.answer !== ANSWERS.NO) return null;
-  const words = `The list of what was said ends at row ${number(link.row)}.`;
-  return h("p", {class: "soft"}, `${words} After it the line shows stretches and faults alone.`);
-}
-
-// The time line anew, with what is known now.
-function showLine(it) {
-  const made = timeSection(it);
-  if (by("time"))
-    by("time").replaceWith(made);
-  else
-    by("record").before(made);
-}
-
 function timeSection(it) {
   it.line = makeLine(it);
   const {found, line} = it;
@@ -458,5 +458,5 @@ function timeSection(it) {
       h("details", {class: "hint noprint"}, h("summary", {}, "How to use the time line"),
         h("p", {id: "line-help"},
           "Click a mark to go there. Drag to zoom into a range, or hold Ctrl and turn the wheel. Keys: arrows go from mark to mark, Enter goes there, + and − zoom, Shift with an arrow moves, 0 shows all. Bars count what would lie on top of each other; the number beside a lane is that of its highest bar.")),
-      unlistedAfter(it), silenceList(it));
+      hatchWords(it), silenceList(it));
 }

@@ -14,6 +14,8 @@ const ASK = 0, ACK = 1, NAK = 2, REPLY = 3, VMC_ACK = 4, VMC_NAK = 5, VMC_RET = 
       CUT = 10;
 // The address byte of POLL, by device.
 const POLLS = [0, 0x0B, 0x33, 0x12, 0x62];
+// A block has so many words at most.
+const MOST_WORDS = 36;
 const CHANGER_COMMANDS = {
   8: "RESET",
   9: "SETUP",
@@ -78,11 +80,13 @@ function money(units, decimals) {
 
 // The acts as they lie in memory.
 class Acts {
-  constructor(buffer, count) {
+  // The list begins anew after each of the rows `cuts`: `begins` has the acts with which it does.
+  constructor(buffer, count, cuts = []) {
     this.words = new Uint32Array(buffer);
     this.bytes8 = new Uint8Array(buffer);
     this.at = layout.act;
     this.count = count;
+    this.begins = new Set(cuts.map((row) => this.actFrom(row + 1)).filter((i) => i >= 0));
     // Answers to SETUP: the act from which on one counts, and what it says; by device.
     this.setups = [[], [], [], [], []];
     this.command = new Uint8Array(0);
@@ -140,6 +144,24 @@ class Acts {
     }
     return -1;
   }
+  // The act that begins with a row; −1 if none does.
+  actFrom(row) {
+    let low = 0, high = this.count;
+    while (low < high) {
+      const mid = (low + high) >> 1;
+      if (this.first(mid) < row)
+        low = mid + 1;
+      else
+        high = mid;
+    }
+    return low < this.count && this.first(low) === row ? low : -1;
+  }
+  // Whether an act is a word that the list began anew with: no command stands between.
+  isFromBefore(i) {
+    for (let k = i; k >= 0 && k > i - MOST_WORDS && this.kind(k) === FOREIGN; k--)
+      if (this.begins.has(k)) return true;
+    return false;
+  }
   setupAt(device, i) {
     const all = this.setups[device];
     let low = 0, high = all.length;
@@ -181,17 +203,6 @@ function readSetup(device, bytes) {
     return found;
   }
   return null;
-}
-
-// The messages of a reader's list: the block without its sum, cut.
-function readerMessages(bytes) {
-  const found = [], sizes = [1, 8, 99, 3, 1, 3, 1, 1, 1, 30, 2, 1], n = bytes.length - 1;
-  for (let i = 0; i < n;) {
-    const size = sizes[bytes[i]] ?? 1;
-    found.push(bytes.slice(i, Math.min(n, i + size)));
-    i += size;
-  }
-  return found;
 }
 
 // The worth of a coin or bill of a type, in smallest units; null where nothing tells it.
@@ -378,8 +389,10 @@ function ackWords(ask) {
 function actWords(acts, i) {
   const kind = acts.kind(i), device = acts.device(i);
   if (kind === BREAK) return `break: line M low for ${seconds(acts.length(i))}`;
-  if (kind === FOREIGN) return "a word to or from a device that isn't followed";
-  if (kind === CUT) return "a word of a block that is cut off by a break or by the end";
+  if (kind === FOREIGN)
+    return acts.isFromBefore(i) ? "a word of what was said before row " + acts.first(i) :
+                                  "a word to or from a device that isn't followed";
+  if (kind === CUT) return "a word of a block that is cut off by a break, by a gap or by the end";
   const setup = acts.setupAt(device, i), at = acts.askOf(i), ask = at >= 0 ? acts.bytes(at) : null;
   switch (kind) {
     case ASK:

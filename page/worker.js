@@ -96,20 +96,20 @@ function check(length) {
 }
 
 // Lists the first acts and the last ones as far as there is room for so many, and the news after the first `skip`: of
-// the text, or of a part of it.
-function list(room, skip, roomNews, from = 0, to = size) {
+// the text, or of a part of it. So many first acts stay where there isn't room for all.
+function list(room, skip, roomNews, from = 0, to = size, first = Math.min(HALF, room)) {
   const answer = call.mdb_page_list(
-      BigInt(at.options), BigInt(at.text + from), BigInt(to - from), BigInt(Math.min(HALF, room)), BigInt(skip),
-      BigInt(at.told), BigInt(at.acts), BigInt(room), BigInt(at.news), BigInt(roomNews));
+      BigInt(at.options), BigInt(at.text + from), BigInt(to - from), BigInt(first), BigInt(skip), BigInt(at.told),
+      BigInt(at.acts), BigInt(room), BigInt(at.news), BigInt(roomNews));
   return {...told(), answer};
 }
 
-// The acts that are listed, in their order. If there are more than room, the last ones stand in a ring.
-function listedActs(all) {
-  const {size: wide} = layout.act, memory = new Uint8Array(call.memory.buffer, at.acts, Math.min(all, at.room) * wide);
-  if (all <= at.room) return memory.slice().buffer;
-  const ring = HALF * wide, oldest = ring + (all - HALF) % (at.room - HALF) * wide,
-        acts = new Uint8Array(memory.length);
+// The acts that are listed, in their order. If there are more than room, the last ones stand in a ring after so many
+// first ones.
+function listedActs(all, first = HALF, room = at.room) {
+  const {size: wide} = layout.act, memory = new Uint8Array(call.memory.buffer, at.acts, Math.min(all, room) * wide);
+  if (all <= room) return memory.slice().buffer;
+  const ring = first * wide, oldest = ring + (all - first) % (room - first) * wide, acts = new Uint8Array(memory.length);
   acts.set(memory.subarray(0, ring));
   acts.set(memory.subarray(oldest), ring);
   acts.set(memory.subarray(ring, oldest), ring + memory.length - oldest);
@@ -210,6 +210,7 @@ function judge(options) {
   const before = answer === 1 && check(end.offset) === 0 ? answerText() : "";
   const summed = performance.now();
   const stops = answer === 1 || answer === 2 || answer === 3 || answer === 4;
+  const recording = new Uint8Array(call.memory.buffer, at.text, size);
   say({
     told: "done",
     answer,
@@ -221,6 +222,8 @@ function judge(options) {
     lines: stops ? lines(end.offset, end.row) : [],
     acts,
     ...listing,
+    // When the last row of the file began: what isn't read goes up to there.
+    until: timeAt(recording, rowBefore(recording, size)),
     size,
     ms: {read, check: checked - listed, before: summed - checked, list: listed - begin},
     memory: call.memory.buffer.byteLength
@@ -419,9 +422,11 @@ async function prepare(module) {
 }
 
 // Answers what a message asks for. One that asks for nothing has the recording read for its checksum.
-function answer({options, late, isDevice, surveyed, about}) {
+function answer({options, late, isDevice, surveyed, relisted, about}) {
   if (surveyed)
     judgeSurvey(surveyed);
+  else if (relisted)
+    relist(relisted);
   else if (about)
     tellAbout(about);
   else if (late)

@@ -7,11 +7,14 @@ After a no, the page's button surveys
 - each recording of examples/ that has a no, from power-on and joined;
 - so many damaged recordings (200 if not said), those of tests/surveyed, with their options;
 - a bad row in the middle, faults alone, 10,000 faults, more faults than the page lists, times in
-  milliseconds, and exchanged lines.
+  milliseconds, and exchanged lines;
+- in Chromium a day of eight hours with eight flipped bits (tests/make_day.py), whose sales have to
+  be listed, in at most twice the time that the day takes without them.
 
 The text has to be the program's, byte for byte. The table of faults, the stretches with their sums,
 the totals, the lanes of the time line and the saved files have to say what that text says, with the
-times of the rows. Then the test stops surveys and gives other files and options while one runs:
+times of the rows. What was said, with all entries of money, has to be what `show` prints of the rows
+between the gaps (tests/page_gaps.py). Then the test stops surveys and gives other files and options while one runs:
 nothing of the old one may stand. It looks at focus, keys, names, headings, contrast, print and the
 width of a telephone. tests/page runs this, too. Ends with status 1 at the first difference.
 """
@@ -29,6 +32,9 @@ sys.dont_write_bytecode = True
 
 from browser import Browser  # noqa: E402
 from firefox import Firefox  # noqa: E402
+import make_day  # noqa: E402
+import page_gaps  # noqa: E402
+from page_news import FOUND  # noqa: E402
 from programs import MDBCHECK, load  # noqa: E402
 
 TOP = pathlib.Path(__file__).resolve().parent.parent
@@ -38,6 +44,7 @@ want, Wrong, amount = page_test.want, page_test.Wrong, page_test.amount
 SENDERS = page_test.NAMES
 # The most faults that the page lists, and so many it shows at a time.
 MOST, AT_A_TIME = 20_000, 200
+SHOWN = page_gaps.Shown(MDBCHECK)
 
 # What a reader finds of a survey. Tables are read page by page.
 READ = """(() => {
@@ -68,7 +75,6 @@ READ = """(() => {
 })()"""
 ACCOUNTS = ["coins-in", "bills-in", "paid-out", "approved", "sold", "approved-2", "sold-2"]
 OWNERS = page_test.OWNERS
-DEVICE_WORDS = {it: SENDERS[it].removeprefix("the ") for it in page_test.DEVICES}
 
 
 class Survey:
@@ -144,10 +150,10 @@ def notes_of(report):
         for kind, one, after in (("silences", "silence", ""), ("unvalued", "amount", " without a known value")):
             n = counts[kind][device]
             if n:
-                found.append(f"{n} {one}{'' if n == 1 else 's'} of the {DEVICE_WORDS[device]}{after}")
+                found.append(f"{n} {one}{'' if n == 1 else 's'} of {SENDERS[device]}{after}")
     for kind, words in (("without", "left out"), ("setup", "set-up known of")):
         if kind in report:
-            found.append(f"{words}: {listed([DEVICE_WORDS[it] for it in report[kind]])}")
+            found.append(f"{words}: {listed([SENDERS[it] for it in report[kind]])}")
     return found
 
 
@@ -234,7 +240,7 @@ def compare_stretches(made, came):
         want(came["total"] is None, f"there are totals: {came['total']}")
         return
     places = total_places(made)
-    changed = [f"the decimal places of the {DEVICE_WORDS[it]} changed: its sums here have none" for it in page_test.DEVICES if len(places[it]) > 1]
+    changed = [f"the decimal places of {SENDERS[it]} changed: its sums here have none" for it in page_test.DEVICES if len(places[it]) > 1]
     want(came["total"]["head"] == ["All stretches", *notes_of(made.totals), *changed], f"the totals: {came['total']['head']}")
     shared = list(sums_of(made.totals, lambda device: next(iter(places[device])) if len(places[device]) == 1 else 0, choice))
     want(came["total"]["sums"] == shared, f"the totals: {came['total']['sums']}")
@@ -301,6 +307,7 @@ def compare(page, data, words, name):
     compare_faults(made, came)
     compare_stretches(made, came)
     compare_lanes(made, came)
+    page_gaps.compare_lists(page, made, words, SHOWN, MOST, want, FOUND)
     want(not page.has_button(), "the button stays")
     unjudged = page.value("[by('verdict').textContent.includes('was judged'), by('told').textContent.includes('not judged')]")
     want(unjudged == [False, False] or made.status == 2 or len(made.faults) > MOST, f"what the survey took isn't judged: {unjudged}")
@@ -428,6 +435,42 @@ def try_many(page):
     print("10,000 faults, more than are listed, times in milliseconds and exchanged lines")
 
 
+def given(page, path):
+    """Gives a file, and surveys it after a no. Answers how long that took, in seconds."""
+    begin = time.monotonic()
+    page.give(path, [], path.name)
+    if page.has_button():
+        before = page.shown()
+        page.push("survey-go")
+        page.wait(before)
+    return time.monotonic() - begin
+
+
+def try_day(page, sales=1_033, flips=8, seed=1):
+    """A day of eight hours with flipped bits lists all its sales but those that a flip cuts, and takes at most twice
+    as long as the day without them."""
+    rows = make_day.rows_of(sales, seed)
+    lines, flipped = make_day.flipped(rows, flips, seed)
+    whole, spoiled = page.work / "day.csv", page.work / "day-with-flips.csv"
+    whole.write_bytes(text_of(make_day.flipped(rows, 0, seed)[0]))
+    spoiled.write_bytes(text_of(lines))
+    took = []
+    for _ in range(3):
+        took.append((given(page, whole), given(page, spoiled)))
+    without, with_flips = map(min, zip(*took))
+    made = Survey(spoiled.read_bytes(), [])
+    page_gaps.compare_lists(page, made, [], SHOWN, MOST, want, FOUND)
+    came = json.loads(page.browser.value(page_gaps.SOLD))
+    ran = subprocess.run([MDBCHECK, "show"], stdin=whole.open("rb"), capture_output=True, check=True)
+    spans = page_gaps.sales_of(page_gaps.entries_of([ran.stdout.decode().splitlines()], []))
+    want(len(spans) == sales, f"the day has {len(spans)} sales")
+    cut = [row for row, (first, last) in spans.items() if any(first <= it <= last for it in flipped)]
+    want(set(spans) - set(came) <= set(cut), f"sales aren't listed: {sorted(set(spans) - set(came) - set(cut))[:5]}")
+    want(len(made.faults) > flips // 2, f"{flips} flips make {len(made.faults)} faults")
+    print(f"a day of {len(lines):,} rows with {flips} flipped bits, {len(made.faults)} faults: {len(set(spans) & set(came)):,} of {sales:,} sales are listed; {with_flips:.1f} s, and {without:.1f} s without flips")
+    want(with_flips <= 2 * without, f"it takes {with_flips:.1f} s, and {without:.1f} s without faults")
+
+
 def try_about(page):
     """The rows about each fault, and what was said up to it."""
     path = EXAMPLES / "a-days-recording.csv"
@@ -443,12 +486,19 @@ def try_about(page):
         before = made.faults[number - 2][0] if number > 1 else 0
         want(acts_about(made, row, before) == acts, f"what was said up to row {row}: {acts}")
         want(isOpen == "true", "the button doesn't say that it is open")
-    # A row of a sentence leads to the rows of the file beside it, and back.
+    # A row of a sentence leads to its act, also after a fault, and back. The row of a gap leads to the gap.
     page.browser.value("(() => { const it = document.querySelector('.about li a[data-row=\"138\"]'); it.focus(); it.click(); return 1; })()")
-    came = page.value("[document.activeElement.closest('.about') !== null, document.activeElement.querySelector('th')?.textContent, document.activeElement.getAttribute('aria-current')]")
-    want(came == [True, "138", "true"], f"the row of a sentence leads to {came}")
+    came = page.value("[document.activeElement.closest('#acts') !== null, document.activeElement.id, document.activeElement.getAttribute('aria-current')]")
+    want(came == [True, "row-138", "true"], f"the row of a sentence leads to {came}")
     page.push("back")
     want(page.value("[document.activeElement.dataset.row, document.querySelectorAll('.about').length]") == ["138", 2], "back to the sentence")
+    page.browser.value("document.querySelector('#survey-rows a[data-row=\"100\"]').click(); 1")
+    came = page.value("[document.activeElement.id, document.activeElement.className, document.activeElement.textContent]")
+    want(came[:2] == ["row-100", "gap here"] and "Gap: row 100 breaks the rule Sum" in came[2], f"the row of a gap leads to {came}")
+    page.browser.value("document.activeElement.querySelector('[data-fault]').click(); 1")
+    want(page.value("document.activeElement.dataset.number") == "1", "a gap leads to its fault")
+    page.push("back")
+    page.push("back")
     page.browser.value("(() => { for (const it of document.querySelectorAll('#survey-rows button')) it.click(); return 1; })()")
     want(page.value("document.querySelectorAll('#survey-rows .about').length") == 0, "it doesn't close")
     print("the rows about each fault, and what was said up to it, as `show` has it")
@@ -628,6 +678,8 @@ def try_all(browser, work, number, seed):
         try_seen(page)
     try_generated(page, number, seed)
     try_many(page)
+    if isinstance(browser, Browser):
+        try_day(page)
     try_stops(page)
     want(not browser.complaints(), f"the console has {browser.complaints()[:2]}")
     want(not browser.requests(), f"asked for {browser.requests()[:2]}")

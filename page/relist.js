@@ -1,0 +1,225 @@
+// After a survey the acts and the news of the whole recording: in the worker, in one pass. After a row that breaks a
+// rule of the link the list begins anew, as that of a machine that was running already, with the set-ups that were told
+// before. A row that breaks a rule of a device stands in an act, and the list goes on over it.
+const SETUP_TOLD = 21;
+// So many bytes of news are gathered before the page gets them.
+const NEWS_BYTES = 1 << 20;
+
+// The first acts and the last ones of all parts, as far as they are listed.
+class FirstAndLast {
+  constructor() {
+    this.all = 0;
+    this.first = {count: 0, parts: []};
+    this.last = {count: 0, parts: []};
+  }
+  // So many acts of the next part are among the first ones.
+  room() {
+    return HALF - this.first.count;
+  }
+  // Takes what a part lists of so many acts: its first ones, as far as there was room, and its last ones.
+  add(bytes, all) {
+    const {size: wide} = layout.act, listed = bytes.length / wide, front = Math.min(this.room(), listed);
+    this.all += all;
+    this.put(this.first, bytes.subarray(0, front * wide), front);
+    this.put(this.last, bytes.subarray(front * wide), listed - front);
+    const {last} = this;
+    while (last.parts.length && last.count - last.parts[0].count >= HALF) last.count -= last.parts.shift().count;
+  }
+  put(side, bytes, count) {
+    if (!count) return;
+    side.parts.push({bytes, count});
+    side.count += count;
+  }
+  // All that are listed, in their order.
+  listed() {
+    const {size: wide} = layout.act, {first, last} = this, over = Math.max(0, last.count - HALF);
+    if (over) last.parts[0].bytes = last.parts[0].bytes.subarray(over * wide);
+    return joined([...first.parts, ...last.parts].map(({bytes}) => bytes)).buffer;
+  }
+}
+
+// Bytes one after the other.
+function joined(parts) {
+  const made = new Uint8Array(parts.reduce((sum, bytes) => sum + bytes.length, 0));
+  let place = 0;
+  for (const bytes of parts) {
+    made.set(bytes, place);
+    place += bytes.length;
+  }
+  return made;
+}
+
+// Gives the acts or the news of a part the numbers of rows of the recording. No number of a row needs more than 32 bits.
+function addRows(bytes, {size: wide, first, last}, before) {
+  const words = new Uint32Array(bytes.buffer, bytes.byteOffset, bytes.length / 4);
+  for (let at = 0; before && at < words.length; at += wide / 4) {
+    words[at + first / 4] += before;
+    words[at + last / 4] += before;
+  }
+  return bytes;
+}
+
+// The place of a row of a part, counted from one whose place is known.
+function placeAfter(text, place, rows) {
+  let at = place;
+  while (isEnd(text[at])) at++;
+  for (let i = 0; i < rows; i++) at = rowAfter(text, at);
+  return at;
+}
+
+// The bytes that so many rows from a place on have.
+function bytesAt(text, place, rows) {
+  const bytes = [];
+  for (let at = place; bytes.length < rows; at = rowAfter(text, at)) {
+    const value = text.indexOf(44, text.indexOf(44, at) + 1) + 1;
+    bytes.push(parseInt(String.fromCharCode(text[value + 1], text[value + 2]), 16));
+  }
+  return bytes;
+}
+
+// An answer that tells a set-up, as the options have it: of a reader its last config message counts.
+function setupBlock(device, bytes) {
+  if (device < 3) return bytes;
+  const config = readerMessages(bytes).filter(([kind]) => kind === READER_CONFIG).at(-1);
+  return [...config, config.reduce((sum, byte) => sum + byte & 255)];
+}
+
+// All acts and news of the recording, part by part.
+class Relisting {
+  constructor(options) {
+    this.text = new Uint8Array(call.memory.buffer, at.text, size);
+    this.options = options;
+    this.kept = new FirstAndLast();
+    this.news = {bytes: 0, parts: []};
+    // The rows after which the list begins anew.
+    this.cuts = [];
+  }
+  // Lists the text from a place on, whose first row comes after so many, up to another place. Nothing is kept yet.
+  list({from, before}, to) {
+    const first = Math.min(this.kept.room(), at.room), room = Math.min(at.room, first + HALF);
+    setOptions(this.options);
+    const told = list(room, 0, at.roomNews, from, to, first);
+    if (told.answer === 5) throw new Error("the module doesn't take a set-up that it told.");
+    return {...told, from, before, to, first, room};
+  }
+  // Keeps what was listed last.
+  keep(part) {
+    const {acts: all, news: allNews, first, room, before, from, to} = part, told = new Map();
+    this.kept.add(addRows(new Uint8Array(listedActs(all, first, room)), layout.act, before), all);
+    for (let got = 0; got < allNews; got += at.roomNews) {
+      if (got) list(0, got, at.roomNews, from, to);
+      const count = Math.min(at.roomNews, allNews - got);
+      const bytes = new Uint8Array(call.memory.buffer, at.news, count * layout.news.size).slice();
+      this.findSetups(bytes, told);
+      this.addNews(addRows(bytes, layout.news, before));
+    }
+    this.learn(told, from);
+  }
+  addNews(bytes) {
+    this.news.parts.push(bytes);
+    this.news.bytes += bytes.length;
+    if (this.news.bytes > NEWS_BYTES) this.sayNews();
+  }
+  sayNews() {
+    const news = joined(this.news.parts);
+    if (news.length) say({told: "news", news: news.buffer}, [news.buffer]);
+    this.news = {bytes: 0, parts: []};
+  }
+  // The rows of the last answer of each device that tells a set-up, counted from the part's first one.
+  findSetups(bytes, told) {
+    const {size: wide, kind, device, first, last} = layout.news, words = new Uint32Array(bytes.buffer);
+    for (let i = 0; i < bytes.length; i += wide)
+      if (bytes[i + kind] === SETUP_TOLD)
+        told.set(bytes[i + device], {first: words[(i + first) / 4], last: words[(i + last) / 4]});
+  }
+  // Takes note of the set-ups that a part told, for the parts after it.
+  learn(told, from) {
+    let place = from, row = 1;
+    for (const [device, rows] of [...told].sort(([, a], [, b]) => a.first - b.first)) {
+      place = placeAfter(this.text, place, rows.first - row);
+      row = rows.first;
+      const block = setupBlock(device, bytesAt(this.text, place, rows.last - rows.first + 1));
+      this.options.set([block.length, ...block], layout.options.setups + (device - 1) * layout.setup.size);
+    }
+  }
+  // How the rows after a fault are taken.
+  goOn(isLeftOut) {
+    this.options[layout.options.joined] = 1;
+    for (let d = 0; d < 4; d++) {
+      const setup = layout.options.setups + d * layout.setup.size, isOut = isLeftOut >> d & 1;
+      this.options[layout.options.without + d] = isOut;
+      if (isOut) this.options.fill(0, setup, setup + layout.setup.size);
+    }
+  }
+}
+
+// The faults that the page gives, each with the first one from it on that breaks a rule of the link.
+class Starts {
+  constructor(text, numbers) {
+    this.text = text;
+    this.numbers = numbers;
+    this.count = numbers.length / START_NUMBERS;
+    this.links = new Uint32Array(this.count + 1).fill(this.count);
+    for (let i = this.count - 1; i >= 0; i--) this.links[i] = this.at(i).isLink ? i : this.links[i + 1];
+  }
+  at(i) {
+    const [row, offset, isLink, without] = this.numbers.subarray(i * START_NUMBERS, (i + 1) * START_NUMBERS);
+    return {row, offset, isLink, without};
+  }
+  // Where the row of a fault ends.
+  endOf(i) {
+    const after = rowAfter(this.text, this.at(i).offset);
+    return after < 0 ? size : after;
+  }
+}
+
+// Lists from a place on, up to the fault after which the list begins anew: the first one that breaks a rule of the link.
+// `next` is the first fault after the place. The number of all faults means that the list goes on to the end.
+function listFrom(it, starts, end, begin, next) {
+  let i = starts.links[next];
+  if (i === starts.count && end < 0) i--;
+  const isToRow = i < starts.count && !starts.at(i).isLink;
+  const to = isToRow ? starts.endOf(i) : i < starts.count ? starts.at(i).offset : end;
+  const part = it.list(begin, to), halt = begin.before + part.row;
+  if (part.answer !== 1) return {part, fault: i};
+  // The survey takes such a row, since it forgets what was said up to the fault before it. Here the list does, too.
+  let after = next;
+  while (after < i && starts.at(after).row < halt) after++;
+  return after === next ? {part, fault: i} : {part: it.list(begin, starts.endOf(after - 1)), fault: after - 1};
+}
+
+// Lists the recording up to the place `end`; up to the last fault that is given, where that is -1.
+function relistAll({options, numbers, end}) {
+  const it = new Relisting(options), starts = new Starts(it.text, numbers);
+  let begin = {from: 0, before: 0}, next = 0, told = performance.now();
+  while (begin.from >= 0 && (next < starts.count || end >= 0)) {
+    const {part, fault} = listFrom(it, starts, end, begin, next);
+    it.keep(part);
+    if (fault === starts.count) break;
+    const {row, offset, without} = starts.at(fault);
+    it.cuts.push(row);
+    it.goOn(without);
+    begin = {from: rowAfter(it.text, offset), before: row};
+    next = fault + 1;
+    if (performance.now() - told > 100) {
+      tell("Listing", begin.from / size);
+      told = performance.now();
+    }
+  }
+  it.sayNews();
+  return it;
+}
+
+function relist(asked) {
+  const begin = performance.now(), {kept, cuts} = relistAll(asked), {all} = kept, acts = kept.listed();
+  say({
+    told: "done",
+    acts,
+    cuts,
+    all,
+    listed: acts.byteLength / layout.act.size,
+    hole: all > MOST ? HALF : -1,
+    ms: performance.now() - begin
+  },
+      [acts]);
+}
