@@ -60,7 +60,8 @@ class OpenWalk {
   constructor(acts, gaps) {
     this.acts = acts;
     this.gaps = gaps;
-    this.now = 0;
+    // The act that is looked at.
+    this.at = 0;
     this.entries = [];
     this.troubles = new Map();
     this.begin();
@@ -81,8 +82,11 @@ class OpenWalk {
     const {acts} = this, time = acts.start(i);
     return {...NO_ENTRY, kind, device: acts.device(i), time, rows: [this.rows(i)], last: time, ...more};
   }
-  list(entry, came = null, cameRows = null) {
-    if (entry && !isNothing(entry.amounts)) this.entries.push({...entry, came, cameRows, until: this.now});
+  // Lists an entry, if there is one. What came is the act that is looked at, if no other rows are given.
+  list(entry, came = null, rows = undefined) {
+    if (!entry || isNothing(entry.amounts)) return;
+    const cameRows = rows === undefined && came ? this.rows(this.at) : rows ?? null;
+    this.entries.push({...entry, came, cameRows, until: this.acts.start(this.at)});
   }
   // Another act of an entry: its rows come after those of the first one, in place of an earlier other one.
   again(entry, i) {
@@ -114,19 +118,19 @@ class OpenWalk {
   end(came, rows) {
     this.endAll(came, rows);
     for (const press of this.presses)
-      if (this.now > press.last + LEVER_WAIT)
-        this.list(press, "time");
+      if (this.acts.start(this.at) > press.last + LEVER_WAIT)
+        this.list(press, "time", null);
       else
         this.list(press, came, rows);
     this.begin();
   }
   act(i) {
     const {acts} = this, kind = acts.kind(i);
-    this.now = acts.start(i);
-    if (acts.device(i) === 1) this.heardChanger(i, kind);
+    this.at = i;
+    if (this.taken && acts.device(i) === 1) this.heardChanger(i, kind);
     if (kind === BREAK)
-      this.endAll("break", this.rows(i));
-    else if (kind === ASK)
+      this.endAll("break");
+    else if (kind === ASK && acts.byte(i, 0) !== POLLS[acts.device(i)])
       this.asked(i, acts.device(i), acts.bytes(i));
     else if (kind === REPLY)
       this.replied(i, acts.device(i), acts.bytes(i));
@@ -135,22 +139,22 @@ class OpenWalk {
     if (device > 2)
       this.askedReader(i, device, bytes);
     else if (bytes[0] === 0x08)
-      this.endPayout("reset", this.rows(i));
+      this.endPayout("reset");
     else if (bytes[0] === 0x30)
-      this.endBill("reset", this.rows(i));
+      this.endBill("reset");
     else if (bytes[0] === 0x0D)
       this.dispense(i, bytes[1]);
   }
   askedReader(i, device, bytes) {
-    const command = bytes[0] & 7, rows = this.rows(i);
+    const command = bytes[0] & 7;
     if (command === 0) {
-      this.endApproval(device, "reset", rows);
+      this.endApproval(device, "reset");
       this.items[device] = null;
     }
     if (command !== 3) return;
     switch (bytes[1]) {
       case VEND.REQUEST:
-        this.endApproval(device, "request", rows);
+        this.endApproval(device, "request");
         this.items[device] = two(bytes, 4);
         return;
       case VEND.SUCCESS:
@@ -160,7 +164,7 @@ class OpenWalk {
         this.failed(i, device);
         return;
       case VEND.COMPLETE:
-        this.endApproval(device, "complete", rows);
+        this.endApproval(device, "complete");
         return;
       case VEND.CASH_SALE:
         this.settled(i);
@@ -178,35 +182,37 @@ class OpenWalk {
     return acts.kind(at) === ACK || acts.kind(at) === NAK ? acts.kind(at) : null;
   }
   dispense(i, code) {
-    const {acts} = this, answer = this.answerOf(i), setup = acts.setupAt(1, i);
+    const answer = this.answerOf(i);
     this.settled(i);
-    if (this.payout && this.payout.code !== code) this.endPayout("dispense", this.rows(i));
-    const value = worth(setup, code & 15), units = value === null ? null : value * (code >> 4);
-    const made = this.made("payout", i, {code, amounts: [amountOf(1, setup, units)]});
+    if (this.payout && this.payout.code !== code) this.endPayout("dispense");
     if (answer === ACK) {
       this.payout = null;
-      this.taken = {...made, answer: "taken", at: i + 1};
+      this.taken = {at: i, code, asked: null};
     } else
-      this.leftPayout(i, made, answer === NAK);
+      this.leftPayout(i, code, answer === NAK);
+  }
+  payoutAt(i, code) {
+    const setup = this.acts.setupAt(1, i), value = worth(setup, code & 15);
+    return this.made("payout", i, {code, amounts: [amountOf(1, setup, value === null ? null : value * (code >> 4))]});
   }
   // A DISPENSE that isn't taken: the first one, or the same one again.
-  leftPayout(i, made, isRefused) {
+  leftPayout(i, code, isRefused) {
     if (this.payout)
       this.again(this.payout, i);
     else
-      this.payout = made;
+      this.payout = this.payoutAt(i, code);
     Object.assign(this.payout, {answer: isRefused ? "refused" : "none", nak: isRefused ? this.rows(i + 1) : null});
     if (isRefused) this.payout.last = this.acts.start(i + 1);
   }
   // After a DISPENSE that was taken, the changer answers, or is silent for too long.
   heardChanger(i, kind) {
-    const {taken} = this;
-    if (!taken || i <= taken.at) return;
+    const {taken} = this, time = this.acts.start(i);
+    if (i <= taken.at + 1) return;
     if ([ACK, NAK, REPLY].includes(kind)) this.taken = null;
     if (kind !== ASK) return;
-    taken.asked ??= this.acts.start(i);
-    if (this.acts.start(i) <= taken.asked + PAYOUT_WAIT) return;
-    this.list(taken, "silent", this.rows(i));
+    taken.asked ??= time;
+    if (time <= taken.asked + PAYOUT_WAIT) return;
+    this.list({...this.payoutAt(taken.at, taken.code), answer: "taken"}, "silent");
     this.taken = null;
   }
   // Whether the controller acknowledged a reply, perhaps after it had asked for it again.
@@ -218,17 +224,17 @@ class OpenWalk {
   }
   replied(i, device, bytes) {
     const {acts} = this, isAsked = i > 0 && !this.gaps.has(i) && acts.kind(i - 1) === ASK;
-    const command = isAsked ? acts.byte(i - 1, 0) : 0, isHeard = this.isHeard(i);
+    const command = isAsked ? acts.byte(i - 1, 0) : 0;
     if (device > 2)
-      for (const message of readerMessages(bytes)) this.readerSays(i, device, message, isHeard);
+      for (const message of readerMessages(bytes)) this.readerSays(i, device, message);
     else if (command === STACKER)
       this.trouble(i, device, STACKER, bytes[0] > 0x7F);
     else if (command === POLLS[device])
       for (const byte of pollBytes(device, bytes))
         if (device === 1)
-          this.changerSays(i, byte, isHeard);
+          this.changerSays(i, byte);
         else
-          this.billSays(i, byte, isHeard);
+          this.billSays(i, byte);
   }
   trouble(i, device, code, is) {
     const key = device * 256 + code, known = this.troubles.get(key);
@@ -238,35 +244,35 @@ class OpenWalk {
     else
       this.troubles.set(key, this.made("trouble", i, {code}));
   }
-  readerSays(i, device, message, isHeard) {
-    const setup = this.acts.setupAt(device, i);
+  readerSays(i, device, message) {
     if (message[0] in READER_ENDS)
-      this.endApproval(device, READER_ENDS[message[0]], this.rows(i));
-    else if (message[0] === 5 && isHeard)
-      this.approvals[device] ??= this.made("approved", i, {
-        amounts: [amountOf(device, setup, setup ? two(message, 1) * setup.scale : null)],
-        item: this.items[device] ?? null
-      });
+      this.endApproval(device, READER_ENDS[message[0]]);
+    else if (message[0] === 5 && this.isHeard(i))
+      this.approve(i, device, two(message, 1));
     else if (message[0] === MALFUNCTION)
       this.trouble(i, device, message[1], true);
   }
-  changerSays(i, byte, isHeard) {
+  approve(i, device, units) {
+    const setup = this.acts.setupAt(device, i), amount = amountOf(device, setup, setup ? units * setup.scale : null);
+    this.approvals[device] ??= this.made("approved", i, {amounts: [amount], item: this.items[device] ?? null});
+  }
+  changerSays(i, byte) {
     this.trouble(i, 1, byte, TROUBLES[1].includes(byte));
     if (byte === 1)
       this.pressed(i);
-    else if (byte === 0x0B && isHeard)
-      this.endPayout("restarted", this.rows(i));
-    else if (byte >> 5 === 2 && isHeard)
+    else if (byte === 0x0B && this.isHeard(i))
+      this.endPayout("restarted");
+    else if (byte >> 5 === 2 && this.isHeard(i))
       this.pay(i, 1, byte & 15);
     else if (byte > 0x8F)
       this.settled(i);
   }
-  billSays(i, byte, isHeard) {
+  billSays(i, byte) {
     const type = byte & 15, sort = byte >> 4;
     this.trouble(i, 2, byte, TROUBLES[2].includes(byte));
-    if (byte === 6) this.endBill("restarted", this.rows(i));
+    if (byte === 6) this.endBill("restarted");
     if (sort < 8 || sort > 0x0A) return;
-    if (this.bill && this.bill.type !== type) this.endBill("bill", this.rows(i));
+    if (this.bill && this.bill.type !== type) this.endBill("bill");
     if (sort === 9) {
       const setup = this.acts.setupAt(2, i);
       this.bill ??= this.made("escrow", i, {type, amounts: [amountOf(2, setup, worth(setup, type))]});
@@ -275,7 +281,7 @@ class OpenWalk {
     this.bill = null;
     if (sort === 0x0A)
       this.settled(i);
-    else if (isHeard)
+    else if (this.isHeard(i))
       this.pay(i, 2, type);
   }
   // A coin or a bill is paid in: what presses come now are others.
@@ -298,7 +304,7 @@ class OpenWalk {
   // A payout or a sale for cash: the presses of the last 30 s got what they asked for.
   settled(i) {
     for (const press of this.presses)
-      if (this.acts.start(i) > press.last + LEVER_WAIT) this.list(press, "time");
+      if (this.acts.start(i) > press.last + LEVER_WAIT) this.list(press, "time", null);
     this.presses = [];
     this.paidIn = [];
     this.isPressed = false;
@@ -306,7 +312,7 @@ class OpenWalk {
 }
 
 // The rows that an entry names; what only the walk needs is left out.
-function openEntry({type, nak, at, asked, ...entry}) {
+function openEntry({type, nak, ...entry}) {
   return nak ? {...entry, rows: [...entry.rows, nak]} : entry;
 }
 
@@ -345,15 +351,13 @@ function gapsOf(acts, hole, cuts) {
 function openMoney(acts, {hole = -1, cuts = [], choices = []} = {}) {
   const gaps = gapsOf(acts, hole, cuts), walk = new OpenWalk(acts, gaps), {entries} = walk;
   const place = ({kind}) => OPEN_KINDS.indexOf(kind);
-  const end = (i, word) => {
-    const row = gaps.get(i);
-    walk.end(row ? "fault" : word, row ? [row, row] : null);
-  };
-  for (let i = 0; i < acts.count; i++) {
-    if (gaps.has(i)) end(i, "gap");
-    walk.act(i);
+  const ends = [...gaps.keys(), acts.count].sort((a, b) => a - b);
+  let i = 0;
+  for (const end of ends) {
+    const row = gaps.get(end);
+    for (; i < end; i++) walk.act(i);
+    if (end > 0) walk.end(row ? "fault" : end < acts.count ? "gap" : "end", row ? [row, row] : null);
   }
-  end(acts.count, "end");
   entries.push(...walk.troubles.values());
   if (choices.length) entries.push(choiceEntry(choices));
   return entries.map(openEntry).sort(
