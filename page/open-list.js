@@ -198,7 +198,8 @@ function openItem(it, entry) {
   return h(
       "li", {"data-open": entry.kind, "data-device": DEVICES[entry.device]},
       amount ? h("strong", {class: "amount"}, amount) : null, amount ? " at " : null,
-      timeLink(entry.time, ...entry.rows[0]), ": ", OPEN_SENTENCES[entry.kind](entry).flat(2).flatMap(partOf));
+      timeLink(entry.time, ...entry.rows[0]), ": ", OPEN_SENTENCES[entry.kind](entry).flat(2).flatMap(partOf),
+      isUnjudged(it, {first: entry.rows[0][0]}) ? h("span", {class: "soft"}, " – not judged") : null);
 }
 
 // Of which rows the list speaks, where acts of others aren't listed.

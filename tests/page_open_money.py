@@ -239,7 +239,7 @@ def try_scene(page, scene):
     want(came["colour"] == scene.colour, f"{scene.name}: the colour is {came['colour']}, the card says {whole}")
     want([it["kind"] for it in came["entries"]] == [kind for kind, *_ in scene.entries], f"{scene.name}: the card lists {came['open']}")
     for text, (_, money, *phrases) in zip(came["open"], scene.entries):
-        want(text.startswith(money) and all(it in text for it in phrases), f"{scene.name}: {text!r} hasn't {money!r} and {phrases}")
+        want(text.startswith(money) and all(it.lower() in text.lower() for it in phrases), f"{scene.name}: {text!r} hasn't {money!r} and {phrases}")
     want(all(it in whole for it in scene.says), f"{scene.name}: {scene.says} isn't in {whole}")
     want(not any(it in whole for it in scene.never), f"{scene.name}: {scene.never} is in {whole}")
     want(bool(came["next"]) == (scene.colour != GREEN), f"{scene.name}: what to do next is {came['next']}")
