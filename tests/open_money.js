@@ -4,7 +4,7 @@
 "use strict";
 const fs = require("fs"), path = require("path"), readline = require("readline");
 const PAGE = path.join(__dirname, "..", "page");
-const sources = ["layout", "words", "open-money"].map((name) => fs.readFileSync(path.join(PAGE, name + ".js"), "utf8"));
+const sources = ["layout", "messages", "words", "open-money"].map((name) => fs.readFileSync(path.join(PAGE, name + ".js"), "utf8"));
 const of = new Function(`"use strict";${sources.join("\n")}
   return {Acts, layout, placesOf, STRUCTURES, KINDS, DEVICES, readSetup, noteSetups, openMoney};`)();
 const SIZE = 80;

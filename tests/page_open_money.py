@@ -148,7 +148,7 @@ class Scene(NamedTuple):
     says: "tuple" = ()  # phrases that the story and the steps have
     never: "tuple" = ()  # phrases that the card hasn't
     options: "tuple" = ()
-    is_surveyed: bool = False
+    surveyed: "list | None" = None  # the entries after a survey, if one is asked for
 
 
 def scenes():
@@ -201,9 +201,15 @@ def scenes():
     choice = Bus().changer(3).coin(5).coin(4, 8).ask(0x0F, 2, 0x0F)
     choice.word("S", 0x100)
     choice = choice.told([0x0B], 0x53, 7)
-    for surveyed in (False, True):
-        yield Scene("a payout by the changer's choice", choice, AMBER, [("choice", "", "Paid-out isn't known from row", "What was paid in is known")],
-                    ("Count the tubes",), ("makers",), is_surveyed=surveyed)
+    unknown = [("choice", "", "Paid-out isn't known from row", "What was paid in is known")]
+    yield Scene("a payout by the changer's choice", choice, AMBER, unknown, ("Count the tubes",), ("makers",), surveyed=unknown)
+    broken = card().approved(item=7)
+    broken.ask(0x0B).block("S", (0x51, 7), 1500, -1)
+    broken.rows[-1] = broken.rows[-1][:-2] + "00"
+    broken = broken.ack(0x13, 4).told([0x12], 7).approved(item=8).polls(3).told([0x0B], 0x53, 7).nak(0x0D, 0x15).polls(2)
+    before = ("approved", "1.50", "item 7", "up to row")
+    yield Scene("a wrong sum, and then the day goes on", broken, RED, [before], ("card company",),
+                surveyed=[before, ("approved", "1.50", "item 8", "end of the recording"), ("payout", "2.00", "refused it (NAK")])
     late = Bus()
     late.rows = sale.rows[next(i for i, it in enumerate(sale.rows) if it.endswith("M,113")):-12]
     late.time = sale.time
@@ -229,16 +235,24 @@ def compare(page, name, data, options, without, setups=None):
 
 def try_scene(page, scene):
     came = compare(page, scene.name, scene.bus.data, scene.options, ())
-    if scene.is_surveyed:
-        before = page.shown()
-        page.browser.value("survey(); 1")
-        page.wait(before)
-        came = json.loads(page.browser.value(READ))
-        want(len(came["total"]) == 1 and came["total"][0].startswith("not known from row"), f"{scene.name}: the total is {came['total']}")
+    compare_card(scene, came, scene.entries)
+    if scene.surveyed is None:
+        return
+    before = page.shown()
+    page.browser.value("survey(); 1")
+    page.wait(before)
+    came = json.loads(page.browser.value(READ))
+    compare_card(scene, came, scene.surveyed)
+    is_unknown = len(came["total"]) == 1 and came["total"][0].startswith("not known from row")
+    want(is_unknown == any(kind == "choice" for kind, *_ in scene.surveyed), f"{scene.name}: the total is {came['total']}")
+
+
+def compare_card(scene, came, entries):
+    """What the card shows is what happened."""
     whole = " ".join([came["lead"], *came["open"], *came["story"], *came["next"]])
     want(came["colour"] == scene.colour, f"{scene.name}: the colour is {came['colour']}, the card says {whole}")
-    want([it["kind"] for it in came["entries"]] == [kind for kind, *_ in scene.entries], f"{scene.name}: the card lists {came['open']}")
-    for text, (_, money, *phrases) in zip(came["open"], scene.entries):
+    want([it["kind"] for it in came["entries"]] == [kind for kind, *_ in entries], f"{scene.name}: the card lists {came['open']}")
+    for text, (_, money, *phrases) in zip(came["open"], entries):
         want(text.startswith(money) and all(it.lower() in text.lower() for it in phrases), f"{scene.name}: {text!r} hasn't {money!r} and {phrases}")
     want(all(it in whole for it in scene.says), f"{scene.name}: {scene.says} isn't in {whole}")
     want(not any(it in whole for it in scene.never), f"{scene.name}: {scene.never} is in {whole}")
