@@ -152,7 +152,7 @@ function showIdle(it) {
       `None of the ${number(it.report.rows)} rows is a command to a device that is checked.`,
       h("p", {}, h("strong", {}, "Nothing was followed:"), " each sum is 0, and nobody could be blamed. ",
         isExchanged ?
-            "Most likely lines M and S are exchanged (M must be the controller's line), or the mode bits are lost." :
+            "Most likely lines M and S are exchanged (M must be the controller's line), the mode bits are lost, or this isn't MDB traffic: check the baud rate, the polarity and the lines." :
             `Left out: ${listed(left.map(the))}. Perhaps no other device is on this bus.`),
       isExchanged ? exchangeButton() : null, nameWords(it));
   by("verdict").toggleAttribute("data-unfollowed", true);
@@ -174,21 +174,24 @@ function openSetups() {
 // A no ----
 
 function showNo(it) {
-  const r = it.report, isExchanged = isPerhapsExchanged(it);
-  const isLate = isPerhapsLate(it) && !isExchanged, isFile = isFileLikely(it) || isAfterDamage(it);
+  const r = it.report, none = noTraffic(it), isExchanged = !none && isPerhapsExchanged(it);
+  const isLate = !none && isPerhapsLate(it) && !isExchanged, isFile = none || isFileLikely(it) || isAfterDamage(it);
   const lead = isLate ? h("strong", {}, "Was the machine already running when the recording began?") :
+      none            ? noTrafficLead(none) :
       isFile          ? fileLead(it) :
                         `${capital(BLAMES[r.blame])} broke the protocol${faultAt(it)}.`;
   fillCard(
-      "no", headOf(it), lead, leftOut(it),
+      "no", none ? NO_TRAFFIC : headOf(it), lead, leftOut(it),
       isLate ? [lateNotes(it), h("p", {}, "If the recording does begin at power-on:")] : null, openPart(it),
       storyList(
-          isAfterDamage(it) ? storyAfterDamage(it) : withOpen(it, storyOf(it)),
+          none                  ? noTrafficStory(it) :
+              isAfterDamage(it) ? storyAfterDamage(it) :
+                                  withOpen(it, storyOf(it)),
           isLate ? "What to do next, in that case" : undefined),
       isExchanged ? exchangeButton() : null,
-      isLate || !it.late ? null :
-          isExchanged    ? lateAside(it) :
-                           lateNotes(it),
+      none || isLate || !it.late ? null :
+          isExchanged            ? lateAside(it) :
+                                   lateNotes(it),
       rulingWords(it), isLate || isFile ? null : h("p", {class: "soft"}, RECORDER), surveyOffer(it), nameWords(it));
 }
 
@@ -197,6 +200,8 @@ function faultAt(it) {
   const time = /^(\d+),/.exec(shown(it.lines.find((l) => l.row === it.row) ?? {bytes: []}))?.[1];
   return time === undefined ? "" : ` at ${when(Number(time))}`;
 }
+
+const noTrafficLead = ({bad, all}) => `${number(bad)} of the ${number(all)} messages about it can't be right.`;
 
 // What comes first where the file, rather than a device, is likely to be the reason.
 function fileLead(it) {
@@ -233,10 +238,17 @@ function isUnfollowed(it) {
 
 // What isn't followed: no fault of anybody, and the button that leaves out the device.
 function showUnfollowed(it) {
-  const row = number(it.row);
+  const row = number(it.row), none = noTraffic(it), isWrong = none || isDamaged(it);
+  const lead = none ? noTrafficLead(none) :
+      isWrong       ? "A command was damaged on its way to the recorder." :
+                      "This is a limit of the checker.";
   fillCard(
-      "limit", `Not followed: ${unfollowed(it).what}`, "This is a limit of the checker. It shows no fault of anybody.",
-      leftOut(it), openPart(it), storyList(withOpen(it, profileStory(it))), leaveOut(it),
+      "limit",
+      none        ? NO_TRAFFIC :
+          isWrong ? "Damaged message of the controller" :
+                    `Not followed: ${unfollowed(it).what}`,
+      `${lead} It shows no fault of anybody.`, leftOut(it), openPart(it),
+      storyList(none ? noTrafficStory(it) : withOpen(it, profileStory(it))), isWrong ? null : leaveOut(it),
       h("p", {class: "soft", id: "ruling"},
         `From row ${row} on, by the rule Profile. ${it.row > 1 ? "The rows before it fit the protocol. " : ""}`,
         unjudgedWords(it)),

@@ -20,7 +20,7 @@ function afterWords(it, row) {
 
 // The rows of the file about it, as they stand there.
 function fileRows(it) {
-  const kind = faultKind(it), lines = it.lines.filter((l) => l.row >= it.row - 6);
+  const kind = faultKind(it), lines = it.lines.filter((l) => l.row >= it.row - 6 && l.row < it.row + 5);
   const words = (line) => line.row > it.row ?
       afterWords(it, line.row) :
       line.row < it.row ?

@@ -59,6 +59,101 @@ function blockOf(near, row) {
   return isWhole ? near.slice(from, end + 1) : [];
 }
 
+// The whole block that a row is in: on to the last word that follows in time and isn't marked as a first one.
+function wholeBlock(near, row) {
+  const at = near.findIndex((r) => r.row === row), block = blockOf(near, row);
+  for (let i = at + 1; block.length && i < near.length; i++) {
+    const {line, at: time} = block.at(-1), next = near[i];
+    if (next.line !== line || next.at - time > BLOCK_GAP || line === "M" && isMarked(next)) break;
+    block.push(next);
+  }
+  return block;
+}
+
+// Words of a block start at most so many microseconds apart.
+const BLOCK_GAP = 2296;
+const sumOf = (bytes) => bytes.slice(0, -1).reduce((a, b) => a + b, 0) & 255;
+
+// Whether a row that isn't followed is of a command whose sum is wrong: a damaged one, whatever it says. A block that
+// the file cuts off may be intact.
+function isDamaged(it) {
+  const {rule, blame} = it.report, near = rowsNear(it), block = wholeBlock(near, it.row);
+  if (rule !== "Profile" || blame !== "controller" || !block.length || block.at(-1) === near.at(-1)) return false;
+  const bytes = bytesOf(block);
+  return bytes.length < 2 || bytes.at(-1) !== sumOf(bytes);
+}
+
+// Whether one flipped bit explains a sum that is wrong.
+function isOneBit(bytes) {
+  const lack = bytes.at(-1) - sumOf(bytes), isBit = (n) => n > 0 && (n & n - 1) === 0;
+  return bytes.some((byte, i) => isBit(byte ^ (i < bytes.length - 1 ? byte + lack : byte - lack) & 255));
+}
+
+function damagedStory(it) {
+  const block = wholeBlock(rowsNear(it), it.row), bytes = bytesOf(block), from = rowsAt(block[0].row, block.at(-1).row);
+  const told = bytes.length < 2 ?
+      fact("The controller sent a single word", ...inRows(from), ". Each command has a sum after it.") :
+      fact(
+          `The bytes of the controller's command, ${bytes.map(hex).join(" ")}`, ...inRows(from),
+          `, don't have the right sum: the last one should be ${hex(sumOf(bytes))}.`);
+  return [
+    told, isOneBit(bytes) ? likely("Most likely one bit was wrong, on the line or in the recorder.") : null,
+    nextStep(LINK_NEXT.Sum)
+  ].filter(Boolean);
+}
+
+// Blocks ----
+
+// The blocks of the rows that are at hand, without the first and the last one: these may be cut.
+function blocksNear(near) {
+  const blocks = [];
+  for (const r of near.filter(({line}) => line !== "B")) {
+    const block = blocks.at(-1), last = block?.at(-1);
+    const isNext = last && last.line === r.line && r.at - last.at <= BLOCK_GAP && !(r.line === "M" && isMarked(r)) &&
+        !(r.line === "S" && isMarked(last));
+    if (isNext)
+      block.push(r);
+    else
+      blocks.push([r]);
+  }
+  return blocks.slice(1, -1);
+}
+
+// Whether a block can be intact: ACK, NAK or RET, or bytes with their sum, of which the right one is marked.
+function isIntact(block) {
+  const bytes = bytesOf(block), isFirst = block[0].line === "M", marks = block.map(isMarked);
+  if (block.length === 1) return (isFirst ? [0, 0xAA, 0xFF] : [0x100, 0x1FF]).includes(block[0].word);
+  const mark = isFirst ? 0 : block.length - 1;
+  return marks.every((is, i) => is === (i === mark)) && bytes.at(-1) === sumOf(bytes);
+}
+
+const LEAST_BLOCKS = 8;
+
+const badBlocks = (near) => {
+  const blocks = blocksNear(near);
+  return {bad: blocks.filter((block) => !isIntact(block)).length, all: blocks.length};
+};
+const isMostlyBad = ({bad, all}) => all >= LEAST_BLOCKS && 2 * bad >= all;
+
+// How many of the blocks about a row can't be intact, where that are so many that this is no traffic of a bus,
+// whichever line is which; or null. Times in another unit, and words without their ninth bit, are told as such.
+function noTraffic(it) {
+  const near = rowsNear(it), here = near.find((r) => r.row === it.row), counts = badBlocks(near);
+  if (!here || !isMostlyBad(counts) || unitWords(it, here) || !near.some(isMarked)) return null;
+  const other = {M: "S", S: "M", B: "B"};
+  return isMostlyBad(badBlocks(near.map((r) => ({...r, line: other[r.line]})))) ? counts : null;
+}
+
+const NO_TRAFFIC = "This isn't MDB traffic: check baud rate, polarity and lines";
+
+function noTrafficStory(it) {
+  return [
+    ...storyOf(it).filter(({kind}) => kind === "fact"),
+    nextStep("Look at the signal: 9600 baud, nine bits, a low level for the start bit, and the right two wires."),
+    nextStep("Then record again.")
+  ];
+}
+
 const bytesOf = (block) => block.map((r) => r.word & 255);
 const isMarked = (r) => r.word > 255;
 
@@ -114,12 +209,13 @@ function unitWords(it, here) {
   return it.report.rule === "Spacing" && gap > 9000 ? "nanoseconds or tenths of a microsecond" : null;
 }
 
-// Whether the two lines may be exchanged: the recording begins with a row of line S, no device had been asked, and read
-// as of a machine that was already running it doesn't make sense either.
+// Whether the two lines may be exchanged: the recording begins with a row of line S, or has one after a break in row 1
+// or 2. No device had been asked, and read as of a machine that was already running it doesn't make sense either.
 function isPerhapsExchanged(it) {
-  const [first] = rowsNear(it), {rule, blame} = it.report,
-        isSense = it.late?.answer === ANSWERS.YES && it.late.isFollowed;
-  return rule === "Speaker" && blame === "other" && first?.row === 1 && first.line === "S" && !isSense;
+  const near = rowsNear(it), {rule, blame} = it.report, isSense = it.late?.answer === ANSWERS.YES && it.late.isFollowed;
+  const isAfterBreak = it.row < 4 && near.some((r) => r.row < it.row && r.line === "B");
+  const first = isAfterBreak ? near.find((r) => r.row === it.row) : near[0];
+  return rule === "Speaker" && blame === "other" && near[0]?.row === 1 && first?.line === "S" && !isSense;
 }
 
 function linkFacts(it, near, here, before) {
@@ -298,6 +394,7 @@ function levelWords(it, d, level, rows) {
 }
 
 function profileStory(it) {
+  if (isDamaged(it)) return damagedStory(it);
   const d = unfollowedDevice(it), name = the(DEVICE_NAMES[d] || "device"), {facts, isLevel} = unfollowed(it);
   const feature = isLevel ? "set the controller or the reader to level 1, if it can be," : "switch the feature off";
   return [

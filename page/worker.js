@@ -109,7 +109,8 @@ function list(room, skip, roomNews, from = 0, to = size, first = Math.min(HALF, 
 function listedActs(all, first = HALF, room = at.room) {
   const {size: wide} = layout.act, memory = new Uint8Array(call.memory.buffer, at.acts, Math.min(all, room) * wide);
   if (all <= room) return memory.slice().buffer;
-  const ring = first * wide, oldest = ring + (all - first) % (room - first) * wide, acts = new Uint8Array(memory.length);
+  const ring = first * wide, oldest = ring + (all - first) % (room - first) * wide,
+        acts = new Uint8Array(memory.length);
   acts.set(memory.subarray(0, ring));
   acts.set(memory.subarray(oldest), ring);
   acts.set(memory.subarray(ring, oldest), ring + memory.length - oldest);
@@ -147,7 +148,7 @@ function listAll() {
   };
 }
 
-// The lines about a place in the text: up to 40 before it (a whole block and more), that one, and up to four after it.
+// The lines about a place in the text: up to 40 before it (a whole block and more), that one, and up to 40 after it.
 function lines(offset, row) {
   const text = new Uint8Array(call.memory.buffer, at.text, size), found = [], FAR = 65536, LONG = 200;
   const cut = (from, to) => {
@@ -169,7 +170,7 @@ function lines(offset, row) {
     to = from;
   }
   let from = offset, number = row;
-  while (from < size && number < row + 5) {
+  while (from < size && number < row + 41) {
     let end = text.indexOf(10, from);
     if (end < 0) end = size;
     const line = cut(from, end);

@@ -240,7 +240,7 @@ def compare_rows(sentence, recording, report, row):
         first, _, last = rows.partition("–")
         first, last = int(first), int(last or first)
         is_inside = any(it["first"] <= first and last <= it["last"] for it in recording.acts)
-        is_block = report["verdict"] == "no" and end < last <= row
+        is_block = report["verdict"] == "no" and end < last <= row + (36 if report["rule"] == "Profile" else 0)
         is_silence = "gave no answer" in sentence["text"]
         # A block's last row but one stands before the row, as the sum's bytes do.
         want(recording.at(rows) or is_silence or is_block or is_inside and first == last, f"rows {rows}: {sentence['text']}")

@@ -390,7 +390,8 @@ def try_story(page, made, number):
     want(marked is not None and plain(marked[0]) == str(row) and marked[1].startswith(made.lines[row - 1][:20]) and marked[2] == said, f"the rows about row {row}: {marked}")
     want(all(words.strip() and not re.search("undefined|null|NaN", words) for words, _ in told), f"row {row}: {told}")
     rows = [it for _, links in told for it in links]
-    want(all(before < first <= last <= row for first, last in rows), f"row {row}, of which the stretch begins after {before}: {told}")
+    most = row + (36 if rule == "Profile" else 0)
+    want(all(before < first <= last <= most for first, last in rows), f"row {row}, of which the stretch begins after {before}: {told}")
     return len(told)
 
 
