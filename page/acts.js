@@ -36,21 +36,31 @@ function actRow(it, i, isInList = false) {
   const acts = it.list, first = acts.first(i), last = acts.last(i), start = acts.start(i);
   const bad = faultIn(it, {first, last}), here = isInList && isHere(it, first, last);
   const rows = first === last ? String(first) : `${first}–${last}`, entry = entryAt(it, first, last);
+  const cell = (kind, ...inner) => h("td", {role: "cell", class: kind}, ...inner), who = voice(acts, i);
   return h(
       "tr", {
+        role: "row",
         id: isInList ? `row-${first}` : undefined,
-        class: [bad && "mark", here && "here"].filter(Boolean).join(" ") || undefined,
+        class: [bad && "mark", here && "here", who && `by-${who}`].filter(Boolean).join(" ") || undefined,
         "aria-current": here ? "true" : undefined
       },
-      h("td", {class: "number"}, timeLink(start)),
-      h("td", {class: "rows"}, isInList || it.isApart ? rows : rowLink(first, last)),
-      h("td", {class: "wide"}, speaker(acts, i)), h("td", {class: "wide"}, KIND_WORDS[acts.kind(i)]),
-      h("td", {}, h("span", {class: "narrow"}, `${shortSpeaker(acts, i)}: `), actWords(acts, i),
-        bad ? h("strong", {}, ` – ${faultIs(bad.rule)}`) :
-            isUnjudged(it, {first}) ? h("span", {class: "soft"}, " – not judged") :
-                                      null,
-        entry < 0 ? null : [" ", entryLink(entry)]),
-      h("td", {class: "bytes"}, acts.hex(i)));
+      cell("number", timeLink(start)), cell("rows", isInList || it.isApart ? rows : rowLink(first, last)),
+      cell("wide who", speaker(acts, i)), cell("wide", KIND_WORDS[acts.kind(i)]),
+      cell(
+          "said", h("span", {class: "narrow who"}, `${shortSpeaker(acts, i)}: `), actWords(acts, i),
+          bad ? h("strong", {}, ` – ${faultIs(bad.rule)}`) :
+              isUnjudged(it, {first}) ? h("span", {class: "soft"}, " – not judged") :
+                                        null,
+          entry < 0 ? null : [" ", entryLink(entry)]),
+      cell("bytes", acts.hex(i)));
+}
+
+// A table of acts: on a telephone each act has the words below its time and its rows.
+function actTable(caption, body) {
+  return h(
+      "div", {class: "scroll"},
+      h("table", {role: "table", class: "acts"}, h("caption", {}, caption),
+        h("thead", {role: "rowgroup"}, headRow(ACT_HEADS)), body));
 }
 
 // Which acts are polls without news: a POLL and the acknowledgement that answers it. Those with the row that cannot be
@@ -410,12 +420,9 @@ function actsSection(it) {
   it.from = 0;
   const made = section(
       "All that was said", "acts", gapWords(it), actTools(it), h("p", {id: "act-count", role: "status"}),
-      h("div", {class: "scroll"},
-        h("table", {},
-          h("caption", {},
-            "An act is one thing that was said: a command, an answer, an ACK or a break. The bytes are those of the whole block, with its sum at the end."),
-          h("thead", {}, h("tr", {}, ACT_HEADS.map(([words, kind]) => h("th", {scope: "col", class: kind}, words)))),
-          h("tbody", {id: "act-rows"}))));
+      actTable(
+          "An act is one thing that was said: a command, an answer, an ACK or a break. The bytes are those of the whole block, with its sum at the end.",
+          h("tbody", {id: "act-rows", role: "rowgroup"})));
   made.tabIndex = -1;
   if (it.answer === ANSWERS.NO && !it.survey && DEVICE_RULES.includes(it.report.rule))
     made.insertBefore(

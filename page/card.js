@@ -240,7 +240,7 @@ function isUnfollowed(it) {
 function showUnfollowed(it) {
   const row = number(it.row), none = noTraffic(it), isWrong = none || isDamaged(it);
   const lead = none ? noTrafficLead(none) :
-      isWrong       ? "A command was damaged on its way to the recorder." :
+      isWrong       ? "The sum of this command is wrong." :
                       "This is a limit of the checker.";
   fillCard(
       "limit",

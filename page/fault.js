@@ -94,10 +94,7 @@ function saidUpTo(whole) {
     return [h("p", {}, "What was said there isn't listed, since the recording is so long.")];
   const isThere = it.list.first(at) <= it.row && it.list.last(at) >= it.row;
   return [
-    h("div", {class: "scroll", id: "said"},
-      h("table", {}, h("caption", {}, "What was said up to there, in words"),
-        h("thead", {}, h("tr", {}, ACT_HEADS.map(([words, kind]) => h("th", {scope: "col", class: kind}, words)))),
-        h("tbody", {}, rows))),
+    h("div", {id: "said"}, actTable("What was said up to there, in words", h("tbody", {role: "rowgroup"}, rows))),
     isThere ? h("p", {class: "noprint"},
                 h("button", {type: "button", onclick: (e) => jumpToRow(it.row, e.currentTarget)},
                   "Show it in the list of all that was said")) :

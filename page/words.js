@@ -422,6 +422,13 @@ function shortSpeaker(acts, i) {
   return [ASK, VMC_ACK, VMC_NAK, VMC_RET].includes(kind) ? `VMC → ${device}` : `${device} → VMC`;
 }
 
+// Who speaks, as the name of a colour: each act has it in words too.
+function voice(acts, i) {
+  const kind = acts.kind(i);
+  if ([ASK, VMC_ACK, VMC_NAK, VMC_RET, BREAK].includes(kind)) return "controller";
+  return ["", "changer", "bill", "reader", "reader"][acts.device(i)];
+}
+
 function speaker(acts, i) {
   const kind = acts.kind(i), device = DEVICE_NAMES[acts.device(i)];
   if (kind === ASK) return `controller to ${device}`;

@@ -1,8 +1,9 @@
 """How the page looks once a file is chosen: one line with its name, and the answer on the first screen, on a desktop and
-on a telephone. tests/page calls `try_look`."""
+on a telephone; and who speaks in the list of what was said, in words and colours. tests/page calls `try_look`."""
 
 import json
 import pathlib
+import re
 import time
 
 from browser import Browser
@@ -73,9 +74,67 @@ def try_first_screen(page):
             want(came["wide"] <= came["inner"], f"{where}: it scrolls sideways")
 
 
+# What stands in the list of what was said: who speaks, in words and in which colour, and how wide the words are.
+ACTS = """JSON.stringify([...document.querySelectorAll('#act-rows tr')].map((it) => {
+  const who = [...it.querySelectorAll('.who')].find((one) => one.checkVisibility() && one.getBoundingClientRect().width > 1);
+  const said = it.querySelector('.said').getBoundingClientRect();
+  return [who.textContent, getComputedStyle(who).color, said.width, it.getBoundingClientRect().width, getComputedStyle(it).backgroundColor];
+}))"""
+# The page's colours behind a line: of the page, of a fault, and of what was jumped to.
+BEHIND = "JSON.stringify(['--paper', '--mark', '--here'].map((it) => getComputedStyle(document.documentElement).getPropertyValue(it).trim()))"
+
+
+def light(color):
+    """The luminance of a colour, as WCAG has it."""
+    parts = [int(color[i:i + 2], 16) for i in (1, 3, 5)] if color[0] == "#" else [int(it) for it in re.findall(r"\d+", color)[:3]]
+    red, green, blue = (it / 255 / 12.92 if it / 255 <= 0.03928 else ((it / 255 + 0.055) / 1.055) ** 2.4 for it in parts)
+    return 0.2126 * red + 0.7152 * green + 0.0722 * blue
+
+
+def contrast(one, other):
+    high, low = sorted((light(one), light(other)), reverse=True)
+    return (high + 0.05) / (low + 0.05)
+
+
+def speaks(words):
+    """Who speaks, by the words of a line."""
+    words = words.rstrip(": ")
+    if words.startswith(("controller", "VMC")):
+        return "controller"
+    return next((name for name in ("changer", "validator", "reader") if name in words), None)
+
+
+def try_colours(page):
+    """Each speaker has a colour of its own, beside the words, which stands out from what is behind it."""
+    for wide, high in SIZES:
+        for scheme in ("light", "dark"):
+            resize(page, wide, high)
+            if isinstance(page.browser, Browser):
+                page.browser.ask("Emulation.setEmulatedMedia", features=[{"name": "prefers-color-scheme", "value": scheme}])
+            elif scheme == "dark":
+                continue
+            page.give(TOP / "examples" / "four-devices-on-a-bus.csv")
+            time.sleep(0.3)
+            lines, behind = json.loads(page.browser.value(ACTS)), json.loads(page.browser.value(BEHIND))
+            colours = {}
+            for words, colour, said, whole, _ in lines:
+                if speaks(words):
+                    colours.setdefault(speaks(words), set()).add(colour)
+                want(said > 0.9 * whole if wide < 500 else said > 0.25 * whole, f"{wide}: {said} of {whole} pixels for the words")
+            want(set(colours) == {"controller", "changer", "validator", "reader"}, f"{colours}")
+            want(all(len(it) == 1 for it in colours.values()) and len(set.union(*colours.values())) == 4, f"{scheme}: {colours}")
+            for colour in set.union(*colours.values()):
+                least = min(contrast(colour, it) for it in behind)
+                want(least >= 4.5, f"{scheme}: {colour} on {behind} has {least:.2f}")
+    if isinstance(page.browser, Browser):
+        page.browser.ask("Emulation.setEmulatedMedia", features=[])
+
+
 def try_look(page):
     try:
         try_first_screen(page)
+        try_colours(page)
     finally:
         size_again(page)
-    print("once a file is chosen one line stands above the answer, which is on the first screen, also on a telephone")
+    print("once a file is chosen one line stands above the answer, which is on the first screen, also on a telephone; "
+          "who speaks has a colour and words")

@@ -404,7 +404,7 @@ def try_started_before(page):
 def try_focus(page):
     """After each button of the card, and after a check that was stopped and begun again, the card has the focus and is in sight."""
     page.fresh()
-    for name, words in (("level 3.csv", "Leave out the card reader"), ("begins late.csv", "Check as already")):
+    for name, words in (("level 3.csv", "Leave out card reader"), ("begins late.csv", "Check as already")):
         page.choose(name)
         page.settled()
         page.value(f"(() => {{ scrollTo(0, 100000); ({button(words)}).focus(); return 1; }})()")
