@@ -1,5 +1,5 @@
-// After a survey the lists go on after each fault. A fault that breaks a rule of the link is a gap: its row is in no act,
-// and the list begins anew after it. One that breaks a rule of a device stands in its act.
+// After a survey the lists go on after each fault. A fault that breaks a rule of the link is a gap: its row is in no
+// act, and the list begins anew after it. One that breaks a rule of a device stands in its act.
 const breaksLink = ({rule}) => !DEVICE_RULES.includes(rule);
 
 // A bit for each device that is left out in a stretch.
@@ -103,13 +103,15 @@ function gapRow(it, from, to) {
                         `${number(count)} gaps, the first in row ${number(first.row)}. `;
   return [h(
       "tr", {
+        role: "row",
         id: `row-${first.row}`,
         class: here ? "gap here" : "gap",
         "data-gap": first.number,
         "aria-current": here ? "true" : undefined
       },
-      h("td", {class: "number"}, Number.isNaN(first.time) ? "" : timeLink(first.time)), h("td", {class: "rows"}, rows),
-      h("td", {colspan: 4}, h("strong", {}, words), "Words may be missing here. ",
+      h("td", {role: "cell", class: "number"}, Number.isNaN(first.time) ? "" : timeLink(first.time)),
+      h("td", {role: "cell", class: "rows"}, rows),
+      h("td", {role: "cell", class: "said", colspan: 4}, h("strong", {}, words), "Words may be missing here. ",
         faultLink(first, `fault ${number(first.number)}`)))];
 }
 

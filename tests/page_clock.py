@@ -15,9 +15,14 @@ TOP = pathlib.Path(__file__).resolve().parent.parent
 EXAMPLES = TOP / "examples"
 EPOCH = datetime.datetime(1970, 1, 1)
 
+# What is written into the field, and what it means. A recording of hours passes midnight in some.
+CLOCKS = (("2026-11-28 08:00", datetime.datetime(2026, 11, 28, 8)),
+          ("2026-12-31T22:15:00.5", datetime.datetime(2026, 12, 31, 22, 15, 0, 500000)),
+          ("7:05:09", EPOCH.replace(hour=7, minute=5, second=9)), ("23:30", EPOCH.replace(hour=23, minute=30)))
+
 # Every time that stands on the page, by where it stands.
 TIMES = """JSON.stringify({
-  acts: [...document.querySelectorAll('#act-rows tr')].map((it) => [it.children[1].textContent, it.children[0].textContent]),
+  acts: [...document.querySelectorAll('#act-rows tr:not(.gap)')].map((it) => [it.children[1].textContent, it.children[0].textContent]),
   lines: [...document.querySelectorAll('#statement-rows [data-at]')].map((it) => [it.dataset.at, it.textContent]),
   links: [...document.querySelectorAll('[data-at]')].map((it) => [it.dataset.at, it.textContent]),
   faults: [...document.querySelectorAll('#survey-rows tr')].map((it) => [it.children[1].textContent, it.children[2].textContent]),
@@ -102,12 +107,14 @@ def try_given(page):
     page.give(path)
     acts, _ = acts_of(path)
     first = int(path.read_text().split(",", 1)[0])
+    for words, began in CLOCKS:
+        set_began(page, words)
+        search(page, path, clock_time(began, began.year > 1970, first), acts)
+    set_began(page, "")
     page.browser.value("survey().then(() => 1)")
     count += compare(page, path, row_time, "without a clock")
     compare_saved(page, path, None, False, "without a clock")
-    for words, began in (("2026-11-28 08:00", datetime.datetime(2026, 11, 28, 8)),
-                         ("2026-12-31T22:15:00.5", datetime.datetime(2026, 12, 31, 22, 15, 0, 500000)),
-                         ("7:05:09", EPOCH.replace(hour=7, minute=5, second=9)), ("23:30", EPOCH.replace(hour=23, minute=30))):
+    for words, began in CLOCKS:
         set_began(page, words)
         has_date = began.year > 1970
         write = clock_time(began, has_date, first)
@@ -119,7 +126,6 @@ def try_given(page):
         want(write(first) in came["told"], f"{words}: when row 1 was: {came['told']}")
         report = page.browser.value("reportPage(state)")
         want(words in report and all(told in report for _, told in came["faults"]), f"{words}: the saved report")
-        search(page, path, write, acts)
     for words in ("8 o'clock", "25:00", "2026-02-30 08:00", "08:60", "2026-11-28"):
         set_began(page, words)
         came = shown(page)

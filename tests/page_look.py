@@ -75,7 +75,7 @@ def try_first_screen(page):
 
 
 # What stands in the list of what was said: who speaks, in words and in which colour, and how wide the words are.
-ACTS = """JSON.stringify([...document.querySelectorAll('#act-rows tr')].map((it) => {
+ACTS = """JSON.stringify([...document.querySelectorAll('#act-rows tr:not(.gap)')].map((it) => {
   const who = [...it.querySelectorAll('.who')].find((one) => one.checkVisibility() && one.getBoundingClientRect().width > 1);
   const said = it.querySelector('.said').getBoundingClientRect();
   return [who.textContent, getComputedStyle(who).color, said.width, it.getBoundingClientRect().width, getComputedStyle(it).backgroundColor];
