@@ -27,7 +27,7 @@ function isUnjudged(it, {first}) {
 // The fault among some rows: the row that cannot be, or another one that a survey found. Null if there is none.
 function faultIn(it, {first, last}) {
   if (it.answer !== ANSWERS.NO) return null;
-  if (first <= it.row && it.row <= last) return {row: it.row, rule: it.report.rule};
+  if (first <= it.row && it.row <= last) return {row: it.row, rule: it.unjudged ? "unjudged" : it.report.rule};
   return it.survey ? faultBetween(it.survey, first, last) : null;
 }
 

@@ -84,9 +84,10 @@ const storyAfterDamage = (it) =>
 const nameWords = (it) => h("p", {class: "soft"}, "Recording: ", nameShown(it.name), `. ${wayWords(it)}`);
 
 // The answer in a word or two, for the window's title.
-function answerWord({answer, report}) {
+function answerWord({answer, report, unjudged}) {
   if (answer === ANSWERS.YES) return "yes";
   if (answer !== ANSWERS.NO) return "no verdict";
+  if (unjudged) return "not judged";
   return report.rule === "Profile" ? "not followed" : "no";
 }
 
@@ -95,6 +96,7 @@ function showVerdict(it) {
     case ANSWERS.YES:
       return showYes(it);
     case ANSWERS.NO:
+      if (it.unjudged) return showUnjudged(it, it.unjudged);
       return it.report.rule === "Profile" ? showUnfollowed(it) : showNo(it);
     case ANSWERS.BAD_ROW:
       return showBadRow(it);
@@ -255,8 +257,8 @@ function showUnfollowed(it) {
       surveyOffer(it), nameWords(it));
 }
 
-function leaveOut(it) {
-  const device = DEVICES[unfollowedDevice(it)];
+function leaveOut(it, which = unfollowedDevice(it)) {
+  const device = DEVICES[which];
   if (!device || by("without-" + device).checked) return null;
   const check = () => {
     by("without-" + device).checked = true;

@@ -1,11 +1,22 @@
 // The row that cannot be, or that is no row: what was said up to it, what its rule means, and the rows of the file.
 const FAULT_TITLES = {
   limit: "Where the checker stops following",
+  unjudged: "The row that isn't judged",
   no: "The message that breaks the protocol",
   none: "Where the reading ended",
 };
+const FAULT_VERDICTS = {
+  limit: "not followed from here on",
+  unjudged: "this row isn't judged",
+  no: "this row breaks the rule",
+  none: "this line is no row",
+};
 
-const faultKind = (it) => it.answer !== ANSWERS.NO ? "none" : it.report.rule === "Profile" ? "limit" : "no";
+function faultKind(it) {
+  if (it.answer !== ANSWERS.NO) return "none";
+  if (it.unjudged) return "unjudged";
+  return it.report.rule === "Profile" ? "limit" : "no";
+}
 
 function faultSection(it) {
   const kind = faultKind(it), inner = kind === "none" ? [] : [...saidUpTo(it), ruleWords(it)];
@@ -21,11 +32,7 @@ function afterWords(it, row) {
 // The rows of the file about it, as they stand there.
 function fileRows(it) {
   const kind = faultKind(it), lines = it.lines.filter((l) => l.row >= it.row - 6 && l.row < it.row + 5);
-  const words = (line) => line.row > it.row ?
-      afterWords(it, line.row) :
-      line.row < it.row ?
-      "" :
-      {limit: "not followed from here on", no: "this row breaks the rule", none: "this line is no row"}[kind];
+  const words = ({row}) => row > it.row ? afterWords(it, row) : row < it.row ? "" : FAULT_VERDICTS[kind];
   const rows = lines.map((line) => {
     const fields = shown(line).split(","), mark = line.row === it.row;
     const sender = fields.length === 3 ? {M: "controller", S: "device", B: "break"}[fields[1]] ?? "" : "";
@@ -48,10 +55,10 @@ function part(title, paragraphs) {
   ];
 }
 
-// What the rule means. What to look at is for the side that sent the row. Of a row that isn't followed nobody is
-// blamed, and the card says what to do.
+// What the rule means. What to look at is for the side that sent the row. Of a row that isn't followed or isn't judged
+// nobody is blamed, and the card says what to do.
 function ruleWords(it) {
-  const {rule, blame} = it.report, texts = RULES[rule], isLimit = rule === "Profile";
+  const {rule, blame} = it.report, texts = RULES[rule], isLimit = rule === "Profile" || it.unjudged;
   const parts = texts.bench.map((words) => h("p", {}, words));
   if (!isLimit) parts.push(...lookParts(texts, blame).flat());
   parts.push(...part("What such a row is", texts.row));

@@ -35,9 +35,12 @@ function tellFile(mine, i, {doing, part}) {
   if (!mine.isStopped) by("files-bar").value = i + (doing === "Reading" ? part / 2 : 0.5);
 }
 
-// The cells of a no, as its card has it: what isn't followed is no fault of anybody, and a late beginning comes first.
+// The cells of a no, as its card has it: what isn't followed or isn't judged is no fault of anybody, and a late
+// beginning comes first.
 function noCells(told) {
   const report = readReport(told.text), row = number(told.row), {rule, blame} = report;
+  if (unjudgedReader({...told, report, list: new Acts(told.acts, told.listed)}))
+    return ["not judged: open it to see what would tell", row, rule, "nobody"];
   if (rule === "Profile") return ["not followed: open it to leave out a device", row, rule, "nobody"];
   const isSame = told.late && isSameLate({...told, report});
   const isLate = told.late && !isSame && (told.late.answer === ANSWERS.YES || told.row === 1);

@@ -3,6 +3,7 @@ function takeActs(it) {
   it.list = new Acts(it.acts, it.listed);
   noteSetups(it.list, it.way.given, it.hole, it.found);
   it.report = it.answer < 2 ? readReport(it.text) : null;
+  it.unjudged = it.answer === ANSWERS.NO && !noTraffic(it) ? unjudgedReader(it) : 0;
 }
 
 function show(it) {

@@ -228,7 +228,7 @@ function outcomeWords(it, line) {
 
 // What of a line is judged, after a no.
 function partsJudged(it, parts) {
-  if (parts.some((m) => faultIn(it, m))) return h("strong", {}, "breaks the rule");
+  if (parts.some((m) => faultIn(it, m))) return h("strong", {}, it.unjudged ? "isn't judged" : "breaks the rule");
   const after = parts.filter((m) => isUnjudged(it, m)).length;
   return after === parts.length ? "not judged" : after ? "not judged in part" : "";
 }
@@ -309,7 +309,7 @@ function csv(it) {
       m.acknowledged ? "yes" : "no",
       it.answer > ANSWERS.NO ? "" :
           isUnjudged(it, m)  ? "no" :
-          faultIn(it, m)     ? "cannot be" :
+          faultIn(it, m)     ? it.unjudged ? "no" : "cannot be" :
                                "possible"
     ]);
   return rows.map((row) => row.map(field).join(",")).join("\r\n") + "\r\n";

@@ -213,7 +213,7 @@ function badRowWords(lines, row, fault) {
 }
 
 // What a fault is, in a few words.
-const faultIs = (rule) => rule === "Profile" ? "isn't followed" : `breaks the rule ${rule}`;
+const faultIs = (rule) => ({Profile: "isn't followed", unjudged: "isn't judged"})[rule] ?? `breaks the rule ${rule}`;
 
 // Tables of several pages ----
 

@@ -184,7 +184,7 @@ function drawFault(it, room) {
     row,
     x: at - 2,
     wide: 4,
-    words: `${words} ${faultIs(it.report.rule)}`,
+    words: `${words} ${faultIs(it.unjudged ? "unjudged" : it.report.rule)}`,
     go: (from) => isThere ? jumpToRow(it.row, from) : showTime(it, fault)
   });
   return [

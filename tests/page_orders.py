@@ -235,7 +235,8 @@ class Orders:
         if name is None:
             want(came["name"] is None and came["title"] == "mdbcheck" and not came["again"], f"nothing was given: {came['verdict']!r}")
             return "nothing"
-        word = {"card yes": "yes", "card no": "no", "card limit": "not followed"}.get(came["card"], "no verdict")
+        limit = "not judged" if came["word"].startswith("Not judged") else "not followed"
+        word = {"card yes": "yes", "card no": "no", "card limit": limit}.get(came["card"], "no verdict")
         want(came["name"] == name, f"the card names {came['name']}: {came['verdict']!r}")
         want(came["title"] == f"{word} – {name} – mdbcheck", f"the card is {came['card']}, the title {came['title']!r}")
         announced = "All faults. " if came["survey"] is not None else came["surveyTold"] or f"{name}: {came['word']}. {came['lead']}"
@@ -261,7 +262,7 @@ class Orders:
             want(came["badRow"] and came["badRow"] in err, f"{came['verdict']!r}, wanted {err!r}")
         else:
             want(came["text"] == text, f"{words}: the text is {came['text']!r}, wanted {text!r}")
-            want(("no" if word == "not followed" else word) == text.split()[1], f"the card is {came['card']}")
+            want(("no" if word.startswith("not ") else word) == text.split()[1], f"the card is {came['card']}")
         if came["survey"] is not None:
             text = self.program(self.name, words, "survey")[1]
             want(came["survey"] == text and came["shown"] == text, f"{words}: the survey is {came['survey']!r}, wanted {text!r}")

@@ -1,0 +1,75 @@
+"""Whose feature level the rows of a recording don't show, where a no rests on it.
+
+Written from docs/bench/recorded-while-it-ran.md (*Feature levels*), apart from the program and the page. Scripts of tests/
+compare both with it.
+"""
+
+import re
+
+READERS = {2: "cashless", 12: "cashless-2"}
+
+
+def rows_of(data):
+    """The rows at the front of a text, up to the first line that is none: line and value."""
+    for line in data.decode("latin-1").removeprefix("ï»¿").replace('"', "").splitlines():
+        if not line.strip():
+            continue
+        fields = line.split(",")
+        if len(fields) != 3 or not re.fullmatch(r"[MSB]", fields[1]):
+            return
+        yield fields[1], int(fields[2], 10 if fields[1] == "B" else 16)
+
+
+def given_levels(words):
+    """The readers that `--setup` says to have level 1."""
+    text = " ".join(words)
+    return {reader: 1 for reader in READERS.values() if f"{reader} 01 01" in text}
+
+
+def shown_levels(rows, words):
+    """The levels that the controller reported to each reader, and those that the readers reported."""
+    told, own, block, answer = {}, given_levels(words), [], []
+    for line, word in rows:
+        if line == "B":
+            block, answer = [], []
+        elif line == "M" and word > 255:
+            block, answer = [word & 255], []
+        elif line == "M" and not answer:
+            block.append(word)
+            if len(block) == 7 and block[0] in (0x11, 0x61) and block[1] == 0:
+                told[READERS[block[0] >> 3]] = block[2]
+        elif line == "M":
+            answer = []
+        else:
+            answer.append(word & 255)
+            reader = READERS.get(block[0] >> 3) if block else None
+            if word > 255 and reader and len(answer) > 8 and answer[0] == 1:
+                own[reader] = answer[1]
+    return told, own
+
+
+def unjudged(data, words, row, rule, blame):
+    """The reader of a no that isn't judged; None if it is judged."""
+    if "--joined" not in words:
+        return None
+    rows = list(rows_of(data))[:row]
+    begun = next((word & 255 for line, word in reversed(rows) if line == "M" and word > 255), None)
+    reader = READERS.get(begun >> 3) if begun is not None else None
+    if reader is None:
+        return None
+    told, own = shown_levels(rows[:-1], words)
+    if told.get(reader, 2) < 2 or own.get(reader, 2) < 2:
+        return None
+    if rule in ("Cashless", "Message"):
+        return reader
+    if blame != "controller":
+        is_open = rule == "Answer" or rule == "Profile" and told.get(reader, 0) < 2
+    else:
+        is_open = rule in ("Sum", "Mode") and begun & 7 in (1, 3)
+    return reader if is_open else None
+
+
+def line_of(reader):
+    """The line of the program on such a no."""
+    return (f"mdbcheck: not judged: the rows don't show whether {reader} and the controller speak feature level 1; "
+            f"a recording of the machine's start would (or leave it out: --without {reader})\n")
