@@ -149,11 +149,13 @@ function payoutReason(it, name, {difference: [low, high]}) {
 // The row from which on paid-out isn't known; 0 if there is none.
 const choiceRow = (it) => openMoneyOf(it).find(({kind}) => kind === "choice")?.rows[0][0] ?? 0;
 
-// The list of an answer: after a no, it ends where the list of acts ends.
+// The list of an answer: after a no, it ends where the list of acts ends. What a reader said whose level isn't known
+// may mean something else.
 function openMoneyOf(it) {
   if (it.openMoney) return it.openMoney;
   const cuts = it.cuts ?? (it.link.answer === ANSWERS.NO ? [it.link.row] : []);
-  it.openMoney = it.listed ? openMoney(it.list, {hole: it.hole, cuts, choices: choicesOf(it)}) : [];
+  const all = it.listed ? openMoney(it.list, {hole: it.hole, cuts, choices: choicesOf(it)}) : [];
+  it.openMoney = all.filter(({device}) => device !== it.unjudged);
   return it.openMoney;
 }
 
@@ -229,7 +231,7 @@ const openPart = (it) => h("div", {id: "open-money"}, openInner(it));
 function showOpen(it) {
   const before = openKinds(asAtFirst(it));
   it.openMoney = null;
-  by("open-money").replaceChildren(...openInner(it));
+  by("open-money")?.replaceChildren(...openInner(it));
   const steps = openKinds(it).filter((kind) => !before.includes(kind)).map((kind) => nextStep(OPEN_NEXT[kind]));
   by("next")?.querySelector("ul").append(...steps.map(sentence));
 }
