@@ -38,11 +38,15 @@ function tellFile(mine, i, {doing, part}) {
 // The cells of a no, as its card has it: what isn't followed or isn't judged is no fault of anybody, and a late
 // beginning comes first.
 function noCells(told) {
-  const report = readReport(told.text), row = number(told.row), {rule, blame} = report;
-  if (unjudgedReader({...told, report, list: new Acts(told.acts, told.listed)}))
+  const report = readReport(told.text), row = number(told.row), {rule, blame} = report, it = {...told, report};
+  if (unjudgedReader({...it, list: new Acts(told.acts, told.listed)}))
     return ["not judged: open it to see what would tell", row, rule, "nobody"];
-  if (rule === "Profile") return ["not followed: open it to leave out a device", row, rule, "nobody"];
-  const isSame = told.late && isSameLate({...told, report});
+  if (noTraffic(it)) return ["no: this isn't MDB traffic", row, rule, "nobody"];
+  if (rule === "Profile") {
+    const why = isDamaged(it) ? "a damaged message" : "open it to leave out a device";
+    return [`not followed: ${why}`, row, rule, "nobody"];
+  }
+  const isSame = told.late && isSameLate(it);
   const isLate = told.late && !isSame && (told.late.answer === ANSWERS.YES || told.row === 1);
   return [isLate ? "no: was the machine already running? Open it" : "no", row, rule, BLAMES[blame]];
 }

@@ -130,10 +130,25 @@ def try_colours(page):
         page.browser.ask("Emulation.setEmulatedMedia", features=[])
 
 
+def try_printed(page):
+    """Printed, also from a dark screen, the title stands above the card, and the names of speakers on white."""
+    if not isinstance(page.browser, Browser):
+        return
+    resize(page, 794, 1123)
+    page.give(TOP / "examples" / "four-devices-on-a-bus.csv")
+    page.browser.ask("Emulation.setEmulatedMedia", media="print", features=[{"name": "prefers-color-scheme", "value": "dark"}])
+    came = places(page)
+    want(came["title"][3] <= came["card"][1], f"printed: the title is over the card: {came['title']}, {came['card']}")
+    faint = [it for _, it, *_ in json.loads(page.browser.value(ACTS)) if contrast(it, "#ffffff") < 4.5]
+    want(not faint, f"printed: {faint}")
+    page.browser.ask("Emulation.setEmulatedMedia", media="", features=[])
+
+
 def try_look(page):
     try:
         try_first_screen(page)
         try_colours(page)
+        try_printed(page)
     finally:
         size_again(page)
     print("once a file is chosen one line stands above the answer, which is on the first screen, also on a telephone; "
