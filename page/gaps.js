@@ -99,7 +99,7 @@ function gapRow(it, from, to) {
   if (!count) return [];
   const first = it.gaps[begin], last = it.gaps[end - 1], isOne = count === 1, here = isHere(it, first.row, last.row);
   const rows = isOne ? String(first.row) : `${first.row}–${last.row}`;
-  const words = isOne ? `Gap: row ${number(first.row)} ${faultIs(first.rule)} (${BLAMES[first.blame]}). ` :
+  const words = isOne ? `Gap: row ${number(first.row)} ${faultIs(first.rule)}, sent by ${BLAMES[first.blame]}. ` :
                         `${number(count)} gaps, the first in row ${number(first.row)}. `;
   return [h(
       "tr", {

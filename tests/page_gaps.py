@@ -7,6 +7,7 @@ foreign. Where `show` stops at a row that the survey takes, the part ends with t
 that breaks a rule of a device, and the next one begins after that.
 """
 
+import bisect
 import collections
 import json
 import re
@@ -65,9 +66,9 @@ def part_of(shown, rows, first, last, is_joined, left_out):
 
 def left_out_in(made, number, words):
     """Who is left out from a stretch on; nobody else is if no stretch comes."""
-    for it in made.stretches:
-        if it["number"] >= number:
-            return it["report"].get("without", [])
+    at = bisect.bisect_left(made.stretches, number, key=lambda it: it["number"])
+    if at < len(made.stretches):
+        return made.stretches[at]["report"].get("without", [])
     return [words[i + 1] for i, word in enumerate(words) if word == "--without"]
 
 
@@ -77,11 +78,10 @@ def parts(shown, made, words, most):
     end = made.rows if len(made.faults) <= most else faults[-1][0]
     while first <= end:
         left_out = left_out_in(made, number + 1, words)
-        rest = faults[number:]
-        link = next((k for k, fault in enumerate(rest) if fault[1] not in DEVICE_RULES), None)
-        last = end if link is None else rest[link][0] - 1
+        link = next((k for k in range(number, len(faults)) if faults[k][1] not in DEVICE_RULES), None)
+        last = end if link is None else faults[link][0] - 1
         part = part_of(shown, made.lines, first, last, is_joined, left_out)
-        cut = number + len(rest if link is None else rest[:link + 1])
+        cut = len(faults) if link is None else link + 1
         if part.halt:
             cut = max(k for k, fault in enumerate(faults) if fault[0] < part.halt) + 1
             last = faults[cut - 1][0]

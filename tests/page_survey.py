@@ -436,6 +436,59 @@ def try_many(page):
     print("10,000 faults, more than are listed, times in milliseconds and exchanged lines")
 
 
+# The sales of the table: their rows, and the outcome.
+SALES = """[...document.querySelectorAll('#statement-rows tr')].map((line) =>
+  [[...line.querySelectorAll('a[data-row]')].map((a) => Number(a.dataset.row)), line.children[4].textContent])"""
+
+
+def try_cut_sales(page):
+    """Four sales, of which one fault damages the end of the second, and one stands between approval and end of the
+    third. Neither is listed as sold with an amount."""
+    generate = make_day.load()
+    sale, rows, at, steps = generate.Sale(0x10), [], 0, {}
+    for name, part in [("", generate.set_up()), *((f"{k} {i}", it) for k in range(4) for i, it in enumerate(sale.sold()))]:
+        steps[name] = len(rows) + 1
+        for gap, row in part + generate.poll_all():
+            at += gap
+            rows.append(f"{at},{row}")
+    damaged = [steps["1 3"] + 4, steps["2 3"] - 4]
+    for row in damaged:
+        time_at, line, value = rows[row - 1].split(",")
+        rows[row - 1] = f"{time_at},{line},{int(value, 16) ^ 2:03X}"
+    made = compare(page, text_of(rows), [], "cut.csv")
+    want([it[0] for it in made.faults] == damaged, f"the faults: {made.faults}, wanted {damaged}")
+    first = {f"{k} {i}": steps[f"{k} {i}"] for k in range(4) for i in (1, 3)}
+    poll = {k: steps[f"{k} 2"] + 2 for k in range(4)}
+    whole = [([first[f"{k} 1"], poll[k], first[f"{k} 3"]], "sold") for k in (0, 3)]
+    words = "no outcome before row {}, which cuts this sale"
+    cut = [([first[f"{k} 1"], poll[k], row], words.format(row)) for k, row in zip((1, 2), damaged)]
+    late = ([first["2 3"], damaged[1]], f"sold; row {damaged[1]} cuts this sale")
+    came = [(rows, said.removesuffix("possible")) for rows, said in page.value(SALES)]
+    want(came == [whole[0], *cut, late, whole[1]], f"the sales are {came}")
+    last = page.value("[...document.querySelectorAll('#statement-rows tr')].at(-1).lastChild.textContent")
+    want(last == "soldcard reader 1 0.20 and 1 of unknown valuecontroller 0.20 and 1 of unknown value", last)
+    title = page.value("by('line-unread').textContent")
+    want(title == "The gaps are hatched." and page.value("document.querySelectorAll('#line rect.unread').length") > 0, title)
+    print("sales that a fault cuts are two lines, and none has an amount that the fault may hide")
+
+
+def try_unread(page):
+    """Before a survey what comes after a fault of the link is hatched; a search finds a gap's acts after it."""
+    page.give(EXAMPLES / "a-days-recording.csv", [], "a-days-recording.csv")
+    told = page.value("[by('line-unread').textContent, document.querySelectorAll('#line rect.unread').length, state.line.end, state.gaps ?? null, by('gaps')]")
+    end = int((EXAMPLES / "a-days-recording.csv").read_text().splitlines()[-1].split(",")[0])
+    want(told == ["What comes after row 100 wasn't read: it is hatched.", 1, end, None, None], f"before a survey: {told}")
+    page.survey()
+    page.value("(() => { by('act-polls').checked = true; by('act-text').value = '0B 0B'; by('act-text').dispatchEvent(new Event('input')); return 1; })()")
+    page.until("state.isSearched")
+    hits = page.value("state.hits.map((i) => state.list.first(i))")
+    wanted = [int(line.split("-")[0]) for line in page.lines() if "0B 0B" in line]
+    want(hits == wanted and wanted[-1] > 100, f"0B 0B is found in {hits}, wanted {wanted}")
+    gaps = page.value("[...document.querySelectorAll('#act-rows tr.gap')].map((it) => it.id)")
+    want(gaps == ["row-100"], f"the gaps among what was found: {gaps}")
+    print("what wasn't read is hatched, and a search goes over all stretches")
+
+
 def given(page, path):
     """Gives a file, and surveys it after a no. Answers how long that took, in seconds."""
     begin = time.monotonic()
@@ -675,6 +728,8 @@ def try_all(browser, work, number, seed):
     try_about(page)
     try_links(page)
     try_report(page)
+    try_cut_sales(page)
+    try_unread(page)
     if isinstance(browser, Browser):
         try_seen(page)
     try_generated(page, number, seed)
