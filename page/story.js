@@ -216,12 +216,16 @@ function valuelessStory(it) {
 }
 
 // Nothing is open: what both books say.
-function agreedWords(it) {
-  const sums =
-      Object.entries(it.report.accounts)
-          .filter(([, a]) => !isZero(a))
-          .map(
-              ([name, a]) =>
-                  `${small(ACCOUNTS[name].title)} ${money(a.device[0], it.report.decimals[ACCOUNTS[name].device])}`);
+const SUM_WORDS = {
+  "coins-in": "in coins",
+  "bills-in": "in bills",
+  "paid-out": "paid out"
+};
+
+function agreedWords({report: {accounts, decimals}}) {
+  const amount = (name, a) => money(a.device[0], decimals[ACCOUNTS[name].device]);
+  const sums = Object.entries(accounts)
+                   .filter(([, a]) => !isZero(a))
+                   .map(([name, a]) => `${amount(name, a)} ${SUM_WORDS[name] ?? small(ACCOUNTS[name].title)}`);
   return sums.length ? `The controller and the devices agree for certain: ${listed(sums)}.` : "No money was reported.";
 }

@@ -66,7 +66,7 @@ EXAMPLES = {
         "From level 2 on the messages of a session have other forms, which the checker doesn't know."],
     "coins-beside-a-recycler": [
         "The bill validator sends the message B1 of bill recycling (rows 194–195). The checker doesn't follow this message."],
-    "four-devices-on-a-bus": ["The controller and the devices agree for certain: coins in 0.25."],
+    "four-devices-on-a-bus": ["The controller and the devices agree for certain: 0.25 in coins."],
     "late-acknowledgement": [
         "The changer answered RESET (rows 1–2) after 6.297 ms (row 3).",
         "An answer starts at most 6.296 ms after the word before it."],
@@ -75,11 +75,11 @@ EXAMPLES = {
     "sale-answered-by-a-reset-message": [
         "Up to 0.10 isn't certain. Card reader 1 booked 0.00 to 0.10; the controller counted 0.10.",
         "Perhaps this is why: card reader 1 answered the sale of item 5 (rows 55–59) with the report that it was reset (rows 60–61). Whether it had booked it by then isn't certain."],
-    "sale-by-card": ["The controller and the devices agree for certain: approved by card reader 1 1.00 and sold by card reader 1 1.00."],
+    "sale-by-card": ["The controller and the devices agree for certain: 1.00 approved by card reader 1 and 1.00 sold by card reader 1."],
     "sale-never-approved": [
         "The controller asked for 1.50 for item 8 (rows 58–64), and card reader 1 denied it (rows 68–69).",
         "The controller reported item 8 as sold all the same (rows 71–75). No approval of the reader pays for this 1.50."],
-    "sale-of-one-item": ["The controller and the devices agree for certain: approved by card reader 1 0.10 and sold by card reader 1 0.10."],
+    "sale-of-one-item": ["The controller and the devices agree for certain: 0.10 approved by card reader 1 and 0.10 sold by card reader 1."],
     "silent-changer": [
         "The coin changer gave no answer for 3.007 s: from 0.531 s to 3.539 s, asked 7 times (rows 9–22)."],
     "wrong-sum-in-a-poll-reply": [
