@@ -94,6 +94,7 @@ function showWay() {
   by("setups").hidden = !joined;
   for (const device of DEVICES.slice(1)) by("setup-" + device).disabled = by("without-" + device).checked;
   by("again").disabled = !file || isWorking;
+  by("began").disabled = isWorking;
   by("stale").hidden = !state || isWorking || wayKey() === state.key;
 }
 

@@ -111,7 +111,9 @@ def try_given(page):
         set_began(page, words)
         search(page, path, clock_time(began, began.year > 1970, first), acts)
     set_began(page, "")
-    page.browser.value("survey().then(() => 1)")
+    # Times that are shown while a survey is made can't become those of another clock than the survey's.
+    want(page.browser.value("(() => { const done = survey(), is = by('began').disabled; return done.then(() => is && !by('began').disabled); })()"),
+         "the clock can be set while a survey is made")
     count += compare(page, path, row_time, "without a clock")
     compare_saved(page, path, None, False, "without a clock")
     for words, began in CLOCKS:
