@@ -25,13 +25,13 @@ function actsOf(acts) {
   return new of.Acts(buffer, acts.length);
 }
 
-function entriesOf({acts, setups = {}, cuts = [], choices = []}) {
+function entriesOf({acts, setups = {}, cuts = [], hole = -1, choices = []}) {
   const list = actsOf(acts), given = of.DEVICES.map((device, i) => {
     const hex = setups[device];
     return hex ? of.readSetup(i, hex.split(" ").map((it) => parseInt(it, 16))) : null;
   });
-  of.noteSetups(list, given, -1, {setups: []});
-  return of.openMoney(list, {cuts, choices}).map(({until, ...it}) => ({
+  of.noteSetups(list, given, hole, {setups: []});
+  return of.openMoney(list, {hole, cuts, choices}).map(({until, ...it}) => ({
     ...it,
     device: of.DEVICES[it.device],
     amounts: it.amounts.map((one) => ({...one, device: of.DEVICES[one.device]})),

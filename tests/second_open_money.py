@@ -9,353 +9,432 @@ line each.
     entries(rows, shown, setups) -> list of entries
 
 is the same as a function: the bytes of the rows, the lines of `show`, and set-up data by device, as `--setup` has them.
+After a line `fault`, and after a line `gap`, the acts of another part of the recording may follow.
 """
 
 import json
 import sys
 
-KINDS = ["approved", "failed", "escrow", "lever", "payout", "choice", "trouble"]
-READERS = ("cashless", "cashless-2")
-REPORTS = {"changer": {3, 4, 6, 7, 8, 9, 0x0C, 0x0D}, "bill": {1, 2, 4, 5, 7, 8, 0x0C}}
-LENGTHS = {0: 1, 1: 8, 3: 3, 4: 1, 5: 3, 6: 1, 7: 1, 8: 1, 9: 30, 0x0A: 2, 0x0B: 1}
+KINDS = ('approved', 'failed', 'escrow', 'lever', 'payout', 'choice', 'trouble')
+READERS = {'cashless': 0, 'cashless-2': 0x50}
+CHANGER_TROUBLE = {0x03, 0x04, 0x06, 0x07, 0x08, 0x09, 0x0C, 0x0D}
+BILL_TROUBLE = {0x01, 0x02, 0x04, 0x05, 0x07, 0x08, 0x0C}
+READER_LENGTH = {1: 8, 3: 3, 5: 3, 9: 30, 0x0A: 2}
 
 
-class Act:
-    """A line of `show`."""
+def acts_of(shown):
+    """The lines of `mdbcheck show` as tuples: first row, last row, what, device, bytes."""
+    acts = []
+    for line in shown:
+        words = line.split()
+        if words[0] == 'fault':
+            acts.append((int(words[1]), int(words[1]), 'fault', words[3], words[2]))
+        elif words[0] == 'gap':
+            acts.append((0, 0, 'gap', None, []))
+        else:
+            first, last = words[0].split('-')
+            data = [int(word, 16) for word in words[3:]]
+            acts.append((int(first), int(last), words[1], words[2] if len(words) > 2 else None, data))
+    return acts
 
-    def __init__(self, line, times):
-        where, self.kind, *words = line.split(" ")
-        self.rows = [int(it) for it in where.split("-")]
-        self.time = times[self.rows[0]]
-        self.device = words[0] if self.kind not in ("foreign", "break", "cut") else None
-        self.data = bytes(int(it, 16) for it in words[1:])[:-1] if self.device else b""
 
-    def is_of(self, kind, device):
-        return self.kind == kind and self.device == device
-
-
-def cut(device, data):
-    """The messages of a reply."""
+def messages(device, data):
+    """The messages of a reply, without its sum, from left to right."""
+    at = 0
     found = []
-    while data:
-        size = LENGTHS.get(data[0], len(data)) if device in READERS else 2 if device == "changer" and data[0] >= 0x40 else 1
-        found.append(data[:size])
-        data = data[size:]
+    while at < len(data):
+        first = data[at]
+        if device == 'changer':
+            size = 2 if first >= 0x40 else 1
+        elif device == 'bill':
+            size = 1
+        elif first == 2:
+            size = len(data) - at
+        else:
+            size = READER_LENGTH.get(first, 1)
+        found.append(data[at:at + size])
+        at += size
     return found
 
 
-def setup_of(device, data):
-    """Scale, decimals and credits."""
-    if device == "changer":
-        return data[3], data[4], data[7:]
-    if device == "bill":
-        return data[3] * 256 + data[4], data[5], data[11:]
-    told = [it for it in cut(device, data) if it[0] == 1]
-    return (told[-1][4], told[-1][5], b"") if told else None
+class Values:
+    """What a coin, a bill or an approval is worth, by a device's last set-up."""
 
+    def __init__(self):
+        self.data = {}
 
-class Reader:
-    """The acts, one after the other, with what comes after each in sight."""
+    def decimals(self, device):
+        data = self.data.get(device)
+        return None if data is None else data[5 if device == 'bill' else 4]
 
-    def __init__(self, acts, setups):
-        self.acts, self.setups, self.found = acts, setups, []
-
-    def value(self, device, kind):
-        """What a coin or bill is worth; None if that isn't known."""
-        setup = self.setups.get(device)
-        if not setup:
+    def one(self, device, kind):
+        """The value of a coin or bill of a type, or of an approved number."""
+        data = self.data.get(device)
+        if data is None:
             return None
-        credit = setup[2][kind] if kind < len(setup[2]) else 0
-        return 0 if credit == 0xFF else setup[0] * credit
-
-    def total(self, device, values, setup=None):
-        known = [it for it in values if it is not None]
-        setup = setup or self.setups.get(device)
-        return {"device": device, "units": sum(known) if known else None, "decimals": setup[1] if setup else None,
-                "unvalued": len(values) - len(known)}
-
-    def heard(self, i):
-        """Whether the controller acknowledged the reply."""
-        after = next((it for it in self.acts[i + 1:] if it.kind not in ("vmc-ret", "repeat")), None)
-        return after is not None and after.kind == "vmc-ack"
-
-    def events(self):
-        """What happens, in order: act, name, and what it is of."""
-        command = b""
-        for i, act in enumerate(self.acts):
-            if act.kind == "break":
-                yield i, act, "break", None, None
-            elif act.kind == "ask":
-                command = act.data
-                yield i, act, "ask", act.device, act.data
-            elif act.kind in ("ack", "nak"):
-                yield i, act, "answer", act.device, act.kind
-            elif act.kind == "reply":
-                yield i, act, "answer", act.device, act.kind
-                is_setup = act.device in READERS or command[:1] in (b"\x09", b"\x31")
-                self.setups[act.device] = is_setup and setup_of(act.device, act.data) or self.setups.get(act.device)
-                if act.device in READERS or command[:1] in (b"\x0B", b"\x33"):
-                    for message in cut(act.device, act.data):
-                        yield i, act, "message", act.device, message
-                elif command[:1] == b"\x36":
-                    yield i, act, "stacker", act.device, act.data
-
-    def entry(self, kind, act, **more):
-        return {"kind": kind, "device": act.device, "time": act.time, "rows": [act.rows], "amounts": [], "came": None,
-                "cameRows": None, "count": 1, "item": None, "code": None, "answer": None, "last": act.time, **more}
-
-    def list(self, entry, came=None, rows=None):
-        if entry["amounts"] and all(it["units"] == 0 and not it["unvalued"] for it in entry["amounts"]):
-            return
-        self.found.append({**entry, "came": came, "cameRows": rows})
+        if device in READERS:
+            return data[3] * kind
+        scale, credits = (data[3], data[7:])
+        if device == 'bill':
+            scale, credits = (data[3] * 256 + data[4], data[11:])
+        credit = credits[kind] if kind < len(credits) else 0
+        return 0 if credit == 0xFF else scale * credit
 
 
-class Sales:
-    """Approvals of one reader."""
+class Sum:
+    """An amount of one device: what has a value, and how many have none."""
 
-    ENDS = {0: "restarted", 3: "begun", 6: "denied", 7: "ended"}
+    def __init__(self, device):
+        self.device, self.units, self.unvalued, self.count = device, None, 0, 0
 
-    def __init__(self, reader, device):
-        self.reader, self.device, self.open, self.item = reader, device, None, None
-
-    def end(self, came, rows):
-        if self.open:
-            self.reader.list(self.open, came, rows)
-        self.open = None
-
-    def take(self, i, act, what, data):
-        if what == "break":
-            self.end("break", act.rows)
-            self.item = None
-        elif what == "ask" and data[0] % 8 == 0:
-            self.end("reset", act.rows)
-            self.item = None
-        elif what == "ask" and data[0] % 8 == 3:
-            sub = data[1]
-            if sub == 0:
-                self.end("request", act.rows)
-                self.item = data[4] * 256 + data[5]
-            elif sub == 4:
-                self.end("complete", act.rows)
-            elif sub == 3 and self.open:
-                self.reader.list({**self.open, "kind": "failed", "rows": [*self.open["rows"], act.rows], "last": act.time})
-            if sub in (2, 3):
-                self.open = None
-        elif what == "message" and data[0] in self.ENDS:
-            self.end(self.ENDS[data[0]], act.rows)
-        elif what == "message" and data[0] == 5 and not self.open and self.reader.heard(i):
-            setup = self.reader.setups.get(self.device)
-            value = (data[1] * 256 + data[2]) * setup[0] if setup else None
-            self.open = self.reader.entry("approved", act, item=self.item, amounts=[self.reader.total(self.device, [value])])
-
-
-class Escrow:
-    """The bill in escrow."""
-
-    device = "bill"
-
-    def __init__(self, reader):
-        self.reader, self.open, self.type = reader, None, None
-
-    def end(self, came, rows):
-        if self.open:
-            self.reader.list(self.open, came, rows)
-        self.open = None
-
-    def take(self, i, act, what, data):
-        if what == "break":
-            self.end("break", act.rows)
-        elif what == "ask" and data[0] == 0x30:
-            self.end("reset", act.rows)
-        elif what == "message" and data[0] == 6:
-            self.end("restarted", act.rows)
-        elif what == "message" and 0x80 <= data[0] < 0xB0:
-            kind = data[0] & 15
-            if self.open and self.type != kind:
-                self.end("bill", act.rows)
-            if data[0] < 0x90 or data[0] >= 0xA0:
-                self.open = None
-            elif not self.open:
-                self.type = kind
-                self.open = self.reader.entry("escrow", act, amounts=[self.reader.total("bill", [self.reader.value("bill", kind)])])
-
-
-class Lever:
-    """Presses of the return lever, and what is paid in."""
-
-    device = None
-
-    def __init__(self, reader):
-        self.reader, self.coins, self.bills, self.presses, self.is_same = reader, [], [], [], False
-
-    def take(self, i, act, what, device, data):
-        if what == "ask" and (device == "changer" and data[0] == 0x0D or device in READERS and data[:2] in (b"\x13\x05", b"\x63\x05")):
-            self.settle(act)
-        elif what == "message" and device == "changer":
-            if data[0] == 1:
-                self.press(act)
-            elif 0x40 <= data[0] < 0x60 and self.reader.heard(i):
-                self.coins.append(self.reader.value("changer", data[0] & 15))
-                self.is_same = False
-            elif data[0] >= 0x80 and data[0] >> 4 & 7:
-                self.settle(act)
-        elif what == "message" and device == "bill":
-            if 0x80 <= data[0] < 0x90 and self.reader.heard(i):
-                self.bills.append(self.reader.value("bill", data[0] & 15))
-                self.is_same = False
-            elif 0xA0 <= data[0] < 0xB0:
-                self.settle(act)
-
-    def press(self, act):
-        if self.is_same:
-            press = self.presses[-1]
-            press["count"] += 1
-            press["last"] = act.time
-            if act.rows != press["rows"][0]:
-                press["rows"] = [press["rows"][0], act.rows]
-        elif self.coins or self.bills:
-            amounts = [self.reader.total(device, values) for device, values in (("changer", self.coins), ("bill", self.bills)) if values]
-            self.presses.append(self.reader.entry("lever", act, amounts=amounts))
-            self.is_same = True
-
-    def settle(self, act):
-        for press in self.presses:
-            if act.time - press["last"] > 30_000_000:
-                self.reader.list(press, "time")
-        self.coins, self.bills, self.presses, self.is_same = [], [], [], False
-
-    def end(self, came, rows):
-        last = self.reader.acts[-1].time
-        for press in self.presses:
-            if last - press["last"] > 30_000_000:
-                self.reader.list(press, "time")
-            else:
-                self.reader.list(press, came, rows)
-
-
-class Payouts:
-    """What a DISPENSE comes to."""
-
-    device = "changer"
-
-    def __init__(self, reader):
-        self.reader, self.open, self.taken, self.first, self.nak = reader, None, None, None, None
-
-    def end(self, came, rows):
-        if self.open:
-            if self.nak:
-                self.open["rows"] = [*self.open["rows"], self.nak.rows]
-                self.open["last"] = self.nak.time
-            self.reader.list(self.open, came, rows)
-        self.open = None
-
-    def take(self, i, act, what, data):
-        if what == "break":
-            self.end("break", act.rows)
-            self.taken = None
-        elif what == "answer" and self.taken and i > self.taken[0] + 1:
-            self.taken = None
-        elif what == "message" and data[0] == 0x0B and self.reader.heard(i):
-            self.end("restarted", act.rows)
-        elif what == "ask":
-            if self.taken and self.first is None:
-                self.first = act.time
-            if self.taken and act.time - self.first > 2_000_000:
-                self.reader.list(self.taken[1], "silent", act.rows)
-                self.taken = None
-            if data[0] == 8:
-                self.end("reset", act.rows)
-            elif data[0] == 0x0D:
-                self.dispense(i, act, data[1])
-
-    def dispense(self, i, act, code):
-        if self.open and self.open["code"] != code:
-            self.end("dispense", act.rows)
-        after = self.reader.acts[i + 1] if i + 1 < len(self.reader.acts) else None
-        value = self.reader.value("changer", code & 15)
-        amounts = [self.reader.total("changer", [None if value is None else value * (code >> 4)])]
-        if after and after.is_of("ack", "changer"):
-            self.open = None
-            self.first = None
-            self.taken = i, self.reader.entry("payout", act, code=code, amounts=amounts, answer="taken")
-            return
-        if self.open:
-            self.open["count"] += 1
-            self.open["rows"] = [self.open["rows"][0], act.rows]
-            self.open["last"] = act.time
+    def add(self, value, times=1):
+        self.count += times
+        if value is None:
+            self.unvalued += times
         else:
-            self.open = self.reader.entry("payout", act, code=code, amounts=amounts)
-        self.nak = after if after and after.is_of("nak", "changer") else None
-        self.open["answer"] = "refused" if self.nak else "none"
+            self.units = (self.units or 0) + value * times
+
+    def field(self, decimals):
+        return {'device': self.device, 'units': self.units, 'decimals': decimals,
+                'unvalued': self.unvalued}
 
 
-class Troubles:
-    """What devices report as trouble."""
+class Reading:
+    """One pass over the acts of a recording, or of the parts that gaps leave of it."""
 
-    def __init__(self, reader):
-        self.reader, self.found = reader, {}
+    def __init__(self, times, setups=None):
+        self.times = times
+        self.values = Values()
+        self.values.data.update(setups or {})
+        self.troubles = {}
+        self.choices = []
+        self.entries = []
 
-    def take(self, act, what, device, data):
-        if what == "message" and device in READERS and data[0] == 0x0A:
-            self.add(act, device, data[1])
-        elif what == "message" and data[0] in REPORTS.get(device, ()):
-            self.add(act, device, data[0])
-        elif what == "stacker" and data[0] & 0x80:
-            self.add(act, device, 0x36)
+    def time(self, act):
+        return self.times[act[0] - 1]
 
-    def add(self, act, device, code):
-        entry = self.found.setdefault((device, code), self.reader.entry("trouble", act, code=code, count=0))
-        entry["count"] += 1
-        entry["last"] = act.time
-        if act.rows != entry["rows"][0]:
-            entry["rows"] = [entry["rows"][0], act.rows]
+    def put(self, kind, device, acts, sums, came=None, by=None, **more):
+        """Lists an entry, unless its whole amount is known and 0."""
+        amounts = [s.field(d) for s, d in sums]
+        known = all(a['unvalued'] == 0 for a in amounts)
+        if amounts and known and all(a['units'] == 0 for a in amounts):
+            return
+        self.entries.append({
+            'kind': kind, 'device': device, 'time': self.time(acts[0]),
+            'rows': [[a[0], a[1]] for a in acts], 'amounts': amounts, 'came': came,
+            'cameRows': None if by is None else [by[0], by[1]],
+            'count': more.get('count', 1), 'item': more.get('item'),
+            'code': more.get('code'), 'answer': more.get('answer'),
+            'last': self.time(acts[-1])})
+
+    # One part: what is open in it.
+
+    def part(self, acts, word, fault):
+        """Reads the acts of one part, which ends by `word` (end, gap, fault)."""
+        self.approval = {d: None for d in READERS}
+        self.item = {d: None for d in READERS}
+        self.bill = None
+        self.paid = []
+        self.coins, self.bills = Sum('changer'), Sum('bill')
+        self.presses, self.press = [], None
+        self.refused = self.taken = self.waiting = None
+        for i, act in enumerate(acts):
+            nxt = acts[i + 1] if i + 1 < len(acts) else None
+            what, device = act[2], act[3]
+            if what == 'break':
+                self.broke(act)
+            elif what == 'ask':
+                self.asked(act, nxt)
+            elif what in ('ack', 'nak', 'reply'):
+                if device == 'changer':
+                    self.answered(act)
+                if what == 'reply':
+                    self.replied(act, acts[i - 1] if i else None, acknowledged(acts, i))
+        self.ended(acts, word, fault)
+
+    def broke(self, act):
+        for device in READERS:
+            self.unapprove(device, 'break', act)
+            self.item[device] = None
+        self.unescrow('break', act)
+        self.unpaid('break', act)
+        self.taken = None
+
+    def ended(self, acts, word, fault):
+        for device in READERS:
+            self.unapprove(device, word, fault)
+        self.unescrow(word, fault)
+        self.unpaid(word, fault)
+        self.taken = None
+        latest = max((self.time(a) for a in acts), default=0)
+        for press in self.presses:
+            if latest - self.time(press['acts'][-1]) > 30_000_000:
+                self.unpressed(press, 'time', None)
+            else:
+                self.unpressed(press, word, fault)
+
+    def asked(self, act, nxt):
+        device, data = act[3], act[4]
+        if device == 'changer':
+            self.asked_changer(act, nxt)
+        elif device == 'bill':
+            if data[0] == 0x30:
+                self.unescrow('reset', act)
+        else:
+            self.asked_reader(device, act)
+
+    def asked_reader(self, device, act):
+        data = [act[4][0] - READERS[device]] + act[4][1:]
+        if data[0] == 0x10:
+            self.unapprove(device, 'reset', act)
+            self.item[device] = None
+        if data[0] != 0x13:
+            return
+        if data[1] == 0:
+            self.unapprove(device, 'request', act)
+            self.item[device] = data[4] * 256 + data[5]
+        elif data[1] == 2:
+            self.approval[device] = None
+        elif data[1] == 3:
+            if (a := self.approval[device]):
+                self.put('failed', device, [a['act'], act], a['sums'], item=a['item'])
+            self.approval[device] = None
+        elif data[1] == 4:
+            self.unapprove(device, 'complete', act)
+        elif data[1] == 5:
+            self.out(act)
+
+    def asked_changer(self, act, nxt):
+        data = act[4]
+        if self.taken:
+            if self.taken['first'] is None:
+                self.taken['first'] = self.time(act)
+            elif self.time(act) - self.taken['first'] > 2_000_000:
+                t, self.taken = self.taken, None
+                self.put('payout', 'changer', [t['act']], t['sums'], 'silent', act,
+                         code=t['act'][4][1], answer='taken')
+        if data[0] == 0x08:
+            self.unpaid('reset', act)
+        if data[0] != 0x0D:
+            return
+        self.out(act)
+        if self.refused and self.refused['acts'][0][4][1] != data[1]:
+            self.unpaid('dispense', act)
+        self.dispensed(act, nxt)
+
+    def dispensed(self, act, nxt):
+        byte = act[4][1]
+        amount = Sum('changer')
+        value = self.values.one('changer', byte & 15)
+        amount.add(None if value is None else value * (byte >> 4))
+        sums = [(amount, self.values.decimals('changer'))]
+        if nxt and nxt[2] == 'ack' and nxt[3] == 'changer':
+            self.refused = None
+            self.waiting = {'act': act, 'sums': sums, 'first': None, 'own': nxt}
+            return
+        if not self.refused:
+            self.refused = {'acts': [], 'sums': sums}
+        self.refused['acts'].append(act)
+        nak = nxt and nxt[2] == 'nak' and nxt[3] == 'changer'
+        self.refused['nak'] = nxt if nak else None
+
+    def answered(self, act):
+        """An ack, nak or reply of the changer ends what it took before."""
+        self.taken = None
+        if self.waiting and self.waiting['own'] is act:
+            self.taken, self.waiting = self.waiting, None
+
+    def replied(self, act, ask, heard):
+        device, data = act[3], act[4][:-1]
+        ask = ask[4] if ask else [0]
+        if device in READERS:
+            found = messages(device, data)
+            for m in found:
+                if m[0] == 1:
+                    self.values.data[device] = m[1:]
+            for m in found:
+                self.reader_said(device, m, act, heard)
+            return
+        if ask[0] in (0x09, 0x31):
+            self.values.data[device] = data
+        if ask[0] == 0x36 and data[0] & 0x80:
+            self.trouble('bill', 0x36, act)
+        if ask[0] == 0x0B:
+            for m in messages('changer', data):
+                self.changer_said(m, act, heard)
+        if ask[0] == 0x33:
+            for m in messages('bill', data):
+                self.bill_said(m[0], act, heard)
+
+    def reader_said(self, device, m, act, heard):
+        came = {0: 'restarted', 3: 'begun', 6: 'denied', 7: 'ended'}.get(m[0])
+        if came:
+            self.unapprove(device, came, act)
+        if m[0] == 5 and heard and not self.approval[device]:
+            amount = Sum(device)
+            amount.add(self.values.one(device, m[1] * 256 + m[2]))
+            sums = [(amount, self.values.decimals(device))]
+            self.approval[device] = {'act': act, 'sums': sums, 'item': self.item[device]}
+        if m[0] == 0x0A:
+            self.trouble(device, m[1], act)
+
+    def changer_said(self, m, act, heard):
+        first = m[0]
+        if first in CHANGER_TROUBLE:
+            self.trouble('changer', first, act)
+        if first == 0x0B and heard:
+            self.unpaid('restarted', act)
+        if first == 0x01:
+            self.lever(act)
+        if 0x40 <= first <= 0x5F and heard:
+            self.coins.add(self.values.one('changer', first & 15))
+            self.press = None
+        if first >= 0x80 and (first >> 4) & 7:
+            self.out(act)
+
+    def bill_said(self, byte, act, heard):
+        if byte in BILL_TROUBLE:
+            self.trouble('bill', byte, act)
+        if byte == 0x06:
+            self.unescrow('restarted', act)
+        if not 0x80 <= byte <= 0xAF:
+            return
+        kind, group = byte & 15, byte >> 4
+        if self.bill and self.bill['kind'] != kind:
+            self.unescrow('bill', act)
+        if group == 9 and not self.bill:
+            amount = Sum('bill')
+            amount.add(self.values.one('bill', kind))
+            self.bill = {'kind': kind, 'act': act,
+                         'sums': [(amount, self.values.decimals('bill'))]}
+        elif group != 9:
+            self.bill = None
+        if group == 8 and heard:
+            self.bills.add(self.values.one('bill', kind))
+            self.press = None
+        if group == 10:
+            self.out(act)
+
+    # Endings.
+
+    def unapprove(self, device, word, by):
+        a, self.approval[device] = self.approval[device], None
+        if a:
+            self.put('approved', device, [a['act']], a['sums'], word, by, item=a['item'])
+
+    def unescrow(self, word, by):
+        b, self.bill = self.bill, None
+        if b:
+            self.put('escrow', 'bill', [b['act']], b['sums'], word, by)
+
+    def unpaid(self, word, by):
+        r, self.refused = self.refused, None
+        if not r:
+            return
+        acts = [r['acts'][0]] + r['acts'][1:][-1:]
+        if r['nak']:
+            acts.append(r['nak'])
+        self.put('payout', 'changer', acts, r['sums'], word, by, count=len(r['acts']),
+                 code=r['acts'][0][4][1], answer='refused' if r['nak'] else 'none')
+
+    def lever(self, act):
+        if self.press:
+            self.press['acts'].append(act)
+            return
+        if not (self.coins.count or self.bills.count):
+            return
+        sums = []
+        for amount in (self.coins, self.bills):
+            if amount.count:
+                kept = Sum(amount.device)
+                kept.units, kept.unvalued = amount.units, amount.unvalued
+                sums.append((kept, self.values.decimals(amount.device)))
+        self.press = {'acts': [act], 'sums': sums}
+        self.presses.append(self.press)
+
+    def out(self, act):
+        """A payout or a sale for cash."""
+        for press in self.presses:
+            if self.time(act) - self.time(press['acts'][-1]) > 30_000_000:
+                self.unpressed(press, 'time', None)
+        self.presses, self.press = [], None
+        self.coins, self.bills = Sum('changer'), Sum('bill')
+
+    def unpressed(self, press, word, by):
+        acts = press['acts']
+        ends = [acts[0]] + ([acts[-1]] if acts[-1] is not acts[0] else [])
+        self.put('lever', 'changer', ends, press['sums'], word, by, count=len(acts))
+
+    def trouble(self, device, code, act):
+        self.troubles.setdefault((device, code), []).append(act)
+
+    def list(self):
+        if self.choices:
+            ends = self.choices[:1] + self.choices[1:][-1:]
+            self.put('choice', 'changer', ends, [], count=len(self.choices))
+        for (device, code), acts in self.troubles.items():
+            ends = [acts[0]] + ([acts[-1]] if acts[-1] is not acts[0] else [])
+            self.put('trouble', device, ends, [], count=len(acts), code=code)
+        key = lambda e: (e['rows'][0][0], KINDS.index(e['kind']), e['code'] or 0)
+        return sorted(self.entries, key=key)
 
 
-def choices(fault, rows):
-    """Payouts by the changer's choice: the fault of `show`, if it is one."""
-    if fault[2:] != ["Profile", "controller"] or int(fault[1]) < 2:
-        return []
-    row = int(fault[1])
-    (_, *before), (time, *here) = rows[row - 2], rows[row - 1]
-    if before != ["M", "10F"] or here not in (["M", "002"], ["M", "003"], ["M", "004"]):
-        return []
-    return [{"kind": "choice", "device": "changer", "time": int(time), "rows": [[row, row]], "amounts": [], "came": None,
-             "cameRows": None, "count": 1, "item": None, "code": None, "answer": None, "last": int(time)}]
+def acknowledged(acts, at):
+    """Whether the controller acknowledges this reply, perhaps after a repeat."""
+    for act in acts[at + 1:]:
+        if act[2] == 'vmc-ack':
+            return True
+        if act[2] not in ('vmc-ret', 'repeat'):
+            return False
+    return False
+
+
+def is_choice(rows, row):
+    """Whether the row orders a payout by the changer's choice: 002 to 004 of the controller, right after its 10F."""
+    if row < 2:
+        return False
+    (_, line, word), (_, before, first) = rows[row - 1], rows[row - 2]
+    return (line == before == 'M' and int(first, 16) == 0x10F
+            and int(word, 16) in (2, 3, 4))
+
+
+def given(setups):
+    """The data of --setup, without the sum, and of a reader without the message's first byte."""
+    return {device: list(data[1 if device in READERS else 0:-1]) for device, data in setups.items()}
+
+
+def parts_of(acts):
+    """The parts of a recording: their acts, the word for their end, and the fault, if that ended them."""
+    part = []
+    for act in acts:
+        if act[2] in ('fault', 'gap'):
+            yield part, act[2], act if act[2] == 'fault' else None
+            part = []
+        else:
+            part.append(act)
+    yield part, 'end', None
 
 
 def entries(rows, shown, setups=None):
-    """The entries of a recording, in their order."""
-    lines = [it.split(",") for it in rows.decode("latin-1").replace("\r", "").split("\n") if it]
-    times = [None, *(int(it[0]) for it in lines)]
-    fault = next((it.split(" ") for it in shown if it.startswith("fault ")), None)
-    acts = [Act(it, times) for it in shown if not it.startswith("fault ")]
-    reader = Reader(acts, {device: setup_of(device, data[:-1]) for device, data in (setups or {}).items()})
-    machines = [*(Sales(reader, it) for it in READERS), Escrow(reader), Payouts(reader)]
-    lever, troubles = Lever(reader), Troubles(reader)
-    for i, act, what, device, data in reader.events():
-        for machine in machines:
-            if what == "break" or machine.device == device:
-                machine.take(i, act, what, data)
-        lever.take(i, act, what, device, data)
-        troubles.take(act, what, device, data)
-    if acts:
-        end = ("fault", [int(fault[1])] * 2) if fault else ("end", None)
-        for machine in [*machines, lever]:
-            machine.end(*end)
-    found = [*reader.found, *troubles.found.values(), *(choices(fault, lines) if fault else [])]
-    return sorted(found, key=lambda it: (it["rows"][0][0], KINDS.index(it["kind"]), -1 if it["code"] is None else it["code"]))
+    """The entries of a recording, from its rows, the lines of `show`, and set-up data."""
+    lines = [line.split(',') for line in rows.decode().splitlines() if line]
+    reading = Reading([int(line[0]) for line in lines], given(setups or {}))
+    for acts, word, fault in parts_of(acts_of(shown)):
+        reading.part(acts, word, fault)
+        if fault and fault[3:] == ('controller', 'Profile') and is_choice(lines, fault[0]):
+            reading.choices.append(fault)
+    return reading.list()
 
 
 def main():
-    setups = {}
-    given = sys.argv[1:]
-    while given and given[0] == "--setup":
-        device, _, data = given[1].partition(" ")
-        setups[device], given = bytes.fromhex(data), given[2:]
-    rows, shown = (open(it, "rb").read() for it in given)
+    setups, words = {}, sys.argv[1:]
+    while words and words[0] == '--setup':
+        device, _, data = words[1].partition(' ')
+        setups[device], words = bytes.fromhex(data), words[2:]
+    rows, shown = (open(word, 'rb').read() for word in words)
     for entry in entries(rows, shown.decode().splitlines(), setups):
         print(json.dumps(entry))
 
 
-if __name__ == "__main__":
+if __name__ == '__main__':
     main()
