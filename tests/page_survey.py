@@ -274,7 +274,7 @@ def compare_words(made, came, words):
         want((f"{profile:,} row" in came["lead"] and "no fault of anybody" in came["lead"]) if profile else "Profile" not in came["lead"], came["lead"])
     want(came["lead"] in came["offer"] and came["lead"] in came["announced"], f"{came['offer']!r}, {came['announced']!r}")
     row = made.faults[0][0]
-    want(came["ruling"].startswith((f"Row {row:,} breaks ", f"From row {row:,} on, ")), f"the first no: {came['ruling']!r}")
+    want(came["ruling"].startswith((f"Row {row:,} breaks ", f"From row {row:,} on, ", f"At level 1 row {row:,} breaks ")), f"the first no: {came['ruling']!r}")
     want(came["contents"] == came["titles"] and {"All faults", "Money by stretch"} < set(came["contents"]), f"{came['contents']}, {came['titles']}")
     quoted = [f"'{it}'" if " " in it else it for it in words]
     want(came["command"].replace("--setup=", "--setup ").split(" ")[:2] == ["mdbcheck", "survey"], came["command"])
