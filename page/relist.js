@@ -49,7 +49,7 @@ function joined(parts) {
   return made;
 }
 
-// Gives the acts or the news of a part the numbers of rows of the recording. No number of a row needs more than 32 bits.
+// Gives the acts or the news of a part the recording's numbers of rows. None needs more than 32 bits.
 function addRows(bytes, {size: wide, first, last}, before) {
   const words = new Uint32Array(bytes.buffer, bytes.byteOffset, bytes.length / 4);
   for (let at = 0; before && at < words.length; at += wide / 4) {
@@ -173,8 +173,8 @@ class Starts {
   }
 }
 
-// Lists from a place on, up to the fault after which the list begins anew: the first one that breaks a rule of the link.
-// `next` is the first fault after the place. The number of all faults means that the list goes on to the end.
+// Lists from a place on, up to the fault after which the list begins anew: the first one that breaks a rule of the
+// link. `next` is the first fault after the place. The number of all faults means that the list goes on to the end.
 function listFrom(it, starts, end, begin, next) {
   let i = starts.links[next];
   if (i === starts.count && end < 0) i--;
