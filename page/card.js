@@ -42,12 +42,15 @@ function fillCard(kind, word, lead, ...rest) {
   card.replaceChildren(h("h2", {class: "word"}, word), h("p", {id: "lead"}, lead), ...rest.flat(3).filter(Boolean));
 }
 
-// What is to be done, each thing once. Who counts the cash box counts the tubes with it.
+// What is to be done, each thing once. Who counts the cash box counts the tubes with it. Who asks the card company of an
+// amount asks it of the sale.
 function stepsOf(story) {
   const all = story.filter((it) => it.kind === "next"), key = (parts) => JSON.stringify(parts);
   const steps = new Map(all.map((it) => [key(it.parts), it]));
   if (steps.has(key([COUNT_NEXT["coins-in"]]))) steps.delete(key([COUNT_NEXT["paid-out"]]));
-  return [...steps.values()];
+  if (![OPEN_NEXT.approved, OPEN_NEXT.failed].some((it) => steps.has(key([it])))) return [...steps.values()];
+  return [...steps.values()].map(({kind, parts}) => ({kind, parts: parts.filter((it) => it !== SALE_NEXT)}))
+      .filter(({parts}) => parts.length);
 }
 
 const storyList = (story, heading = "What to do next") => {
@@ -133,10 +136,12 @@ function yesHead(it) {
   const r = it.report, all = Object.entries(r.accounts);
   const titles = (which) => listed(all.filter(([, a]) => which(a)).map(([name]) => small(ACCOUNTS[name].title)));
   const silent = DEVICES.filter((d) => r.silences[d]).map((d) => the(DEVICE_NAMES[DEVICES.indexOf(d)]));
-  const differing = titles(isDiffering), open = titles(isOpen);
-  return openHead(it) || (differing && `The books differ for certain: ${differing}`) ||
+  const differing = all.filter(([, a]) => isDiffering(a)).map(([name, a]) => differsWords(it, name, a));
+  const open = titles(isOpen);
+  return openHead(it) || (differing.length && `The books differ for certain: ${listed(differing)}`) ||
       (silent.length && `No answer of ${listed(silent)} for too long`) ||
-      (open && `Not all of the money is certain: ${open}`) || null;
+      (open && `Not all of the money is certain: ${open}`) ||
+      (valuelessStory(it).length && "Some amounts have no known value") || null;
 }
 
 // What money moved, where nothing is left to do.
@@ -183,7 +188,11 @@ function showNo(it) {
       isFile          ? fileLead(it) :
                         `${capital(BLAMES[r.blame])} broke the protocol${faultAt(it)}.`;
   fillCard(
-      "no", none ? NO_TRAFFIC : headOf(it), lead, leftOut(it),
+      "no",
+      none            ? NO_TRAFFIC :
+          isExchanged ? "Most likely lines M and S are exchanged" :
+                        headOf(it),
+      lead, leftOut(it),
       isLate ? [lateNotes(it), h("p", {}, "If the recording does begin at power-on:")] : null, openPart(it),
       storyList(
           none                  ? noTrafficStory(it) :
@@ -203,7 +212,7 @@ function faultAt(it) {
   return time === undefined ? "" : ` at ${when(Number(time))}`;
 }
 
-const noTrafficLead = ({bad, all}) => `${number(bad)} of the ${number(all)} messages about it can't be right.`;
+const noTrafficLead = ({bad, all}) => `${number(bad)} of the ${number(all)} messages there can't be right.`;
 
 // What comes first where the file, rather than a device, is likely to be the reason.
 function fileLead(it) {

@@ -55,6 +55,7 @@ const OPEN_NEXT = {
   choice: "Count the tubes, or read the audit of the machine.",
   trouble: "See whether what was reported as trouble still stands."
 };
+const BREAK_NEXT = "Look for the reason of the break: power that went off, or the controller itself.";
 
 const moneyOf = ({units, decimals, unvalued}) => units === null ?
     "value not known" :
@@ -81,8 +82,12 @@ const OPEN_SENTENCES = {
       [...approvedParts(e), ", and the controller acknowledged it. It reported neither a sale nor a failure ",
        untilWords(e)],
   failed: (e) =>
-      [...approvedParts(e), ", and the controller reported VEND FAILURE", inRows(...restRows(e)),
-       ". The reader has to give it back. Whether it did, the bus doesn't show."],
+      [...e.rows.length > 1 ? [...approvedParts(e), ", and the controller reported VEND FAILURE"] :
+                              [`The controller reported VEND FAILURE to ${theDevice(e.device)}`],
+       inRows(rowsAt(...e.rows.at(-1))),
+       e.rows.length > 1 ? ". The reader has to give it back." :
+                           ". The approval isn't in these rows. The reader has to give back what it approved.",
+       " Whether it did, the bus doesn't show."],
   escrow: (e) =>
       [`A bill ${ofAmount(e.amounts[0])} went into escrow`, inRows(openRows(e.rows)),
        ", and was reported neither as stacked nor as returned ", untilWords(e)],
@@ -167,18 +172,21 @@ function choicesOf({survey, link}) {
 
 // A story, and before its steps those for what is open.
 const openKinds = (it) => [...new Set(openMoneyOf(it).map(({kind}) => kind))];
-const withOpen = (it, story) => [...openKinds(it).map((kind) => nextStep(OPEN_NEXT[kind])), ...story];
+const isBroken = (it) => openMoneyOf(it).some(({came}) => came === "break");
+const openSteps = (it) => [...openKinds(it).map((kind) => OPEN_NEXT[kind]), ...isBroken(it) ? [BREAK_NEXT] : []];
+const withOpen = (it, story) => [...openSteps(it).map((it) => nextStep(it)), ...story];
 
 // What the card says of an answer in which something is open.
 function openLead(it) {
   const all = openMoneyOf(it);
-  return all.every(({kind}) => kind === "trouble") ? "a device reported trouble" : "not all of the money has an end";
+  return all.every(({kind}) => kind === "trouble") ? "a device reported trouble" : "it isn't known where all of the money went";
 }
 
 // The first of them, in a few words: trouble comes after money. Null if there is none.
 const OPEN_HEADS = {
   approved: (amount) => `Approved, and no outcome: ${amount}`,
-  failed: (amount) => `Approved, and failed: ${amount} to give back`,
+  failed: (amount, {rows}) => rows.length > 1 ? `Approved, and failed: ${amount} to give back` :
+                                                `Failed, to give back: ${amount}`,
   escrow: (amount) => `In escrow, and no end: ${amount}`,
   lever: (amount) => `Return lever, and nothing paid out: ${amount} in`,
   payout: (amount, {answer}) =>
@@ -229,11 +237,11 @@ const openPart = (it) => h("div", {id: "open-money"}, openInner(it));
 
 // The list anew, and the steps of what is new in it, after a survey.
 function showOpen(it) {
-  const before = openKinds(asAtFirst(it));
+  const before = openSteps(asAtFirst(it));
   it.openMoney = null;
   by("open-money")?.replaceChildren(...openInner(it));
-  const steps = openKinds(it).filter((kind) => !before.includes(kind)).map((kind) => nextStep(OPEN_NEXT[kind]));
-  by("next")?.querySelector("ul").append(...steps.map(sentence));
+  const steps = openSteps(it).filter((words) => !before.includes(words));
+  by("next")?.querySelector("ul").append(...steps.map((it) => sentence(nextStep(it))));
 }
 
 function moreOpen(it, all, most) {

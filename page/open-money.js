@@ -9,6 +9,8 @@ const VEND = {
   COMPLETE: 4,
   CASH_SALE: 5
 };
+// Those that show in which sale a reader is.
+const SALE_COMMANDS = [VEND.REQUEST, VEND.SUCCESS, VEND.FAILURE, VEND.COMPLETE];
 // The reports of trouble, by device: a changer's and a validator's messages. A reader's malfunctions each have a code.
 const TROUBLES = [[], [3, 4, 6, 7, 8, 9, 0x0C, 0x0D], [1, 2, 4, 5, 7, 8, 0x0C]];
 // What a reader's message ends an open approval with.
@@ -70,6 +72,8 @@ class OpenWalk {
   begin() {
     this.approvals = [];
     this.items = [];
+    // The readers of which a sale may have begun before.
+    this.unseen = [3, 4];
     this.bill = this.payout = this.taken = null;
     this.presses = [];
     this.paidIn = [];
@@ -94,6 +98,10 @@ class OpenWalk {
     entry.last = this.acts.start(i);
     if (this.acts.first(i) !== entry.rows[0][0]) entry.rows[1] = this.rows(i);
   }
+  // Something shows in which sale this reader is.
+  see(device) {
+    this.unseen = this.unseen.filter((it) => it !== device);
+  }
   endApproval(device, came, rows) {
     this.list(this.approvals[device], came, rows);
     this.approvals[device] = null;
@@ -109,7 +117,7 @@ class OpenWalk {
   // What a break ends.
   endAll(came, rows) {
     for (const device of [3, 4]) this.endApproval(device, came, rows);
-    this.items = [];
+    this.items = this.unseen = [];
     this.endBill(came, rows);
     this.endPayout(came, rows);
     this.taken = null;
@@ -150,8 +158,11 @@ class OpenWalk {
     if (command === 0) {
       this.endApproval(device, "reset");
       this.items[device] = null;
+      this.see(device);
     }
     if (command !== 3) return;
+    if (bytes[1] === VEND.FAILURE) this.failed(i, device);
+    if (SALE_COMMANDS.includes(bytes[1])) this.see(device);
     switch (bytes[1]) {
       case VEND.REQUEST:
         this.endApproval(device, "request");
@@ -159,9 +170,6 @@ class OpenWalk {
         return;
       case VEND.SUCCESS:
         this.approvals[device] = null;
-        return;
-      case VEND.FAILURE:
-        this.failed(i, device);
         return;
       case VEND.COMPLETE:
         this.endApproval(device, "complete");
@@ -171,9 +179,12 @@ class OpenWalk {
     }
   }
   failed(i, device) {
-    const open = this.approvals[device];
+    const open = this.approvals[device], setup = this.acts.setupAt(device, i);
     this.approvals[device] = null;
-    if (open) this.list({...open, kind: "failed", rows: [...open.rows, this.rows(i)], last: this.acts.start(i)});
+    if (open)
+      this.list({...open, kind: "failed", rows: [...open.rows, this.rows(i)], last: this.acts.start(i)});
+    else if (this.unseen.includes(device))
+      this.list(this.made("failed", i, {amounts: [amountOf(device, setup, null)]}));
   }
   // The answer to a command, if it is the next act: an ACK or a NAK. Null if there is none.
   answerOf(i) {
@@ -245,6 +256,7 @@ class OpenWalk {
       this.troubles.set(key, this.made("trouble", i, {code}));
   }
   readerSays(i, device, message) {
+    if (message[0] in READER_ENDS || message[0] === 5) this.see(device);
     if (message[0] in READER_ENDS)
       this.endApproval(device, READER_ENDS[message[0]]);
     else if (message[0] === 5 && this.isHeard(i))

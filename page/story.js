@@ -155,12 +155,19 @@ function resetStory(it, entries) {
   return told.slice(0, 3);
 }
 
+// By how much the books differ for certain.
+function differsBy({difference: [low, high]}, d) {
+  const [least, most] = low < 0n ? [-high, -low] : [low, high];
+  return least === most ? money(least, d) : `${money(least, d)} to ${money(most, d)}`;
+}
+
+const differsWords = (it, name, a) =>
+    `${small(ACCOUNTS[name].title)}, by ${differsBy(a, it.report.decimals[ACCOUNTS[name].device])}`;
+
 // An account whose books differ whatever was lost: by how much, and whether a report at the end explains it.
 function differingStory(it, name, a, d) {
-  const [low, high] = a.difference, abs = (n) => n < 0n ? -n : n, {title} = ACCOUNTS[name];
+  const [low] = a.difference, amount = differsBy(a, d), {title} = ACCOUNTS[name];
   const device = DEVICES.indexOf(ACCOUNTS[name].device);
-  const [least, most] = low < 0n ? [abs(high), abs(low)] : [low, high];
-  const amount = least === most ? money(least, d) : `${money(least, d)} to ${money(most, d)}`;
   const who = small(ACCOUNTS[name].owner);
   const told = [fact(`${title}: the books differ for certain. ${
       low < 0n ? `The controller counted ${amount} more than ${who}` :
@@ -174,7 +181,7 @@ function differingStory(it, name, a, d) {
     likely(
         `Most likely this is why: ${entryWords(last)}`, inRows(rowsAt(last.first, last.last)),
         " has no acknowledgement in this recording."),
-    nextStep("See in a recording that goes on longer whether it was counted later.")
+    nextStep(COUNT_NEXT[name] ? "See in a recording that goes on longer whether it was counted later." : SALE_NEXT)
   ];
 }
 

@@ -166,7 +166,7 @@ def scenes():
     yield Scene("VEND FAILURE", card().approved().ack(0x13, 3).over(), AMBER,
                 [("failed", "1.50", "item 7", "VEND FAILURE", "give it back")], ("given back",), makers)
     yield Scene("power went off", card().approved().off().changer().reader(), AMBER,
-                [("approved", "1.50", "item 7", "neither a sale nor a failure", "break")], ("card company",), makers)
+                [("approved", "1.50", "item 7", "neither a sale nor a failure", "break")], ("card company", "reason of the break"), makers)
     yield Scene("no outcome", card().approved().polls(40), AMBER,
                 [("approved", "1.50", "item 7", "up to the end of the recording")], ("card company",), makers)
     yield Scene("the session ends without an outcome", card().approved().over(), RED,
@@ -216,6 +216,12 @@ def scenes():
     cut = Bus()
     cut.rows, cut.time = [it for it in late.rows], late.time
     cut.rows = cut.rows[:next(i for i, it in enumerate(cut.rows) if i and it.endswith("M,113"))]
+    failed = Bus()
+    failed.rows = card().approved().ack(0x13, 3).over().rows
+    failed.rows = failed.rows[next(i for i, it in enumerate(failed.rows) if it.endswith("M,113") and failed.rows[i + 1].endswith("003")):]
+    yield Scene("a failure of what was approved before", failed, AMBER,
+                [("failed", "value not known", "VEND FAILURE to card reader 1", "isn't in these rows", "give back")], ("given back",),
+                ("No money was reported",), options=("--joined",))
     yield Scene("an approval without a known value", cut, AMBER, [("approved", "value not known", "an amount of unknown value")],
                 ("no known value",), options=("--joined",))
 

@@ -133,6 +133,7 @@ class Reading:
         """Reads the acts of one part, which ends by `word` (end, gap, fault)."""
         self.approval = {d: None for d in READERS}
         self.item = {d: None for d in READERS}
+        self.unknown = {d: True for d in READERS}
         self.bill = None
         self.paid = []
         self.coins, self.bills = Sum('changer'), Sum('bill')
@@ -156,6 +157,7 @@ class Reading:
         for device in READERS:
             self.unapprove(device, 'break', act)
             self.item[device] = None
+            self.unknown[device] = False
         self.unescrow('break', act)
         self.unpaid('break', act)
         self.taken = None
@@ -188,6 +190,7 @@ class Reading:
         if data[0] == 0x10:
             self.unapprove(device, 'reset', act)
             self.item[device] = None
+            self.unknown[device] = False
         if data[0] != 0x13:
             return
         if data[1] == 0:
@@ -198,11 +201,17 @@ class Reading:
         elif data[1] == 3:
             if (a := self.approval[device]):
                 self.put('failed', device, [a['act'], act], a['sums'], item=a['item'])
+            elif self.unknown[device]:
+                amount = Sum(device)
+                amount.add(None)
+                self.put('failed', device, [act], [(amount, self.values.decimals(device))])
             self.approval[device] = None
         elif data[1] == 4:
             self.unapprove(device, 'complete', act)
         elif data[1] == 5:
             self.out(act)
+        if data[1] in (0, 2, 3, 4):
+            self.unknown[device] = False
 
     def asked_changer(self, act, nxt):
         data = act[4]
@@ -270,6 +279,8 @@ class Reading:
         came = {0: 'restarted', 3: 'begun', 6: 'denied', 7: 'ended'}.get(m[0])
         if came:
             self.unapprove(device, came, act)
+        if came or m[0] == 5:
+            self.unknown[device] = False
         if m[0] == 5 and heard and not self.approval[device]:
             amount = Sum(device)
             amount.add(self.values.one(device, m[1] * 256 + m[2]))
