@@ -34,7 +34,8 @@ const STRUCTURES = {
     isToken: [1, 1]
   },
   fault: {row: [8, 1], offset: [8, 1]},
-  lines: {count: [8, 1], bytes: [1, 1 << 22]}
+  lines: {count: [8, 1], bytes: [1, 1 << 22]},
+  rise: {row: [8, 1], least: [8, 1], greatest: [8, 1], account: [1, 1], side: [1, 1]}
 };
 // For each structure its size, and the place of each field.
 const layout = {};

@@ -1,12 +1,36 @@
-// What the module tells of money, sales, resets, breaks and silences: entries in its memory, as values.
-const WHATS = [
-  "coin deposited to tube", "coin deposited to cash box", "coins dispensed by hand", "coins ordered (DISPENSE)",
-  "bill stacked", "bill in escrow", "bill returned", "vend request", "cash sale", "vend approved", "vend denied",
-  "vend success", "vend cancel", "vend failure", "session begun", "session complete", "session ended", "was reset",
-  "RESET"
+// What the module tells of money, sales, resets, breaks and silences: entries in its memory, as values. An entry's kind
+// has the name that stands here at its number.
+const NEWS_KINDS = [
+  "tube",      "cash box",   "by hand", "ordered", "stacked",   "escrow", "returned", "request",
+  "cash sale", "approved",   "denied",  "sold",    "cancelled", "failed", "begun",    "complete",
+  "ended",     "reset told", "reset",   "break",   "silence",   "set-up"
 ];
-const BY_HAND = 2, ORDERED = 3, RETURNED = 6, REQUEST = 7, SALE = 8, SUCCESS = 11, FAILURE = 13, SESSION_ENDED = 16,
-      COMMANDED = 18, BROKEN = 19, SILENT = 20;
+// What an entry is, in words.
+const WHATS = {
+  "tube": "coin deposited to tube",
+  "cash box": "coin deposited to cash box",
+  "by hand": "coins dispensed by hand",
+  "ordered": "coins ordered (DISPENSE)",
+  "stacked": "bill stacked",
+  "escrow": "bill in escrow",
+  "returned": "bill returned",
+  "request": "vend request",
+  "cash sale": "cash sale",
+  "approved": "vend approved",
+  "denied": "vend denied",
+  "sold": "vend success",
+  "cancelled": "vend cancel",
+  "failed": "vend failure",
+  "begun": "session begun",
+  "complete": "session complete",
+  "ended": "session ended",
+  "reset told": "was reset",
+  "reset": "RESET"
+};
+// Kinds of coins and bills, and those of sessions and of resets; the number of a kind of a sale is that of an item.
+const CASH = ["tube", "cash box", "by hand", "ordered", "stacked", "escrow", "returned"];
+const OF_SESSIONS = ["begun", "complete", "ended"], OF_RESETS = ["reset told", "reset"];
+const WITH_ITEM = ["request", "cash sale", "sold"];
 const NO_WORTH = 0, KNOWN_WORTH = 2;
 
 // The entries of a piece, as they lie in memory.
@@ -34,13 +58,13 @@ class NewsPiece {
 }
 
 function whatOf(kind, count) {
-  return kind === BY_HAND && count === 1 ? "coin dispensed by hand" : WHATS[kind];
+  return kind === "by hand" && count === 1 ? "coin dispensed by hand" : WHATS[kind];
 }
 
 // The type of a coin or bill, an item in words, or nothing.
 function typeOf(kind, number) {
-  if (kind <= RETURNED) return number;
-  return kind === REQUEST || kind === SALE || kind === SUCCESS ? `item ${number}` : "";
+  if (CASH.includes(kind)) return number;
+  return WITH_ITEM.includes(kind) ? `item ${number}` : "";
 }
 
 // An entry of money, a sale or a session. `units` is null where there is no amount or none is known.
@@ -52,6 +76,7 @@ function moneyEntry(piece, i, kind) {
     begin: piece.u64(i, "start"),
     at: piece.u64(i, "end"),
     device: piece.byte(i, "device"),
+    kind,
     what: whatOf(kind, count),
     type: typeOf(kind, piece.short(i)),
     units: isKnown ? piece.whole(i, "amount") : null,
@@ -60,7 +85,7 @@ function moneyEntry(piece, i, kind) {
     noAmount: worth === NO_WORTH,
     isToken: piece.byte(i, "isToken") > 0
   };
-  if (kind <= RETURNED) made.count = count;
+  if (CASH.includes(kind)) made.count = count;
   return made;
 }
 
@@ -87,20 +112,20 @@ function eventEntry(piece, i, more) {
 }
 
 function addNews(found, piece, i) {
-  const kind = piece.byte(i, "kind"), device = piece.byte(i, "device");
-  if (kind <= FAILURE)
-    found.money.push(moneyEntry(piece, i, kind));
-  else if (kind <= SESSION_ENDED)
+  const kind = NEWS_KINDS[piece.byte(i, "kind")], device = piece.byte(i, "device");
+  if (OF_SESSIONS.includes(kind))
     found.sessions.push(moneyEntry(piece, i, kind));
-  else if (kind <= COMMANDED)
+  else if (OF_RESETS.includes(kind))
     found.resets.push(
-        eventEntry(piece, i, {device, what: WHATS[kind], acknowledged: piece.byte(i, "isAcknowledged") > 0}));
-  else if (kind === BROKEN)
+        eventEntry(piece, i, {device, kind, what: WHATS[kind], acknowledged: piece.byte(i, "isAcknowledged") > 0}));
+  else if (kind === "break")
     found.breaks.push({...eventEntry(piece, i), at: piece.u64(i, "start"), length: piece.u64(i, "length")});
-  else if (kind === SILENT)
+  else if (kind === "silence")
     found.silences.push(silenceEntry(piece, i));
-  else
+  else if (kind === "set-up")
     found.setups.push(eventEntry(piece, i, {device}));
+  else
+    found.money.push(moneyEntry(piece, i, kind));
 }
 
 // What is found: entries in the order of the rows, silences in the order of their ends.

@@ -1,14 +1,6 @@
 // The statement: a line for each sale or payment, as it was reported.
 const PAGE_LINES = 100;
-// What an entry is in a sale.
-const SALE_PARTS = {
-  "vend request": "request",
-  "vend approved": "approved",
-  "vend denied": "denied",
-  "vend success": "sold",
-  "vend failure": "failed",
-  "vend cancel": "cancelled"
-};
+// What an entry is in a sale, by its kind.
 const PART_WORDS = {
   request: "requested",
   approved: "approved",
@@ -79,7 +71,7 @@ function newLine(m, part, index) {
     device: m.device,
     isSale,
     parts: [],
-    item: isSale || m.what === "cash sale" ? m.type : "",
+    item: isSale || m.kind === "cash sale" ? m.type : "",
     units: part === "request" || !isSale ? m.units : undefined,
     decimals: m.decimals,
     outcome: null
@@ -125,7 +117,7 @@ function linesOf(entries, sessions, cuts) {
   const lines = [], lineOf = new Uint32Array(entries.length), open = new OpenSales(sessions, cuts);
   entries.forEach((m, i) => {
     open.to(m.first);
-    const part = SALE_PARTS[m.what] ?? null;
+    const part = m.kind in PART_WORDS ? m.kind : null;
     let line = part ? open.lines[m.device] : null;
     if (!continues(line, part, m)) {
       line = newLine(m, part, lines.length);
@@ -148,13 +140,12 @@ function linesOf(entries, sessions, cuts) {
 
 // Which running sum an entry belongs to, and which side told it.
 const SUM_OF = {
-  "coin deposited to tube": {sum: "coins", by: "device"},
-  "coin deposited to cash box": {sum: "coins", by: "device"},
-  "coin dispensed by hand": {sum: "out", by: "device"},
-  "coins dispensed by hand": {sum: "out", by: "device"},
-  "coins ordered (DISPENSE)": {sum: "out", by: "controller"},
-  "bill stacked": {sum: "bills", by: "device"},
-  "vend success": {sum: "sold", by: "controller"},
+  "tube": {sum: "coins", by: "device"},
+  "cash box": {sum: "coins", by: "device"},
+  "by hand": {sum: "out", by: "device"},
+  "ordered": {sum: "out", by: "controller"},
+  "stacked": {sum: "bills", by: "device"},
+  "sold": {sum: "sold", by: "controller"},
   "cash sale": {sum: "cash", by: "controller"}
 };
 
@@ -164,10 +155,10 @@ function addSums({lines}, entries) {
   const running = {}, approved = {}, NONE = {units: null};
   for (const line of lines)
     for (const {i} of line.parts) {
-      const m = entries[i], kind = SUM_OF[m.what];
-      if (m.what === "vend approved") approved[m.device] = {m, run: line.run};
+      const m = entries[i], kind = SUM_OF[m.kind];
+      if (m.kind === "approved") approved[m.device] = {m, run: line.run};
       if (!kind) continue;
-      const last = approved[m.device], amount = m.what !== "vend success" ? m : last?.run === line.run ? last.m : NONE;
+      const last = approved[m.device], amount = m.kind !== "sold" ? m : last?.run === line.run ? last.m : NONE;
       const now = (running[kind.sum] ??= [])[m.device] ??= {device: NO_SUM, controller: NO_SUM};
       for (const side of ["device", "controller"])
         if (side === kind.by || m.acknowledged) now[side] = sumAfter(now[side], amount);
@@ -217,9 +208,10 @@ function outcomeWords(it, line) {
   if (!line.isSale) return it.found.money[line.parts[0].i].acknowledged ? "acknowledged" : "not acknowledged";
   const has = (part) => line.parts.some((it) => it.part === part);
   if (line.outcome !== "sold")
-    return line.outcome ?? (has("denied")   ? "denied" :
-                                line.cutAt ? ["no outcome before row ", rowLink(line.cutAt), ", which cuts this sale"] :
-                                             "no outcome reported");
+    return line.outcome ??
+        (has("denied")  ? "denied" :
+             line.cutAt ? ["no outcome before row ", rowLink(line.cutAt), ", which cuts this sale"] :
+                          "no outcome reported");
   if (has("denied")) return "sold although denied";
   if (!has("request") && line.after) return ["sold; row ", rowLink(line.after), " cuts this sale"];
   if (!has("request")) return "sold, with no request reported";

@@ -7,6 +7,8 @@ const MOST = 800000, HALF = MOST / 2;
 const MOST_NEWS = 1000000;
 // So many faults of a survey are listed at most: what is more than that is counted.
 const MOST_FAULTS = 20000;
+// So many rises are listed at most: what is more than that is counted.
+const MOST_RISES = 20000;
 // So many rows before a fault are looked at for what was said.
 const FAR_BACK = 2000;
 // So many bytes are summed up between two messages.
@@ -148,6 +150,20 @@ function listAll() {
   };
 }
 
+// Whether the text of a report has a range that is open.
+const hasOpenRange =
+    (text) => [...text.matchAll(/(-?\d+)\.\.(-?\d+)/g)].some(([, least, greatest]) => least !== greatest);
+
+// The rows by which ranges of the sums open or close, as far as there is room in the place of the acts and news, which
+// the page has by then.
+function listRises() {
+  const wide = layout.rise.size, room = Math.min(MOST_RISES, Math.floor((at.end - at.acts) / wide));
+  call.mdb_page_rises(
+      BigInt(at.options), BigInt(at.text), BigInt(size), 0n, BigInt(at.told), BigInt(at.acts), BigInt(room));
+  const all = told().news, listed = Math.min(all, room);
+  return {all, listed: new Uint8Array(call.memory.buffer, at.acts, listed * wide).slice().buffer};
+}
+
 // The lines about a place in the text: up to 40 before it (a whole block and more), that one, and up to 40 after it.
 function lines(offset, row) {
   const text = new Uint8Array(call.memory.buffer, at.text, size), found = [], FAR = 65536, LONG = 200;
@@ -210,6 +226,8 @@ function judge(options) {
   // The rows before one that cannot be are a recording of their own, and its answer is a yes.
   const before = answer === 1 && check(end.offset) === 0 ? answerText() : "";
   const summed = performance.now();
+  const rises = answer === 0 && hasOpenRange(text) ? listRises() : null;
+  const risen = performance.now();
   const stops = answer === 1 || answer === 2 || answer === 3 || answer === 4;
   const recording = new Uint8Array(call.memory.buffer, at.text, size);
   say({
@@ -223,10 +241,11 @@ function judge(options) {
     lines: stops ? lines(end.offset, end.row) : [],
     acts,
     ...listing,
+    rises,
     // When the last row of the file began: what isn't read goes up to there.
     until: timeAt(recording, rowBefore(recording, size)),
     size,
-    ms: {read, check: checked - listed, before: summed - checked, list: listed - begin},
+    ms: {read, check: checked - listed, before: summed - checked, rises: risen - summed, list: listed - begin},
     memory: call.memory.buffer.byteLength
   },
       [acts]);

@@ -8,6 +8,8 @@ here:
 - rows that a sentence names are those of an act, or rows of the block that breaks a rule of the link;
 - an item, an amount, an approval, a denial, a sale, an order is told by an act in the rows that its sentence names;
 - an amount that isn't certain, and what the two sides counted, are the report's;
+- the acts that leave an amount open are those at which a range became wider, and what settles a part of it is where one
+  became narrower, by `mdbcheck check` of the rows up to each row;
 - what a sentence says is missing isn't there: an approval, an order, a report of a reset, a later event of a session;
 - a silence has as many commands without an answer as the sentence says;
 - each device that the card's story names is one of an act there, of the blame, or of a line of the report that isn't zero.
@@ -73,8 +75,8 @@ EXAMPLES = {
     "other-words-in-a-repeat": [
         "Asked to repeat its answer (rows 18–20), the changer sent the word 008 (row 23). The first time it was 009 (row 19)."],
     "sale-answered-by-a-reset-message": [
-        "Up to 0.10 isn't certain. Card reader 1 booked 0.00 to 0.10; the controller counted 0.10.",
-        "Perhaps this is why: card reader 1 answered the sale of item 5 (rows 55–59) with the report that it was reset (rows 60–61). Whether it had booked it by then isn't certain."],
+        "0.10 isn't certain: card reader 1 answered the sale of item 5 (rows 55–59) with the report that it was reset (rows 60–61). Whether it had booked it by then isn't certain.",
+        "Card reader 1 booked 0.00 to 0.10; the controller counted 0.10."],
     "sale-by-card": ["The controller and the devices agree for certain: 1.00 approved by card reader 1 and 1.00 sold by card reader 1."],
     "sale-never-approved": [
         "The controller asked for 1.50 for item 8 (rows 58–64), and card reader 1 denied it (rows 68–69).",
@@ -226,7 +228,7 @@ PHRASES = [
     (r"item \d+ as sold", "sold"), (r"the sale of", "sold"), (r"(?<!nor )denied (?:it|the request)\b", "denied"),
     (r"card reader \d approved (\d[\d.]*)(?= for| \(|[.,] )", "money {0}"), (r"card reader \d approved \S+(?: for item \d+)? \(", "approved"),
     (r"(?:coin|bill|payout|order to pay out|approval) of (\d[\d.]*)", "money {0}"), (r"a coin of", "coin"),
-    (r"a bill of \S+ stacked", "stacked"), (r"escrow \(rows", "escrow"), (r"began a session", "begun"),
+    (r"a bill of \S+ stacked", "stacked"), (r"(?-i:escrow) \(rows", "escrow"), (r"began a session", "begun"),
     (r"card reader \d ended the session", "ended"), (r"the controller ended the session \(", "complete"),
     (r"cancelled its request", "cancel"), (r"didn't come", "failure"), (r"(?:report that it|reported that it) was reset", "reset"),
     (r"(?:coin|bill) of type (\d+)", "type {0}"), (r"taken the order", "order"),
@@ -310,6 +312,54 @@ def bounds(line):
     return [tuple(map(int, it.split(".."))) for it in line[1::2]]
 
 
+def ranges(rows, options):
+    """The ranges of both sides of each account, as `check` prints them for these rows."""
+    lines = [line.split(" ") for line in run(["check", *options], b"".join(rows)).splitlines()]
+    return {line[0]: bounds(line[1:])[:2] for line in lines if line[0] in ACCOUNTS}
+
+
+def moved(data, options):
+    """Where ranges became wider, and where narrower: pairs of an account and a row, by `check` of the rows up to each."""
+    rows = [line for line in data.splitlines(keepends=True) if line.strip()]
+    wider, narrower, before = set(), set(), ranges([], options)
+    for n in range(1, len(rows) + 1):
+        after = ranges(rows[:n], options)
+        for name in ACCOUNTS:
+            for (low, high), (least, greatest) in zip(before[name], after[name]):
+                if greatest - least != high - low:
+                    (wider if greatest - least > high - low else narrower).add((name, n))
+        before = after
+    return wider, narrower
+
+
+# What a sentence says of an act that leaves money open.
+OPENS = re.compile(r"again in row|in the recording, and may have been counted|with the report that it was reset|was answered in row|new isn't certain")
+# So many rows a recording has at most of which `check` is asked for each front.
+FEW_ROWS = 700
+
+
+def compare_openings(sentences, data, options):
+    """The acts that leave money open, and those that settle a part, are named, and no others."""
+    wider, narrower = moved(data, options)
+    # The report and the controller's acknowledgement after it are of one act.
+    wider = {(name, row) for name, row in wider if (name, row - 1) not in wider}
+    rows = {row for _, row in wider}
+
+    def ends(sentence):
+        return {int(it.rpartition("–")[2]) for it in sentence["rows"]}
+    acts = [it for it in sentences if it["kind"] == "fact" and OPENS.search(it["text"])]
+    more = [it for it in sentences if "open too" in it["text"]]
+    for it in acts:
+        want(ends(it) & rows, f"no range became wider there, but in {sorted(wider)}: {it['text']}")
+    for it in more:
+        want(ends(it) <= rows, f"a range didn't become wider there, but in {sorted(wider)}: {it['text']}")
+    count = len(acts) + sum(int(it["text"].split(" ")[0].replace(",", "")) for it in more)
+    want(count == len(wider), f"{count} acts are told, and these are open: {sorted(wider)}")
+    settled = {row for it in sentences if "was settled by" in it["text"] for row in ends(it)}
+    want(settled <= {row for _, row in narrower} and bool(settled) == bool(narrower), f"settled by {settled}, and not {sorted(narrower)}")
+    return len(wider)
+
+
 def compare_yes(sentences, recording, report, values):
     """What is said of uncertain money, of silences and of agreement is what the report says."""
     places = dict(zip(values["decimals"][::2], values["decimals"][1::2]))
@@ -374,6 +424,8 @@ def compare_story(story, show, check, options, data):
         want(name not in text.lower() or device in may, f"{name} isn't involved ({may}): {text}")
     if report["verdict"] == "yes" and report["rows"] != "0" and "Nothing was followed" not in story["word"]:
         compare_yes(story["sentences"], recording, report, values)
+        if int(report["rows"]) <= FEW_ROWS and any("isn't certain" in it["text"] for it in story["sentences"]):
+            compare_openings(story["sentences"], data, options)
     return report
 
 

@@ -13,4 +13,6 @@ mod client;
 #[cfg(test)]
 mod page;
 #[cfg(test)]
+mod page_rises;
+#[cfg(test)]
 mod page_survey;

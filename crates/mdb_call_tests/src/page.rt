@@ -219,9 +219,13 @@ fn sizes_are_told(rt: HostRuntime) {
         news: 0,
         fault: 0,
         lines: 0,
+        rise: 0,
     };
     mdb_page_layout(&mut layout);
     assert_eq!(rt; (layout.options, layout.setup, layout.told), (153, 37, 40));
     assert_eq!(rt; (layout.answer, layout.act, layout.news), (4104, 80, 64));
-    assert_eq!(rt; (layout.fault, layout.lines), (16, 4_194_312));
+    assert_eq!(rt;
+        (layout.fault, layout.lines, layout.rise),
+        (16, 4_194_312, 32)
+    );
 }

@@ -5,6 +5,7 @@ use crate::answer::PageTold;
 use crate::faults::PageFault;
 use crate::news::PageNews;
 use crate::options::{PageOptions, PageSetup};
+use crate::rises::PageRise;
 use crate::sheet::{PageLines, PageText};
 use std::mem::size_of;
 
@@ -28,6 +29,8 @@ pub struct PageLayout {
     pub fault: u64,
     /// That of `PageLines`.
     pub lines: u64,
+    /// That of `PageRise`.
+    pub rise: u64,
 }
 
 /// Tells the sizes of the structures of the calls.
@@ -42,5 +45,6 @@ pub extern "C" fn mdb_page_layout(layout: &mut PageLayout) {
         news: size_of::<PageNews>() as u64,
         fault: size_of::<PageFault>() as u64,
         lines: size_of::<PageLines>() as u64,
+        rise: size_of::<PageRise>() as u64,
     };
 }

@@ -1,0 +1,101 @@
+-- A row that ends no act leaves all sums as they are.
+use Rattle.std.proofs.Common.{◌≡◌, List, [], ◌∷◌, ◌++◌, length, refl, sym, subst, ap, ◌∙◌, ℤ, None}
+use Rattle.mdb_words.specs.declared.event.Event.{Event}
+use Rattle.mdb_bus.specs.declared.act.Act.{Act}
+use Rattle.mdb_bus.specs.declared.scope.Beginning.{Beginning}
+use Rattle.mdb_bus.specs.declared.scope.Scope.{Scope}
+use Rattle.mdb_bus.specs.ActLists.{ArePieces, IsActList, Piece, acts_of}
+use Rattle.mdb_bus.specs.Loss.{Loss, LossFits}
+use Rattle.mdb_follow.specs.declared.account.Account.{Account}
+use Rattle.mdb_follow.specs.declared.range.Range.{Range}
+use Rattle.mdb_follow.specs.declared.report.Report.{Report}
+use Rattle.mdb_follow.specs.AccountNames.{sums_of}
+use Rattle.mdb_follow.specs.Arrivals.{EachArrives}
+use Rattle.mdb_follow.specs.EndedActs.{IsEndedAct}
+use Rattle.mdb_follow.specs.Ranges.{IsAccount, IsRange}
+use Rattle.mdb_follow.specs.Report.{IsReport, report_of}
+use Rattle.mdb_follow.specs.Runs.{AllSums, IsWay, Run, States}
+use Rattle.mdb_follow.specs.Sums.{AccountSums}
+
+-- what laws of the bus and of the follower say
+pub record Laws : Type 0 where
+  pub one : (scope : Scope) (rows : List Event) (one other : List Piece)
+      → IsActList scope one rows → IsActList scope other rows → one ≡ other
+  pub split : (begins : Beginning) (loss : Loss) (pieces : List Piece) (states : States)
+      (sums : AllSums) → IsWay begins loss pieces states sums
+      → EachArrives begins (acts_of pieces) states sums
+  pub join : (scope : Scope) (pieces : List Piece) (states : States) (sums : AllSums)
+      → ArePieces scope pieces → EachArrives scope.begins (acts_of pieces) states sums
+      → (loss : Loss) × LossFits loss pieces × IsWay scope.begins loss pieces states sums
+
+-- a run of rows is one of others with the same acts
+run_of_same : (scope : Scope) → Laws → (rows others : List Event) (pieces more : List Piece)
+    → IsActList scope pieces rows → IsActList scope more others
+    → acts_of pieces ≡ acts_of more → (sums : AllSums) → Run scope rows sums
+    → Run scope others sums
+run_of_same scope laws rows others pieces more list other same sums run =
+    let Arrive : List Act → Type 0 = λ acts. EachArrives scope.begins acts run.states sums in
+    let acts : acts_of run.pieces ≡ acts_of more =
+    ap acts_of (laws.one scope rows run.pieces pieces run.act_list list) ∙ same in
+    let way = laws.join scope more run.states sums other.in_order (subst Arrive acts
+    (laws.split scope.begins run.loss run.pieces run.states sums run.way)) in
+    record {
+      pieces = more;
+      act_list = other;
+      loss = way.0;
+      fits = way.1;
+      states = run.states;
+      way = way.2;
+    }
+
+-- kinds of sums that are the same have the same ranges
+abbrev AreSame : (AllSums → Type 0) → (AllSums → Type 0) → Type 0
+AreSame Kind Other =
+    ((sums : AllSums) → Kind sums → Other sums) × ((sums : AllSums) → Other sums → Kind sums)
+
+same_range : (Kind Other : AllSums → Type 0) → AreSame Kind Other → (value : AllSums → ℤ)
+    (range : Range) → IsRange Kind value range → IsRange Other value range
+same_range Kind Other same value range is = record {
+  least = (is.least.0, same.0 is.least.0 is.least.1, is.least.2);
+  greatest = (is.greatest.0, same.0 is.greatest.0 is.greatest.1, is.greatest.2);
+  low = λ sums other. is.low sums (same.1 sums other);
+  high = λ sums other. is.high sums (same.1 sums other);
+}
+
+same_account : (Kind Other : AllSums → Type 0) → AreSame Kind Other
+    → (account : AllSums → AccountSums) (ranges : Account) → IsAccount Kind account ranges
+    → IsAccount Other account ranges
+same_account Kind Other same account ranges is = record {
+  device = same_range Kind Other same _ ranges.device is.device;
+  controller = same_range Kind Other same _ ranges.controller is.controller;
+  difference = same_range Kind Other same _ ranges.difference is.difference;
+}
+
+-- a row that ends no act: the report of the rows with it has the same accounts
+pub stays : (scope : Scope) → Laws → (rows : List Event) (row : Event) (report : Report)
+    → IsReport scope rows report → IsEndedAct scope rows row None
+    → (after : Report) × IsReport scope (rows ++ row ∷ []) after
+    × (after.accounts ≡ report.accounts)
+stays scope laws rows row report is ended =
+    let pieces = ended.newest ∷ ended.earlier in
+    let acts : acts_of ended.before ≡ acts_of pieces = sym ended.acts in
+    let same : AreSame (Run scope rows) (Run scope (rows ++ row ∷ [])) = (
+      run_of_same scope laws rows (rows ++ row ∷ []) ended.before pieces ended.shorter
+          ended.act_list acts,
+      run_of_same scope laws (rows ++ row ∷ []) rows pieces ended.before ended.act_list
+          ended.shorter (sym acts),
+    ) in
+    let after : Report =
+    report_of scope.begins (length (rows ++ row ∷ [])) pieces is.accounts in (
+      after,
+      record {
+        reached = (is.reached.0, same.0 is.reached.0 is.reached.1);
+        pieces = pieces;
+        act_list = ended.act_list;
+        accounts = is.accounts;
+        of_runs = λ account. same_account (Run scope rows) (Run scope (rows ++ row ∷ [])) same
+            (sums_of account) (is.accounts account) (is.of_runs account);
+        telling = refl;
+      },
+      sym (ap (λ it. it.accounts) is.telling),
+    )

@@ -1,0 +1,249 @@
+-- How entries of rises are listed.
+use Rattle.std.proofs.Common.{◌≡◌, ◌≢◌, ◌+◌, ◌<◌, ◌≤◌, ◌⊎◌, ℕ, List, [], ◌∷◌, ◌++◌, length, refl, sym, subst, ap, ◌∙◌, arith, inl, inr, get_or, set, get_or-set_same, get_or-set_other, length-set, length-append, ◌^◌, ◌-ℤ◌, ◌≤ℤ◌, ℤ, pos, negsuc, neg_ℤ, SFits, of_z, to_z, w64, Bool, true, false, cond, append-nil, append_assoc, flat_map, take}
+use Rattle.std.proofs.Math.Seq.{get_or-append_seam}
+use Rattle.std.proofs.lemmas.Int.{ints, to_z-of_z}
+use Rattle.std.proofs.lemmas.List.{flat_map_more, get_or_append_left, take_all, take_more}
+use Rattle.std.specs.Ordering.{int_eq}
+use Rattle.mdb_follow.specs.declared.account.Account.{Account}
+use Rattle.mdb_follow.specs.declared.account_name.AccountName.{AccountName}
+use Rattle.mdb_follow.specs.declared.range.Range.{Range}
+use Rattle.mdb_follow.specs.declared.report.Report.{Report}
+use Rattle.mdb_follow.specs.AccountNames.{account_of, account_place}
+use Rattle.mdb_follow.specs.Limits.{IsRangeWithin}
+use Rattle.mdb_page.specs.Rises.{AreListed, rise, rise_of, rises_in}
+use Rattle.mdb_page.specs.inner.Rising.{HasListed}
+use Rattle.mdb_page.specs.declared.rises.PageRise.{PageRise}
+use Rattle.mdb_page.specs.declared.rises.RiseListing.{RiseListing}
+use Rattle.mdb_page.proofs.Ring.{less_or_not}
+
+-- nothing is listed at first
+pub starts_empty : (skip : ℕ) (before : List PageRise) → AreListed skip [] before before
+starts_empty skip before = record {
+  room = refl;
+  put = λ place other within room. absurd (omega (arith, within));
+  kept = λ place other past. refl;
+}
+
+-- one entry more, after all
+one_longer : (all : List PageRise) (rise : PageRise) → length (all ++ rise ∷ []) ≡ length all + 1
+one_longer all rise = length-append all (rise ∷ [])
+
+-- one entry more is put at its place
+pub listed_at : (skip place : ℕ) (all before after : List PageRise) (rise : PageRise)
+    → AreListed skip all before after → skip + place ≡ length all → place < length after
+    → AreListed skip (all ++ rise ∷ []) before (set after place rise)
+listed_at skip place all before after rise are here inside = record {
+  room = length-set after place rise ∙ are.room;
+  put = λ at other within room. elim (less_or_not at place) [
+    | inl less ↦
+        get_or-set_other after place at rise other (λ same. omega (arith, same, less))
+        ∙ (are.put at other (omega (arith, less, here)) room
+        ∙ sym (get_or_append_left all (rise ∷ []) other (skip + at) (omega (arith, less, here))))
+    | inr not ↦ put_here at other (omega (arith, not, within, here, one_longer all rise))
+  ];
+  kept = λ at other past.
+      get_or-set_other after place at rise other
+      (λ same. omega (arith, same, past, here, one_longer all rise))
+      ∙ are.kept at other (omega (arith, past, one_longer all rise));
+}
+  where
+    put_here : (at : ℕ) (other : PageRise) → at ≡ place
+        → get_or (set after place rise) at other
+        ≡ get_or (all ++ rise ∷ []) (skip + at) other
+    put_here at other same =
+        ap (λ n. get_or (set after place rise) n other) same
+        ∙ (get_or-set_same after place rise other inside
+        ∙ (sym (get_or-append_seam all rise [] other)
+        ∙ ap (λ n. get_or (all ++ rise ∷ []) n other)
+        (omega (arith, here, same))))
+
+-- one entry more has no place: it is passed over, or there is no room
+pub listed_not : (skip : ℕ) (all before after : List PageRise) (rise : PageRise)
+    → AreListed skip all before after
+    → (length all < skip) ⊎ (skip + length after ≤ length all)
+    → AreListed skip (all ++ rise ∷ []) before after
+listed_not skip all before after rise are out = record {
+  room = are.room;
+  put = λ at other within room.
+      let earlier = older out at within room in
+      are.put at other earlier room
+      ∙ sym (get_or_append_left all (rise ∷ []) other (skip + at) earlier);
+  kept = λ at other past. are.kept at other (omega (arith, past, one_longer all rise));
+}
+  where
+    older : (length all < skip) ⊎ (skip + length after ≤ length all) → (at : ℕ)
+        → skip + at < length (all ++ rise ∷ []) → at < length before
+        → skip + at < length all
+    older (inl passed) at within room =
+        omega (arith, passed, within, one_longer all rise)
+    older (inr full) at within room =
+        omega (arith, full, within, room, are.room, one_longer all rise)
+
+-- a listing puts one entry more, or not
+pub puts : (skip place : ℕ) (all before after : List PageRise) (rise : PageRise)
+    (listing next : RiseListing) → HasListed skip all listing before after
+    → next.skip ≡ listing.skip → next.count ≡ listing.count + 1
+    → listing.skip + place ≡ listing.count → place < length after
+    → HasListed skip (all ++ rise ∷ []) next before (set after place rise)
+puts skip place all before after rise listing next has skips counts here inside = record {
+  same = skips ∙ has.same;
+  number = counts ∙ (ap (λ n. n + 1) has.number ∙ sym (one_longer all rise));
+  entries = listed_at skip place all before after rise has.entries
+      (omega (arith, here, has.same, has.number)) inside;
+}
+
+pub puts_not : (skip : ℕ) (all before after : List PageRise) (rise : PageRise)
+    (listing next : RiseListing) → HasListed skip all listing before after
+    → next.skip ≡ listing.skip → next.count ≡ listing.count + 1
+    → (listing.count < listing.skip) ⊎ (listing.skip + length after ≤ listing.count)
+    → HasListed skip (all ++ rise ∷ []) next before after
+puts_not skip all before after rise listing next has skips counts out = record {
+  same = skips ∙ has.same;
+  number = counts ∙ (ap (λ n. n + 1) has.number ∙ sym (one_longer all rise));
+  entries = listed_not skip all before after rise has.entries (here out);
+}
+  where
+    here : (listing.count < listing.skip) ⊎ (listing.skip + length after ≤ listing.count)
+        → (length all < skip) ⊎ (skip + length after ≤ length all)
+    here (inl passed) = inl (omega (arith, passed, has.same, has.number))
+    here (inr full) = inr (omega (arith, full, has.same, has.number))
+
+-- What a row lists of a range.
+
+-- a number so near to 0 is one of 64 bits
+fits : (z : ℤ) → neg_ℤ (pos (2 ^ 62)) ≤ℤ z → z ≤ℤ pos (2 ^ 62) → SFits w64 z
+fits (pos n) low high = record { sfits = omega (arith, ints) }
+fits (negsuc n) low high = record { sfits = omega (arith, ints) }
+
+-- an end less another
+less : (end other : ℤ) → neg_ℤ (pos (2 ^ 60)) ≤ℤ end → end ≤ℤ pos (2 ^ 60)
+    → neg_ℤ (pos (2 ^ 60)) ≤ℤ other → other ≤ℤ pos (2 ^ 60)
+    → to_z w64 (of_z w64 (to_z w64 (of_z w64 end) -ℤ to_z w64 (of_z w64 other))) ≡ end -ℤ other
+less end other low high other_low other_high =
+    let one = fits end (omega (arith, ints)) (omega (arith, ints)) in
+    let two = fits other (omega (arith, ints)) (omega (arith, ints)) in
+    let both = fits (end -ℤ other) (omega (arith, ints)) (omega (arith, ints)) in
+    rw (to_z-of_z w64 end one, to_z-of_z w64 other two) (to_z-of_z w64 (end -ℤ other) both)
+
+-- the ends of a range less those of another
+pub rises_so : (was is : Range) → IsRangeWithin (2 ^ 60) was → IsRangeWithin (2 ^ 60) is
+    → record {
+      least = to_z w64 (of_z w64 (to_z w64 (of_z w64 is.least) -ℤ to_z w64 (of_z w64 was.least)));
+      greatest = to_z w64 (of_z w64
+          (to_z w64 (of_z w64 is.greatest) -ℤ to_z w64 (of_z w64 was.greatest)));
+    } ≡ rise was is
+rises_so was is before after =
+    let made : ℤ → ℤ → Range = λ l g. record { least = l; greatest = g } in
+    ap (λ l. made l (to_z w64 (of_z w64
+    (to_z w64 (of_z w64 is.greatest) -ℤ to_z w64 (of_z w64 was.greatest)))))
+    (less is.least was.least after.least_low after.least_high before.least_low before.least_high)
+    ∙ ap (λ g. made (is.least -ℤ was.least) g)
+    (less is.greatest was.greatest after.greatest_low after.greatest_high before.greatest_low
+    before.greatest_high)
+
+-- what a rise is as a number of 64 bits
+pub stays_so : (was is risen : Range) → IsRangeWithin (2 ^ 60) was → IsRangeWithin (2 ^ 60) is
+    → risen ≡ rise was is → (to_z w64 (of_z w64 risen.least) ≡ risen.least)
+    × (to_z w64 (of_z w64 risen.greatest) ≡ risen.greatest)
+stays_so was is risen before after so =
+    subst (λ (r : Range). (to_z w64 (of_z w64 r.least) ≡ r.least)
+    × (to_z w64 (of_z w64 r.greatest) ≡ r.greatest)) (sym so) (
+      to_z-of_z w64 (is.least -ℤ was.least) (fits (is.least -ℤ was.least)
+          (omega (arith, ints, after.least_low, before.least_high))
+          (omega (arith, ints, after.least_high, before.least_low))),
+      to_z-of_z w64 (is.greatest -ℤ was.greatest) (fits (is.greatest -ℤ was.greatest)
+          (omega (arith, ints, after.greatest_low, before.greatest_high))
+          (omega (arith, ints, after.greatest_high, before.greatest_low))),
+    )
+
+-- the entry of a range whose ends rose so
+abbrev pub entry_of : ℕ → ℕ → ℕ → ℤ → ℤ → PageRise
+entry_of number account side least greatest = record {
+  row = number;
+  least = least;
+  greatest = greatest;
+  account = account;
+  side = side;
+}
+
+abbrev chosen : Bool → PageRise → List PageRise
+chosen same entry = cond same [] (entry ∷ [])
+
+-- its ends rose differently
+pub lists_range : (skip number account side : ℕ) (was is risen : Range) (least greatest : ℤ)
+    (all before now : List PageRise) (listing : RiseListing) → risen ≡ rise was is
+    → (least ≡ risen.least) × (greatest ≡ risen.greatest)
+    → int_eq risen.least risen.greatest ≡ false
+    → HasListed skip (all ++ entry_of number account side least greatest ∷ []) listing before now
+    → HasListed skip (all ++ rise_of number account side was is) listing before now
+lists_range skip number account side was is risen least greatest all before now listing so ends
+    differ has =
+    let Made : List PageRise → Type 0 = λ its. HasListed skip (all ++ its) listing before now in
+    let entry = entry_of number account side risen.least risen.greatest in
+    subst (λ range. Made (chosen (int_eq range.least range.greatest)
+    (entry_of number account side range.least range.greatest))) so
+    (subst (λ same. Made (chosen same entry)) (sym differ)
+    (subst (λ l. Made (entry_of number account side l risen.greatest ∷ [])) ends.0
+    (subst (λ g. Made (entry_of number account side least g ∷ [])) ends.1 has)))
+
+-- they rose alike
+pub lists_no_range : (skip number account side : ℕ) (was is risen : Range)
+    (all before now : List PageRise) (listing : RiseListing) → risen ≡ rise was is
+    → int_eq risen.least risen.greatest ≡ true → HasListed skip all listing before now
+    → HasListed skip (all ++ rise_of number account side was is) listing before now
+lists_no_range skip number account side was is risen all before now listing so alike has =
+    let Made : List PageRise → Type 0 = λ its. HasListed skip its listing before now in
+    let entry = entry_of number account side risen.least risen.greatest in
+    subst (λ range. Made (all ++ chosen (int_eq range.least range.greatest)
+    (entry_of number account side range.least range.greatest))) so
+    (subst (λ same. Made (all ++ chosen same entry)) (sym alike)
+    (subst Made (sym (append-nil all)) has))
+
+-- what is listed of both sides of an account is what a row lists of it
+pub lists_account : (skip row place : ℕ) (last report : Report) (name : AccountName)
+    (was is : Account) (all before now : List PageRise) (listing : RiseListing)
+    → was ≡ account_of name last → is ≡ account_of name report → row ≡ report.rows
+    → place ≡ account_place name
+    → HasListed skip ((all ++ rise_of row place 0 was.device is.device)
+    ++ rise_of row place 1 was.controller is.controller) listing before now
+    → HasListed skip (all ++ rises_in last report name) listing before now
+lists_account skip row place last report name was is all before now listing was_so is_so row_so
+    place_so has =
+    let Made : ℕ → ℕ → Account → Account → List PageRise =
+    λ n p a b. rise_of n p 0 a.device b.device ++ rise_of n p 1 a.controller b.controller in
+    let same : Made row place was is ≡ rises_in last report name =
+    ap (λ n. Made n place was is) row_so
+    ∙ (ap (λ p. Made report.rows p was is) place_so
+    ∙ (ap (λ a. Made report.rows (account_place name) a is) was_so
+    ∙ ap (λ b. Made report.rows (account_place name) (account_of name last) b) is_so)) in
+    subst (λ its. HasListed skip its listing before now)
+    (append_assoc all (rise_of row place 0 was.device is.device)
+    (rise_of row place 1 was.controller is.controller) ∙ ap (λ its. all ++ its) same) has
+
+-- one account more
+pub one_name_more : (made : AccountName → List PageRise) (skip : ℕ)
+    (all before now : List PageRise) (listing : RiseListing) (names : List AccountName) (i : ℕ)
+    (d : AccountName) (its : List PageRise) → i < length names → its ≡ made (get_or names i d)
+    → HasListed skip ((all ++ flat_map made (take i names)) ++ its) listing before now
+    → HasListed skip (all ++ flat_map made (take (i + 1) names)) listing before now
+one_name_more made skip all before now listing names i d its below same has =
+    subst (λ l. HasListed skip l listing before now)
+    (ap (λ l. (all ++ flat_map made (take i names)) ++ l) same
+    ∙ (flat_map_more made all (take i names) (get_or names i d)
+    ∙ ap (λ l. all ++ flat_map made l) (sym (take_more names i d below)))) has
+
+-- all accounts
+pub all_names : (made : AccountName → List PageRise) (skip : ℕ) (all before now : List PageRise)
+    (listing next : RiseListing) (names : List AccountName) (i : ℕ) → length names ≤ i
+    → next.skip ≡ listing.skip → next.count ≡ listing.count
+    → HasListed skip (all ++ flat_map made (take i names)) listing before now
+    → HasListed skip (all ++ flat_map made names) next before now
+all_names made skip all before now listing next names i past skips counts has =
+    let whole : HasListed skip (all ++ flat_map made names) listing before now =
+    subst (λ l. HasListed skip (all ++ flat_map made l) listing before now)
+    (take_all i names past) has in
+    record {
+      same = skips ∙ whole.same;
+      number = counts ∙ whole.number;
+      entries = whole.entries;
+    }

@@ -1,0 +1,335 @@
+-- How the rows of a text are followed, and what they do to the ranges is listed.
+use Rattle.std.proofs.Common.{◌≡◌, ◌≢◌, ◌+◌, ◌*◌, ◌^◌, ◌<◌, ◌≤◌, ◌-ℤ◌, ℕ, ℤ, Bool, true, false, List, [], ◌∷◌, ◌++◌, append-nil, append_assoc, flat_map, length, refl, sym, subst, ap, ◌∙◌, arith, Option, None, Some, cond}
+use Rattle.std.proofs.lemmas.Bool.Decides.{Decides-int_eq}
+use Rattle.std.proofs.lemmas.Int.{ints}
+use Rattle.std.specs.Prelude.{IsSomeAnd}
+use Rattle.mdb_words.specs.declared.event.Event.{Event}
+use Rattle.mdb_words.specs.declared.row.RowFault.{RowFault}
+use Rattle.mdb_bus.specs.declared.act.Act.{Act}
+use Rattle.mdb_bus.specs.declared.scope.Scope.{Scope}
+use Rattle.mdb_bus.specs.Bus.{ended_act}
+use Rattle.mdb_follow.specs.declared.account.Account.{Account}
+use Rattle.mdb_follow.specs.declared.account_name.AccountName.{AccountName}
+use Rattle.mdb_follow.specs.declared.account_name.TheConstants.AccountName.{ALL}
+use Rattle.mdb_follow.specs.declared.follower.Follower.{Follower}
+use Rattle.mdb_follow.specs.declared.follower.TheConstants.{ROWS_MAX}
+use Rattle.mdb_follow.specs.declared.offence.Offence.{Offence}
+use Rattle.mdb_follow.specs.declared.range.Range.{Range}
+use Rattle.mdb_follow.specs.declared.report.Report.{Report}
+use Rattle.mdb_follow.specs.AccountNames.{account_in, account_of, account_place}
+use Rattle.mdb_follow.specs.EndedActs.{IsEndedAct}
+use Rattle.mdb_follow.specs.Follower.{StandsFor, rows_of, scope_of}
+use Rattle.mdb_follow.specs.Limits.{IsAccountWithin, IsRangeWithin}
+use Rattle.mdb_follow.specs.Offences.{IsOffence}
+use Rattle.mdb_follow.specs.Report.{IsReport}
+use Rattle.mdb_follow.specs.ReportLimits.{IsReportWithin}
+use Rattle.mdb_page.specs.Answers.{number_of}
+use Rattle.mdb_page.specs.Lines.{HasRead, IsLine, TellsRow, blank, row, start}
+use Rattle.mdb_page.specs.Rises.{AreRises, EndsSo, broken, no_row, none, rise_of, rises_between, too_long, unread, whole}
+use Rattle.mdb_page.specs.Rises as rises
+use Rattle.mdb_page.specs.Surveys.{HasLine}
+use Rattle.mdb_page.specs.inner.Rising.{HasFollowed, HasListed, HasTakenRow, IsNear}
+use Rattle.mdb_page.specs.declared.answer.PageTold.{PageTold}
+use Rattle.mdb_page.specs.declared.lines.LineFault.{LineFault}
+use Rattle.mdb_page.specs.declared.lines.LineFault.TheVariants as faults
+use Rattle.mdb_page.specs.declared.rises.PageRise.{PageRise}
+use Rattle.mdb_page.specs.declared.rises.RiseListing.{RiseListing}
+use Rattle.mdb_page.proofs.QuietRows.{Laws, stays}
+use Rattle.mdb_page.proofs.RiseLists.{starts_empty}
+use Rattle.mdb_page.proofs.Walks.{IsFaultOf, IsLineAnswer}
+
+-- The ends of ranges stay near enough.
+
+range_near : (limit : ℕ) (range : Range) → limit ≤ 2 ^ 60
+    → IsRangeWithin limit range → IsRangeWithin (2 ^ 60) range
+range_near limit range le is = record {
+  least_low = omega (arith, ints, le, is.least_low);
+  least_high = omega (arith, ints, le, is.least_high);
+  greatest_low = omega (arith, ints, le, is.greatest_low);
+  greatest_high = omega (arith, ints, le, is.greatest_high);
+}
+
+pub near : (rows : ℕ) (report : Report) → rows ≤ ROWS_MAX → IsReportWithin (rows * 2 ^ 32) report
+    → IsNear report
+near rows report few is name =
+    let its = is.accounts name in
+    let le : rows * 2 ^ 32 ≤ 2 ^ 60 = omega arith in
+    record {
+      device = range_near (rows * 2 ^ 32) _ le its.device;
+      controller = range_near (rows * 2 ^ 32) _ le its.controller;
+      difference = range_near (rows * 2 ^ 32) _ le its.difference;
+    }
+
+-- Entries between reports with the same accounts.
+
+-- what `rises_between` takes of a report before
+abbrev between : List Account → Report → List PageRise
+between accounts after =
+    flat_map (λ name. rise_of after.rows (account_place name) 0 (account_in name accounts).device
+    (account_of name after).device
+    ++ rise_of after.rows (account_place name) 1 (account_in name accounts).controller
+    (account_of name after).controller) ALL
+
+between_alike : (one other after : Report) → one.accounts ≡ other.accounts
+    → rises_between one after ≡ rises_between other after
+between_alike one other after same = ap (λ accounts. between accounts after) same
+
+none_of : (number account side : ℕ) (range : Range) → rise_of number account side range range ≡ []
+none_of number account side range =
+    let least : ℤ = range.least -ℤ range.least in
+    let greatest : ℤ = range.greatest -ℤ range.greatest in
+    let entry : List PageRise = record {
+      row = number;
+      least = least;
+      greatest = greatest;
+      account = account;
+      side = side;
+    } ∷ [] in
+    let same : least ≡ greatest = omega (arith, ints) in
+    let Chosen : Bool → List PageRise = λ is. cond is [] entry in
+    ap Chosen ((Decides-int_eq least greatest).1 same)
+
+none_of_all : (number : ℕ) (accounts : List Account) (names : List AccountName)
+    → flat_map (λ name. rise_of number (account_place name) 0 (account_in name accounts).device
+    (account_in name accounts).device
+    ++ rise_of number (account_place name) 1 (account_in name accounts).controller
+    (account_in name accounts).controller) names ≡ []
+none_of_all number accounts [] = refl
+none_of_all number accounts (name ∷ names) =
+    let account = account_in name accounts in
+    let rest = none_of_all number accounts names in
+    let first : rise_of number (account_place name) 0 account.device account.device
+    ++ rise_of number (account_place name) 1 account.controller account.controller ≡ [] =
+    ap (λ it. it ++ rise_of number (account_place name) 1 account.controller account.controller)
+    (none_of number (account_place name) 0 account.device)
+    ∙ none_of number (account_place name) 1 account.controller in
+    ap (λ it. it ++ flat_map (λ name. rise_of number (account_place name) 0
+    (account_in name accounts).device (account_in name accounts).device
+    ++ rise_of number (account_place name) 1 (account_in name accounts).controller
+    (account_in name accounts).controller) names) first ∙ rest
+
+none_between : (before after : Report) → after.accounts ≡ before.accounts
+    → rises_between before after ≡ []
+none_between before after same =
+    ap (λ accounts. between accounts after) (sym same)
+    ∙ none_of_all after.rows after.accounts ALL
+
+-- The first lines of a text were followed: the follower stands for their rows, and their entries
+-- are listed.
+pub record Follows (scope : Scope) (lines rest : List ℕ) (follower : Follower) (skip : ℕ)
+    (before now : List PageRise) (listing : RiseListing) : Type 0 where
+  pub rows : List Event
+  pub read : HasRead lines rows rest
+  pub stands : StandsFor follower rows
+  pub in_scope : scope_of follower ≡ scope
+  pub report : Report
+  pub is : IsReport scope rows report
+  pub last : listing.last.accounts ≡ report.accounts
+  pub all : List PageRise
+  pub rises : AreRises scope rows all
+  pub listed : HasListed skip all listing before now
+
+-- before the first line
+pub starts : (lines : List ℕ) (follower : Follower) (before : List PageRise)
+    (listing : RiseListing) → StandsFor follower [] → IsReport (scope_of follower) [] listing.last
+    → listing.count ≡ 0
+    → Follows (scope_of follower) lines lines follower listing.skip before before listing
+starts lines follower before listing stands report empty = record {
+  rows = [];
+  read = start;
+  stands = stands;
+  in_scope = refl;
+  report = listing.last;
+  is = report;
+  last = refl;
+  all = [];
+  rises = none;
+  listed = record {
+    same = refl;
+    number = empty;
+    entries = starts_empty listing.skip before;
+  };
+}
+
+-- a line without bytes
+pub goes_on_blank : (scope : Scope) (lines rest after : List ℕ) (follower : Follower) (skip : ℕ)
+    (before now : List PageRise) (listing : RiseListing)
+    → Follows scope lines rest follower skip before now listing → IsLine rest [] after
+    → Follows scope lines after follower skip before now listing
+goes_on_blank scope lines rest after follower skip before now listing so line = record {
+  rows = so.rows;
+  read = blank so.read line;
+  stands = so.stands;
+  in_scope = so.in_scope;
+  report = so.report;
+  is = so.is;
+  last = so.last;
+  all = so.all;
+  rises = so.rises;
+  listed = so.listed;
+}
+
+-- what a follower says that has taken a row
+abbrev pub Stands : Follower → Follower → Event → Type 0
+Stands follower next event =
+    (events : List Event) → StandsFor follower events → StandsFor next (events ++ event ∷ [])
+
+-- a row that ends no act
+goes_on_quiet : (scope : Scope) (lines rest bare after : List ℕ) (follower next : Follower)
+    (skip : ℕ) (before now : List PageRise) (listing : RiseListing) (event : Event) → Laws
+    → Follows scope lines rest follower skip before now listing → IsLine rest bare after
+    → TellsRow bare event → Stands follower next event → scope_of next ≡ scope_of follower
+    → ((events : List Event) → StandsFor follower events
+    → IsEndedAct (scope_of follower) events event None)
+    → Follows scope lines after next skip before now listing
+goes_on_quiet scope lines rest bare after follower next skip before now listing event laws so line
+    tells stands same ended =
+    let none_ended : IsEndedAct scope so.rows event None =
+    subst (λ s. IsEndedAct s so.rows event None) so.in_scope (ended so.rows so.stands) in
+    let new = stays scope laws so.rows event so.report so.is none_ended in
+    let all : so.all ++ rises_between so.report new.0 ≡ so.all =
+    ap (λ more. so.all ++ more) (none_between so.report new.0 new.2) ∙ append-nil so.all in
+    record {
+      rows = so.rows ++ event ∷ [];
+      read = row event so.read line tells;
+      stands = stands so.rows so.stands;
+      in_scope = same ∙ so.in_scope;
+      report = new.0;
+      is = new.1;
+      last = so.last ∙ sym new.2;
+      all = so.all;
+      rises = subst (AreRises scope (so.rows ++ event ∷ [])) all
+          (rises.row event so.report new.0 so.rises so.is new.1);
+      listed = so.listed;
+    }
+
+-- a row that ends an act
+goes_on_act : (scope : Scope) (lines rest bare after : List ℕ) (follower next : Follower)
+    (skip : ℕ) (before now later : List PageRise) (listing more : RiseListing) (event : Event)
+    → Follows scope lines rest follower skip before now listing → IsLine rest bare after
+    → TellsRow bare event → Stands follower next event → scope_of next ≡ scope_of follower
+    → HasTakenRow true next listing more now later
+    → Follows scope lines after next skip before later more
+goes_on_act scope lines rest bare after follower next skip before now later listing more event so
+    line tells stands same taken =
+    let rows = so.rows ++ event ∷ [] in
+    let is : IsReport scope rows more.last =
+    subst (λ s. IsReport s rows more.last) (same ∙ so.in_scope)
+    (taken.0 rows (stands so.rows so.stands)) in
+    record {
+      rows = rows;
+      read = row event so.read line tells;
+      stands = stands so.rows so.stands;
+      in_scope = same ∙ so.in_scope;
+      report = more.last;
+      is = is;
+      last = refl;
+      all = so.all ++ rises_between so.report more.last;
+      rises = rises.row event so.report more.last so.rises so.is is;
+      listed = subst (λ made. HasListed skip (so.all ++ made) more before later)
+          (between_alike listing.last so.report more.last so.last)
+          (taken.1 skip so.all before so.listed);
+    }
+
+-- a row
+pub goes_on_row : (scope : Scope) (lines rest bare after : List ℕ) (follower next : Follower)
+    (skip : ℕ) (before now later : List PageRise) (listing more : RiseListing) (event : Event)
+    (ended : Bool) (act : Act) → Laws
+    → Follows scope lines rest follower skip before now listing → IsLine rest bare after
+    → TellsRow bare event → Stands follower next event → scope_of next ≡ scope_of follower
+    → ((events : List Event) → StandsFor follower events
+    → IsEndedAct (scope_of follower) events event (ended_act ended act))
+    → HasTakenRow ended next listing more now later
+    → Follows scope lines after next skip before later more
+goes_on_row scope lines rest bare after follower next skip before now later listing more event
+    true act laws so line tells stands same ended taken =
+    goes_on_act scope lines rest bare after follower next skip before now later listing more event
+    so line tells stands same taken
+goes_on_row scope lines rest bare after follower next skip before now later listing more event
+    false act laws so line tells stands same ended taken =
+    subst (λ l. Follows scope lines after next skip before later l) (sym taken.0)
+    (subst (λ r. Follows scope lines after next skip before r listing) (sym taken.1)
+    (goes_on_quiet scope lines rest bare after follower next skip before now listing event laws so
+    line tells stands same ended))
+
+-- Where this ends, by what ends it.
+
+-- the offence by which a row is refused
+pub refused_by : {Refuses : Offence → Type 0} (met : Option Offence) → IsSomeAnd met Refuses
+    → (offence : Offence) × Refuses offence
+refused_by None refuses = absurd refuses
+refused_by (Some offence) refuses = (offence, refuses)
+
+ends : (scope : Scope) (lines rest : List ℕ) (follower : Follower) (skip : ℕ)
+    (before now : List PageRise) (listing : RiseListing) (told : PageTold) (answer : ℕ)
+    → (so : Follows scope lines rest follower skip before now listing)
+    → EndsSo scope so.rows rest told.fault answer
+    → HasFollowed scope lines rest skip before now listing told answer
+ends scope lines rest follower skip before now listing told answer so why = record {
+  rows = so.rows;
+  read = so.read;
+  ends = why;
+  all = so.all;
+  rises = so.rises;
+  listed = so.listed;
+}
+
+-- all lines were read
+pub ends_whole : (scope : Scope) (lines rest : List ℕ) (follower : Follower) (skip : ℕ)
+    (before now : List PageRise) (listing : RiseListing) (told : PageTold)
+    → Follows scope lines rest follower skip before now listing → rest ≡ []
+    → HasFollowed scope lines rest skip before now listing told 0
+ends_whole scope lines rest follower skip before now listing told so empty =
+    ends scope lines rest follower skip before now listing told 0 so (whole empty)
+
+-- the next row can't be
+pub ends_broken : (scope : Scope) (lines rest bare after : List ℕ) (follower : Follower)
+    (skip : ℕ) (before now : List PageRise) (listing : RiseListing) (told : PageTold)
+    (event : Event) (offence : Offence)
+    → Follows scope lines rest follower skip before now listing → IsLine rest bare after
+    → TellsRow bare event
+    → ((events : List Event) → StandsFor follower events
+    → IsOffence (scope_of follower) events event offence)
+    → HasFollowed scope lines rest skip before now listing told 1
+ends_broken scope lines rest bare after follower skip before now listing told event offence so
+    line tells refused =
+    ends scope lines rest follower skip before now listing told 1 so
+    (broken event offence (row event start line tells)
+    (subst (λ s. IsOffence s so.rows event offence) so.in_scope (refused so.rows so.stands)))
+
+-- there are too many rows
+pub ends_too_long : (scope : Scope) (lines rest bare after : List ℕ) (follower : Follower)
+    (skip : ℕ) (before now : List PageRise) (listing : RiseListing) (told : PageTold)
+    → Follows scope lines rest follower skip before now listing → IsLine rest bare after
+    → bare ≢ [] → rows_of follower ≡ ROWS_MAX
+    → HasFollowed scope lines rest skip before now listing told 3
+ends_too_long scope lines rest bare after follower skip before now listing told so line some full =
+    ends scope lines rest follower skip before now listing told 3 so
+    (too_long (record { after = after; line = line; some = some })
+    (sym so.stands.rows ∙ full))
+
+-- the next line is no row
+no_row_so : (scope : Scope) (rest bare after : List ℕ) (rows : List Event) (fault : LineFault)
+    (told : PageTold) (answer : ℕ) → IsLine rest bare after → bare ≢ [] → IsFaultOf bare fault
+    → IsLineAnswer fault told answer → EndsSo scope rows rest told.fault answer
+no_row_so scope rest bare after rows (faults.BadRow why) told answer line some is told_so =
+    let two : answer ≡ 2 = told_so.row_fault why refl in
+    let bad = told_so.bad_row two in
+    subst (EndsSo scope rows rest told.fault) (sym two)
+    (no_row bad.0
+    (record { bare = bare; after = after; line = line; some = some; is = is.0 bad.0 bad.1 })
+    bad.2)
+no_row_so scope rest bare after rows faults.Unread told answer line some is told_so =
+    subst (EndsSo scope rows rest told.fault) (sym (told_so.unread refl))
+    (unread (record { after = after; line = line; some = some }) (is.1 refl))
+
+pub ends_no_row : (scope : Scope) (lines rest bare after : List ℕ) (follower : Follower)
+    (skip : ℕ) (before now : List PageRise) (listing : RiseListing) (told : PageTold)
+    (fault : LineFault) (answer : ℕ)
+    → Follows scope lines rest follower skip before now listing → IsLine rest bare after
+    → bare ≢ [] → IsFaultOf bare fault → IsLineAnswer fault told answer
+    → HasFollowed scope lines rest skip before now listing told answer
+ends_no_row scope lines rest bare after follower skip before now listing told fault answer so line
+    some is told_so =
+    ends scope lines rest follower skip before now listing told answer so
+    (no_row_so scope rest bare after so.rows fault told answer line some is told_so)
