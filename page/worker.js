@@ -97,6 +97,18 @@ function check(length) {
   return call.mdb_page_check(BigInt(at.options), BigInt(at.text), BigInt(length), BigInt(at.told), BigInt(at.answer));
 }
 
+// Whether a report's text has a range that is open.
+const isOpen = (text) => [...text.matchAll(/(-?\d+)\.\.(-?\d+)/g)].some(([, least, most]) => least !== most);
+
+// Replays so many bytes of the text, of which a report tells: what the sums are if nothing was lost. Null where that
+// isn't asked: no sum is open, or the recording begins in mid-session, of which there is no replay.
+function replay(length, report) {
+  if (!isOpen(report)) return null;
+  const answer = call.mdb_page_replay(
+      BigInt(at.options), BigInt(at.text), BigInt(length), BigInt(at.told), BigInt(at.answer));
+  return answer < 2 ? {answer, text: answerText(), row: told().row} : null;
+}
+
 // Lists the first acts and the last ones as far as there is room for so many, and the news after the first `skip`: of
 // the text, or of a part of it. So many first acts stay where there isn't room for all.
 function list(room, skip, roomNews, from = 0, to = size, first = Math.min(HALF, room)) {
@@ -225,6 +237,7 @@ function judge(options) {
   const checked = performance.now();
   // The rows before one that cannot be are a recording of their own, and its answer is a yes.
   const before = answer === 1 && check(end.offset) === 0 ? answerText() : "";
+  const replayed = replay(answer === 0 ? size : end.offset, answer === 0 ? text : before);
   const summed = performance.now();
   const rises = answer === 0 && hasOpenRange(text) ? listRises() : null;
   const risen = performance.now();
@@ -235,6 +248,7 @@ function judge(options) {
     answer,
     text,
     before,
+    replayed,
     row: end.row,
     offset: end.offset,
     fault: end.fault,

@@ -2,7 +2,7 @@
 
 use mdb_page::{
     PageAct, PageLayout, PageNews, PageOptions, PageSetup, PageText, PageTold, mdb_page_check,
-    mdb_page_layout, mdb_page_list,
+    mdb_page_layout, mdb_page_list, mdb_page_replay,
 };
 
 /// Nothing is known of a device.
@@ -81,6 +81,51 @@ fn options_that_name_no_scope_are_refused(rt: HostRuntime) {
     options.joined = 1;
     options.setups[0].count = 2;
     let (number, _, _) = checked(&options, b"");
+    assert_eq!(rt; number, 5);
+}
+
+/// A coin of 25 that the changer reported twice. The controller acknowledged both reports.
+const TWICE: &[u8] = b"1000,M,108\n2200,M,008\n4200,S,100\n24200,M,10B\n25400,M,00B\n27400,S,00B\n28600,S,10B\n\
+30600,M,000\n50600,M,109\n51800,M,009\n53800,S,002\n55000,S,000\n56200,S,001\n\
+57400,S,005\n58600,S,002\n59800,S,000\n61000,S,007\n62200,S,001\n63400,S,002\n\
+64600,S,005\n65800,S,119\n67800,M,000\n87800,M,10C\n89000,M,000\n90200,M,007\n\
+91400,M,000\n92600,M,007\n93800,M,01A\n95800,S,100\n115800,M,10B\n117000,M,00B\n\
+119000,S,052\n120200,S,009\n121400,S,15B\n123400,M,000\n143400,M,10B\n144600,M,00B\n\
+146600,S,052\n147800,S,009\n149000,S,15B\n151000,M,000\n";
+
+/// What a call that answers with a text answers to one.
+fn replayed(options: &PageOptions, text: &[u8]) -> (u32, PageTold, PageText) {
+    let mut told = nothing();
+    let mut answer = PageText {
+        count: 0,
+        bytes: [0; 4096],
+    };
+    let number = mdb_page_replay(options, text, &mut told, &mut answer);
+    (number, told, answer)
+}
+
+#[test]
+fn a_coin_told_twice_is_two_coins_if_nothing_was_lost(rt: HostRuntime) {
+    let lines = b"verdict yes\nrows 41\ndecimals changer 2 bill - cashless - cashless-2 -\n\
+coins-in device 50..50 controller 50..50 difference 0..0\n";
+    let (number, told, answer) = replayed(&power_on(), TWICE);
+    assert_eq!(rt; (number, told.row), (0, 41));
+    assert!(rt; answer.bytes.starts_with(lines));
+    let mut options = power_on();
+    options.without[0] = 1;
+    let (number, _, answer) = replayed(&options, TWICE);
+    assert_eq!(rt; number, 0);
+    assert!(rt; answer.bytes.starts_with(b"verdict yes\nrows 41\ndecimals changer - "));
+}
+
+#[test]
+fn a_row_without_a_place_in_the_replay_is_told(rt: HostRuntime) {
+    let (number, told, answer) = replayed(&power_on(), b"0,M,108\n1146,M,009\n");
+    assert_eq!(rt; (number, told.row, told.offset), (1, 2, 8));
+    assert!(rt; answer.bytes.starts_with(b"verdict no\nrow 2\nrule Sum\nblame controller\n"));
+    let mut options = power_on();
+    options.joined = 1;
+    let (number, _, _) = replayed(&options, TWICE);
     assert_eq!(rt; number, 5);
 }
 

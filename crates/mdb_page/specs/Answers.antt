@@ -12,6 +12,7 @@ use Rattle.mdb_follow.specs.Runs.{IsReached}
 use Rattle.mdb_text.specs.declared.outcome.Outcome.TheVariants.{No, Yes}
 use Rattle.mdb_text.specs.Text.{report_text}
 use Rattle.mdb_page.specs.Lines.{HasRead, IsNoRow, IsUnmarked}
+use Rattle.mdb_page.specs.Replays.{IsPlainOffence, IsPlainReport}
 use Rattle.mdb_page.specs.declared.answer.PageTold.{PageTold}
 use Rattle.mdb_page.specs.declared.sheet.PageText.{PageText}
 
@@ -19,20 +20,22 @@ use Rattle.mdb_page.specs.declared.sheet.PageText.{PageText}
 abbrev pub written : PageText → List ℕ
 written answer = take answer.count answer.bytes
 
--- All lines of a text are rows, and the answer is the text of the report on these, taken in a
--- scope.
-pub record IsYes (scope : Scope) (text : List ℕ) (answer : PageText) : Type 0 where
+-- All lines of a text are rows, and the answer is the text of what there is to report on these,
+-- taken in a scope.
+pub record TellsReport (Reports : Scope → List Event → Report → Type 0) (scope : Scope)
+    (text : List ℕ) (answer : PageText) : Type 0 where
   pub lines : List ℕ
   pub unmarked : IsUnmarked text lines
   pub rows : List Event
   pub read : HasRead lines rows []
   pub report : Report
-  pub is : IsReport scope rows report
+  pub is : Reports scope rows report
   pub told : written answer ≡ report_text scope (Yes report)
 
--- The first lines of a text are rows, the last of which is the first impossible one, and the answer
--- is the text that says so.
-pub record IsNo (scope : Scope) (text : List ℕ) (answer : PageText) : Type 0 where
+-- The first lines of a text are rows, the last of which is the first that is refused, and the
+-- answer is the text that says so.
+pub record TellsOffence (Refuses : Scope → List Event → Event → Offence → Type 0) (scope : Scope)
+    (text : List ℕ) (answer : PageText) : Type 0 where
   pub lines : List ℕ
   pub unmarked : IsUnmarked text lines
   pub rows : List Event
@@ -40,8 +43,23 @@ pub record IsNo (scope : Scope) (text : List ℕ) (answer : PageText) : Type 0 w
   pub rest : List ℕ
   pub read : HasRead lines (rows ++ event ∷ []) rest
   pub offence : Offence
-  pub is : IsOffence scope rows event offence
+  pub is : Refuses scope rows event offence
   pub told : written answer ≡ report_text scope (No offence)
+
+-- the answers of a check: all runs together
+abbrev pub IsYes : Scope → List ℕ → PageText → Type 0
+IsYes scope text answer = TellsReport IsReport scope text answer
+
+abbrev pub IsNo : Scope → List ℕ → PageText → Type 0
+IsNo scope text answer = TellsOffence IsOffence scope text answer
+
+-- the answers of a replay without marks: the run in which no acknowledgement was lost, and no
+-- device restarted unseen (this profile)
+abbrev pub IsReplayedYes : Scope → List ℕ → PageText → Type 0
+IsReplayedYes scope text answer = TellsReport IsPlainReport scope text answer
+
+abbrev pub IsReplayedNo : Scope → List ℕ → PageText → Type 0
+IsReplayedNo scope text answer = TellsOffence IsPlainOffence scope text answer
 
 -- the number of a fault of a row
 abbrev pub number_of : RowFault → ℕ
@@ -50,17 +68,21 @@ number_of faults.BadTime = 1
 number_of faults.BadLine = 2
 number_of faults.BadValue = 3
 
--- The first lines of a text are rows that can be in a scope, and the next line is none. It is told
--- why, which row it would be, and how many bytes stand before it.
-pub record IsBadRow (scope : Scope) (text : List ℕ) (told : PageTold) : Type 0 where
+-- The first lines of a text are these rows, and the next line is none. It is told why, which row it
+-- would be, and how many bytes stand before it.
+pub record TellsBadRow (rows : List Event) (text : List ℕ) (told : PageTold) : Type 0 where
   pub lines : List ℕ
   pub unmarked : IsUnmarked text lines
-  pub rows : List Event
   pub rest : List ℕ
   pub read : HasRead lines rows rest
-  pub reached : IsReached scope rows
   pub why : RowFault
   pub is : IsNoRow rest why
   pub fault : told.fault ≡ number_of why
   pub row : told.row ≡ length rows + 1
   pub offset : told.offset + length rest ≡ length text
+
+-- The rows before the line that is none can be in a scope.
+pub record IsBadRow (scope : Scope) (text : List ℕ) (told : PageTold) : Type 0 where
+  pub rows : List Event
+  pub reached : IsReached scope rows
+  pub told_row : TellsBadRow rows text told

@@ -4,18 +4,19 @@ ghost use Rattle.std.specs.Prelude.{◌≡◌, ◌≢◌, ◌≤◌, [], ◌∷�
 ghost use Rattle.mdb_words.specs.declared.event.Event.{Event};
 ghost use Rattle.mdb_words.specs.declared.row.RowFault.{RowFault};
 ghost use Rattle.mdb_bus.specs.declared.scope.Scope.{Scope};
-ghost use Rattle.mdb_follow.specs.Follower.{StandsFor, rows_of, scope_of};
-ghost use Rattle.mdb_follow.specs.Offences.{IsOffence};
 ghost use Rattle.mdb_follow.specs.declared.offence.Offence.{Offence};
 ghost use Rattle.mdb_text.specs.Text.{report_text};
-ghost use Rattle.mdb_page.specs.Answers.{IsBadRow, IsNo, IsYes, number_of, written};
+ghost use Rattle.mdb_page.specs.Answers.{IsBadRow, IsNo, IsReplayedNo, IsReplayedYes, IsYes};
+ghost use Rattle.mdb_page.specs.Answers.{TellsBadRow, TellsOffence, TellsReport, number_of, written};
 ghost use Rattle.mdb_page.specs.Lines.{HasRead, IsNoRow};
 ghost use Rattle.mdb_page.specs.Options.{IsTakenSo};
 
+use crate::judge::Judge;
 use crate::lines::{LineFault, first_line, row_of, without_mark, without_return};
 use crate::options::{PageOptions, taken_so};
 use crate::sheet::PageText;
 use mdb_bus::Scope;
+use mdb_explained_runs::Replay;
 use mdb_follow::{Follower, Offence, ROWS_MAX, laws};
 use mdb_text::{Outcome, write_outcome};
 use mdb_words::RowFault;
@@ -107,22 +108,73 @@ pub extern "C" fn mdb_page_check(
     let Some(scope) = taken_so(options) else {
         return BAD_OPTIONS;
     };
-    let mut follower = Follower::scoped(&scope);
+    judge(&mut Follower::scoped(&scope), &scope, text, told, answer)
+}
+
+/// Replays the recording that lies in memory as text, without marks: it follows the run in which no
+/// acknowledgement was lost, and no device restarted unseen. It returns what [`mdb_page_check`]
+/// does: 0 if the rows have this run, and 1 if a row has no place in it. It also returns 5 if the
+/// recording begins in mid-session, which no replay does.
+#[unsafe(no_mangle)]
+pub extern "C" fn mdb_page_replay(
+    options: &PageOptions,
+    text: &[u8],
+    told: &mut PageTold,
+    answer: &mut PageText,
+) -> u32
+    ensures yes { result ≡ 0 → (scope : Scope) × IsTakenSo options.now scope
+        × IsReplayedYes scope text.now answer.new }
+    ensures no { result ≡ 1 → (scope : Scope) × IsTakenSo options.now scope
+        × IsReplayedNo scope text.now answer.new }
+    ensures refused { result ≡ 5 → options.now.joined ≡ 0
+        → (scope : Scope) → IsTakenSo options.now scope → ⊥ }
+    ensures taken { result ≢ 5 → (options.now.joined ≡ 0)
+        × ((scope : Scope) × IsTakenSo options.now scope) }
+{
+    answer.count = 0;
+    if options.joined != 0 {
+        return BAD_OPTIONS;
+    }
+    let Some(scope) = taken_so(options) else {
+        return BAD_OPTIONS;
+    };
+    judge(
+        &mut Replay::leaving_out(scope.without),
+        &scope,
+        text,
+        told,
+        answer,
+    )
+}
+
+/// The answer of a judge on a text.
+fn judge<J: Judge>(
+    judge: &mut J,
+    scope: &Scope,
+    text: &[u8],
+    told: &mut PageTold,
+    answer: &mut PageText,
+) -> u32
+    requires stands { J.stands_for judge.old scope.now [] }
+    requires empty { answer.old.count ≡ 0 }
+    ensures yes { result ≡ 0 → TellsReport J.reports scope.now text.now answer.new }
+    ensures no { result ≡ 1 → TellsOffence J.refuses scope.now text.now answer.new }
+    ensures bad_row { result ≡ 2 → (rows : List Event) × J.stands_for judge.new scope.now rows
+        × TellsBadRow rows text.now told.new }
+    ensures options { result ≢ 5 }
+{
     let mut rest = without_mark(text);
-    let end = follow(&mut follower, &mut rest);
+    let end = follow(judge, scope, &mut rest);
     told.offset = (text.len() - rest.len()) as u64;
-    told.row = follower.rows() + 1;
+    told.row = judge.taken() + 1;
     match end {
         End::Text => {
-            told.row = follower.rows();
-            match follower.report() {
-                Ok(report) => write_as(YES, &scope, &Outcome::Yes(report), answer),
-                Err(_) => UNREAD,
-            }
+            told.row = judge.taken();
+            write_as(YES, scope, &Outcome::Yes(judge.tell()), answer)
         }
         End::Offence(offence) => {
             told.row = offence.row;
-            write_as(NO, &scope, &Outcome::No(offence), answer)
+            write_as(NO, scope, &Outcome::No(offence), answer)
         }
         End::Line(fault) => line_answer(told, fault),
         End::TooLong => TOO_LONG,
@@ -152,32 +204,31 @@ pub(crate) fn line_answer(told: &mut PageTold, fault: LineFault) -> u32
     }
 }
 
-/// Follows the rows of a text, and leaves what stands from the line on that ends it.
-fn follow(follower: &mut Follower, rest: &mut &[u8]) -> End
-    requires { StandsFor follower.old [] }
+/// Leads a judge over the rows of a text, and leaves what stands from the line on that ends it.
+fn follow<J: Judge>(judge: &mut J, scope: &Scope, rest: &mut &[u8]) -> End
+    requires { J.stands_for judge.old scope.now [] }
     ensures left { length rest.new.now ≤ length rest.old.now }
     ensures text { result ≡ End.Text → (rows : List Event)
-        × HasRead rest.old.now rows [] × StandsFor follower.new rows }
+        × HasRead rest.old.now rows [] × J.stands_for judge.new scope.now rows }
     ensures offence { (offence : Offence) → result ≡ End.Offence offence → (rows : List Event)
         × (event : Event) × (after : List ℕ) × HasRead rest.old.now (rows ++ event ∷ []) after
-        × IsOffence (scope_of follower.old) rows event offence }
+        × J.refuses scope.now rows event offence }
     ensures line { (why : RowFault) → result ≡ End.Line (LineFault.BadRow why)
         → (rows : List Event) × HasRead rest.old.now rows rest.new.now
-        × StandsFor follower.new rows × IsNoRow rest.new.now why }
-    ensures scope { scope_of follower.new ≡ scope_of follower.old }
+        × J.stands_for judge.new scope.now rows × IsNoRow rest.new.now why }
 {
     while !rest.is_empty() {
         let (line, behind) = first_line(*rest);
         let line = without_return(line);
         if !line.is_empty() {
-            if follower.rows() >= ROWS_MAX {
+            if judge.taken() >= ROWS_MAX {
                 return End::TooLong;
             }
             let event = match row_of(line) {
                 Ok(event) => event,
                 Err(fault) => return End::Line(fault),
             };
-            if let Err(offence) = follower.feed(event) {
+            if let Err(offence) = judge.take(event) {
                 return End::Offence(offence);
             }
         }

@@ -1,7 +1,8 @@
 //! The checker for a page in a browser.
 //!
 //! The recording lies in memory as text. [`mdb_page_check`] puts the verdict and its text into
-//! memory that the page provides. [`mdb_page_list`] puts there the acts, and the news: what the
+//! memory that the page provides. [`mdb_page_replay`] does the same for one run: the one in which
+//! nothing was lost. [`mdb_page_list`] puts there the acts, and the news: what the
 //! acts report of money, sales, resets, breaks and silences. [`mdb_page_survey`] puts there the
 //! lines of a survey and the places of its faults. [`mdb_page_rises`] puts there the rows by which a
 //! sum becomes uncertain, or certain again. [`mdb_page_layout`] has the sizes of what is put there.
@@ -12,6 +13,7 @@
 mod acts;
 mod answer;
 mod faults;
+mod judge;
 mod layout;
 mod lines;
 mod news;
@@ -25,7 +27,7 @@ mod watch;
 mod worth;
 
 pub use acts::PageAct;
-pub use answer::{PageTold, mdb_page_check};
+pub use answer::{PageTold, mdb_page_check, mdb_page_replay};
 pub use faults::PageFault;
 pub use layout::{PageLayout, mdb_page_layout};
 pub use news::PageNews;

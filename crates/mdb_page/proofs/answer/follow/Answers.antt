@@ -1,10 +1,7 @@
-use Rattle.std.proofs.Common.{◌≡◌, ◌≤◌, ◌<◌, [], ◌∷◌, ◌++◌, List, ℕ, length, true≢false, refl, sym, subst, ap, ◌∙◌, arith}
+use Rattle.std.proofs.Common.{◌≡◌, ◌≤◌, ◌<◌, [], ◌∷◌, ◌++◌, List, ℕ, length, true≢false, sym, subst, ap, ◌∙◌, arith}
 use Rattle.std.proofs.Math.Nat.{le_refl}
 use Rattle.std.proofs.lemmas.Bool.{eq-eqb, eqb-true}
 use Rattle.std.proofs.lemmas.List.{nil_from_length}
-use Rattle.mdb_bus.specs.declared.scope.Scope.{Scope}
-use Rattle.mdb_follow.specs.Follower.{scope_of}
-use Rattle.mdb_follow.specs.Offences.{IsOffence}
 use Rattle.mdb_follow.specs.declared.offence.Offence.{Offence}
 use Rattle.mdb_page.specs.Lines.{IsBare, start, blank, row}
 use Rattle.mdb_page.specs.declared.answer.End.{End}
@@ -27,15 +24,20 @@ fault_of (ends.Offence offence) other = other
 fault_of ends.TooLong other = other
 
 pub loop-line-init : goal.loop-line-init
-loop-line-init c = record {
+loop-line-init g c = record {
   left = le_refl (length c.args.rest.now.now);
-  scope = refl;
   read = ([], start, c.requires);
 }
 
-pub returns-in-Err-feed-clause-offence : goal.returns-in-Err-feed-clause-offence
+pub take-requires : goal.take-requires
+take-requires g c =
+    let before = c.loop-line.invariant in
+    let counted = c.taken.ensures.counted c.args.scope.now before.read.0 before.read.2 in
+    (c.args.scope.now, before.read.0, before.read.2, omega (arith, counted))
+
+pub returns-in-Err-take-clause-offence : goal.returns-in-Err-take-clause-offence
 unfolding offence_of
-returns-in-Err-feed-clause-offence c = λ offence same.
+returns-in-Err-take-clause-offence g c = λ offence same.
     let before = c.loop-line.invariant in
     let rows = before.read.0 in
     let event = c.in-Ok.event in (
@@ -47,15 +49,14 @@ returns-in-Err-feed-clause-offence c = λ offence same.
         first = c.first_line.ensures.line;
         is = c.without_return-line.ensures;
       }) c.in-Ok.ensures.row,
-      subst (λ (told : Offence). IsOffence (scope_of c.args.follower.now) rows event told)
-          (ap (λ end. offence_of end c.in-Err-feed.offence) same)
-          (subst (λ (scope : Scope). IsOffence scope rows event c.in-Err-feed.offence) before.scope
-          (c.in-Err-feed.ensures.refused.offence rows before.read.2)),
+      subst (λ (told : Offence). g.J.Judge.refuses c.args.scope.now rows event told)
+          (ap (λ end. offence_of end c.in-Err-take.offence) same)
+          (c.in-Err-take.ensures.refused c.args.scope.now rows before.read.2),
     )
 
 pub returns-in-Err-clause-line : goal.returns-in-Err-clause-line
 unfolding fault_of
-returns-in-Err-clause-line c = λ why same.
+returns-in-Err-clause-line g c = λ why same.
     let before = c.loop-line.invariant in (
       before.read.0,
       before.read.1,
@@ -76,7 +77,7 @@ returns-in-Err-clause-line c = λ why same.
     )
 
 pub loop-line-preserved-in_default : goal.loop-line-preserved-in_default
-loop-line-preserved-in_default c =
+loop-line-preserved-in_default g c =
     let before = c.loop-line.invariant in
     let rows = before.read.0 in
     let event = c.in-Ok.event in
@@ -85,7 +86,6 @@ loop-line-preserved-in_default c =
     let few : length c.loop-line.rest.now ≤ length c.args.rest.now.now = before.left in
     record {
       left = omega arith;
-      scope = c.in_default.ensures.scope ∙ before.scope;
       read = (
         rows ++ event ∷ [],
         row event before.read.1 (record {
@@ -93,12 +93,12 @@ loop-line-preserved-in_default c =
           first = c.first_line.ensures.line;
           is = c.without_return-line.ensures;
         }) c.in-Ok.ensures.row,
-        c.in_default.ensures.taken.stands rows before.read.2,
+        c.in_default.ensures.taken c.args.scope.now rows before.read.2,
       );
     }
 
 pub loop-line-preserved : goal.loop-line-preserved
-loop-line-preserved c =
+loop-line-preserved g c =
     let before = c.loop-line.invariant in
     let bare = c.without_return-line.result.now in
     let less : length c.first_line.result.1.now < length c.loop-line.rest.now =
@@ -108,7 +108,6 @@ loop-line-preserved c =
     nil_from_length bare (eqb-true (length bare) 0 (sym c.if-not-is_empty.ensures)) in
     record {
       left = omega arith;
-      scope = before.scope;
       read = (
         before.read.0,
         blank before.read.1 (record {
