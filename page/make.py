@@ -3,7 +3,8 @@
 
 The texts of the rules are those of docs/bench/rules.md. Scripts and styles are named by their checksums
 in the page's Content-Security-Policy, so that the browser runs nothing else. Comments and indents of
-the scripts stay out, and the same input gives the same bytes.
+the scripts stay out. The same input gives the same bytes, where zlib is the same: another one may pack
+the module otherwise.
 """
 
 import base64
@@ -12,6 +13,7 @@ import json
 import pathlib
 import re
 import sys
+import zlib
 
 HERE = pathlib.Path(__file__).resolve().parent
 RULES = "Order Speaker Mode Early Late Spacing Length Sum Break Answer Message Same Profile Changer Bill Cashless".split()
@@ -118,6 +120,12 @@ def import_text():
     return "\n".join(['"use strict";', *map(script, IMPORT_SCRIPTS)])
 
 
+def deflated(module):
+    """The module's bytes, packed as DecompressionStream("deflate-raw") unpacks them."""
+    packer = zlib.compressobj(9, zlib.DEFLATED, -15)
+    return packer.compress(module) + packer.flush()
+
+
 def digest(text):
     return "'sha256-" + base64.b64encode(hashlib.sha256(text.encode()).digest()).decode() + "'"
 
@@ -135,7 +143,7 @@ def main():
         f"const EXAMPLES = {in_script(examples())};",
         f"const WORKER = {in_script(worker)};",
         f"const IMPORTER = {in_script(import_text())};",
-        f'const MODULE = "{base64.b64encode(wasm).decode()}";',
+        f'const MODULE = "{base64.b64encode(deflated(wasm)).decode()}";',
     ]
     whole = "\n".join(["", *constants, *parts])
     policy = "; ".join(

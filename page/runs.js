@@ -22,13 +22,19 @@ let timer, times = 0;
 // A module with a memory of 64-bit addresses, and nothing else.
 const MEMORY64 = [0, 97, 115, 109, 1, 0, 0, 0, 5, 3, 1, 4, 1];
 
+// The bytes that make.py packed. Each browser with memory64 has DecompressionStream.
+function unpacked(text) {
+  const packed = new Blob([Uint8Array.from(atob(text), (c) => c.charCodeAt(0))]);
+  return new Response(packed.stream().pipeThrough(new DecompressionStream("deflate-raw"))).arrayBuffer();
+}
+
 async function start() {
   if (typeof WebAssembly !== "object" || !WebAssembly.validate(Uint8Array.from(MEMORY64))) {
     throw new Error(
         "This browser can't run the checker: it has no WebAssembly with 64-bit memory (memory64). The page was tried in " +
         "Chromium 156 and Firefox 153 on a computer. On an iPhone it wasn't tried: all browsers there use Apple's engine.");
   }
-  const made = await WebAssembly.compile(Uint8Array.from(atob(MODULE), (c) => c.charCodeAt(0)));
+  const made = await WebAssembly.compile(await unpacked(MODULE));
   readLayout((await WebAssembly.instantiate(made)).exports);
   return made;
 }

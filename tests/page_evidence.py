@@ -22,6 +22,7 @@ import re
 import sys
 import tempfile
 import time
+import zlib
 
 sys.dont_write_bytecode = True
 
@@ -110,7 +111,7 @@ class Page:
         self.browser, self.work = browser, work
         self.browser.open(PAGE.as_uri())
         found = re.search(r'const MODULE = "([A-Za-z0-9+/=]*)";', PAGE.read_text())
-        self.module = hashlib.sha256(base64.b64decode(found[1])).hexdigest()
+        self.module = hashlib.sha256(zlib.decompress(base64.b64decode(found[1]), -15)).hexdigest()
 
     def value(self, code):
         return json.loads(self.browser.value(f"JSON.stringify({code})"))
