@@ -12,7 +12,7 @@ function show(it) {
   const parts = [];
   showVerdict(asAtFirst(it));
   if (it.lines.length) parts.push(faultSection(it));
-  if (it.answer === ANSWERS.YES) parts.push(moneySection(it.report), devicesSection(it.report));
+  if (it.answer === ANSWERS.YES) parts.push(moneySection(it), devicesSection(it.report));
   if (it.before && it.row > 1) parts.push(beforeSection(it));
   if (it.listed) parts.push(timeSection(it), tellSection(it), actsSection(it));
   parts.push(recordSection(it));

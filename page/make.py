@@ -18,7 +18,7 @@ import zlib
 HERE = pathlib.Path(__file__).resolve().parent
 RULES = "Order Speaker Mode Early Late Spacing Length Sum Break Answer Message Same Profile Changer Bill Cashless".split()
 # The page's scripts, in the order in which they stand in the page. What a script runs at once, needs the ones before it.
-SCRIPTS = ("layout messages words news elements texts clock report options runs import-panel late open-money open-list story rises rowstory linkstory unjudged card fault why money timeline statement acts survey gaps faults stretches jumps files evidence setup main").split()
+SCRIPTS = ("layout messages words news elements texts clock report options runs import-panel late open-money open-list story rises replayed rowstory linkstory unjudged card fault why money timeline statement acts survey gaps faults stretches jumps files evidence setup main").split()
 # Those of the worker.
 WORKERS = "sha256 layout messages worker relist".split()
 # Those of the worker that imports an export.

@@ -106,13 +106,13 @@ function rangeTable(name, a, d, isCut) {
 // One account: one number where both books have it for certain, else its ranges as numbers, as bars, and in words.
 function accountArticle(r, name, a, d, isCut) {
   const {device, title, owner} = ACCOUNTS[name], isWide = SIDES.some((side) => !isSingle(a[side]));
-  const isAgreed = !isWide && a.difference[0] === 0n;
+  const isAgreed = !isWide && a.difference[0] === 0n, plain = r.plain && isWide ? [plainWords(name, r.plain[name], d)] : [];
   const agreed = () =>
       h("p", {class: "agreed", "data-account": name}, h("strong", {class: "sum"}, money(a.device[0], d)),
         ` for certain: ${small(owner)} and the controller counted the same${isCut ? " up to there" : ""}.`);
   const ranges = () =>
       [rangeTable(name, a, d, isCut), h("p", {class: "why-told", role: "status"}), isWide ? bars(name, a, d) : null,
-       sentences(name, a, d, isCut).map((it) => h("p", {}, it))];
+       [...sentences(name, a, d, isCut), ...plain].map((it) => h("p", {}, it))];
   return h(
       "article", {class: "account", id: "account-" + name}, h("h3", {}, title),
       (isAgreed ? [agreed()] : ranges()).flat(), missingAmounts(r, device));
@@ -170,8 +170,8 @@ function silentWords(r, silent) {
   return h("p", {id: "silent"}, inner);
 }
 
-function moneySection(report) {
-  return section("Where the money is", "money", ...accounts(report, false));
+function moneySection(it) {
+  return section("Where the money is", "money", ...accounts({...it.report, plain: plainSums(it)}, false));
 }
 
 // The accounts of the rows before the one that cannot be.
@@ -181,7 +181,7 @@ function beforeSection(it) {
       "Where the money was before that", "before",
       h("p", {}, h("strong", {}, `These are the sums of ${rows} alone.`),
         ` Row ${number(it.row)} and the rows after it are in no sum.`),
-      ...accounts(readReport(it.before), true));
+      ...accounts({...readReport(it.before), plain: plainSums(it)}, true));
 }
 
 // What is to be said of a device, beside its figures.

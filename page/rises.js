@@ -123,7 +123,7 @@ function openStory(it, name, a, d) {
   }
   for (const rise of risesOf(it, name).filter(({opened}) => opened < 0n).slice(0, TOLD_ACTS))
     told.push(fact(`${money(-rise.opened, d)} of it was settled by `, rowsAt(rise.row), "."));
-  told.push(nextStep(COUNT_NEXT[name] ?? SALE_NEXT));
+  told.push(...plainStory(it, name, d), nextStep(COUNT_NEXT[name] ?? SALE_NEXT));
   return told;
 }
 

@@ -37,7 +37,7 @@ function wholeStory(it) {
 
 // A yes: what isn't certain of the money, where the books differ, who was silent, and what has no value.
 function yesStory(it) {
-  const told = [];
+  const told = lossStory(it);
   for (const [name, a] of Object.entries(it.report.accounts)) {
     const d = it.report.decimals[ACCOUNTS[name].device];
     if (isDiffering(a)) told.push(...differingStory(it, name, a, d));

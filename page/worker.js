@@ -97,13 +97,10 @@ function check(length) {
   return call.mdb_page_check(BigInt(at.options), BigInt(at.text), BigInt(length), BigInt(at.told), BigInt(at.answer));
 }
 
-// Whether a report's text has a range that is open.
-const isOpen = (text) => [...text.matchAll(/(-?\d+)\.\.(-?\d+)/g)].some(([, least, most]) => least !== most);
-
 // Replays so many bytes of the text, of which a report tells: what the sums are if nothing was lost. Null where that
 // isn't asked: no sum is open, or the recording begins in mid-session, of which there is no replay.
 function replay(length, report) {
-  if (!isOpen(report)) return null;
+  if (!hasOpenRange(report)) return null;
   const answer = call.mdb_page_replay(
       BigInt(at.options), BigInt(at.text), BigInt(length), BigInt(at.told), BigInt(at.answer));
   return answer < 2 ? {answer, text: answerText(), row: told().row} : null;

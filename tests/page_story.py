@@ -10,6 +10,7 @@ here:
 - an amount that isn't certain, and what the two sides counted, are the report's;
 - the acts that leave an amount open are those at which a range became wider, and what settles a part of it is where one
   became narrower, by `mdbcheck check` of the rows up to each row;
+- the sums if nothing was lost are those that `replay` prints of the rows without marks;
 - what a sentence says is missing isn't there: an approval, an order, a report of a reset, a later event of a session;
 - a silence has as many commands without an answer as the sentence says;
 - each device that the card's story names is one of an act there, of the blame, or of a line of the report that isn't zero.
@@ -53,7 +54,8 @@ EXAMPLES = {
     "changer-reset-and-poll": ["No money was reported."],
     "coin-behind-a-reset-message": [
         "0.25 isn't certain: a coin of 0.25 was reported in rows 32–34 and again in rows 38–41. It was one coin or two.",
-        "The changer took 0.25 to 0.50; the controller counted 0.25."],
+        "The changer took 0.25 to 0.50; the controller counted 0.25.",
+        "If nothing was lost, the changer took 0.25 in coins, and the controller counted the same."],
     "coin-in-mid-session": [
         "The changer reported a coin of 0.25 to a tube (rows 24–26).",
         "It hadn't reported its reset since the recording began, which must come first."],
@@ -62,7 +64,8 @@ EXAMPLES = {
         "Instead it answered POLL with a mere ACK (row 38)."],
     "coin-told-twice": [
         "0.25 isn't certain: a coin of 0.25 was reported in rows 32–34 and again in rows 38–40. It was one coin or two.",
-        "The changer took 0.25 to 0.50; the controller counted 0.50."],
+        "The changer took 0.25 to 0.50; the controller counted 0.50.",
+        "If nothing was lost, the changer took 0.50 in coins, and the controller counted the same."],
     "coins-beside-a-level-3-reader": [
         "Card reader 1 reports feature level 3 in its answer to SETUP (rows 99–107), and so does the controller, with level 3 (rows 92–98).",
         "From level 2 on the messages of a session have other forms, which the checker doesn't know."],
@@ -76,7 +79,8 @@ EXAMPLES = {
         "Asked to repeat its answer (rows 18–20), the changer sent the word 008 (row 23). The first time it was 009 (row 19)."],
     "sale-answered-by-a-reset-message": [
         "0.10 isn't certain: card reader 1 answered the sale of item 5 (rows 55–59) with the report that it was reset (rows 60–61). Whether it had booked it by then isn't certain.",
-        "Card reader 1 booked 0.00 to 0.10; the controller counted 0.10."],
+        "Card reader 1 booked 0.00 to 0.10; the controller counted 0.10.",
+        "If nothing was lost, card reader 1 booked 0.10, and the controller counted the same."],
     "sale-by-card": ["The controller and the devices agree for certain: 1.00 approved by card reader 1 and 1.00 sold by card reader 1."],
     "sale-never-approved": [
         "The controller asked for 1.50 for item 8 (rows 58–64), and card reader 1 denied it (rows 68–69).",
@@ -360,6 +364,34 @@ def compare_openings(sentences, data, options):
     return len(wider)
 
 
+# What a device did with the money of an account.
+DID = {"coins-in": "the changer took {} in coins", "bills-in": "the validator stacked {} in bills", "paid-out": "the changer paid out {}",
+       "approved": "card reader 1 approved {}", "sold": "card reader 1 booked {}",
+       "approved-2": "card reader 2 approved {}", "sold-2": "card reader 2 booked {}"}
+
+
+def compare_plain(sentences, values, data, options):
+    """What the sums are if nothing was lost, and that something was, is what `replay` prints of the rows without marks."""
+    told = [it["text"] for it in sentences if it["text"].startswith("If nothing was lost")]
+    lost = [it["rows"] for it in sentences if "or a device restarted unseen, for certain" in it["text"]]
+    wanted, wanted_lost = [], []
+    is_open = {name: any(low != high for low, high in bounds(values[name])) for name in ACCOUNTS}
+    if "--joined" not in options and any(is_open.values()):
+        lines = [line.split(" ") for line in run(["replay", *left_out(options)], data).splitlines()]
+        if lines[0][1] == "no":
+            wanted_lost = [[lines[1][1]]]
+        sums = {line[0]: bounds(line[1:]) for line in lines if line[0] in ACCOUNTS}
+        places = dict(zip(values["decimals"][::2], values["decimals"][1::2]))
+        for name in sums:
+            if is_open[name]:
+                d = 0 if places[ACCOUNTS[name]] == "-" else int(places[ACCOUNTS[name]])
+                (one, _), (other, _) = sums[name][:2]
+                rest = "the same" if one == other else amount(other, d)
+                wanted.append(f"If nothing was lost, {DID[name].format(amount(one, d))}, and the controller counted {rest}.")
+    want(told == wanted, f"if nothing was lost: {told}, and not {wanted}")
+    want([[row.rpartition("–")[2].replace(",", "") for row in rows] for rows in lost] == wanted_lost, f"lost for certain: {lost}, and not {wanted_lost}")
+
+
 def compare_yes(sentences, recording, report, values):
     """What is said of uncertain money, of silences and of agreement is what the report says."""
     places = dict(zip(values["decimals"][::2], values["decimals"][1::2]))
@@ -370,6 +402,8 @@ def compare_yes(sentences, recording, report, values):
         widths.add(amount(max(high - low for low, high in sides), d))
         ranges |= {amount(low, d) if low == high else f"{amount(low, d)} to {amount(high, d)}" for low, high in sides}
     for it in sentences:
+        if it["text"].startswith("If nothing was lost"):
+            continue
         found = re.match(r"(?:Up to )?([−\d.]+) isn't certain", it["text"])
         want(not found or found[1] in widths, f"{found and found[1]} isn't {widths}")
         for said in re.findall(r"(?:took|stacked|paid out|approved|booked|counted) ([−\d.]+(?: to [−\d.]+)?)[;.]$|; the controller \D+([−\d.]+(?: to [−\d.]+)?)\.", it["text"]):
@@ -424,6 +458,7 @@ def compare_story(story, show, check, options, data):
         want(name not in text.lower() or device in may, f"{name} isn't involved ({may}): {text}")
     if report["verdict"] == "yes" and report["rows"] != "0" and "Nothing was followed" not in story["word"]:
         compare_yes(story["sentences"], recording, report, values)
+        compare_plain(story["sentences"], values, data, options)
         if int(report["rows"]) <= FEW_ROWS and any("isn't certain" in it["text"] for it in story["sentences"]):
             compare_openings(story["sentences"], data, options)
     return report
