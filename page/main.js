@@ -39,7 +39,7 @@ function figures(it) {
   return `${number(it.size)} bytes, read in ${s(it.ms.read)}, checked in ${s(it.ms.check)}${
       it.survey ? `, surveyed in ${s(it.survey.ms)}, listed anew in ${s(it.ms.relist)}` :
                   ""}${it.before ? `, the rows before row ${number(it.row)} in ${s(it.ms.before)}` : ""}${
-      it.rises ? `, what leaves money open in ${s(it.ms.rises)}` : ""}, acts listed in ${s(it.ms.list)}, shown after ${
+      it.ms.closer ? `, what leaves money open in ${s(it.ms.closer)}` : ""}, acts listed in ${s(it.ms.list)}, shown after ${
       s(it.ms.all)}; ${number(Math.round(it.memory / 1048576))} MB of memory.`;
 }
 

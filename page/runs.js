@@ -199,13 +199,33 @@ async function run(given, isButton = !given) {
     tellClock();
     state.ms.all = performance.now() - begin;
     by("figures").textContent = figures(state);
-    settle(isButton);
+    settle(isButton, state.isOpen);
     showSum(state);
+    if (state.isOpen) addCloser(state);
     return state;
   } catch (fault) {
     if (isNow()) failed(fault, isButton);
     return null;
   }
+}
+
+// Adds to an answer with open ranges what opens them, and the sums if nothing was lost. They come after the answer.
+async function addCloser(it) {
+  // (where the worker fails, the ranges stand without it)
+  const told = await checker.ask({closer: true}).catch(() => null);
+  if (state !== it) return;
+  if (told) showCloser(it, told);
+  document.documentElement.dataset.shown = ++times;
+}
+
+function showCloser(it, {replayed, rises, ms}) {
+  Object.assign(it, {replayed, rises});
+  it.ms.closer = ms;
+  if (it.answer === ANSWERS.NO)
+    by("before")?.replaceWith(beforeSection(it));
+  else if (!isWorking)
+    showAgain(it);
+  by("figures").textContent = figures(it);
 }
 
 // Shows why a run failed.
@@ -245,14 +265,14 @@ function trouble(words, isButton, ...more) {
 }
 
 // After an answer or a failure: the title, the settings and the live region are of what is shown now, and the card is
-// in sight.
-function settle(isButton) {
+// in sight. `isComing` is whether something is still added to the answer.
+function settle(isButton, isComing = false) {
   showTitle();
   const said = `${by("verdict").querySelector(".word").textContent}. ${by("lead").textContent}`;
   announce(file ? `${shownName(file.name)}: ${said}` : said);
   showWay();
   reachCard(isButton);
-  document.documentElement.dataset.shown = ++times;
+  if (!isComing) document.documentElement.dataset.shown = ++times;
 }
 
 function showTitle() {

@@ -16,6 +16,8 @@ const PIECE = 1 << 22;
 // So many bytes are checked first, to know how quick this computer is.
 const FRONT = 1 << 20;
 let call, at, size, read, number, last = Promise.resolve();
+// The last check: its options, its report or that of the rows before the one that can't be, and of how many bytes.
+let judged;
 
 // Places in the module's memory, each a multiple of 8 above what the module has for itself. A row has 8 bytes or more,
 // and few recordings have news in more than one of six rows.
@@ -97,10 +99,9 @@ function check(length) {
   return call.mdb_page_check(BigInt(at.options), BigInt(at.text), BigInt(length), BigInt(at.told), BigInt(at.answer));
 }
 
-// Replays so many bytes of the text, of which a report tells: what the sums are if nothing was lost. Null where that
-// isn't asked: no sum is open, or the recording begins in mid-session, of which there is no replay.
-function replay(length, report) {
-  if (!hasOpenRange(report)) return null;
+// Replays so many bytes of the text: what the sums are if nothing was lost. Null where the recording begins in
+// mid-session, of which there is no replay.
+function replay(length) {
   const answer = call.mdb_page_replay(
       BigInt(at.options), BigInt(at.text), BigInt(length), BigInt(at.told), BigInt(at.answer));
   return answer < 2 ? {answer, text: answerText(), row: told().row} : null;
@@ -234,10 +235,8 @@ function judge(options) {
   const checked = performance.now();
   // The rows before one that cannot be are a recording of their own, and its answer is a yes.
   const before = answer === 1 && check(end.offset) === 0 ? answerText() : "";
-  const replayed = replay(answer === 0 ? size : end.offset, answer === 0 ? text : before);
   const summed = performance.now();
-  const rises = answer === 0 && hasOpenRange(text) ? listRises() : null;
-  const risen = performance.now();
+  judged = {options: options.slice(), report: answer === 1 ? before : text, length: answer === 0 ? size : end.offset, answer};
   const stops = answer === 1 || answer === 2 || answer === 3 || answer === 4;
   const recording = new Uint8Array(call.memory.buffer, at.text, size);
   say({
@@ -245,21 +244,29 @@ function judge(options) {
     answer,
     text,
     before,
-    replayed,
+    isOpen: hasOpenRange(judged.report),
     row: end.row,
     offset: end.offset,
     fault: end.fault,
     lines: stops ? lines(end.offset, end.row) : [],
     acts,
     ...listing,
-    rises,
     // When the last row of the file began: what isn't read goes up to there.
     until: timeAt(recording, rowBefore(recording, size)),
     size,
-    ms: {read, check: checked - listed, before: summed - checked, rises: risen - summed, list: listed - begin},
+    ms: {read, check: checked - listed, before: summed - checked, list: listed - begin},
     memory: call.memory.buffer.byteLength
   },
       [acts]);
+}
+
+// What is told of the ranges that the last answer left open, after that answer: what opens them, and the sums if
+// nothing was lost.
+function lookCloser() {
+  const begin = performance.now(), {options, length, answer} = judged;
+  setOptions(options);
+  const replayed = replay(length), rises = answer === 0 ? listRises() : null;
+  say({told: "done", replayed, rises, ms: performance.now() - begin});
 }
 
 // The device whose set-up the options have, and whose answer to SETUP that isn't; 0 if there is none.
@@ -453,8 +460,10 @@ async function prepare(module) {
 }
 
 // Answers what a message asks for. One that asks for nothing has the recording read for its checksum.
-function answer({options, late, isDevice, surveyed, relisted, about}) {
-  if (surveyed)
+function answer({options, late, isDevice, closer, surveyed, relisted, about}) {
+  if (closer)
+    lookCloser();
+  else if (surveyed)
     judgeSurvey(surveyed);
   else if (relisted)
     relist(relisted);
