@@ -56,7 +56,7 @@ install:
 	        install -m 644 completions/$$name.bash '$(completions)'/$$name || exit 1; \
 	done
 	install -m 644 README.md CHANGELOG.md '$(doc)'
-	cd docs && find . -name '*.md' -o -name '*.json' | while read -r page; do \
+	cd docs && find . -name '*.md' -o -name '*.json' -o -name '*.png' | while read -r page; do \
 	    install -D -m 644 "$$page" '$(doc)/docs'/"$$page" || exit 1; \
 	done
 	install -m 644 examples/*.csv '$(doc)/examples'
