@@ -42,14 +42,15 @@ function fillCard(kind, word, lead, ...rest) {
   card.replaceChildren(h("h2", {class: "word"}, word), h("p", {id: "lead"}, lead), ...rest.flat(3).filter(Boolean));
 }
 
-// What is to be done, each thing once. Who counts the cash box counts the tubes with it. Who asks the card company of an
-// amount asks it of the sale.
+// What is to be done, each thing once. Who counts the cash box counts the tubes with it. Who asks the card company of
+// an amount asks it of the sale.
 function stepsOf(story) {
   const all = story.filter((it) => it.kind === "next"), key = (parts) => JSON.stringify(parts);
   const steps = new Map(all.map((it) => [key(it.parts), it]));
   if (steps.has(key([COUNT_NEXT["coins-in"]]))) steps.delete(key([COUNT_NEXT["paid-out"]]));
   if (![OPEN_NEXT.approved, OPEN_NEXT.failed].some((it) => steps.has(key([it])))) return [...steps.values()];
-  return [...steps.values()].map(({kind, parts}) => ({kind, parts: parts.filter((it) => it !== SALE_NEXT)}))
+  return [...steps.values()]
+      .map(({kind, parts}) => ({kind, parts: parts.filter((it) => it !== SALE_NEXT)}))
       .filter(({parts}) => parts.length);
 }
 
@@ -124,7 +125,7 @@ function showYes(it) {
   fillCard(
       "yes", yesHead(it) ?? KEPT, yesLead(it), leftOut(it), openPart(it), storyList(story), valueButton(it),
       h("p", {class: "soft", id: "ruling"},
-        `All ${number(r.rows)} rows fit the protocol. That doesn't say that the money is honest.`),
+        `All ${number(r.rows)} rows fit the protocol. That doesn't say that all of the money is there.`),
       nameWords(it));
   by("verdict").toggleAttribute("data-open", story.some(({kind}) => kind === "next"));
 }
@@ -192,8 +193,8 @@ function showNo(it) {
       none            ? NO_TRAFFIC :
           isExchanged ? "Most likely lines M and S are exchanged" :
                         headOf(it),
-      lead, leftOut(it),
-      isLate ? [lateNotes(it), h("p", {}, "If the recording does begin at power-on:")] : null, openPart(it),
+      lead, leftOut(it), isLate ? [lateNotes(it), h("p", {}, "If the recording does begin at power-on:")] : null,
+      openPart(it),
       storyList(
           none                  ? noTrafficStory(it) :
               isAfterDamage(it) ? storyAfterDamage(it) :

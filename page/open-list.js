@@ -51,11 +51,15 @@ const OPEN_NEXT = {
   failed: "Ask the card company whether the amount was given back.",
   escrow: "Look whether the bill is in the validator, and why the controller gave no order for it.",
   lever: "Ask the customer whether something was bought: not every controller reports a sale for cash on the bus.",
-  payout: "Ask the customer whether the change came, and look at the tubes.",
+  payout: "Ask the customer whether the coins came, and look at the tubes.",
   choice: "Count the tubes, or read the audit of the machine.",
   trouble: "See whether what was reported as trouble still stands."
 };
-const BREAK_NEXT = "Look for the reason of the break: power that went off, or the controller itself.";
+// What else is to be done, by what came in place of an end.
+const CAME_NEXT = {
+  break: "Look for the reason of the break: power that went off, or the controller itself.",
+  restarted: "Look at the power and the plug of the device that reported a reset."
+};
 
 const moneyOf = ({units, decimals, unvalued}) => units === null ?
     "value not known" :
@@ -172,21 +176,23 @@ function choicesOf({survey, link}) {
 
 // A story, and before its steps those for what is open.
 const openKinds = (it) => [...new Set(openMoneyOf(it).map(({kind}) => kind))];
-const isBroken = (it) => openMoneyOf(it).some(({came}) => came === "break");
-const openSteps = (it) => [...openKinds(it).map((kind) => OPEN_NEXT[kind]), ...isBroken(it) ? [BREAK_NEXT] : []];
+const openSteps = (it) =>
+    [...openKinds(it).map((kind) => OPEN_NEXT[kind]),
+     ...new Set(openMoneyOf(it).map(({came}) => CAME_NEXT[came]).filter(Boolean))];
 const withOpen = (it, story) => [...openSteps(it).map((it) => nextStep(it)), ...story];
 
 // What the card says of an answer in which something is open.
 function openLead(it) {
   const all = openMoneyOf(it);
-  return all.every(({kind}) => kind === "trouble") ? "a device reported trouble" : "it isn't known where all of the money went";
+  return all.every(({kind}) => kind === "trouble") ? "a device reported trouble" :
+                                                     "it isn't known where all of the money went";
 }
 
 // The first of them, in a few words: trouble comes after money. Null if there is none.
 const OPEN_HEADS = {
   approved: (amount) => `Approved, and no outcome: ${amount}`,
-  failed: (amount, {rows}) => rows.length > 1 ? `Approved, and failed: ${amount} to give back` :
-                                                `Failed, to give back: ${amount}`,
+  failed: (amount, {rows}) =>
+      rows.length > 1 ? `Approved, and failed: ${amount} to give back` : `Failed, to give back: ${amount}`,
   escrow: (amount) => `In escrow, and no end: ${amount}`,
   lever: (amount) => `Return lever, and nothing paid out: ${amount} in`,
   payout: (amount, {answer}) =>

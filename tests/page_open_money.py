@@ -173,6 +173,8 @@ def scenes():
                 [("approved", "1.50", "item 7", "before SESSION COMPLETE")], ("card company",))
     yield Scene("the next sale", card().approved().off().reader().approved(item=8).ack(0x13, 2, 0, 8).over(), AMBER,
                 [("approved", "1.50", "item 7", "break")])
+    yield Scene("the reader restarts", card().approved().told([0x12], 0).polls(3), AMBER,
+                [("approved", "1.50", "item 7", "the report of a reset")], ("card company", "power and the plug"), makers)
     both = Bus().reader().reader(0x60).approved(0x60, 100, 5).approved(0x10).ack(0x13, 2, 0, 7).over()
     yield Scene("two readers", both, AMBER, [("approved", "1.00", "ard reader 2", "item 5", "end of the recording")])
     silent = Bus().changer().coin(4).told([0x0B], 0x0C).ack(0x0D, 0x12)
