@@ -435,7 +435,7 @@ def involved(story, recording, report, values, data, row):
             found |= {d for d, n in zip(values.get(word, [])[::2], values.get(word, [])[1::2]) if n != "0"}
         # Money that was reported before its value was.
         found |= {it["device"] for it in recording.acts if any(s.startswith("money unknown") for s in it["says"])}
-    elif report["rule"] == "Profile" and report["blame"] == "controller":
+    elif report["rule"] == "Profile" and report["blame"] == "controller" or story["word"].startswith("Not judged"):
         lines = [it.split(",") for it in data.decode("latin-1").splitlines() if it.strip()]
         address = next((int(it[2], 16) & 255 for it in reversed(lines[:row]) if it[1] == "M" and it[2].startswith("1")), 0)
         found.add({1: "changer", 2: "cashless", 6: "bill", 12: "cashless-2"}.get(address >> 3, ""))
