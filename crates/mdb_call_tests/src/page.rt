@@ -85,7 +85,8 @@ fn options_that_name_no_scope_are_refused(rt: HostRuntime) {
 }
 
 /// A coin of 25 that the changer reported twice. The controller acknowledged both reports.
-const TWICE: &[u8] = b"1000,M,108\n2200,M,008\n4200,S,100\n24200,M,10B\n25400,M,00B\n27400,S,00B\n28600,S,10B\n\
+const TWICE: &[u8] =
+    b"1000,M,108\n2200,M,008\n4200,S,100\n24200,M,10B\n25400,M,00B\n27400,S,00B\n28600,S,10B\n\
 30600,M,000\n50600,M,109\n51800,M,009\n53800,S,002\n55000,S,000\n56200,S,001\n\
 57400,S,005\n58600,S,002\n59800,S,000\n61000,S,007\n62200,S,001\n63400,S,002\n\
 64600,S,005\n65800,S,119\n67800,M,000\n87800,M,10C\n89000,M,000\n90200,M,007\n\
@@ -115,14 +116,22 @@ coins-in device 50..50 controller 50..50 difference 0..0\n";
     options.without[0] = 1;
     let (number, _, answer) = replayed(&options, TWICE);
     assert_eq!(rt; number, 0);
-    assert!(rt; answer.bytes.starts_with(b"verdict yes\nrows 41\ndecimals changer - "));
+    assert!(rt;
+        answer
+            .bytes
+            .starts_with(b"verdict yes\nrows 41\ndecimals changer - ")
+    );
 }
 
 #[test]
 fn a_row_without_a_place_in_the_replay_is_told(rt: HostRuntime) {
     let (number, told, answer) = replayed(&power_on(), b"0,M,108\n1146,M,009\n");
     assert_eq!(rt; (number, told.row, told.offset), (1, 2, 8));
-    assert!(rt; answer.bytes.starts_with(b"verdict no\nrow 2\nrule Sum\nblame controller\n"));
+    assert!(rt;
+        answer
+            .bytes
+            .starts_with(b"verdict no\nrow 2\nrule Sum\nblame controller\n")
+    );
     let mut options = power_on();
     options.joined = 1;
     let (number, _, _) = replayed(&options, TWICE);
