@@ -8,7 +8,7 @@ use Rattle.mdb_levels.specs.declared.fault.Wrong.{Wrong}
 use Rattle.mdb_levels.specs.declared.frame.Frame.{Frame}
 use Rattle.mdb_levels.specs.declared.receiver.State.{State}
 use Rattle.mdb_levels.specs.declared.receiver.State.TheVariants.{Unknown, Idle, Framed, Low, Waiting}
-use Rattle.mdb_levels.specs.Faults.{Begins, IsFineUntil, IsHeldLow, IsWrong, IsWrongAtEnd, Passes, over_break, over_pulse, over_word, there}
+use Rattle.mdb_levels.specs.Faults.{Begins, IsFineUntil, IsHeldLow, IsWrong, Passes, over_break, over_pulse, over_word, there}
 use Rattle.mdb_levels.specs.Levels.{Falls, micros_of, middle_of}
 use Rattle.mdb_levels.specs.inner.Standing.{Holds, IsFramed, IsIdle, IsLow, IsNoBreak, IsWrongBy, IsWrongInEnd, Leads, Stands}
 use Rattle.mdb_levels.proofs.Orders.{compared, differ, zero_or}

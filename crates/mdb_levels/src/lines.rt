@@ -17,7 +17,7 @@ use super::finding::Finding;
 use super::instant::Instant;
 use super::moment::Moment;
 use super::passed::Passed;
-use super::receiver::{State, Step, finish, turn, wait_until};
+use super::receiver::{State, finish, turn, wait_until};
 use mdb_exports::{Places, merged};
 use mdb_words::{Event, Line};
 use std::alloc::{AllocError, Global};
@@ -64,27 +64,14 @@ impl Wave {
             IsStopOf line (λ wrong. (skip ≡ false)
             × IsShownBy line (moments ++ moment ∷ []) at wrong) stop) }
     {
-        match wait_until(self.line, self.skip, self.state, at) {
-            Ok(step) => self.add(step, passed)?,
+        match wait_until(self.line, self.skip, &mut self.state, at) {
+            Ok(found) => self.add(found, passed)?,
             Err(wrong) => return Err(LevelsFault::Line(self.line, wrong)),
         }
-        match turn(self.line, self.skip, self.state, at, high) {
-            Ok(step) => self.add(step, passed),
+        match turn(self.line, self.skip, &mut self.state, at, high) {
+            Ok(found) => self.add(found, passed),
             Err(wrong) => Err(LevelsFault::Line(self.line, wrong)),
         }
-    }
-
-    /// Goes a step on.
-    fn add(&mut self, step: Step, passed: &mut Passed) -> Result<(), LevelsFault>
-        ensures line { (self.new.line ≡ self.old.line) × (self.new.skip ≡ self.old.skip) }
-        ensures state { self.new.state ≡ step.state }
-        ensures rows { OnOk result
-            (self.new.rows.items ≡ self.old.rows.items ++ rows_in (told_by step.found)) }
-        ensures passed { IsPassed passed.old passed.new (told_by step.found) }
-        ensures err { IfErr result (λ stop. stop ≡ LevelsFault.Memory) }
-    {
-        self.state = step.state;
-        self.push(step.found, passed)
     }
 
     /// Takes the end: the line stays as it is.
@@ -100,13 +87,13 @@ impl Wave {
             IsStopOf line (λ wrong. (skip ≡ false) × IsShownInEnd line moments wrong) stop) }
     {
         match finish(self.line, self.skip, self.state) {
-            Ok(found) => self.push(found, passed),
+            Ok(found) => self.add(found, passed),
             Err(wrong) => Err(LevelsFault::Line(self.line, wrong)),
         }
     }
 
-    /// Adds what was found to the rows, if it is one, or notes that it is passed over.
-    fn push(&mut self, found: Option<Finding>, passed: &mut Passed) -> Result<(), LevelsFault>
+    /// Adds what was found, if anything was.
+    fn add(&mut self, found: Option<Finding>, passed: &mut Passed) -> Result<(), LevelsFault>
         ensures line { (self.new.line ≡ self.old.line) × (self.new.skip ≡ self.old.skip) }
         ensures state { self.new.state ≡ self.old.state }
         ensures rows { OnOk result
@@ -115,19 +102,33 @@ impl Wave {
         ensures err { IfErr result (λ stop. stop ≡ LevelsFault.Memory) }
     {
         match found {
-            Some(Finding::Row(row)) => match self.rows.push(row) {
+            Some(found) => self.push(found, passed),
+            None => Ok(()),
+        }
+    }
+
+    /// Adds what was found to the rows, if it is one, or notes that it is passed over.
+    fn push(&mut self, found: Finding, passed: &mut Passed) -> Result<(), LevelsFault>
+        ensures line { (self.new.line ≡ self.old.line) × (self.new.skip ≡ self.old.skip) }
+        ensures state { self.new.state ≡ self.old.state }
+        ensures rows { OnOk result
+            (self.new.rows.items ≡ self.old.rows.items ++ rows_in (found ∷ [])) }
+        ensures passed { IsPassed passed.old passed.new (found ∷ []) }
+        ensures err { IfErr result (λ stop. stop ≡ LevelsFault.Memory) }
+    {
+        match found {
+            Finding::Row(row) => match self.rows.push(row) {
                 Ok(()) => Ok(()),
                 Err(_) => Err(LevelsFault::Memory),
             },
-            Some(Finding::Pulse(place)) => {
+            Finding::Pulse(place) => {
                 passed.pulses.note(place);
                 Ok(())
             }
-            Some(Finding::Damaged(place)) => {
+            Finding::Damaged(place) => {
                 passed.damaged.note(place);
                 Ok(())
             }
-            None => Ok(()),
         }
     }
 }

@@ -42,39 +42,49 @@ pub(crate) struct Step {
     pub(crate) found: Option<Finding>,
 }
 
-/// Reads what is before an instant up to which the line stays as it is.
-pub(crate) fn wait_until(line: Line, skip: bool, state: State, at: Instant) -> Result<Step, Wrong>
-    ensures ok { IfOk result (λ step. (level : ℕ → Bool) (known : ℕ) (found : List Finding) →
-        Stands skip line level known state found → known ≤ at →
-        Holds level known at (held_of state) →
-        Stands skip line level at step.state (found ++ told_by step.found)) }
-    ensures due { IfOk result (λ step. IsDue at step.state) }
+/// Reads what is before an instant up to which the line stays as it is, and answers what was found.
+pub(crate) fn wait_until(
+    line: Line,
+    skip: bool,
+    state: &mut State,
+    at: Instant,
+) -> Result<Option<Finding>, Wrong>
+    ensures ok { IfOk result (λ more. (level : ℕ → Bool) (known : ℕ) (found : List Finding) →
+        Stands skip line level known state.old found → known ≤ at →
+        Holds level known at (held_of state.old) →
+        Stands skip line level at state.new (found ++ told_by more)) }
+    ensures due { IfOk result (λ _. IsDue at state.new) }
     ensures strict { IfErr result (λ _. skip ≡ false) }
     ensures err { IfErr result (λ _. (level : ℕ → Bool) (known : ℕ) (found : List Finding) →
-        Stands skip line level known state found → known ≤ at →
-        Holds level known at (held_of state) →
+        Stands skip line level known state.old found → known ≤ at →
+        Holds level known at (held_of state.old) →
         HasNone skip line level) }
     ensures wrong { IfErr result (λ wrong. (level : ℕ → Bool) (known : ℕ) (found : List Finding) →
-        Stands skip line level known state found → known ≤ at →
-        Holds level known at (held_of state) →
+        Stands skip line level known state.old found → known ≤ at →
+        Holds level known at (held_of state.old) →
         IsWrongBy line level at wrong) }
 {
-    let State::Framed(frame) = state else {
-        return Ok(silent(state));
+    let State::Framed(frame) = *state else {
+        return Ok(None);
     };
     let read = match frame.read_until(line, at.parts()) {
         Ok(read) => read,
         Err(place) => {
-            return Ok(Step {
-                state: State::Idle,
-                found: Some(Finding::Pulse(place)),
-            });
+            *state = State::Idle;
+            return Ok(Some(Finding::Pulse(place)));
         }
     };
     if read.next >= at.parts() {
-        return Ok(silent(State::Framed(read)));
+        *state = State::Framed(read);
+        return Ok(None);
     }
-    stop(line, skip, read)
+    match stop(line, skip, read) {
+        Ok(step) => {
+            *state = step.state;
+            Ok(step.found)
+        }
+        Err(wrong) => Err(wrong),
+    }
 }
 
 /// Reads the stop bit of a frame.
@@ -115,35 +125,54 @@ fn stop(line: Line, skip: bool, frame: Frame) -> Result<Step, Wrong>
     }
 }
 
-/// Takes the level that the line has from an instant on, where what is before it was read.
+/// Takes the level that the line has from an instant on, where what is before it was read, and
+/// answers what was found.
 pub(crate) fn turn(
     line: Line,
     skip: bool,
-    state: State,
+    state: &mut State,
     at: Instant,
     high: bool,
-) -> Result<Step, Wrong>
-    requires { IsDue at state }
-    ensures ok { IfOk result (λ step. (level : ℕ → Bool) (found : List Finding) →
-        Stands skip line level at state found → level at ≡ high →
-        Stands skip line level (at + 1) step.state (found ++ told_by step.found)) }
-    ensures held { IfOk result (λ step. held_of step.state ≡ high) }
+) -> Result<Option<Finding>, Wrong>
+    requires { IsDue at state.old }
+    ensures ok { IfOk result (λ more. (level : ℕ → Bool) (found : List Finding) →
+        Stands skip line level at state.old found → level at ≡ high →
+        Stands skip line level (at + 1) state.new (found ++ told_by more)) }
+    ensures held { IfOk result (λ _. held_of state.new ≡ high) }
     ensures strict { IfErr result (λ _. skip ≡ false) }
     ensures err { IfErr result (λ _. (level : ℕ → Bool) (found : List Finding) →
-        Stands skip line level at state found → level at ≡ high → HasNone skip line level) }
+        Stands skip line level at state.old found → level at ≡ high → HasNone skip line level) }
     ensures wrong { IfErr result (λ wrong. (level : ℕ → Bool) (found : List Finding) →
-        Stands skip line level at state found → level at ≡ high → IsWrongBy line level at wrong) }
+        Stands skip line level at state.old found → level at ≡ high →
+        IsWrongBy line level at wrong) }
 {
-    match state {
-        State::Unknown if high => Ok(silent(State::Idle)),
-        State::Idle if !high => Ok(silent(State::Framed(Frame::new(at)))),
-        State::Framed(frame) => Ok(silent(State::Framed(frame.turned(high)))),
+    let now = *state;
+    match now {
+        State::Unknown if high => {
+            *state = State::Idle;
+            Ok(None)
+        }
+        State::Idle if !high => {
+            *state = State::Framed(Frame::new(at));
+            Ok(None)
+        }
+        State::Framed(frame) => {
+            *state = State::Framed(frame.turned(high));
+            Ok(None)
+        }
         State::Low(start) if high => match rise(line, skip, start, at) {
-            Ok(step) => Ok(step),
+            Ok(step) => {
+                *state = step.state;
+                Ok(step.found)
+            }
             Err(wrong) => Err(wrong),
         },
-        State::Waiting(start) if high => Ok(mended(line, start)),
-        State::Unknown | State::Idle | State::Low(_) | State::Waiting(_) => Ok(silent(state)),
+        State::Waiting(start) if high => {
+            let step = mended(line, start);
+            *state = step.state;
+            Ok(step.found)
+        }
+        State::Unknown | State::Idle | State::Low(_) | State::Waiting(_) => Ok(None),
     }
 }
 

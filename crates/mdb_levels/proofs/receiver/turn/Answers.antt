@@ -6,13 +6,9 @@ use Rattle.mdb_levels.proofs.receiver.turn.Goals as goal
 
 pub returns-in-Unknown-clause-ok : goal.returns-in-Unknown-clause-ok
 returns-in-Unknown-clause-ok c level rows stands here =
-    let skip = c.args.skip in
-    let line = c.args.line in
-    let at = c.args.at in
-    subst (λ s. Stands skip line level (at + 1) s.state (rows ++ told_by s.found))
-    (sym c.silent.ensures)
-    (risen_first skip line level at rows
-    (subst (λ s. Stands skip line level at s rows) c.in-Unknown.is stands) (here ∙ c.if-high.true))
+    risen_first c.args.skip c.args.line level c.args.at rows
+    (subst (λ s. Stands c.args.skip c.args.line level c.args.at s rows) c.in-Unknown.is stands)
+    (here ∙ c.if-high.true)
 
 pub returns-in-Err-clause-err : goal.returns-in-Err-clause-err
 returns-in-Err-clause-err c level rows stands here =
@@ -25,10 +21,10 @@ returns-in-Waiting-clause-ok c level rows stands here =
     let skip = c.args.skip in
     let line = c.args.line in
     let at = c.args.at in
-    subst (λ s. Stands skip line level (at + 1) s (rows ++ told_by c.mended.result.found))
-    (sym c.mended.ensures.state)
+    subst (λ s. Stands skip line level (at + 1) s (rows ++ told_by c.mended-step.result.found))
+    (sym c.mended-step.ensures.state)
     (subst (λ f. Stands skip line level (at + 1) Idle (rows ++ told_by f))
-    (sym c.mended.ensures.found)
+    (sym c.mended-step.ensures.found)
     (mended_waiting skip line level at c.in-Waiting.start rows
     (subst (λ s. Stands skip line level at s rows) c.in-Waiting.is stands)
     (here ∙ c.if-high-3.true)))

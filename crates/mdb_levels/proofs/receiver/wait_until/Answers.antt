@@ -1,9 +1,8 @@
 use Rattle.std.proofs.Common.{◌++◌, ◌∷◌, [], sym, subst, arith, ◌<◌, ◌≤◌}
 use Rattle.mdb_levels.specs.declared.receiver.State.TheVariants.{Framed}
 use Rattle.mdb_levels.specs.declared.finding.Finding.TheVariants.{Pulse}
-use Rattle.mdb_levels.specs.inner.Standing.{Holds, IsIdle, IsPulse, Stands, held_of, told_by}
+use Rattle.mdb_levels.specs.inner.Standing.{Holds, IsIdle, IsPulse, Stands, held_of}
 use Rattle.mdb_levels.proofs.Standings.{pulse_passed, waited}
-use Rattle.std.proofs.lemmas.Result.{IfErr-weaker, IfOk-weaker}
 use Rattle.mdb_levels.proofs.receiver.wait_until.Goals as goal
 
 pub returns-then-read-parts-clause-ok : goal.returns-then-read-parts-clause-ok
@@ -16,14 +15,11 @@ returns-then-read-parts-clause-ok c level known rows stands le holds =
     held) in
     let due : c.args.at ≤ c.in-Ok.read.next =
     omega (arith, c.if-read-parts.true, c.parts-2.ensures.value) in
-    subst (λ s. Stands c.args.skip c.args.line level c.args.at s.state (rows ++ told_by s.found))
-    (sym c.silent-then-read-parts.ensures)
-    (waited c.args.skip c.args.line level known c.args.at (Framed c.in-Ok.read) rows due framed le
-    (subst (λ b. Holds level known c.args.at b) (sym c.in-Ok.ensures.high) held))
+    waited c.args.skip c.args.line level known c.args.at (Framed c.in-Ok.read) rows due framed le
+    (subst (λ b. Holds level known c.args.at b) (sym c.in-Ok.ensures.high) held)
 
-pub returns-clause-ok : goal.returns-clause-ok
-returns-clause-ok c =
-    IfOk-weaker c.stop.result _ _ (λ step ok level known rows stands le holds.
+pub returns-in-Ok-stop-clause-ok : goal.returns-in-Ok-stop-clause-ok
+returns-in-Ok-stop-clause-ok c level known rows stands le holds =
     let held = subst (λ s. Holds level known c.args.at (held_of s)) c.in-Framed.is holds in
     let framed =
     c.in-Ok.ensures.ok c.args.skip c.args.line level known rows
@@ -32,16 +28,14 @@ returns-clause-ok c =
     held) in
     let late : c.in-Ok.read.next < c.args.at =
     omega (arith, c.if-read-parts.false, c.parts-2.ensures.value) in
-    ok level known c.args.at rows framed le late
-    (subst (λ b. Holds level known c.args.at b) (sym c.in-Ok.ensures.high) held))
-    c.stop.ensures.ok
+    c.in-Ok-stop.ensures.ok level known c.args.at rows framed le late
+    (subst (λ b. Holds level known c.args.at b) (sym c.in-Ok.ensures.high) held)
 
-pub returns-clause-due : goal.returns-clause-due
-returns-clause-due c = IfOk-weaker c.stop.result _ _ (λ step due. due c.args.at) c.stop.ensures.due
+pub returns-in-Ok-stop-clause-due : goal.returns-in-Ok-stop-clause-due
+returns-in-Ok-stop-clause-due c = c.in-Ok-stop.ensures.due c.args.at
 
-pub returns-clause-err : goal.returns-clause-err
-returns-clause-err c =
-    IfErr-weaker c.stop.result _ _ (λ wrong err level known rows stands le holds.
+pub returns-in-Err-stop-clause-err : goal.returns-in-Err-stop-clause-err
+returns-in-Err-stop-clause-err c level known rows stands le holds =
     let held = subst (λ s. Holds level known c.args.at (held_of s)) c.in-Framed.is holds in
     let framed =
     c.in-Ok.ensures.ok c.args.skip c.args.line level known rows
@@ -50,13 +44,11 @@ returns-clause-err c =
     held) in
     let late : c.in-Ok.read.next < c.args.at =
     omega (arith, c.if-read-parts.false, c.parts-2.ensures.value) in
-    err level known c.args.at rows framed le late
-    (subst (λ b. Holds level known c.args.at b) (sym c.in-Ok.ensures.high) held))
-    c.stop.ensures.err
+    c.in-Err-stop.ensures.err level known c.args.at rows framed le late
+    (subst (λ b. Holds level known c.args.at b) (sym c.in-Ok.ensures.high) held)
 
-pub returns-clause-wrong : goal.returns-clause-wrong
-returns-clause-wrong c =
-    IfErr-weaker c.stop.result _ _ (λ wrong is level known rows stands le holds.
+pub returns-in-Err-stop-clause-wrong : goal.returns-in-Err-stop-clause-wrong
+returns-in-Err-stop-clause-wrong c level known rows stands le holds =
     let held = subst (λ s. Holds level known c.args.at (held_of s)) c.in-Framed.is holds in
     let framed =
     c.in-Ok.ensures.ok c.args.skip c.args.line level known rows
@@ -65,9 +57,8 @@ returns-clause-wrong c =
     held) in
     let late : c.in-Ok.read.next < c.args.at =
     omega (arith, c.if-read-parts.false, c.parts-2.ensures.value) in
-    is level known c.args.at rows framed le late
-    (subst (λ b. Holds level known c.args.at b) (sym c.in-Ok.ensures.high) held))
-    c.stop.ensures.wrong
+    c.in-Err-stop.ensures.wrong level known c.args.at rows framed le late
+    (subst (λ b. Holds level known c.args.at b) (sym c.in-Ok.ensures.high) held)
 
 pub returns-in-Err-clause-ok : goal.returns-in-Err-clause-ok
 returns-in-Err-clause-ok c level known rows stands le holds =

@@ -30,21 +30,21 @@ returns-in-Err-clause-wrong c skip line moments found heard = (
 
 pub returns-in-Ok-clause-ok : goal.returns-in-Ok-clause-ok
 returns-in-Ok-clause-ok c =
-    on_ok_weaker c.push.result (λ rows skip line moments found heard.
+    on_ok_weaker c.add.result (λ rows skip line moments found heard.
     let wave = c.args.self.now in
-    stopped_more skip wave c.push.new.self line moments found (told_by c.in-Ok.found)
-    c.args.passed.now c.push.new.passed heard rows c.push.ensures.passed
+    stopped_more skip wave c.add.new.self line moments found (told_by c.in-Ok.found)
+    c.args.passed.now c.add.new.passed heard rows c.add.ensures.passed
     (λ level fits. c.in-Ok.ensures.ok level _ found
     (stands_on skip wave line moments level found heard fits)
     (still_held skip wave line moments level found heard fits)))
-    c.push.ensures.rows
+    c.add.ensures.rows
 
 pub returns-in-Ok-clause-err : goal.returns-in-Ok-clause-err
 returns-in-Ok-clause-err c =
-    IfErr-weaker c.push.result _ _ (λ stop is skip line moments found heard. no_stop stop _ _ is)
-    c.push.ensures.err
+    IfErr-weaker c.add.result _ _ (λ stop is skip line moments found heard. no_stop stop _ _ is)
+    c.add.ensures.err
 
 pub returns-in-Ok-clause-wrong : goal.returns-in-Ok-clause-wrong
 returns-in-Ok-clause-wrong c =
-    IfErr-weaker c.push.result _ _ (λ stop is skip line moments found heard. no_stop stop _ _ is)
-    c.push.ensures.err
+    IfErr-weaker c.add.result _ _ (λ stop is skip line moments found heard. no_stop stop _ _ is)
+    c.add.ensures.err

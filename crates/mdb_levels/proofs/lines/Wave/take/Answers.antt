@@ -37,8 +37,8 @@ returns-in-Ok-turn-clause-ok c =
     let old = c.args.self.now in
     let mid = c.add.new.self in
     let wave = c.add-in-Ok-turn.new.self in
-    let first = told_by c.in-Ok.step.found in
-    let second = told_by c.in-Ok-turn.step.found in
+    let first = told_by c.in-Ok.found in
+    let second = told_by c.in-Ok-turn.found in
     turned_more skip old wave line moments moment c.args.at c.args.high found first second
     c.args.passed.now c.add.new.passed c.add-in-Ok-turn.new.passed heard now
     (c.add-in-Ok-turn.ensures.line.0 ∙ c.add.ensures.line.0)
@@ -59,10 +59,10 @@ returns-in-Ok-turn-clause-ok c =
     subst (λ s. Stands old.skip old.line level (c.args.at + 1) s ((found ++ first) ++ second))
     (sym c.add-in-Ok-turn.ensures.state)
     (subst
-    (λ l. Stands old.skip l level (c.args.at + 1) c.in-Ok-turn.step.state ((found ++ first) ++ second))
+    (λ l. Stands old.skip l level (c.args.at + 1) c.turn.new.state ((found ++ first) ++ second))
     c.add.ensures.line.0
     (subst
-    (λ s. Stands s mid.line level (c.args.at + 1) c.in-Ok-turn.step.state ((found ++ first) ++ second))
+    (λ s. Stands s mid.line level (c.args.at + 1) c.turn.new.state ((found ++ first) ++ second))
     c.add.ensures.line.1 two))))
     c.add-in-Ok-turn.ensures.rows
 
@@ -84,7 +84,7 @@ returns-in-Err-turn-clause-err c skip line moments moment found heard now = (
   λ level shows.
       let old = c.args.self.now in
       let mid = c.add.new.self in
-      let first = told_by c.in-Ok.step.found in
+      let first = told_by c.in-Ok.found in
       let r = ready skip old line moments moment c.args.at c.args.high found heard now level shows in
       let one = c.in-Ok.ensures.ok level (end_of 0 moments) found r.stands r.before r.holds in
       let one_on =
@@ -108,7 +108,7 @@ returns-in-Err-turn-clause-wrong c skip line moments moment found heard now = (
     λ level shows.
         let old = c.args.self.now in
         let mid = c.add.new.self in
-        let first = told_by c.in-Ok.step.found in
+        let first = told_by c.in-Ok.found in
         let r =
         ready skip old line moments moment c.args.at c.args.high found heard now level shows in
         let one = c.in-Ok.ensures.ok level (end_of 0 moments) found r.stands r.before r.holds in
