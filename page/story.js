@@ -43,9 +43,29 @@ function yesStory(it) {
     if (isDiffering(a)) told.push(...differingStory(it, name, a, d));
     if (isOpen(a)) told.push(...openStory(it, name, a, d));
   }
-  told.push(...silenceStory(it), ...valuelessStory(it));
+  told.push(...breakStory(it), ...silenceStory(it), ...valuelessStory(it));
   return told;
 }
+
+// A break soon after cash was paid in or out: a payment may have been under way. So many are told at most.
+const SOON = 30000000, TOLD_BREAKS = 3;
+
+function breakStory(it) {
+  const cash = it.found.money.filter(({device}) => device < 3), told = [];
+  let next = 0;
+  for (const one of it.found.breaks) {
+    while (next < cash.length && cash[next].last < one.first) next++;
+    const last = cash[next - 1];
+    if (!last || one.at - last.at > SOON || told.length === TOLD_BREAKS) continue;
+    told.push(fact(
+        `A break, as when power goes off, came at ${when(one.at)}`, inRows(rowsAt(one.first, one.last)),
+        `, ${seconds(one.at - last.at)} after ${entryWords(last)}`, inRows(rowsAt(last.first, last.last)),
+        ". Whether more was to be paid then, the bus doesn't show."));
+  }
+  return told.length ? [...told, nextStep(BREAK_NEXT)] : [];
+}
+
+const BREAK_NEXT = "Ask the customer whether the payment was over when the power went off. Count the tubes.";
 
 const isDiffering = (a) => a.difference[0] > 0n || a.difference[1] < 0n;
 const isOpen = (a) => ["device", "controller", "difference"].some((side) => a[side][0] !== a[side][1]);

@@ -140,7 +140,7 @@ class Recording:
             if line.startswith("fault ") or not found or found[3] == "break":
                 if re.match(r"\d+-\d+ break", line):
                     first, last = map(int, line.split()[0].split("-"))
-                    self.acts.append({"first": first, "last": last, "kind": "break", "device": "", "data": b"", "says": set()})
+                    self.acts.append({"first": first, "last": last, "kind": "break", "device": "", "data": b"", "says": set(), "is_poll": False})
                 continue
             kind, device, data = found[3], found[4].strip(), bytes.fromhex(found[5].replace(" ", ""))
             if kind == "ask":
@@ -148,7 +148,8 @@ class Recording:
             if kind in ("reply", "repeat"):
                 values[device] = self.values(device, ask, data) or values.get(device)
             says = self.says(kind, device, ask, data, values.get(device)) if device else set()
-            self.acts.append({"first": int(found[1]), "last": int(found[2]), "kind": kind, "device": device, "data": data, "says": says})
+            self.acts.append({"first": int(found[1]), "last": int(found[2]), "kind": kind, "device": device, "data": data, "says": says,
+                              "is_poll": ask[:1] in (b"\x0b", b"\x33")})
 
     @staticmethod
     def values(device, ask, data):
@@ -392,6 +393,37 @@ def compare_plain(sentences, values, data, options):
     want([[row.rpartition("–")[2].replace(",", "") for row in rows] for rows in lost] == wanted_lost, f"lost for certain: {lost}, and not {wanted_lost}")
 
 
+def compare_breaks(sentences, recording, data):
+    """A break is told of that comes at most 30 s after cash moved, and no other one; three at most."""
+    times = [int(found[0]) for line in data.splitlines() if (found := re.search(rb"\d+", line))]
+    at = {it["first"]: times[it["first"] - 1] for it in recording.acts}
+    wanted, latest = [], None
+    for it in recording.acts:
+        if it["kind"] == "break":
+            if latest is not None and at[it["first"]] - latest <= 30_000_000:
+                wanted.append(it["first"])
+        elif moves_cash(it):
+            latest = at[it["first"]]
+    told = [int(it["rows"][0].replace(",", "")) for it in sentences if it["text"].startswith("A break, as when power goes off")]
+    want(told == wanted[:3], f"breaks are told in rows {told}, and not {wanted[:3]}")
+
+
+def moves_cash(act):
+    """Whether an act tells of coins or bills that came in or went out, or are in escrow."""
+    data, kind, device = act["data"], act["kind"], act["device"]
+    if kind == "ask":
+        return device == "changer" and data[:1] == b"\x0d"
+    if kind != "reply" or not act["is_poll"]:
+        return False
+    if device == "bill":
+        return any(0x80 <= b <= 0xAF for b in data[:-1])
+    firsts, i = [], 0
+    while i < len(data) - 1:
+        firsts.append(data[i])
+        i += 2 if data[i] >= 0x40 else 1
+    return device == "changer" and any(0x40 <= b <= 0x5F or b >= 0x80 and b & 0x70 for b in firsts)
+
+
 def compare_yes(sentences, recording, report, values):
     """What is said of uncertain money, of silences and of agreement is what the report says."""
     places = dict(zip(values["decimals"][::2], values["decimals"][1::2]))
@@ -459,6 +491,7 @@ def compare_story(story, show, check, options, data):
     if report["verdict"] == "yes" and report["rows"] != "0" and "Nothing was followed" not in story["word"]:
         compare_yes(story["sentences"], recording, report, values)
         compare_plain(story["sentences"], values, data, options)
+        compare_breaks(story["sentences"], recording, data)
         if int(report["rows"]) <= FEW_ROWS and any("isn't certain" in it["text"] for it in story["sentences"]):
             compare_openings(story["sentences"], data, options)
     return report
