@@ -2,6 +2,7 @@
 //! rows to standard output in the form that `mdbcheck` reads.
 #![tactic(auto)]
 
+use mdb_exports::write_refusal;
 use mdb_progress::Progress;
 use std::io::BufReader;
 use std::process::ExitCode;
@@ -13,6 +14,14 @@ const READ_SIZE: usize = 65_536;
 
 /// The status where the program can't begin.
 const NOT_BEGUN: u8 = 2;
+
+/// Refuses what hasn't begun, for this reason: one line on standard error, and on standard output that
+/// of a refused export. A stream that can't be written gets none.
+fn refuse(rt: &HostRuntime, reason: &str, error: io::Error) -> u8 {
+    let _ = write_refusal(&mut rt.stdout());
+    let _ = eprintln!(rt; "mdbimport: {reason}{error}");
+    NOT_BEGUN
+}
 
 /// The words of the command line, the program's name first.
 fn words(rt: &HostRuntime) -> io::Result<Vec<String>> {
@@ -32,22 +41,16 @@ fn run(rt: &HostRuntime, words: Vec<String>) -> u8 {
             progress.end();
             status
         }
-        Err(error) => {
-            let _ = eprintln!(rt; "mdbimport: {error}");
-            NOT_BEGUN
-        }
+        Err(error) => refuse(rt, "", error),
     }
 }
 
 /// Runs the program. Words that can't be had, for want of memory or since one isn't UTF-8, are
-/// refused like words that are no command of the program: status 2 and one line.
+/// refused like words that are no command of the program: status 2, and a line on each stream.
 fn main(rt: HostRuntime) -> ExitCode {
     let status = match words(&rt) {
         Ok(words) => run(&rt, words),
-        Err(error) => {
-            let _ = eprintln!(rt; "mdbimport: the command line can't be read: {error}");
-            NOT_BEGUN
-        }
+        Err(error) => refuse(&rt, "the command line can't be read: ", error),
     };
     ExitCode::from(status)
 }

@@ -8,7 +8,7 @@ use Rattle.mdb_edges.specs.Import as edges
 use Rattle.mdb_edges.specs.declared.fault.EdgesFault.{EdgesFault}
 use Rattle.mdb_edges.specs.declared.options.EdgesOptions.{EdgesOptions}
 use Rattle.mdb_levels.specs.declared.part.LevelsImported.{LevelsImported}
-use Rattle.mdbimport_run.specs.Program.{IsEdgesAnswer, IsManualWritten, Kind, NameATask, NameManual, NameTask, Says, no_memory, of_edges, of_manual, of_rows, of_saleae, of_sigrok}
+use Rattle.mdbimport_run.specs.Program.{IsEdgesAnswer, IsTextWritten, Kind, NameATask, NameManual, NameTask, Says, left_by, no_memory, of_edges, of_manual, of_rows, of_saleae, of_sigrok}
 use Rattle.mdb_vcd.specs.Import as vcd
 use Rattle.mdb_vcd.specs.declared.fault.VcdFault.{VcdFault}
 use Rattle.mdb_vcd.specs.declared.options.VcdOptions.{VcdOptions}
@@ -68,10 +68,11 @@ refused read given refusal same why names =
     (λ named. why_none (map string_bytes read) refusal why named.0 named.1) names
 
 pub refused_says : (known : Option (List ℕ)) (words : List (List ℕ))
-    (before after : Option (List ℕ)) (refusal : Refusal) → (NameATask words → refusal ≡ no_memory)
-    → after ≡ before → IfSome known (λ text. Says words text before after (Refused refusal))
-refused_says None words before after refusal why same = tt
-refused_says (Some text) words before after refusal why same = (why, same)
+    (before after : Option (List ℕ)) (refusal : Refusal) (answer : Result (Prim.Unit {0}) WriteFailed)
+    → (NameATask words → refusal ≡ no_memory) → IsTextWritten (left_by refusal) before after answer
+    → IfSome known (λ text. Says words text before after (Refused refusal answer))
+refused_says None words before after refusal answer why written = tt
+refused_says (Some text) words before after refusal answer why written = (why, written)
 
 -- the answer of a task is that of its words
 pub rows_say : (words : List (List ℕ)) (options : RowsOptions) (before after : Option (List ℕ))
@@ -106,7 +107,7 @@ vcd_says words options before after answer asks text answers = (options, asks, a
 
 pub manual_says : (words : List (List ℕ)) (page : List ℕ) (before after : Option (List ℕ))
     (answer : Result (Prim.Unit {0}) WriteFailed) → NameManual words page
-    → IsManualWritten page before after answer → (known : Option (List ℕ))
+    → IsTextWritten page before after answer → (known : Option (List ℕ))
     → IfSome known (λ text. Says words text before after (ended.Manual answer))
 manual_says words page before after answer asks written None = tt
 manual_says words page before after answer asks written (Some text) = (page, asks, written)

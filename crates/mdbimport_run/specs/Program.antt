@@ -4,6 +4,7 @@ use Rattle.std.specs.Prelude.{Some, None, option_map, option_to_list, string_byt
 use Rattle.std.specs.Prelude.{Result, Ok, Err, String}
 use Rattle.std.specs.Global.{Global}
 use Rattle.std.specs.Io.KnownBytes.{Appends}
+use Rattle.clap.specs.declared.error.kind.ErrorKind.TheVariants.{DisplayHelp, DisplayVersion}
 use Rattle.clap.specs.declared.error.kind.ErrorKind.TheVariants.{OutOfMemory}
 use Rattle.command_words.specs.Grammar.{Command, IsOneOf, NameCommand, Uses, chosen, is_used}
 use Rattle.command_words.specs.Manual.{AskForManual, Manual as Texts}
@@ -11,6 +12,7 @@ use Rattle.mdb_words.specs.Digits.{IsDecimal}
 use Rattle.mdb_writing.specs.Written.{HasTaken}
 use Rattle.mdb_writing.specs.declared.failed.WriteFailed.{WriteFailed}
 use Rattle.mdb_exports.specs.Records.{export_records}
+use Rattle.mdb_exports.specs.Refusal.{refusal_line}
 use Rattle.mdb_rows_import.specs.Imports.{Imports}
 use Rattle.mdb_rows_import.specs.declared.options.RowsOptions.{RowsOptions}
 use Rattle.mdb_exports.specs.declared.units.Unit.{Unit}
@@ -329,7 +331,7 @@ IsAnswerTo words (Saleae answer) = NameTask of_saleae words
 IsAnswerTo words (Edges answer) = NameTask of_edges words
 IsAnswerTo words (Vcd answer) = NameTask of_vcd words
 IsAnswerTo words (Manual answer) = NameTask of_manual words
-IsAnswerTo words (Refused refusal) = NameATask words → refusal ≡ no_memory
+IsAnswerTo words (Refused refusal written) = NameATask words → refusal ≡ no_memory
 
 -- what the answer to a table of edges says of its text, and of the bytes that the writer held
 abbrev pub IsEdgesAnswer : EdgesOptions → List ℕ → Option (List ℕ) → Option (List ℕ)
@@ -347,15 +349,22 @@ IsVcdAnswer options text before after (Ok told) =
 IsVcdAnswer options text before after (Err fault) =
     vcd.IsRefused options text fault before after
 
--- the manual was written, or a front of it, where the writer failed
-abbrev pub IsManualWritten : List ℕ → Option (List ℕ) → Option (List ℕ)
+-- a text was written, or a front of it, where the writer failed
+abbrev pub IsTextWritten : List ℕ → Option (List ℕ) → Option (List ℕ)
     → Result (Prim.Unit {0}) WriteFailed → Type 0
-IsManualWritten page before after (Ok done) = Appends before after page
-IsManualWritten page before after (Err fault) = HasTaken before after page
+IsTextWritten text before after (Ok done) = Appends before after text
+IsTextWritten text before after (Err fault) = HasTaken before after text
+
+-- What is written where words are refused: the line of a refused export, so that no checker takes
+-- this for a recording without rows. Words that ask for help or for the version write nothing.
+abbrev pub left_by : Refusal → List ℕ
+left_by (Words DisplayHelp) = []
+left_by (Words DisplayVersion) = []
+left_by _ = refusal_line
 
 -- What an answer says of a text, and of the bytes that the writer held before and after: that the
 -- task that the words name came to this with the options that they name. Where words are refused,
--- nothing was written.
+-- what they leave was written.
 abbrev pub Says : List (List ℕ) → List ℕ → Option (List ℕ) → Option (List ℕ) → Ended → Type 0
 Says words text before after (Rows answer) = (options : RowsOptions) × NameRows words options
     × Imports options (export_records text) before after answer
@@ -368,19 +377,14 @@ Says words text before after (Edges answer) = (options : EdgesOptions)
 Says words text before after (Vcd answer) = (options : VcdOptions)
     × NameVcd words options × IsVcdAnswer options text before after answer
 Says words text before after (Manual answer) = (page : List ℕ)
-    × NameManual words page × IsManualWritten page before after answer
-Says words text before after (Refused refusal) =
-    (NameATask words → refusal ≡ no_memory) × (after ≡ before)
+    × NameManual words page × IsTextWritten page before after answer
+Says words text before after (Refused refusal written) =
+    (NameATask words → refusal ≡ no_memory) × IsTextWritten (left_by refusal) before after written
 
--- the words were refused
-abbrev pub IsRefused : Ended → Type 0
-IsRefused (Rows answer) = ⊥
-IsRefused (Sigrok answer) = ⊥
-IsRefused (Saleae answer) = ⊥
-IsRefused (Edges answer) = ⊥
-IsRefused (Vcd answer) = ⊥
-IsRefused (Manual answer) = ⊥
-IsRefused (Refused refusal) = ⊤
+-- the same of the bytes where words were refused, whatever the text is
+abbrev pub IsLeft : Option (List ℕ) → Option (List ℕ) → Ended → Type 0
+IsLeft before after (Refused refusal written) = IsTextWritten (left_by refusal) before after written
+IsLeft before after _ = ⊤
 
 -- the exit status: 0 where the rows that were asked for were written, or the manual was, else 2
 abbrev pub status_of : Ended → ℕ
@@ -396,4 +400,4 @@ status_of (Vcd (Ok imported)) = 0
 status_of (Vcd (Err fault)) = 2
 status_of (Manual (Ok done)) = 0
 status_of (Manual (Err fault)) = 2
-status_of (Refused refusal) = 2
+status_of (Refused refusal written) = 2

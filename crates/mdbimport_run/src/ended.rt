@@ -34,8 +34,9 @@ pub enum Ended {
     Vcd(Result<LevelsImported, VcdFault>),
     /// The words name `manual`, and its text was written, or the writer failed.
     Manual(Result<(), WriteFailed>),
-    /// The words were refused, and there was no import.
-    Refused(Refusal),
+    /// The words were refused, and there was no import. The line of a refused export was written, or
+    /// the writer failed.
+    Refused(Refusal, Result<(), WriteFailed>),
 }
 
 impl Ended {
@@ -53,7 +54,7 @@ impl Ended {
             | Ended::Manual(Ok(())) => DONE,
             Ended::Rows(Err(_)) | Ended::Sigrok(Err(_)) | Ended::Manual(Err(_)) => NOT_DONE,
             Ended::Saleae(Err(_)) | Ended::Edges(Err(_)) | Ended::Vcd(Err(_)) => NOT_DONE,
-            Ended::Refused(_) => NOT_DONE,
+            Ended::Refused(_, _) => NOT_DONE,
         }
     }
 }

@@ -152,9 +152,10 @@ EXIT STATUS
                      standard error may say what was passed over, and what is
                      likely to be wrong with the recording.
     2                Not all rows are there. A line on standard error says
-                     why. If the export was refused, the last line on
-                     standard output is \"mdbimport refused this export\". It
-                     is no row, and mdbcheck refuses it.
+                     why. If the export or the command line was refused, the
+                     last line on standard output is \"mdbimport refused this
+                     export\". It is no row, and mdbcheck refuses it. Only
+                     --help and --version write nothing there.
 
 EXAMPLES
     Check a trace of sigrok-cli, with no file in between:

@@ -4,7 +4,7 @@ ghost use Rattle.std.specs.Prelude.{◌≡◌, ◌⊎◌, IfSome, map, option_ma
 ghost use Rattle.command_words.specs.Manual.{manual_text};
 ghost use Rattle.mdb_exports.specs.Records.{export_records};
 ghost use Rattle.mdb_rows_import.specs.Imports.{Imports};
-ghost use Rattle.mdbimport_run.specs.Program.{IsAnswerTo, IsEdgesAnswer, IsManualWritten, IsRefused};
+ghost use Rattle.mdbimport_run.specs.Program.{IsAnswerTo, IsEdgesAnswer, IsLeft, IsTextWritten};
 ghost use Rattle.mdbimport_run.specs.Program.{IsVcdAnswer, Says, mdbimport_manual};
 ghost use Rattle.mdb_saleae.specs.Imports.{Imports as ImportsTable};
 ghost use Rattle.mdb_sigrok.specs.Import.{AnswersTo};
@@ -12,7 +12,7 @@ ghost use Rattle.mdb_sigrok.specs.Import.{AnswersTo};
 use super::command_line::{PROGRAM, Task, task_of};
 use super::complaint::{tell, tell_of_dump, tell_of_edges, tell_of_table, tell_of_trace};
 use super::ended::Ended;
-use super::refused::tell_refusal;
+use super::refused::{end_refused, tell_refusal};
 use command_words::write_manual;
 use mdb_edges::{EdgesFault, EdgesOptions, import_edge_records};
 use mdb_exports::{Imported, records_of};
@@ -27,7 +27,8 @@ use std::io::{Read, Write};
 
 /// Runs the program over its words, the program's name first, and answers how that ended: with the
 /// answer of the import that the words name, with that of writing the manual, or that they are
-/// refused, and nothing was written.
+/// refused. Refused words write the line of a refused export, which no checker takes. Those that ask
+/// for help or for the version write nothing.
 ///
 /// One line on `err` says why there is no import, or no whole one. Where there is one, lines on
 /// `err` tell what was passed over, and what is likely to be wrong with the recording. Where `err`
@@ -42,7 +43,7 @@ pub fn run<R: Read + Drop, W: Write, E: Write>(
     ensures says { IfSome (R.remaining reader) (λ text. Says (map string_bytes words.items) text
         (W.contents out.old) (W.contents out.new) result) }
     ensures task { IsAnswerTo (map string_bytes words.items) result }
-    ensures untouched { IsRefused result → out.new ≡ out.old }
+    ensures left { IsLeft (W.contents out.old) (W.contents out.new) result }
 {
     match task_of(alloc, words.as_slice()) {
         Ok(Task::Rows(options)) => Ended::Rows(run_rows(alloc, &options, reader, out, err)),
@@ -52,8 +53,9 @@ pub fn run<R: Read + Drop, W: Write, E: Write>(
         Ok(Task::Vcd(options)) => Ended::Vcd(run_vcd(alloc, &options, reader, out, err)),
         Ok(Task::Manual(part)) => Ended::Manual(run_manual(part, out, err)),
         Err(refusal) => {
+            let written = end_refused(refusal, out);
             tell_refusal(alloc, refusal, words.as_slice(), err);
-            Ended::Refused(refusal)
+            Ended::Refused(refusal, written)
         }
     }
 }
@@ -147,7 +149,7 @@ fn run_manual<W: Write, E: Write>(
     out: &mut W,
     err: &mut E,
 ) -> Result<(), WriteFailed>
-    ensures { IsManualWritten
+    ensures { IsTextWritten
         (manual_text mdbimport_manual (option_map (λ text. text.now) part.entry))
         (W.contents out.old) (W.contents out.new) result }
 {

@@ -1,4 +1,6 @@
-//! The line on a command line that is refused.
+//! The lines on a command line that is refused.
+
+ghost use Rattle.mdbimport_run.specs.Program.{IsTextWritten, left_by};
 
 use super::command_line::{
     BREAK, COMMAND, CONTROLLER, FROM, PERIPHERAL, PROGRAM, UNIT, UNTIL, is_line_name, read_words,
@@ -6,9 +8,22 @@ use super::command_line::{
 use super::refusal::{Refusal, ValueFault};
 use clap::error::ErrorKind;
 use command_words::{Line, Named, Program, line_on_refused, row_of};
+use mdb_exports::write_refusal;
 use mdb_words::Time;
+use mdb_writing::WriteFailed;
 use std::alloc::Global;
 use std::io::Write;
+
+/// Ends the output of words that are refused, so that no checker takes it. Words that ask for help or
+/// for the version write nothing.
+pub(crate) fn end_refused<W: Write>(refusal: Refusal, out: &mut W) -> Result<(), WriteFailed>
+    ensures { IsTextWritten (left_by refusal) (W.contents out.old) (W.contents out.new) result }
+{
+    match refusal {
+        Refusal::Words(ErrorKind::DisplayHelp | ErrorKind::DisplayVersion) => Ok(()),
+        _ => write_refusal(out),
+    }
+}
 
 /// Writes the line on words that are refused.
 pub(crate) fn tell_refusal<E: Write>(

@@ -7,8 +7,9 @@ use Rattle.mdbimport_run.proofs.program.run.Goals as goal
 pub returns-clause-says : goal.returns-clause-says
 returns-clause-says g c =
     refused_says (g.R.Read.remaining c.args.reader) _ (g.W.Write.contents c.args.out.now)
-    (g.W.Write.contents c.args.out.now) c.in-Err.refusal (refused _ c.args.words.items
-    c.in-Err.refusal c.as_slice.ensures.value c.in-Err.ensures.refused) refl
+    (g.W.Write.contents c.end_refused-written.new.out) c.in-Err.refusal c.end_refused-written.result
+    (refused _ c.args.words.items c.in-Err.refusal c.as_slice.ensures.value c.in-Err.ensures.refused)
+    c.end_refused-written.ensures
 
 pub returns-clause-task : goal.returns-clause-task
 returns-clause-task g c =
