@@ -41,8 +41,9 @@ def in_seconds(found):
 
 
 def plain(text):
-    """Words without the marks of Markdown, without the sentences that name another page, without the program's words
+    """Words without the marks of Markdown, its links too, without the sentences that name another page, without the program's words
     between brackets, and with times in seconds."""
+    text = re.sub(r"\[(`[^`]+`)\]\([^)]*\)", r"\1", text)
     text = re.sub(r",? `[a-z/.-]+\.md`(?=\))", "", text)
     text = re.sub(r" \((?:(?:, )?`[^`]*`)+\)", "", text)
     text = re.sub(r"(\d[\d,]*) microseconds", in_seconds, text)
