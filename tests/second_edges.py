@@ -50,7 +50,7 @@ HINT = "; --skip-damaged leaves out what is damaged"
 FRAMING = "wanted a high stop bit, or a break of 100 ms or more, and the stop bit is low"
 DEVICE_BREAK = ("wanted words alone on the line of the peripherals, and it is low for a break")
 LONG_BREAK = "wanted a break of at most 999999999 microseconds, and it is longer"
-CUT = "wanted a line that is high at the end of the table, and it is low"
+CUT = "wanted a line that is high at the end of the export, and it is low"
 
 
 def plain(text):

@@ -41,7 +41,7 @@ pub enum LineFault {
     DeviceBreak,
     /// A break of more than 999,999,999 microseconds.
     LongBreak,
-    /// The line is low at the end of the table.
+    /// The line is low at the end of the export.
     Cut,
 }
 
@@ -62,7 +62,7 @@ impl LineFault {
                  --skip-damaged leaves out what is damaged"
             }
             LineFault::Cut => {
-                "wanted a line that is high at the end of the table, and it is low; \
+                "wanted a line that is high at the end of the export, and it is low; \
                  --skip-damaged leaves out what is damaged"
             }
         }
