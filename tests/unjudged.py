@@ -35,7 +35,8 @@ def shown_levels(rows, words):
         elif line == "M" and word > 255:
             block, answer = [word & 255], []
         elif line == "M" and not answer:
-            block.append(word)
+            # Before the first marked word the words are foreign.
+            block += [word] * bool(block)
             if len(block) == 7 and block[0] in (0x11, 0x61) and block[1] == 0:
                 told[READERS[block[0] >> 3]] = block[2]
         elif line == "M":

@@ -1,3 +1,4 @@
+mod Asides
 pub mod CommandLine
 pub mod Devices
 pub mod Goals

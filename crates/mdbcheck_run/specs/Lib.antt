@@ -1,3 +1,4 @@
+pub mod Aside
 pub mod Complaint
 pub mod Program
 pub mod inner

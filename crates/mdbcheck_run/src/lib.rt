@@ -10,6 +10,7 @@ mod complaint;
 mod form;
 mod goal_words;
 pub mod laws;
+mod levels;
 mod manual;
 mod program;
 mod refusal;

@@ -246,7 +246,8 @@ EXIT STATUS
     0                Yes: all rows are possible. With show: no row breaks a
                      rule of the link. With manual: the text is written.
     1                No: a row breaks a rule. If the rule is Profile, nobody
-                     did wrong.
+                     did wrong. Nor did anybody if a line on standard error
+                     says that the no isn't judged (check --joined).
     2                There is no verdict. A line on standard error says why: a
                      row isn't a row, a mark stands where none may, the input
                      is too long, input or output failed, memory was refused,

@@ -3,6 +3,7 @@
 ghost use Rattle.std.specs.Prelude.{◌≡◌, ◌≢◌, ◌<◌, ◌⊎◌, ℕ, List, None, Ok, Err};
 ghost use Rattle.std.specs.Prelude.{IfSome, IsErr, length, map, option_map, string_bytes};
 ghost use Rattle.command_words.specs.Manual.{manual_text};
+ghost use Rattle.mdbcheck_run.specs.Aside.{HasToldAside, IsAside, IsAsideOfCheck};
 ghost use Rattle.mdbcheck_run.specs.Complaint.{IsToldCause, excess_line};
 ghost use Rattle.mdbcheck_run.specs.Program.{NameAReading, NameATask, Says};
 ghost use Rattle.mdbcheck_run.specs.Program.{SaysChecked, SaysExplained, SaysManual, SaysReplayed};
@@ -19,12 +20,13 @@ ghost use Rattle.csv.specs.Reading.{default_config, records, strip_bom};
 
 use super::apart::Apart;
 use super::command_line::{PROGRAM, Task, task_of};
-use super::complaint::{Wanted, complain};
+use super::complaint::{Wanted, complain, tell_unjudged};
 use super::form::Form;
+use super::levels::levels_given;
 use super::refusal::Refusal;
 use super::refused::tell_refusal;
 use command_words::write_manual;
-use mdb_bus::{LinkFault, Scope};
+use mdb_bus::{Levels, LinkFault, Scope};
 use mdb_explain::{MarkedFault, explain_records, replay_records};
 use mdb_follow::{Goal, ROWS_MAX};
 use mdb_msgs::DeviceSet;
@@ -32,7 +34,8 @@ use mdb_records::Records;
 use mdb_show::{show_json_records, show_records};
 use mdb_survey::{Summary, survey_json_records, survey_records};
 use mdb_text::Outcome;
-use mdb_verdict::{BYTES_MAX, RunFault, check_records, records_of};
+use mdb_unjudged::judge_records;
+use mdb_verdict::{BYTES_MAX, RunFault, records_of};
 use mdb_writing::WriteFailed;
 use std::alloc::Global;
 use std::io::{Read, Write};
@@ -81,6 +84,10 @@ const NO_VERDICT: u8 = 2;
 ///
 /// - 0: the manual, or the part on the command that is named, is on `out`. It needs no input.
 ///
+/// With status 0 and 1 nothing is written to `err`, with one exception: if `check` says no, and the
+/// no isn't judged because the rows don't show the feature level of a reader, one line says so and
+/// names the reader. If `err` refuses the line, the status is the same.
+///
 /// With status 2 there is no such answer. Either the task met a fault, or the words aren't a
 /// command of the program. Words that ask for help or for the version count as none too. One line
 /// on `err` shows why. If `err` refuses the line, the status is the same.
@@ -102,10 +109,14 @@ pub fn run<R: Read + Drop, W: Write, E: Write>(
         ⊎ ((result ≡ NO_VERDICT) × (out.new ≡ out.old)) }
     ensures whole { NameAReading (map string_bytes words.items)
         → IfSome (R.remaining reader) (λ text. BYTES_MAX < length text → result ≢ POSSIBLE) }
-    ensures silent { result < 2 → err.new ≡ err.old }
+    ensures silent { result < 2 → HasToldAside E.contents err.old err.new
+        (IsAside (map string_bytes words.items) (R.remaining reader) result) }
 {
     match task_of(alloc, words.as_slice()) {
-        Ok(Task::Check(scope, form)) => run_check(alloc, &scope, form, reader, out, err),
+        Ok(Task::Check(scope, form)) => {
+            let readers = levels_given(words.as_slice());
+            run_check(alloc, &scope, readers, form, reader, out, err)
+        }
         Ok(Task::Survey(scope, form)) => run_survey(alloc, &scope, form, reader, out, err),
         Ok(Task::Show(scope, form)) => run_show(alloc, &scope, form, reader, out, err),
         Ok(Task::Explain(goal, without)) => { run_explain(alloc, without, &goal, reader, out, err) }
@@ -115,10 +126,12 @@ pub fn run<R: Read + Drop, W: Write, E: Write>(
     }
 }
 
-/// Gives the verdict on the text that the reader has left.
+/// Gives the verdict on the text that the reader has left, where these levels of the readers are
+/// known from elsewhere.
 fn run_check<R: Read + Drop, W: Write, E: Write>(
     alloc: Global,
     scope: &Scope,
+    readers: Levels,
     form: Form,
     reader: R,
     out: &mut W,
@@ -130,11 +143,13 @@ fn run_check<R: Read + Drop, W: Write, E: Write>(
         result) }
     ensures whole { IfSome (R.remaining reader) (λ text. BYTES_MAX < length text
         → result ≢ POSSIBLE) }
-    ensures silent { result < 2 → err.new ≡ err.old }
+    ensures silent { result < 2 → HasToldAside E.contents err.old err.new
+        (IsAsideOfCheck scope.now readers (R.remaining reader) result) }
 {
     let mut records = input_of(alloc, reader);
-    let answer = check_records(alloc, &form, scope, &mut records, out, ROWS_MAX);
-    finish_check(answer, Wanted::Row, &records, err)
+    let judged = judge_records(alloc, &form, scope, readers, &mut records, out, ROWS_MAX);
+    tell_unjudged(judged.unjudged, err);
+    finish_check(judged.answer, Wanted::Row, &records, err)
 }
 
 /// Surveys the text that the reader has left.

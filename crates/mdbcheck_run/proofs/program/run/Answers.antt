@@ -1,8 +1,10 @@
-use Rattle.std.proofs.Common.{Global, List, refl, subst, inl, inr, ◌≡◌, ℕ}
+use Rattle.std.proofs.Common.{Global, List, None, arith, refl, subst, inl, inr, ◌≡◌, ℕ}
 use Rattle.std.proofs.lemmas.Option.{IfSome_then}
 use Rattle.std.specs.Prelude.{String, map, string_bytes}
 use Rattle.mdb_bus.specs.Scopes.{leaving_out}
 use Rattle.mdbcheck_run.specs.inner.CommandLine.{AsksFor}
+use Rattle.mdbcheck_run.specs.Aside.{AreLevelsGiven, of_check, of_explain, of_manual, of_replay}
+use Rattle.mdbcheck_run.specs.Aside.{of_show, of_survey}
 use Rattle.mdbcheck_run.specs.Program.{NameATask, checked, explained, replayed, shown, surveyed}
 use Rattle.mdbcheck_run.specs.declared.command_line.Task.{Task}
 use Rattle.mdbcheck_run.specs.declared.command_line.Task.TheVariants.{Check, Show, Explain}
@@ -117,3 +119,67 @@ pub returns-in-Ok-Manual-clause-named : goal.returns-in-Ok-Manual-clause-named
 returns-in-Ok-Manual-clause-named g c =
     inl (name_a_task _ (Manual c.in-Ok-Manual.part) (asked _ _ _ (Manual c.in-Ok-Manual.part)
     c.as_slice.ensures.value c.in-Ok-Manual.field-0-is c.in-Ok-Manual.ensures.asked))
+
+pub returns-in-Ok-Check-clause-silent : goal.returns-in-Ok-Check-clause-silent
+returns-in-Ok-Check-clause-silent g c below =
+    let task = Check c.in-Ok-Check.scope c.in-Ok-Check.form in
+    let asks = asked _ _ _ task c.as_slice.ensures.value c.in-Ok-Check.field-0-is
+    c.in-Ok-Check.ensures.asked in
+    let told = c.run_check.ensures.silent below in
+    let Given : List (String Global) → Type 0 = λ words.
+    AreLevelsGiven (map string_bytes words) c.levels_given-readers.result in (
+      told.0,
+      told.1,
+      of_check c.in-Ok-Check.scope c.in-Ok-Check.form c.levels_given-readers.result asks
+          (subst Given c.as_slice-in-Ok-Check.ensures.value c.levels_given-readers.ensures) told.2,
+    )
+
+pub returns-in-Ok-Survey-clause-silent : goal.returns-in-Ok-Survey-clause-silent
+returns-in-Ok-Survey-clause-silent g c below =
+    let task = Survey c.in-Ok-Survey.scope c.in-Ok-Survey.form in
+    let asks = asked _ _ _ task c.as_slice.ensures.value c.in-Ok-Survey.field-0-is
+    c.in-Ok-Survey.ensures.asked in (
+      None,
+      c.run_survey.ensures.silent below,
+      of_survey c.in-Ok-Survey.scope c.in-Ok-Survey.form
+          asks refl,
+    )
+
+pub returns-in-Ok-Show-clause-silent : goal.returns-in-Ok-Show-clause-silent
+returns-in-Ok-Show-clause-silent g c below =
+    let task = Show c.in-Ok-Show.scope c.in-Ok-Show.form in
+    let asks = asked _ _ _ task c.as_slice.ensures.value c.in-Ok-Show.field-0-is
+    c.in-Ok-Show.ensures.asked in
+    (None, c.run_show.ensures.silent below, of_show c.in-Ok-Show.scope c.in-Ok-Show.form asks refl)
+
+pub returns-in-Ok-Explain-clause-silent : goal.returns-in-Ok-Explain-clause-silent
+returns-in-Ok-Explain-clause-silent g c below =
+    let task = Explain c.in-Ok-Explain.goal c.in-Ok-Explain.without in
+    let asks = asked _ _ _ task c.as_slice.ensures.value c.in-Ok-Explain.field-0-is
+    c.in-Ok-Explain.ensures.asked in (
+      None,
+      c.run_explain.ensures.silent below,
+      of_explain (leaving_out c.in-Ok-Explain.without)
+          c.in-Ok-Explain.goal asks refl,
+    )
+
+pub returns-in-Ok-Replay-clause-silent : goal.returns-in-Ok-Replay-clause-silent
+returns-in-Ok-Replay-clause-silent g c below =
+    let task = Replay c.in-Ok-Replay.without c.in-Ok-Replay.form in
+    let asks = asked _ _ _ task c.as_slice.ensures.value c.in-Ok-Replay.field-0-is
+    c.in-Ok-Replay.ensures.asked in (
+      None,
+      c.run_replay.ensures.silent below,
+      of_replay (leaving_out c.in-Ok-Replay.without)
+          c.in-Ok-Replay.form asks refl,
+    )
+
+pub returns-in-Ok-Manual-clause-silent : goal.returns-in-Ok-Manual-clause-silent
+returns-in-Ok-Manual-clause-silent g c below =
+    let task = Manual c.in-Ok-Manual.part in
+    let asks = asked _ _ _ task c.as_slice.ensures.value c.in-Ok-Manual.field-0-is
+    c.in-Ok-Manual.ensures.asked in
+    (None, c.run_manual.ensures.silent below, of_manual _ asks refl)
+
+pub returns-clause-silent : goal.returns-clause-silent
+returns-clause-silent g c below = absurd (omega (arith, c.refuse.ensures, below))

@@ -1,0 +1,16 @@
+use Rattle.std.proofs.Common.{refl}
+use Rattle.mdb_unjudged.proofs.Following.{nothing}
+use Rattle.mdb_unjudged.proofs.judging.Judging.scoped.Goals as goal
+
+pub returns-clause-followed : goal.returns-clause-followed
+returns-clause-followed c = record {
+  follows = record {
+    in_scope = c.scoped.ensures.scope;
+    stands = c.scoped.ensures.stands;
+    counted = c.scoped.ensures.empty;
+  };
+  joined = c.is_joined.ensures;
+  reported = λ pieces list. nothing c.transcripts_have_one_act_list.ensures c.args.scope.now
+      c.args.readers _ pieces c.before-2.ensures list;
+  begun = refl;
+}

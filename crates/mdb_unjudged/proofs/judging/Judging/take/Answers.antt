@@ -1,0 +1,26 @@
+use Rattle.std.proofs.Common.{ap, refl, ◌∙◌}
+use Rattle.std.specs.Option.{option_or}
+use Rattle.mdb_bus.specs.Bus.{ended_act}
+use Rattle.mdb_follow.specs.Follower as follow
+use Rattle.mdb_unjudged.specs.Unjudged.{reported_if}
+use Rattle.mdb_unjudged.proofs.Following.{met_by, taken_more}
+use Rattle.mdb_unjudged.proofs.judging.Judging.take.Goals as goal
+
+pub returns-in-Some-clause-taken : goal.returns-in-Some-clause-taken
+returns-in-Some-clause-taken c scope readers rows on =
+    taken_more c.transcripts_have_one_act_list.ensures c.args.self.now _ scope readers rows
+    c.args.event (ended_act c.in-Some.ended (follow.act_of c.feed_ending.new.self)) on
+    c.in-Some.ensures.taken c.feed_ending.ensures.scope c.in-Some.ensures.act refl
+    (c.learn_if.ensures
+    ∙ ap (λ act. reported_if (ended_act c.in-Some.ended act) c.args.self.now.reported)
+    c.act.ensures)
+    (c.or-self.ensures
+    ∙ ap (λ begun. option_or begun c.args.self.now.begun) c.begins_block.ensures)
+
+pub returns-in-None-clause-met : goal.returns-in-None-clause-met
+returns-in-None-clause-met c scope readers rows on =
+    met_by c.args.self.now _ scope readers rows c.args.event c.met.result on
+    c.in-None.ensures.refused c.feed_ending.ensures.scope c.met.ensures.offence
+    c.met.ensures.unjudged refl refl
+    (c.or-self.ensures
+    ∙ ap (λ begun. option_or begun c.args.self.now.begun) c.begins_block.ensures)

@@ -1,0 +1,3 @@
+pub mod Unjudged
+pub mod Verdict
+pub mod inner
