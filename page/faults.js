@@ -176,23 +176,29 @@ function setupsAt(it, row) {
 }
 
 // A fault as what `fileRows` and `actRow` show: the row that cannot be, with what is known of it.
-const asAnswer = ({survey: made}, {row, rule, blame, about}) => ({
-  answer: ANSWERS.NO,
-  survey: made,
-  row,
-  report: {rule, blame},
-  lines: about.lines,
-  list: about.list,
-  found: noNews(),
-  here: null,
-  way: {bytes: [1]},
-  hole: -1,
-  isApart: true
-});
+function asAnswer(whole, fault) {
+  const {row, rule, blame, about} = fault;
+  return {
+    answer: ANSWERS.NO,
+    survey: whole.survey,
+    row,
+    report: {rule, blame},
+    unjudged: unjudgedFault(whole, fault),
+    lines: about.lines,
+    list: about.list,
+    found: noNews(),
+    here: null,
+    way: {bytes: [1]},
+    hole: -1,
+    isApart: true
+  };
+}
 
 // What is wrong with a fault, in sentences: the first one's stand in the card, too.
 function faultStory(whole, fault) {
-  const told = storyOf(fault.number === 1 ? asAtFirst(whole) : asAnswer(whole, fault)).filter(({kind}) => kind !== "next");
+  const isFirst = fault.number === 1, it = isFirst ? asAtFirst(whole) : asAnswer(whole, fault), reader = it.unjudged;
+  const story = reader ? unjudgedStory(isFirst ? it : asJoined(whole, fault), reader) : storyOf(it);
+  const told = story.filter(({kind}) => kind !== "next");
   return told.length ? [h("ul", {class: "plain"}, told.map(sentence))] : [];
 }
 

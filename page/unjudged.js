@@ -47,13 +47,29 @@ function isOfLevel({rule, blame}, begun, level) {
   return ["Sum", "Mode"].includes(rule) && isController && WITH_AMOUNTS.includes(begun & 7);
 }
 
-// The number of the reader, if the no isn't judged; 0 if it is.
+// The number of the reader, if the no isn't judged; 0 if it is. No no rests on the level of a reader that is left out.
 function unjudgedReader(it) {
-  if (it.answer !== ANSWERS.NO || !it.way.bytes[layout.options.joined]) return 0;
+  const {answer, way: {bytes}} = it, {joined, without} = layout.options;
+  if (answer !== ANSWERS.NO || !bytes[joined]) return 0;
   const begun = lastBegun(it), device = READERS_BY_BLOCK[begun >> 3] ?? 0;
-  if (!device) return 0;
+  if (!device || bytes[without + device - 1]) return 0;
   const {controller, reader} = reportedLevels(it, device);
   return !isLow(controller) && !isLow(reader) && isOfLevel(it.report, begun, controller) ? device : 0;
+}
+
+// What is asked of a later fault of a survey: before its stretch nothing is known, but for what the acts before it show.
+function asJoined(whole, {number: n, row, rule, blame, about}) {
+  const bytes = whole.way.bytes.slice(), stretch = whole.survey.stretches.find((it) => it.number === n);
+  const left = stretch ? leftOutIn(stretch) : 0;
+  bytes[layout.options.joined] = 1;
+  for (let d = 0; d < 4; d++) bytes[layout.options.without + d] |= left >> d & 1;
+  return {...whole, answer: ANSWERS.NO, row, report: {rule, blame}, lines: about.lines, way: {bytes}};
+}
+
+// The number of the reader, if a fault of a survey isn't judged; 0 if it is.
+function unjudgedFault(whole, fault) {
+  if (fault.number === 1) return whole.unjudged;
+  return whole.gaps ? unjudgedReader(asJoined(whole, fault)) : 0;
 }
 
 const UNJUDGED = "Not judged: whether this reader and the controller speak feature level 1 isn't in the file";

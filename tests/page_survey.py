@@ -36,6 +36,7 @@ import make_day  # noqa: E402
 import page_gaps  # noqa: E402
 from page_news import FOUND  # noqa: E402
 from programs import MDBCHECK, load  # noqa: E402
+from unjudged import unjudged  # noqa: E402
 
 TOP = pathlib.Path(__file__).resolve().parent.parent
 EXAMPLES = TOP / "examples"
@@ -81,6 +82,7 @@ class Survey:
     """What the program prints of a recording, read."""
 
     def __init__(self, data, words):
+        self.words = words
         self.ran = subprocess.run([MDBCHECK, "survey", *words], input=data, capture_output=True)
         self.status, self.text = self.ran.returncode, self.ran.stdout.decode()
         self.stretches, self.faults, self.totals, self.counts = [], [], {}, None
@@ -381,18 +383,34 @@ STORY = """(() => { const it = document.querySelector('#survey-rows [data-number
 
 def try_story(page, made, number):
     """What is said of a fault of the table: sentences with rows of its stretch, and its row of the file."""
-    row, rule, _ = made.faults[number - 1]
+    row, rule, blame = made.faults[number - 1]
     before = made.faults[number - 2][0] if number > 1 else 0
+    reader = unjudged(text_of(made.lines), [*made.words, *["--joined"] * (number > 1)], row, rule, blame)
     page.browser.value(f"(() => {{ document.querySelector('#survey-rows [data-number=\"{number}\"] button').click(); return 1; }})()")
     page.until(f"document.querySelector('#survey-rows [data-number=\"{number}\"]').nextSibling?.classList.contains('about')")
     told, marked = page.value(STORY % number)
-    said = {"Profile": "not followed from here on"}.get(rule, "this row breaks the rule")
+    said = "this row isn't judged" if reader else {"Profile": "not followed from here on"}.get(rule, "this row breaks the rule")
+    want(bool(reader) == any("At feature level 1" in words for words, _ in told), f"row {row} of {reader}: {told}")
     want(marked is not None and plain(marked[0]) == str(row) and marked[1].startswith(made.lines[row - 1][:20]) and marked[2] == said, f"the rows about row {row}: {marked}")
     want(all(words.strip() and not re.search("undefined|null|NaN", words) for words, _ in told), f"row {row}: {told}")
     rows = [it for _, links in told for it in links]
     most = row + (36 if rule == "Profile" else 0)
     want(all(before < first <= last <= most for first, last in rows), f"row {row}, of which the stretch begins after {before}: {told}")
     return len(told)
+
+
+def try_unjudged(page):
+    """A fault after the first one that rests on a reader's level, which no row shows, blames nobody."""
+    rows = (EXAMPLES / "sale-never-approved.csv").read_text().splitlines()
+    for front, reader in (([], "isn't judged"), (rows[8:29], "breaks the rule")):
+        begin, later = len(front), rows[29:]
+        later[8] = later[8].replace(",000", ",001")
+        made = compare(page, text_of(front + later), ["--joined"], "unjudged.csv")
+        want([it[:2] for it in made.faults] == [(begin + 10, "Sum"), (begin + 46, "Cashless")], f"faults: {made.faults}")
+        try_story(page, made, 1)
+        try_story(page, made, 2)
+        want(reader in page.value("document.querySelector('#survey-rows [data-number=\"2\"]').nextSibling.textContent"), f"row {begin + 46} {reader}")
+    print("a fault of a survey that rests on a level that isn't known is not judged")
 
 
 def try_ends(page):
@@ -725,6 +743,7 @@ def try_all(browser, work, number, seed):
     page = Page(work, browser)
     try_examples(page)
     try_ends(page)
+    try_unjudged(page)
     try_about(page)
     try_links(page)
     try_report(page)

@@ -49,6 +49,12 @@ def shown_levels(rows, words):
     return told, own
 
 
+def is_left_out(reader, words):
+    """Whether words of a command line leave a reader out."""
+    pairs = zip(["", *words], words)
+    return any(word == f"--without={reader}" or (before, word) == ("--without", reader) for before, word in pairs)
+
+
 def unjudged(data, words, row, rule, blame):
     """The reader of a no that isn't judged; None if it is judged."""
     if "--joined" not in words:
@@ -56,7 +62,7 @@ def unjudged(data, words, row, rule, blame):
     rows = list(rows_of(data))[:row]
     begun = next((word & 255 for line, word in reversed(rows) if line == "M" and word > 255), None)
     reader = READERS.get(begun >> 3) if begun is not None else None
-    if reader is None:
+    if reader is None or is_left_out(reader, words):
         return None
     told, own = shown_levels(rows[:-1], words)
     if told.get(reader, 2) < 2 or own.get(reader, 2) < 2:
