@@ -15,7 +15,7 @@ def rows_of(data):
         if not line.strip():
             continue
         fields = line.split(",")
-        if len(fields) != 3 or not re.fullmatch(r"[MSB]", fields[1]):
+        if len(fields) != 3 or not re.fullmatch(r"B,\d+|[MS],[0-9A-F]{3}", ",".join(fields[1:])):
             return
         yield fields[1], int(fields[2], 10 if fields[1] == "B" else 16)
 
