@@ -98,7 +98,7 @@ def _records_with_quotes(text: bytes) -> Iterator[list[bytes]]:
 
 
 # ------------------------------------------------------------------------------------------------------
-# Rows and marks (rows-and-command-line.md, *The recording*, *The commands*, *Explanations*)
+# Rows and marks (rows-and-command-line.md, *The recording*, *Traps*, *Explanations*)
 # ------------------------------------------------------------------------------------------------------
 
 
@@ -1255,7 +1255,7 @@ def replay(text: bytes, without: set[str]) -> tuple[int, str, str]:
 
 
 # ------------------------------------------------------------------------------------------------------
-# The command line (rows-and-command-line.md, *The commands*)
+# The command line (rows-and-command-line.md, *Options*)
 # ------------------------------------------------------------------------------------------------------
 
 
