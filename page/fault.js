@@ -73,9 +73,7 @@ function ruleWords(it) {
 
 // Where to look: at the side that sent the row, and in any case.
 function lookParts(texts, blame) {
-  const side = texts[blame === "controller" ? "controller" : "device"] ?? [];
-  const mine = side.map((p) => p.replace(", if it sent the row", ""));
-  return [mine, texts.look ?? []]
+  return [texts[blame === "controller" ? "controller" : "device"] ?? [], texts.look ?? []]
       .filter((it) => it.length)
       .map((it, i) => part(i ? "Where else to look" : "Where to look", it));
 }
