@@ -5,11 +5,13 @@
 #![tactic(auto)]
 
 mod digits;
+mod form;
 mod known;
 mod outcome;
 mod text;
 
 pub use digits::hex_digit;
+pub use form::Form;
 pub use known::known_devices;
 pub use outcome::Outcome;
 pub use text::{write_account, write_counts, write_devices, write_outcome, write_report_lines};
