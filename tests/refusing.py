@@ -178,6 +178,10 @@ def on_examples(runs):
     yield on_example(runs, "a-days-recording", "survey", wanted="survey")
     yield on_example(runs, "a-days-recording", "survey", "--json")
     yield on_example(runs, "coin-in-mid-session", "check", "--joined", wanted="check-joined")
+    for name, word in (("sale-of-one-item", "check"), ("sale-of-one-item", "show"), ("a-days-recording", "survey")):
+        quoted = quoting((EXAMPLES / f"{name}.csv").read_bytes())
+        wanted = of_text((EXAMPLES / f"{name}.{word}").read_bytes())
+        yield Case(f"{word} {name}, with quotes", runs, (word,), quoted, wanted)
     for name, goal in (("coin-told-twice", "coins-in,device,least"),
                        ("sale-answered-by-a-reset-message", "sold,device,least")):
         recording = (EXAMPLES / f"{name}.csv").read_bytes()
@@ -186,6 +190,11 @@ def on_examples(runs):
         yield Case(f"{' '.join(words)} {name}", runs, words, recording, of_text(explanation))
         report = (EXAMPLES / f"{name}.replay-{goal}").read_bytes()
         yield Case(f"replay {name}.explain-{goal}", runs, ("replay",), explanation, of_text(report))
+
+
+def quoting(rows):
+    """The same rows with a quoted number in each line, and CR LF at its end: csv alone reads these."""
+    return b"".join(b'"%b",%b\r\n' % tuple(row.split(b",", 1)) for row in rows.splitlines())
 
 
 def of_export(runs, name, given, *words):
