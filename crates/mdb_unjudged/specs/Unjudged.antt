@@ -14,11 +14,14 @@ use Rattle.mdb_words.specs.declared.event.Event.{Event}
 use Rattle.mdb_words.specs.declared.event.Event.TheVariants.{Word, Break}
 use Rattle.mdb_words.specs.declared.word.Line.TheVariants.{Controller, Peripheral}
 use Rattle.mdb_msgs.specs.declared.command.Command.TheVariants as commands
+use Rattle.mdb_msgs.specs.declared.command.Device.TheVariants.{Reader}
 use Rattle.mdb_msgs.specs.declared.command.ReaderUnit.{ReaderUnit}
 use Rattle.mdb_msgs.specs.declared.command.ReaderUnit.TheVariants.{First, Second}
 use Rattle.mdb_msgs.specs.declared.reply.Reply.TheVariants as replies
 use Rattle.mdb_msgs.specs.declared.reply.reader.ReaderMsg.{ReaderMsg}
 use Rattle.mdb_msgs.specs.declared.reply.reader.ReaderMsg.TheVariants.{Config}
+use Rattle.mdb_msgs.specs.declared.device_set.DeviceSet.{DeviceSet}
+use Rattle.mdb_msgs.specs.DeviceSets.{has}
 use Rattle.mdb_msgs.specs.Needs.{is_for}
 use Rattle.mdb_bus.specs.declared.act.Act.{Act}
 use Rattle.mdb_bus.specs.declared.act.Act.TheVariants as acts
@@ -95,10 +98,21 @@ abbrev pub reported : Reported → List Act → Reported
 reported known [] = known
 reported known (act ∷ acts) = reported_by act (reported known acts)
 
+-- what is known of the level of a reader before a recording: one that is left out counts as one of
+-- level 1, so no no rests on its level
+abbrev pub level_before : DeviceSet → ReaderUnit → Option ℕ → Option ℕ
+level_before without unit known = if has without (Reader unit) then Some 1 else known
+
 -- what is known before a recording that is taken so, where these levels of the readers are known
 -- from elsewhere
 abbrev pub known_before : Scope → Levels → Reported
-known_before scope readers = record { by_controller = scope.levels; by_reader = readers }
+known_before scope readers = record {
+  by_controller = scope.levels;
+  by_reader = record {
+    first = level_before scope.without First readers.first;
+    second = level_before scope.without Second readers.second;
+  };
+}
 
 -- ---- what is judged
 

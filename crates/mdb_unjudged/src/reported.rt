@@ -9,7 +9,7 @@ ghost use Rattle.mdb_bus.specs.Bus.{ended_act};
 ghost use Rattle.mdb_unjudged.specs.Unjudged as spec;
 
 use mdb_bus::{Act, Levels, Scope};
-use mdb_msgs::{Command, ReaderList, ReaderMsg, ReaderUnit, Reply};
+use mdb_msgs::{Command, Device, DeviceSet, ReaderList, ReaderMsg, ReaderUnit, Reply};
 
 /// The feature levels that were reported last (MDB/ICP 4.3, cashless device). `None` where none is
 /// known.
@@ -23,13 +23,17 @@ pub struct Reported {
 
 impl Reported {
     /// What is known before a recording that is taken so, where these levels of the readers are
-    /// known from elsewhere.
+    /// known from elsewhere. A reader that is left out counts as one of level 1: no no rests on it.
     pub fn before(scope: &Scope, readers: Levels) -> Reported
         ensures { result ≡ spec.known_before scope.now readers }
     {
+        let Levels { first, second } = readers;
         Reported {
             by_controller: scope.levels,
-            by_reader: readers,
+            by_reader: Levels {
+                first: level_before(scope.without, ReaderUnit::First, first),
+                second: level_before(scope.without, ReaderUnit::Second, second),
+            },
         }
     }
 
@@ -66,6 +70,17 @@ impl Reported {
             ReaderUnit::First => self.by_reader.first = level.or(self.by_reader.first),
             ReaderUnit::Second => self.by_reader.second = level.or(self.by_reader.second),
         }
+    }
+}
+
+/// What is known of the level of a reader before a recording, where these devices are left out.
+fn level_before(without: DeviceSet, unit: ReaderUnit, known: Option<u8>) -> Option<u8>
+    ensures { result ≡ spec.level_before without unit known }
+{
+    if without.has(Device::Reader(unit)) {
+        Some(1)
+    } else {
+        known
     }
 }
 
