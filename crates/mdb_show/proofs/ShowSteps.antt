@@ -14,8 +14,9 @@ use Rattle.mdb_bus.specs.LinkFaults.{IsLinkFault}
 use Rattle.mdb_verdict.specs.declared.fault.RunFault.{RunFault}
 use Rattle.mdb_verdict.specs.declared.fault.RunFault.TheVariants.{BadRow, TooLong, Read, Write, Memory}
 use Rattle.mdb_show.specs.declared.showing.Lines.{Lines}
+use Rattle.mdb_verdict.specs.Telling.{IsNotTaken}
 use Rattle.mdb_writing.specs.Output.{Output, Puts}
-use Rattle.mdb_show.specs.inner.ShowSteps.{HasAdded, HasPieces, HasShown, IsAdded, IsAddedToFault, IsNotTaken, LeadInto, ended_text}
+use Rattle.mdb_show.specs.inner.ShowSteps.{HasAdded, HasPieces, HasShown, IsAdded, IsAddedToFault, LeadInto, ended_text}
 use Rattle.mdb_show.specs.Lines.{LineForm, closed_pieces, lines_of}
 use Rattle.mdb_show.proofs.ShowTexts.{ends_act, goes_on_closed, whole_of}
 use Rattle.mdb_writing.proofs.Outputs.{break_both, put_both}

@@ -1,6 +1,6 @@
 -- What the showing is, by how the reading of rows ended.
 use Rattle.std.proofs.Common.{arith, refl, ap, sym, subst, inl, inr, ◌∙◌, ◌≡◌, ◌+◌, ◌≤◌, ℕ, List, [], ◌∷◌, ◌++◌, Option, Some, None, Result, Ok, Err, length, length-append, append_assoc}
-use Rattle.std.specs.Prelude.{◌≢◌, IfErr, IfSome, IsErrAnd, IsSome}
+use Rattle.std.specs.Prelude.{IsErrAnd}
 use Rattle.std.specs.Result.{result_transpose}
 use Rattle.mdb_words.specs.declared.event.Event.{Event}
 use Rattle.mdb_words.specs.Row.{IsRefusal, IsRow}
@@ -11,14 +11,12 @@ use Rattle.mdb_follow.specs.declared.follower.TheConstants.{ROWS_MAX}
 use Rattle.mdb_verdict.specs.declared.fault.RunFault.{RunFault}
 use Rattle.mdb_verdict.specs.declared.fault.RunFault.TheVariants.{BadRow, TooLong, Read, Write, Memory}
 use Rattle.mdb_show.specs.declared.showing.Lines.{Lines}
-use Rattle.mdb_records.specs.declared.ReadFault.{ReadFault}
-use Rattle.mdb_records.specs.declared.ReadFault.TheVariants as reading
-use Rattle.mdb_verdict.specs.Ending.{AreRead, HasEnded, HasTakenOrStopped, IsHeard, IsStop, IsStopped, IsTakenWhole, IsToldEnd}
-use Rattle.mdb_show.specs.Show.{AreShown, IsShowingIn, IsShownInPartIn, IsShownToFaultIn, IsShownWholeIn}
+use Rattle.mdb_verdict.specs.Ending.{AreRead, HasEnded, HasTakenOrStopped, IsStop, IsStopped, IsTakenWhole}
+use Rattle.mdb_show.specs.Show.{AreShown, IsNotWhole, IsShowingIn, IsShownInPartIn, IsShownToFaultIn, IsShownWholeIn}
 use Rattle.mdb_writing.specs.Output.{Output, Puts, begun, output}
-use Rattle.mdb_show.specs.inner.ShowSteps.{HasAdded, HasShown, HasStopped, IsAdded, IsAddedInPart, IsAddedToFault, IsNotTaken, IsShownAs, LeadInto, PutsShowing, cut_text}
+use Rattle.mdb_show.specs.inner.ShowSteps.{HasAdded, HasShown, HasStopped, IsAdded, IsAddedInPart, IsAddedToFault, LeadInto, PutsShowing, cut_text}
 use Rattle.mdb_show.specs.Lines.{LineForm, closed_pieces, lines_of}
-use Rattle.mdb_verdict.specs.Verdict.{run_fault_of}
+use Rattle.mdb_verdict.specs.Telling.{IsNotTaken, IsOfOutput}
 use Rattle.mdb_verdict.specs.Rows.{AreRows}
 use Rattle.mdb_writing.proofs.Outputs.{break_both, put_begun, put_both}
 use Rattle.mdb_verdict.proofs.Rows.{IsReadBefore, IsReadUpTo, are_rows, read_before, read_up_to}
@@ -140,7 +138,7 @@ untaken form scope all lines before now later ended Write not_taken =
       record {
         answer = Ok None;
         text = text ++ cut_text form lines.shown lines.rows;
-        showing = whole_showing form scope all lines before now ended;
+        is = whole_showing form scope all lines before now ended;
         broken =
             break_both before now later text (cut_text form lines.shown lines.rows)
             ended.has.written not_taken;
@@ -357,7 +355,7 @@ untaken_by form scope all lines before after Write ended =
       record {
         answer = would.0;
         text = ended.stops.0;
-        showing = would.1;
+        is = would.1;
         broken = ended.stops.2;
       },
     )
@@ -381,46 +379,7 @@ line_untaken form scope all lines before after fault ended (Err told) is =
     let P : RunFault → Type 0 = λ f. PutsShowing form scope all before after (Err f) in
     subst P (sym is) (untaken_by form scope all lines before after fault ended)
 
--- What was met of the reading of records.
-
--- a fault is handed on
-
-pub fault_not_whole : (fault : RunFault) (answer : Result (Option LinkFault) RunFault)
-    → IsErrAnd answer (λ other. other ≡ fault) → answer ≡ Ok None → ⊥
-fault_not_whole fault (Ok shown) handed is = handed
-fault_not_whole fault (Err other) handed is = absurd (cc)
-
-pub heard_fault : {Stop : Type 0} (told : Result (Option Stop) RunFault) (fault : RunFault)
-    (met : Option ReadFault) → IfErr told (IsHeard met) → told ≡ Err fault
-    → (answer : Result (Option LinkFault) RunFault) → IsErrAnd answer (λ other. other ≡ fault)
-    → IfErr answer (λ other. other ≡ Read → met ≡ Some reading.Read)
-heard_fault told fault met known is (Ok shown) handed = absurd handed
-heard_fault told fault met known is (Err other) handed =
-    λ reads. subst (IsHeard met) (sym handed ∙ reads) (subst (λ t. IfErr t (IsHeard met)) is known)
-
-shown_by : (failed : ReadFault) → IsShownAs failed (Err (run_fault_of failed))
-shown_by reading.Read = refl
-shown_by reading.Memory = tt
-
-pub met_fault : {Stop : Type 0} (told : Result (Option Stop) RunFault) (fault : RunFault)
-    (met : Option ReadFault) → IfSome met (λ failed. IsToldEnd failed told) → told ≡ Err fault
-    → (answer : Result (Option LinkFault) RunFault) → IsErrAnd answer (λ other. other ≡ fault)
-    → IfSome met (λ failed. IsShownAs failed answer)
-met_fault told fault met known is (Ok shown) handed = absurd handed
-met_fault told fault None known is (Err other) handed = tt
-met_fault {Stop = Stop} told fault (Some failed) known is (Err other) handed =
-    let same : fault ≡ run_fault_of failed =
-    subst (λ (t : Result (Option Stop) RunFault). IsToldEnd failed t) is known in
-    subst (λ f. IsShownAs failed (Err f)) (sym (handed ∙ same)) (shown_by failed)
-
--- a fault of what is written is none of the reading
-
-abbrev pub IsOfOutput : RunFault → Type 0
-IsOfOutput (BadRow row fault) = ⊥
-IsOfOutput TooLong = ⊥
-IsOfOutput Read = ⊥
-IsOfOutput Write = Unit {0}
-IsOfOutput Memory = Unit {0}
+-- A fault at one of the rows is one of the output.
 
 added_of_output : (form : LineForm) (scope : Scope) (lines : Lines) (before after : Output)
     (earlier rows : List Event) (fault : RunFault)
@@ -438,53 +397,15 @@ stop_of_output form scope lines before after stop fault stopped is =
     added_of_output form scope lines before after stopped.0 stopped.1 fault
     (subst (λ s. HasStopped form scope lines before after stopped.0 stopped.1 s) is stopped.2)
 
-pub heard_output : (met : Option ReadFault) (fault : RunFault) → IsOfOutput fault
-    → (answer : Result (Option LinkFault) RunFault) → IsErrAnd answer (λ other. other ≡ fault)
-    → IfErr answer (λ other. other ≡ Read → met ≡ Some reading.Read)
-heard_output met fault of (Ok shown) handed = absurd handed
-heard_output met fault of (Err other) handed =
-    λ reads. absurd (subst IsOfOutput (sym handed ∙ reads) of)
+-- the acts aren't shown to the end
 
-output_shown : (failed : ReadFault) (fault : RunFault) → IsOfOutput fault
-    → IsShownAs failed (Err fault)
-output_shown failed (BadRow row fault) of = absurd of
-output_shown failed TooLong of = absurd of
-output_shown failed Read of = absurd of
-output_shown failed Write of = tt
-output_shown failed Memory of = tt
+pub fault_not_whole : (fault : RunFault) → IsNotWhole (Err fault)
+fault_not_whole fault is = absurd cc
 
-pub met_output : (met : Option ReadFault) (fault : RunFault) → IsOfOutput fault
-    → (answer : Result (Option LinkFault) RunFault) → IsErrAnd answer (λ other. other ≡ fault)
-    → IfSome met (λ failed. IsShownAs failed answer)
-met_output met fault of (Ok shown) handed = absurd handed
-met_output None fault of (Err other) handed = tt
-met_output (Some failed) fault of (Err other) handed =
-    subst (λ f. IsShownAs failed (Err f)) (sym handed) (output_shown failed fault of)
+pub handed_not_whole : (fault : RunFault) (answer : Result (Option LinkFault) RunFault)
+    → IsErrAnd answer (λ other. other ≡ fault) → IsNotWhole answer
+handed_not_whole fault (Ok shown) handed is = handed
+handed_not_whole fault (Err other) handed is = absurd cc
 
-pub not_taken_of_output : (fault : RunFault) (before after : Output) (text : List ℕ)
-    → IsNotTaken fault before after text → IsOfOutput fault
-not_taken_of_output (BadRow row fault) before after text not = absurd not
-not_taken_of_output TooLong before after text not = absurd not
-not_taken_of_output Read before after text not = absurd not
-not_taken_of_output Write before after text not = tt
-not_taken_of_output Memory before after text not = tt
-
--- a row that cannot be is told before any
-pub met_at_fault : (met : Option ReadFault) (fault : LinkFault)
-    → IfSome met (λ failed. IsShownAs failed (Ok (Some fault)))
-met_at_fault None fault = tt
-met_at_fault (Some failed) fault = tt
-
--- where one was met, the acts aren't shown to the end
-pub not_whole_met : (met : Option ReadFault) (answer : Result (Option LinkFault) RunFault)
-    → IfSome met (λ failed. IsShownAs failed answer) → IsSome met → answer ≢ Ok None
-not_whole_met None answer shown some is = absurd cc
-not_whole_met (Some failed) answer shown some is = subst (IsShownAs failed) is shown
-
--- none was met where all rows were read
-pub met_whole : {Stop : Type 0} (told : Result (Option Stop) RunFault) (stop : Option Stop)
-    (met : Option ReadFault) → IfSome met (λ failed. IsToldEnd failed told) → told ≡ Ok stop
-    → stop ≡ None → IfSome met (λ failed. ⊥)
-met_whole {Stop = Stop} told stop None known is none = tt
-met_whole {Stop = Stop} told stop (Some failed) known is none =
-    subst (λ (t : Result (Option Stop) RunFault). IsToldEnd failed t) (is ∙ ap Ok none) known
+pub stopped_not_whole : (fault : LinkFault) → IsNotWhole (Ok (Some fault))
+stopped_not_whole fault is = absurd cc

@@ -1,6 +1,6 @@
 -- What `show` answers to the records of a text, and what it writes of them, in whatever form.
-use Rattle.std.specs.Prelude.{◌≡◌, ◌⊎◌, ◌+◌, ◌<◌, ◌≤◌, ℕ, List, [], ◌∷◌, ◌++◌, length, ⊤, Option, Some, None, Result, Ok, Err}
-use Rattle.std.specs.Io.KnownBytes.{Appends}
+use Rattle.std.specs.Prelude.{◌≡◌, ◌≢◌, ◌+◌, ◌<◌, ◌≤◌, ℕ, List, [], ◌∷◌, ◌++◌, length, ⊤, Option, Some, None, Result, Ok, Err, IfSome}
+use Rattle.csv.specs.Reading.{default_config, records, strip_bom}
 use Rattle.mdb_words.specs.declared.event.Event.{Event}
 use Rattle.mdb_words.specs.declared.row.RowFault.{RowFault}
 use Rattle.mdb_words.specs.Row.{IsRow, IsRefusal}
@@ -13,8 +13,11 @@ use Rattle.mdb_verdict.specs.declared.fault.RunFault.TheVariants.{BadRow, TooLon
 use Rattle.mdb_show.specs.Lines.{LineForm, closed_pieces, lines_of}
 use Rattle.mdb_show.specs.ShowJson.{json_lines}
 use Rattle.mdb_show.specs.ShowText.{text_lines}
+use Rattle.mdb_text.specs.declared.form.Form.{Form}
+use Rattle.mdb_text.specs.declared.form.Form.TheVariants.{Text, Json}
 use Rattle.mdb_verdict.specs.Rows.{AreRows}
-use Rattle.mdb_writing.specs.Written.{HasTaken}
+use Rattle.mdb_verdict.specs.Telling.{IsCutShort, Tells}
+use Rattle.mdb_verdict.specs.declared.verdict.TheConstants.{BYTES_MAX}
 use Rattle.mdb_bus.specs.declared.scope.Scope.{Scope}
 
 -- The records up to the rest are rows, and these pieces are their act list.
@@ -95,21 +98,28 @@ IsShowingIn form scope records (Err Read) text = IsShownInPartIn form scope reco
 IsShowingIn form scope records (Err Memory) text = IsShownInPartIn form scope records text
 IsShowingIn form scope records (Err Write) text = ⊥
 
--- The writer took a front of a text that is written of the records, with whatever answer.
-pub record IsCutShortIn (form : LineForm) (scope : Scope)
-    (records : List (List (List ℕ))) (before after : Option (List ℕ)) : Type 0 where
-  pub answer : Result (Option LinkFault) RunFault
-  pub text : List ℕ
-  pub showing : IsShowingIn form scope records answer text
-  pub taken : HasTaken before after text
+-- The same of the bytes that a writer held before and after, and that it took a front of a text of
+-- the records.
 
--- The same of the bytes that a writer held before and after. It took the text of the answer; or the
--- answer is that it failed, and it took a front of a text.
 abbrev pub ShowsIn : LineForm → Scope → List (List (List ℕ)) → Option (List ℕ) → Option (List ℕ)
     → Result (Option LinkFault) RunFault → Type 0
-ShowsIn form scope records before after answer =
-    ((text : List ℕ) × IsShowingIn form scope records answer text × Appends before after text)
-    ⊎ ((answer ≡ Err Write) × IsCutShortIn form scope records before after)
+ShowsIn form scope records = Tells (IsShowingIn form scope records)
+
+abbrev pub IsCutShortIn : LineForm → Scope → List (List (List ℕ)) → Option (List ℕ)
+    → Option (List ℕ) → Type 0
+IsCutShortIn form scope records = IsCutShort (IsShowingIn form scope records)
+
+-- the acts aren't shown to the end
+abbrev pub IsNotWhole : Result (Option LinkFault) RunFault → Type 0
+IsNotWhole answer = answer ≢ Ok None
+
+-- What is shown as text of the records of a text that a reader has left, if that is known. More
+-- bytes than there may be aren't shown to the end.
+pub record ShowsText (scope : Scope) (left before after : Option (List ℕ))
+    (answer : Result (Option LinkFault) RunFault) : Type 0 where
+  pub shows : IfSome left (λ text.
+      ShowsIn text_lines scope (records default_config (strip_bom text)) before after answer)
+  pub whole : IfSome left (λ text. BYTES_MAX < length text → IsNotWhole answer)
 
 -- an answer that the records themselves have: every one but a refused read, write or memory
 abbrev pub IsOwnShowing : Result (Option LinkFault) RunFault → Type 0
@@ -120,27 +130,7 @@ IsOwnShowing (Err Read) = ⊥
 IsOwnShowing (Err Write) = ⊥
 IsOwnShowing (Err Memory) = ⊥
 
--- the same of the lines as text
-
-abbrev pub IsShownWhole : Scope → List (List (List ℕ)) → List ℕ → Type 0
-IsShownWhole = IsShownWholeIn text_lines
-
-abbrev pub IsShownToFault : Scope → List (List (List ℕ)) → LinkFault → List ℕ → Type 0
-IsShownToFault = IsShownToFaultIn text_lines
-
-abbrev pub IsShowing : Scope → List (List (List ℕ)) → Result (Option LinkFault) RunFault
-    → List ℕ → Type 0
-IsShowing = IsShowingIn text_lines
-
-abbrev pub IsCutShort : Scope → List (List (List ℕ)) → Option (List ℕ) → Option (List ℕ)
-    → Type 0
-IsCutShort = IsCutShortIn text_lines
-
-abbrev pub Shows : Scope → List (List (List ℕ)) → Option (List ℕ) → Option (List ℕ)
-    → Result (Option LinkFault) RunFault → Type 0
-Shows = ShowsIn text_lines
-
--- the same of the lines as JSON
-abbrev pub ShowsJson : Scope → List (List (List ℕ)) → Option (List ℕ) → Option (List ℕ)
-    → Result (Option LinkFault) RunFault → Type 0
-ShowsJson = ShowsIn json_lines
+-- the lines of a form
+abbrev pub lines_in : Form → LineForm
+lines_in Text = text_lines
+lines_in Json = json_lines

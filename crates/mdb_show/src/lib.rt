@@ -2,14 +2,13 @@
 //!
 //! A line is an act with its rows, the words of a block that was cut, or the first row that breaks
 //! a rule of the link. [`show`] and [`show_scoped`] write the lines as text, for people.
-//! [`show_json`] writes them as JSON, for programs.
+//! [`show_records`] writes them in either form.
 #![tactic(auto)]
 
 mod form;
 mod json_text;
 pub mod laws;
-mod printer;
 mod show_text;
 mod showing;
 
-pub use showing::{show, show_json, show_json_records, show_records, show_scoped};
+pub use showing::{show, show_records, show_scoped};

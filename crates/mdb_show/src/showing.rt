@@ -1,23 +1,21 @@
 //! The acts of a transcript.
 
-ghost use Rattle.std.specs.Prelude.{◌≡◌, ◌≢◌, ◌<◌, List, [], ℕ, Err, IfErr, IfSome, IsSome, None, Ok, length};
-ghost use Rattle.csv.specs.Reading.{default_config, records, strip_bom};
-ghost use Rattle.mdb_records.specs.ToCome.{IsOverLimit, ToCome, fault_of};
-ghost use Rattle.mdb_verdict.specs.Verdict.{HasCause};
-ghost use Rattle.mdb_verdict.specs.declared.verdict.TheConstants.{BYTES_MAX};
+ghost use Rattle.std.specs.Prelude.{◌≡◌, List, [], ℕ, length};
+ghost use Rattle.mdb_records.specs.ToCome.{ToCome};
 ghost use Rattle.mdb_bus.specs.Bus.{scope_of};
 ghost use Rattle.mdb_bus.specs.declared.scope.Scope.{Scope};
 ghost use Rattle.mdb_bus.specs.Scopes.{power_on};
-ghost use Rattle.mdb_show.specs.Show.{Shows, ShowsIn, ShowsJson};
+ghost use Rattle.mdb_show.specs.Show.{IsNotWhole, ShowsIn, ShowsText, lines_in};
+ghost use Rattle.mdb_show.specs.inner.ShowSteps.{HasShown, PutsShowing};
+ghost use Rattle.mdb_verdict.specs.Telling.{Reads};
 ghost use Rattle.mdb_writing.specs.Output.{begun, output};
-ghost use Rattle.mdb_show.specs.inner.ShowSteps.{HasShown, IsShownAs, PutsShowing};
 
-use super::form::{Form, JsonForm, TextForm};
-use super::printer::Printer;
+use super::form::{add_cut, add_ended, add_fault};
 use mdb_bus::{Act, Bus, LinkFault, Scope, laws};
 use mdb_follow::ROWS_MAX;
 use mdb_records::Records;
-use mdb_verdict::{BYTES_MAX, Batch, RunFault, TakeRows, read_rows, records_of};
+use mdb_text::Form;
+use mdb_verdict::{BYTES_MAX, Batch, Printer, RunFault, TakeRows, read_rows, records_of};
 use mdb_words::Event;
 use std::alloc::Global;
 use std::io::{Read, Write};
@@ -49,11 +47,8 @@ pub fn show<R: Read + Drop, W: Write>(
     reader: R,
     writer: &mut W,
 ) -> Result<Option<LinkFault>, RunFault>
-    ensures shows { IfSome (R.remaining reader) (λ text.
-        Shows power_on (records default_config (strip_bom text)) (W.contents writer.old)
-        (W.contents writer.new) result) }
-    ensures whole { IfSome (R.remaining reader) (λ text.
-        BYTES_MAX < length text → result ≢ Ok None) }
+    ensures shows { ShowsText power_on (R.remaining reader) (W.contents writer.old)
+        (W.contents writer.new) result }
 {
     show_scoped(alloc, &Scope::POWER_ON, reader, writer)
 }
@@ -70,40 +65,16 @@ pub fn show_scoped<R: Read + Drop, W: Write>(
     reader: R,
     writer: &mut W,
 ) -> Result<Option<LinkFault>, RunFault>
-    ensures shows { IfSome (R.remaining reader) (λ text.
-        Shows scope.now (records default_config (strip_bom text)) (W.contents writer.old)
-        (W.contents writer.new) result) }
-    ensures whole { IfSome (R.remaining reader) (λ text.
-        BYTES_MAX < length text → result ≢ Ok None) }
+    ensures shows { ShowsText scope.now (R.remaining reader) (W.contents writer.old)
+        (W.contents writer.new) result }
 {
     let mut records = records_of(alloc, reader, BYTES_MAX);
-    show_records(alloc, scope, &mut records, writer)
+    show_records(alloc, Form::Text, scope, &mut records, writer)
 }
 
-/// Does as [`show_scoped`] does, with each line as a JSON object, for programs: what it tells is in
-/// members, which stand in the order of their names.
-///
-/// # Errors
-///
-/// Those of `show`.
-pub fn show_json<R: Read + Drop, W: Write>(
-    alloc: Global,
-    scope: &Scope,
-    reader: R,
-    writer: &mut W,
-) -> Result<Option<LinkFault>, RunFault>
-    ensures shows { IfSome (R.remaining reader) (λ text.
-        ShowsJson scope.now (records default_config (strip_bom text)) (W.contents writer.old)
-        (W.contents writer.new) result) }
-    ensures whole { IfSome (R.remaining reader) (λ text.
-        BYTES_MAX < length text → result ≢ Ok None) }
-{
-    let mut records = records_of(alloc, reader, BYTES_MAX);
-    show_json_records(alloc, scope, &mut records, writer)
-}
-
-/// Shows the records that are still to come. What they tell of where the reading ended is still to
-/// be asked then.
+/// Shows the records that are still to come in this form: as text for people, or as JSON for
+/// programs. Each line of JSON is an object, whose members stand in the order of their names.
+/// Afterwards `records` can still be asked where reading ended.
 ///
 /// # Errors
 ///
@@ -111,78 +82,35 @@ pub fn show_json<R: Read + Drop, W: Write>(
 /// failed, or that memory was refused.
 pub fn show_records<R: Read + Drop, W: Write>(
     alloc: Global,
+    form: Form,
     scope: &Scope,
     records: &mut Records<R>,
     writer: &mut W,
 ) -> Result<Option<LinkFault>, RunFault>
     ensures shows { (all : List (List (List ℕ))) → ToCome R.remaining records.old all
-        → Shows scope.now all (W.contents writer.old) (W.contents writer.new) result }
-    ensures whole { IsOverLimit R.remaining records.old → result ≢ Ok None }
-    ensures heard { IfErr result (HasCause (fault_of records.new)) }
-    ensures met { fault_of records.old ≡ None → IsSome (fault_of records.new) → result ≢ Ok None }
-{
-    show_in(alloc, scope, TextForm, records, writer)
-}
-
-/// Shows the records that are still to come, as [`show_json`] does. What they tell of where the
-/// reading ended is still to be asked then.
-///
-/// # Errors
-///
-/// As those of [`show_records`].
-pub fn show_json_records<R: Read + Drop, W: Write>(
-    alloc: Global,
-    scope: &Scope,
-    records: &mut Records<R>,
-    writer: &mut W,
-) -> Result<Option<LinkFault>, RunFault>
-    ensures shows { (all : List (List (List ℕ))) → ToCome R.remaining records.old all
-        → ShowsJson scope.now all (W.contents writer.old) (W.contents writer.new) result }
-    ensures whole { IsOverLimit R.remaining records.old → result ≢ Ok None }
-    ensures heard { IfErr result (HasCause (fault_of records.new)) }
-    ensures met { fault_of records.old ≡ None → IsSome (fault_of records.new) → result ≢ Ok None }
-{
-    show_in(alloc, scope, JsonForm, records, writer)
-}
-
-/// Shows the records that are still to come, in a form.
-fn show_in<F: Form, R: Read + Drop, W: Write>(
-    alloc: Global,
-    scope: &Scope,
-    form: F,
-    records: &mut Records<R>,
-    writer: &mut W,
-) -> Result<Option<LinkFault>, RunFault>
-    ensures shows { (all : List (List (List ℕ))) → ToCome R.remaining records.old all
-        → ShowsIn F.lines scope.now all (W.contents writer.old) (W.contents writer.new) result }
-    ensures whole { IsOverLimit R.remaining records.old → result ≢ Ok None }
-    ensures heard { IfErr result (HasCause (fault_of records.new)) }
-    ensures met { fault_of records.old ≡ None → IsSome (fault_of records.new) → result ≢ Ok None }
+        → ShowsIn (lines_in form) scope.now all (W.contents writer.old) (W.contents writer.new)
+        result }
+    ensures reads { Reads IsNotWhole R.remaining records.old records.new result }
 {
     let mut showing = Showing::new(alloc, scope, form);
     let answer = show_rows(records, &mut showing, writer);
-    if answer != Err(RunFault::Write) {
-        showing.printer.page.write_out(writer)?;
-    }
-    answer
+    showing.printer.finish(writer, answer)
 }
 
 /// Shows the records that are still to come, after none.
-fn show_rows<F: Form, R: Read + Drop, W: Write>(
+fn show_rows<R: Read + Drop, W: Write>(
     records: &mut Records<R>,
-    showing: &mut Showing<F>,
+    showing: &mut Showing,
     writer: &mut W,
 ) -> Result<Option<LinkFault>, RunFault>
-    requires { HasShown F.lines (scope_of showing.old.lines.bus) showing.old.lines
-        (begun (W.contents writer.old)) (output (W.contents writer.old) showing.old.printer.page)
-        [] }
+    requires { HasShown (lines_in showing.old.form) (scope_of showing.old.lines.bus)
+        showing.old.lines (begun (W.contents writer.old))
+        (output (W.contents writer.old) showing.old.printer.page) [] }
     ensures shows { (all : List (List (List ℕ))) → ToCome R.remaining records.old all
-        → PutsShowing F.lines (scope_of showing.old.lines.bus) all (begun (W.contents writer.old))
+        → PutsShowing (lines_in showing.old.form) (scope_of showing.old.lines.bus) all
+        (begun (W.contents writer.old))
         (output (W.contents writer.new) showing.new.printer.page) result }
-    ensures whole { IsOverLimit R.remaining records.old → result ≢ Ok None }
-    ensures heard { IfErr result (HasCause (fault_of records.new)) }
-    ensures met { fault_of records.old ≡ None → IfSome (fault_of records.new)
-        (λ fault. IsShownAs fault result) }
+    ensures reads { Reads IsNotWhole R.remaining records.old records.new result }
 {
     if let Some(stop) = read_rows(records, &mut Batch::new(), showing, writer, ROWS_MAX)? {
         return Ok(Some(stop?));
@@ -192,29 +120,30 @@ fn show_rows<F: Form, R: Read + Drop, W: Write>(
         printer,
         form,
     } = showing;
-    printer.add_cut(form, writer, lines.shown, lines.rows)?;
+    add_cut(printer, *form, writer, lines.shown, lines.rows)?;
     Ok(None)
 }
 
 /// Rows that are shown: how far their lines have come, and those that wait for the writer.
 #[derive(Drop)]
-struct Showing<F: Drop> {
+struct Showing {
     lines: Lines,
     printer: Printer,
-    form: F,
+    form: Form,
 }
 
-impl<F: Form> Showing<F> {
+impl Showing {
     ghost use Rattle.std.specs.Prelude.{[], Option};
     ghost use Rattle.mdb_writing.specs.Output.{begun, output};
     ghost use Rattle.mdb_show.specs.inner.ShowSteps.{HasShown};
 
     /// Before the first row.
-    fn new(alloc: Global, scope: &Scope, form: F) -> Showing<F>
+    fn new(alloc: Global, scope: &Scope, form: Form) -> Showing
         ensures shown { (contents : Option (List ℕ))
-            → HasShown F.lines scope.now result.lines (begun contents)
+            → HasShown (lines_in form) scope.now result.lines (begun contents)
             (output contents result.printer.page) [] }
         ensures scope { scope_of result.lines.bus ≡ scope.now }
+        ensures form { result.form ≡ form }
     {
         Showing {
             lines: Lines::new(scope),
@@ -225,8 +154,9 @@ impl<F: Form> Showing<F> {
 }
 
 /// It stops at the first row that breaks a rule of the link, or where a line can't be added.
-impl<F: Form, W: Write> TakeRows<W> for Showing<F> {
+impl<W: Write> TakeRows<W> for Showing {
     ghost use Rattle.std.proofs.Common.{sym};
+    ghost use Rattle.mdb_text.specs.declared.form.Form.{Form};
     ghost use Rattle.mdb_follow.specs.declared.follower.TheConstants.{ROWS_MAX};
     ghost use Rattle.mdb_writing.specs.Output.{begun, output};
     ghost use Rattle.mdb_show.specs.inner.ShowSteps.{HasShown, HasStopped};
@@ -239,14 +169,16 @@ impl<F: Form, W: Write> TakeRows<W> for Showing<F> {
 
     ghost count = { λ showing. showing.lines.rows };
 
-    ghost scope = { λ showing. scope_of showing.lines.bus };
+    ghost Kept = { Scope × Form };
 
-    ghost has = { λ showing before after rows. HasShown F.lines (scope_of showing.lines.bus)
-        showing.lines (begun (W.contents before)) (output (W.contents after) showing.printer.page)
-        rows };
+    ghost scope = { λ showing. (scope_of showing.lines.bus, showing.form) };
 
-    ghost stops = { λ showing before after. HasStopped F.lines (scope_of showing.lines.bus)
-        showing.lines (begun (W.contents before))
+    ghost has = { λ showing before after rows. HasShown (lines_in showing.form)
+        (scope_of showing.lines.bus) showing.lines (begun (W.contents before))
+        (output (W.contents after) showing.printer.page) rows };
+
+    ghost stops = { λ showing before after. HasStopped (lines_in showing.form)
+        (scope_of showing.lines.bus) showing.lines (begun (W.contents before))
         (output (W.contents after) showing.printer.page) };
 
     fn rows_taken(&self) -> u64 {
@@ -255,7 +187,7 @@ impl<F: Form, W: Write> TakeRows<W> for Showing<F> {
 
     fn take_all(&mut self, writer: &mut W, rows: &[Event]) -> Option<Result<LinkFault, RunFault>> {
         self.lines
-            .add_all(&self.form, rows, &mut self.printer, writer)
+            .add_all(self.form, rows, &mut self.printer, writer)
             .transpose()
     }
 
@@ -297,9 +229,9 @@ impl Lines {
 
     /// Adds the lines of the next rows. The first of them that breaks a rule of the link has a line
     /// too, and is answered: of those after it nothing is said.
-    fn add_all<F: Form, W: Write>(
+    fn add_all<W: Write>(
         &mut self,
-        form: &F,
+        form: Form,
         events: &[Event],
         printer: &mut Printer,
         writer: &mut W,
@@ -308,9 +240,9 @@ impl Lines {
         requires few { self.old.shown ≤ self.old.rows }
         requires room { self.old.rows + length events.now ≤ ROWS_MAX }
         ensures added { (before : Output) (earlier : List Event)
-            → HasShown F.lines (scope_of self.old.bus) self.old before
+            → HasShown (lines_in form) (scope_of self.old.bus) self.old before
             (output (W.contents writer.old) printer.old.page) earlier
-            → HasAdded F.lines (scope_of self.old.bus) self.new before
+            → HasAdded (lines_in form) (scope_of self.old.bus) self.new before
             (output (W.contents writer.new) printer.new.page) earlier events.now result }
         ensures scope { scope_of self.new.bus ≡ scope_of self.old.bus }
     {
@@ -319,12 +251,12 @@ impl Lines {
             let ended = match self.bus.feed_into(*event, &mut self.act) {
                 Ok(ended) => ended,
                 Err(fault) => {
-                    printer.add_fault(form, writer, self.rows + 1, fault)?;
+                    add_fault(printer, form, writer, self.rows + 1, fault)?;
                     return Ok(Some(fault));
                 }
             };
             if ended {
-                printer.add_ended(form, writer, self.shown, self.rows, &self.act)?;
+                add_ended(printer, form, writer, self.shown, self.rows, &self.act)?;
                 self.shown = self.rows + 1;
             }
             self.rows += 1;

@@ -1,6 +1,5 @@
 pub mod Floats
 pub mod NoRows
 pub mod OneSurvey
-pub mod PageEnds
 pub mod Surveyings
 pub mod Surveys

@@ -1,6 +1,6 @@
 -- What the survey is, by how the reading of rows ended.
 use Rattle.std.proofs.Common.{refl, ap, sym, subst, inl, inr, ◌∙◌, ◌≡◌, ℕ, List, [], ◌∷◌, ◌++◌, Result, Ok, Err, append_assoc}
-use Rattle.std.specs.Prelude.{IsErrAnd}
+use Rattle.std.specs.Prelude.{IfErr, IsErr, IsErrAnd}
 use Rattle.mdb_words.specs.declared.event.Event.{Event}
 use Rattle.mdb_words.specs.Row.{IsRefusal, IsRow}
 use Rattle.mdb_bus.specs.declared.scope.Scope.{Scope}
@@ -16,9 +16,11 @@ use Rattle.mdb_verdict.specs.declared.fault.RunFault.{RunFault}
 use Rattle.mdb_verdict.specs.declared.fault.RunFault.TheVariants.{BadRow, TooLong, Read, Write, Memory}
 use Rattle.mdb_verdict.specs.Ending.{AreRead, HasEnded, IsStopped, IsTakenInPart, IsTakenWhole}
 use Rattle.mdb_verdict.proofs.Rows.{IsReadBefore, are_rows, read_before}
+use Rattle.mdb_verdict.proofs.Tellings.{not_taken_of_output}
+use Rattle.mdb_verdict.specs.Telling.{IsNotTaken, IsOfOutput}
 use Rattle.mdb_writing.specs.Output.{Breaks, Output, Puts}
 use Rattle.mdb_writing.proofs.Outputs.{break_both, put_both}
-use Rattle.mdb_survey.specs.inner.SurveySteps.{HasAddedEnd, HasAddedLast, HasStopped, HasSurveyed, IsNotTaken, LeadInto, PutsSurveying}
+use Rattle.mdb_survey.specs.inner.SurveySteps.{HasAddedEnd, HasAddedLast, HasStopped, HasSurveyed, LeadInto, PutsSurveying}
 use Rattle.mdb_survey_text.specs.Lines.{LineForm, lines_of}
 use Rattle.mdb_survey.specs.Survey.{AreSurveyed, IsSurveyedInPart, IsSurveying}
 use Rattle.mdb_survey.proofs.NoRows.{NoneAreReached}
@@ -102,7 +104,7 @@ whole law form scope all surveyor before now later it (Err Write) adds = inr (
   record {
     answer = Ok adds.summary;
     text = lines_of form it.has.ended ++ form.stretch adds.last ++ form.summary adds.summary;
-    surveying =
+    is =
         whole_by form scope all surveyor before now later it (Err Write) adds adds.summary refl;
     broken =
         subst (Breaks before later) (sym (append_assoc (lines_of form it.has.ended)
@@ -231,7 +233,7 @@ last_untaken law form scope all surveyor before now later fault it Write adds =
       record {
         answer = Err fault;
         text = lines_of form has.ended ++ form.stretch adds.last;
-        surveying = it.answers adds.last (adds.survey scope it.taken.rows has.ended has.stands);
+        is = it.answers adds.last (adds.survey scope it.taken.rows has.ended has.stands);
         broken =
             break_both before now later (lines_of form has.ended) (form.stretch adds.last)
             has.written adds.refused;
@@ -297,7 +299,7 @@ lines_untaken form scope all before now Write it =
       record {
         answer = Err Memory;
         text = lines_of form it.stops.0;
-        surveying = part_of form scope all rows it.rest it.stops.0 it.read it.stops.1;
+        is = part_of form scope all rows it.rest it.stops.0 it.read it.stops.1;
         broken = it.stops.2;
       },
     )
@@ -307,3 +309,32 @@ lines_untaken form scope all before now Memory it =
       part_of form scope all rows it.rest it.stops.0 it.read it.stops.1,
       it.stops.2,
     )
+
+-- A fault of what is added is one of the output.
+
+pub end_of_output : (form : LineForm) (surveyor : Surveyor) (before after : Output)
+    (answer : Result Summary RunFault) → HasAddedEnd form surveyor before after answer
+    → IfErr answer IsOfOutput
+end_of_output form surveyor before after (Ok summary) adds = tt
+end_of_output form surveyor before after (Err fault) adds =
+    not_taken_of_output fault before after (form.stretch adds.last ++ form.summary adds.summary)
+    adds.refused
+
+pub last_of_output : (form : LineForm) (surveyor : Surveyor) (before after : Output)
+    (fault : RunFault) → HasAddedLast form surveyor before after (Err fault) → IsOfOutput fault
+last_of_output form surveyor before after fault adds =
+    not_taken_of_output fault before after (form.stretch adds.last) adds.refused
+
+pub stop_of_output : (form : LineForm) (scope : Scope) (before after : Output) (rows : List Event)
+    (fault : RunFault) → HasStopped form scope before after rows fault → IsOfOutput fault
+stop_of_output form scope before after rows (BadRow row fault) stopped = absurd stopped
+stop_of_output form scope before after rows TooLong stopped = absurd stopped
+stop_of_output form scope before after rows Read stopped = absurd stopped
+stop_of_output form scope before after rows Write stopped = tt
+stop_of_output form scope before after rows Memory stopped = tt
+
+-- it is handed on
+pub handed_is_err : (fault : RunFault) (answer : Result Summary RunFault)
+    → IsErrAnd answer (λ other. other ≡ fault) → IsErr answer
+handed_is_err fault (Ok summary) handed = absurd handed
+handed_is_err fault (Err other) handed = refl

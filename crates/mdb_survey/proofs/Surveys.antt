@@ -10,9 +10,10 @@ use Rattle.mdb_stretches.specs.Stretches.{LeadFrom, StretchStart, first_place, s
 use Rattle.mdb_stretches.specs.Surveyor.{EndsAmong, StandsFor, rows_of}
 use Rattle.mdb_verdict.specs.declared.fault.RunFault.{RunFault}
 use Rattle.mdb_verdict.specs.declared.fault.RunFault.TheVariants.{BadRow, TooLong, Read, Write, Memory}
+use Rattle.mdb_verdict.specs.Telling.{IsNotTaken}
 use Rattle.mdb_writing.specs.Output.{Output, Puts, begun, output}
 use Rattle.mdb_writing.proofs.Outputs.{break_both, put_begun, put_both}
-use Rattle.mdb_survey.specs.inner.SurveySteps.{HasStopped, HasSurveyed, IsNotTaken, LeadInto}
+use Rattle.mdb_survey.specs.inner.SurveySteps.{HasStopped, HasSurveyed, LeadInto}
 use Rattle.mdb_survey_text.specs.Lines.{LineForm, ended_lines, lines_of}
 use Rattle.mdb_survey.proofs.NoRows.{NoneAreReached, is_report_on_none, report_on_none}
 

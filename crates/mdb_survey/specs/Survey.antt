@@ -1,6 +1,5 @@
 -- What `survey` answers to the records of a text, and what it writes of them, in whatever form.
-use Rattle.std.specs.Prelude.{◌≡◌, ◌⊎◌, ◌+◌, ◌<◌, ◌≤◌, ℕ, List, [], ◌∷◌, ◌++◌, length, ⊤, Option, Result, Ok, Err}
-use Rattle.std.specs.Io.KnownBytes.{Appends}
+use Rattle.std.specs.Prelude.{◌≡◌, ◌+◌, ◌<◌, ◌≤◌, ℕ, List, [], ◌∷◌, ◌++◌, length, ⊤, Option, Result, Ok, Err}
 use Rattle.mdb_words.specs.declared.event.Event.{Event}
 use Rattle.mdb_words.specs.declared.row.RowFault.{RowFault}
 use Rattle.mdb_words.specs.Row.{IsRefusal}
@@ -12,8 +11,11 @@ use Rattle.mdb_stretches.specs.Stretches.{IsSurvey}
 use Rattle.mdb_stretches.specs.Summaries.{summary_of}
 use Rattle.mdb_verdict.specs.declared.fault.RunFault.{RunFault}
 use Rattle.mdb_verdict.specs.declared.fault.RunFault.TheVariants.{BadRow, TooLong, Read, Write, Memory}
+use Rattle.mdb_text.specs.declared.form.Form.{Form}
+use Rattle.mdb_text.specs.declared.form.Form.TheVariants.{Text, Json}
 use Rattle.mdb_verdict.specs.Rows.{AreRows}
-use Rattle.mdb_writing.specs.Written.{HasTaken}
+use Rattle.mdb_verdict.specs.Telling as telling
+use Rattle.mdb_verdict.specs.Telling.{Tells}
 use Rattle.mdb_stretches.specs.declared.summary.Summary.{Summary}
 use Rattle.mdb_survey_text.specs.Lines.{LineForm, lines_of}
 use Rattle.mdb_survey.specs.SurveyJson.{json_lines}
@@ -97,21 +99,16 @@ IsSurveying form scope records (Err Read) text = IsSurveyedToStop form scope rec
 IsSurveying form scope records (Err Memory) text = IsSurveyedInPart form scope records text
 IsSurveying form scope records (Err Write) text = ⊥
 
--- The writer took a front of a text that is written of the records, with whatever answer.
-pub record IsCutShort (form : LineForm) (scope : Scope) (records : List (List (List ℕ)))
-    (before after : Option (List ℕ)) : Type 0 where
-  pub answer : Result Summary RunFault
-  pub text : List ℕ
-  pub surveying : IsSurveying form scope records answer text
-  pub taken : HasTaken before after text
+-- The same of the bytes that a writer held before and after, and that it took a front of a text of
+-- the records.
 
--- The same of the bytes that a writer held before and after. It took the text of the answer; or the
--- answer is that it failed, and it took a front of a text.
 abbrev pub SurveysIn : LineForm → Scope → List (List (List ℕ)) → Option (List ℕ)
     → Option (List ℕ) → Result Summary RunFault → Type 0
-SurveysIn form scope records before after answer =
-    ((text : List ℕ) × IsSurveying form scope records answer text × Appends before after text)
-    ⊎ ((answer ≡ Err Write) × IsCutShort form scope records before after)
+SurveysIn form scope records = Tells (IsSurveying form scope records)
+
+abbrev pub IsCutShort : LineForm → Scope → List (List (List ℕ)) → Option (List ℕ)
+    → Option (List ℕ) → Type 0
+IsCutShort form scope records = telling.IsCutShort (IsSurveying form scope records)
 
 -- an answer that the records themselves have: every one but a refused read, write or memory
 abbrev pub IsOwnSurveying : Result Summary RunFault → Type 0
@@ -122,12 +119,7 @@ IsOwnSurveying (Err Read) = ⊥
 IsOwnSurveying (Err Write) = ⊥
 IsOwnSurveying (Err Memory) = ⊥
 
--- the same of the lines as text
-abbrev pub Surveys : Scope → List (List (List ℕ)) → Option (List ℕ) → Option (List ℕ)
-    → Result Summary RunFault → Type 0
-Surveys = SurveysIn text_lines
-
--- the same of the lines as JSON
-abbrev pub SurveysJson : Scope → List (List (List ℕ)) → Option (List ℕ) → Option (List ℕ)
-    → Result Summary RunFault → Type 0
-SurveysJson = SurveysIn json_lines
+-- the lines of a form
+abbrev pub survey_lines_in : Form → LineForm
+survey_lines_in Text = text_lines
+survey_lines_in Json = json_lines

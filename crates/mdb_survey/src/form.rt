@@ -1,97 +1,112 @@
-//! The forms of the lines.
+//! The lines in either form, on their way to a writer.
 
-ghost use Rattle.std.specs.Prelude.{◌≡◌, ◌++◌, OnOk};
-ghost use Rattle.mdb_survey_text.specs.Lines.{LineForm, ended_lines};
+ghost use Rattle.std.specs.Prelude.{◌≡◌, ◌++◌, IfErr, OnOk};
+ghost use Rattle.mdb_survey.specs.Survey.{survey_lines_in};
+ghost use Rattle.mdb_survey_text.specs.Lines.{ended_lines};
+ghost use Rattle.mdb_verdict.specs.Telling.{IsNotTaken};
+ghost use Rattle.mdb_writing.specs.Output.{Puts, output};
 
-use super::{json_text, text};
+use super::json_text;
 use mdb_follow::Offence;
 use mdb_stretches::{Ended, Stretch, Summary};
+use mdb_survey_text::{write_fault, write_stretch, write_summary};
+use mdb_text::Form;
+use mdb_verdict::{Printer, RunFault};
 use std::alloc::AllocError;
+use std::io::Write;
 
-/// A form of the lines.
-pub(crate) trait Form: Drop {
-    /// The lines of this form.
-    ghost lines: { LineForm };
-
-    /// Appends the lines of a stretch: none where it has no row.
-    fn push_stretch(&self, text: &mut Vec<u8>, stretch: &Stretch) -> Result<(), AllocError>
-        ensures { OnOk result (text.new.items ≡ text.old.items ++ lines.stretch stretch.now) };
-
-    /// Appends the line of a fault.
-    fn push_fault(&self, text: &mut Vec<u8>, fault: &Offence) -> Result<(), AllocError>
-        ensures { OnOk result (text.new.items ≡ text.old.items ++ lines.fault fault.now) };
-
-    /// Appends the lines of the whole.
-    fn push_summary(&self, text: &mut Vec<u8>, summary: &Summary) -> Result<(), AllocError>
-        ensures { OnOk result (text.new.items ≡ text.old.items ++ lines.summary summary.now) };
-}
-
-/// As text, for people.
-#[derive(Drop)]
-pub(crate) struct TextForm;
-
-impl Form for TextForm {
-    ghost use Rattle.mdb_survey_text.specs.SurveyText.{text_lines};
-
-    ghost lines = { text_lines };
-
-    fn push_stretch(&self, text: &mut Vec<u8>, stretch: &Stretch) -> Result<(), AllocError> {
-        text::push_stretch(text, stretch)
-    }
-
-    fn push_fault(&self, text: &mut Vec<u8>, fault: &Offence) -> Result<(), AllocError> {
-        text::push_fault(text, fault)
-    }
-
-    fn push_summary(&self, text: &mut Vec<u8>, summary: &Summary) -> Result<(), AllocError> {
-        text::push_summary(text, summary)
-    }
-}
-
-/// As JSON, for programs.
-#[derive(Drop)]
-pub(crate) struct JsonForm;
-
-impl Form for JsonForm {
-    ghost use Rattle.mdb_survey.specs.SurveyJson.{json_lines};
-
-    ghost lines = { json_lines };
-
-    fn push_stretch(&self, text: &mut Vec<u8>, stretch: &Stretch) -> Result<(), AllocError> {
-        json_text::push_stretch(text, stretch)
-    }
-
-    fn push_fault(&self, text: &mut Vec<u8>, fault: &Offence) -> Result<(), AllocError> {
-        json_text::push_fault(text, fault)
-    }
-
-    fn push_summary(&self, text: &mut Vec<u8>, summary: &Summary) -> Result<(), AllocError> {
-        json_text::push_summary(text, summary)
-    }
-}
-
-/// Appends the lines of a stretch and of the fault that ended it.
-pub(crate) fn push_ended<F: Form>(
-    form: &F,
-    text: &mut Vec<u8>,
+/// Adds the lines of a stretch and of the fault that ended it.
+pub(crate) fn add_ended<W: Write>(
+    printer: &mut Printer,
+    form: Form,
+    writer: &mut W,
     ended: &Ended,
-) -> Result<(), AllocError>
-    ensures { OnOk result (text.new.items ≡ text.old.items ++ ended_lines F.lines ended.now) }
+) -> Result<(), RunFault>
+    ensures added { OnOk result (Puts (output (W.contents writer.old) printer.old.page)
+        (output (W.contents writer.new) printer.new.page)
+        (ended_lines (survey_lines_in form) ended.now)) }
+    ensures refused { IfErr result (λ refusal. IsNotTaken refusal
+        (output (W.contents writer.old) printer.old.page)
+        (output (W.contents writer.new) printer.new.page)
+        (ended_lines (survey_lines_in form) ended.now)) }
 {
-    form.push_stretch(text, &ended.stretch)?;
-    form.push_fault(text, &ended.fault)
+    printer.next.clear();
+    push_stretch(&mut printer.next, form, &ended.stretch)?;
+    push_fault(&mut printer.next, form, &ended.fault)?;
+    printer.add(writer)
 }
 
-/// Appends the lines of the last stretch and of the whole.
-pub(crate) fn push_end<F: Form>(
-    form: &F,
-    text: &mut Vec<u8>,
+/// Adds the lines of the stretch that runs where the reading ends.
+pub(crate) fn add_stretch<W: Write>(
+    printer: &mut Printer,
+    form: Form,
+    writer: &mut W,
+    stretch: &Stretch,
+) -> Result<(), RunFault>
+    ensures added { OnOk result (Puts (output (W.contents writer.old) printer.old.page)
+        (output (W.contents writer.new) printer.new.page)
+        ((survey_lines_in form).stretch stretch.now)) }
+    ensures refused { IfErr result (λ refusal. IsNotTaken refusal
+        (output (W.contents writer.old) printer.old.page)
+        (output (W.contents writer.new) printer.new.page)
+        ((survey_lines_in form).stretch stretch.now)) }
+{
+    printer.next.clear();
+    push_stretch(&mut printer.next, form, stretch)?;
+    printer.add(writer)
+}
+
+/// Adds the lines of the last stretch and of the whole.
+pub(crate) fn add_end<W: Write>(
+    printer: &mut Printer,
+    form: Form,
+    writer: &mut W,
     last: &Stretch,
     summary: &Summary,
-) -> Result<(), AllocError>
-    ensures { OnOk result (text.new.items
-        ≡ text.old.items ++ (F.lines.stretch last.now ++ F.lines.summary summary.now)) }
+) -> Result<(), RunFault>
+    ensures added { OnOk result (Puts (output (W.contents writer.old) printer.old.page)
+        (output (W.contents writer.new) printer.new.page)
+        ((survey_lines_in form).stretch last.now ++ (survey_lines_in form).summary summary.now)) }
+    ensures refused { IfErr result (λ refusal. IsNotTaken refusal
+        (output (W.contents writer.old) printer.old.page)
+        (output (W.contents writer.new) printer.new.page)
+        ((survey_lines_in form).stretch last.now ++ (survey_lines_in form).summary summary.now)) }
 {
-    form.push_stretch(text, last)?;
-    form.push_summary(text, summary)
+    printer.next.clear();
+    push_stretch(&mut printer.next, form, last)?;
+    push_summary(&mut printer.next, form, summary)?;
+    printer.add(writer)
+}
+
+/// Appends the lines of a stretch: none where it has no row.
+fn push_stretch(text: &mut Vec<u8>, form: Form, stretch: &Stretch) -> Result<(), AllocError>
+    ensures { OnOk result
+        (text.new.items ≡ text.old.items ++ (survey_lines_in form).stretch stretch.now) }
+{
+    match form {
+        Form::Text => write_stretch(text, stretch).map_err(|_| AllocError),
+        Form::Json => json_text::push_stretch(text, stretch),
+    }
+}
+
+/// Appends the line of a fault.
+fn push_fault(text: &mut Vec<u8>, form: Form, fault: &Offence) -> Result<(), AllocError>
+    ensures { OnOk result
+        (text.new.items ≡ text.old.items ++ (survey_lines_in form).fault fault.now) }
+{
+    match form {
+        Form::Text => write_fault(text, fault).map_err(|_| AllocError),
+        Form::Json => json_text::push_fault(text, fault),
+    }
+}
+
+/// Appends the lines of the whole.
+fn push_summary(text: &mut Vec<u8>, form: Form, summary: &Summary) -> Result<(), AllocError>
+    ensures { OnOk result
+        (text.new.items ≡ text.old.items ++ (survey_lines_in form).summary summary.now) }
+{
+    match form {
+        Form::Text => write_summary(text, summary).map_err(|_| AllocError),
+        Form::Json => json_text::push_summary(text, summary),
+    }
 }

@@ -4,4 +4,5 @@ pub mod Fields
 pub mod Headline
 pub mod OneAnswer
 pub mod Rows
+pub mod Tellings
 pub mod Verdicts

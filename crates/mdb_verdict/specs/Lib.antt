@@ -3,4 +3,5 @@ pub mod CutReport
 pub mod Ending
 pub mod Headline
 pub mod Rows
+pub mod Telling
 pub mod Verdict

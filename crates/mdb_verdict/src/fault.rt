@@ -5,6 +5,7 @@ ghost use Rattle.std.specs.Prelude.{◌≡◌};
 use mdb_records::ReadFault;
 use mdb_words::RowFault;
 use mdb_writing::WriteFailed;
+use std::alloc::AllocError;
 use thiserror::Error;
 
 /// Why there is no answer.
@@ -54,5 +55,16 @@ impl From<WriteFailed> for RunFault {
 
     fn from(_: WriteFailed) -> RunFault {
         RunFault::Write
+    }
+}
+
+impl From<AllocError> for RunFault {
+    ghost use Rattle.std.specs.Prelude.{◌≡◌};
+    ghost use Rattle.mdb_verdict.specs.declared.fault.RunFault.{RunFault};
+
+    ghost from_gives = { λ refused told. told ≡ RunFault.Memory };
+
+    fn from(_: AllocError) -> RunFault {
+        RunFault::Memory
     }
 }

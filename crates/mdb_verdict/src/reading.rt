@@ -27,8 +27,11 @@ pub trait TakeRows<O> {
     /// The number of rows that it has accepted.
     ghost count: { Self → ℕ };
 
+    /// What stays as it is while rows are taken: how the recording is taken, and maybe more.
+    ghost Kept: { Type 0 } = { Scope };
+
     /// How the recording is taken whose rows it takes.
-    ghost scope: { Self → Scope };
+    ghost scope: { Self → Self.Kept };
 
     /// It has taken these rows and no others. What it tells to was in the first state before them,
     /// and is in the second.

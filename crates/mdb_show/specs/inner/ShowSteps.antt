@@ -1,6 +1,6 @@
 -- How the lines of `show` come about, row by row, in whatever form. This file serves private
 -- functions and proofs: no public clause cites it.
-use Rattle.std.specs.Prelude.{◌≡◌, ◌⊎◌, ◌+◌, ◌≤◌, ℕ, List, [], ◌∷◌, ◌++◌, length, ⊤, Option, Some, None, Result, Ok, Err, if◌then◌else◌, nat_lt}
+use Rattle.std.specs.Prelude.{◌≡◌, ◌⊎◌, ◌+◌, ◌≤◌, ℕ, List, [], ◌∷◌, ◌++◌, length, Option, Some, None, Result, Ok, Err, if◌then◌else◌, nat_lt}
 use Rattle.mdb_words.specs.declared.event.Event.{Event}
 use Rattle.mdb_bus.specs.declared.act.Act.{Act}
 use Rattle.mdb_bus.specs.declared.act.Act.TheVariants as acts
@@ -9,12 +9,11 @@ use Rattle.mdb_bus.specs.declared.fault.LinkFault.{LinkFault}
 use Rattle.mdb_bus.specs.ActLists.{ArePieces, Piece, events_of}
 use Rattle.mdb_bus.specs.Bus.{StandsFor, scope_of}
 use Rattle.mdb_bus.specs.LinkFaults.{IsLinkFault}
-use Rattle.mdb_records.specs.declared.ReadFault.{ReadFault}
-use Rattle.mdb_records.specs.declared.ReadFault.TheVariants as reading
 use Rattle.mdb_verdict.specs.declared.fault.RunFault.{RunFault}
 use Rattle.mdb_verdict.specs.declared.fault.RunFault.TheVariants.{BadRow, TooLong, Read, Write, Memory}
 use Rattle.mdb_show.specs.declared.showing.Lines.{Lines}
 use Rattle.mdb_show.specs.Show.{IsShowingIn}
+use Rattle.mdb_verdict.specs.Telling.{PutsTelling}
 use Rattle.mdb_writing.specs.Output.{Breaks, Output, Puts}
 use Rattle.mdb_show.specs.Lines.{LineForm, closed_pieces, lines_of}
 use Rattle.mdb_bus.specs.declared.scope.Scope.{Scope}
@@ -29,14 +28,6 @@ abbrev pub ended_text : LineForm → ℕ → ℕ → Act → List ℕ
 ended_text form shown rows (acts.Break length) =
     cut_text form shown rows ++ form.act (rows + 1) (rows + 1) (acts.Break length)
 ended_text form shown rows act = form.act (shown + 1) (rows + 1) act
-
--- a text isn't put there: with want of memory nothing has changed
-abbrev pub IsNotTaken : RunFault → Output → Output → List ℕ → Type 0
-IsNotTaken (BadRow row fault) before after text = ⊥
-IsNotTaken TooLong before after text = ⊥
-IsNotTaken Read before after text = ⊥
-IsNotTaken Write before after text = Breaks before after text
-IsNotTaken Memory before after text = after ≡ before
 
 -- A bus stands for some pieces.
 abbrev pub HasPieces : Bus → Type 0
@@ -112,27 +103,7 @@ HasStopped form scope lines before after earlier rows (Ok fault) =
 HasStopped form scope lines before after earlier rows (Err fault) =
     HasAdded form scope lines before after earlier rows (Err fault)
 
--- The writer failed with a front of a text that is written of the records.
-pub record IsBroken (form : LineForm) (scope : Scope) (records : List (List (List ℕ)))
-    (before after : Output) : Type 0 where
-  pub answer : Result (Option LinkFault) RunFault
-  pub text : List ℕ
-  pub showing : IsShowingIn form scope records answer text
-  pub broken : Breaks before after text
-
 -- what `ShowsIn` says, where some of the text may still be on its way
 abbrev pub PutsShowing : LineForm → Scope → List (List (List ℕ)) → Output → Output
     → Result (Option LinkFault) RunFault → Type 0
-PutsShowing form scope records before after answer =
-    ((text : List ℕ) × IsShowingIn form scope records answer text × Puts before after text)
-    ⊎ ((answer ≡ Err Write) × IsBroken form scope records before after)
-
--- a fault of reading that was met is the answer, or that of a row or a line before it is
-abbrev pub IsShownAs : ReadFault → Result (Option LinkFault) RunFault → Type 0
-IsShownAs met (Ok None) = ⊥
-IsShownAs met (Ok (Some fault)) = ⊤
-IsShownAs met (Err (BadRow row fault)) = ⊥
-IsShownAs met (Err TooLong) = ⊥
-IsShownAs met (Err Read) = met ≡ reading.Read
-IsShownAs met (Err Write) = ⊤
-IsShownAs met (Err Memory) = ⊤
+PutsShowing form scope records = PutsTelling (IsShowingIn form scope records)

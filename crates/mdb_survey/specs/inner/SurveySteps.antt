@@ -1,6 +1,6 @@
 -- How the lines of a survey come about, row by row, in whatever form. This file serves private
 -- functions and proofs: no public clause cites it.
-use Rattle.std.specs.Prelude.{◌≡◌, ◌⊎◌, ℕ, List, ◌++◌, length, Result, Err, IfErr, IfOk, OnOk}
+use Rattle.std.specs.Prelude.{◌≡◌, ℕ, List, ◌++◌, length, Result, IfErr, IfOk, OnOk}
 use Rattle.mdb_words.specs.declared.event.Event.{Event}
 use Rattle.mdb_bus.specs.declared.scope.Scope.{Scope}
 use Rattle.mdb_stretches.specs.declared.stretch.Ended.{Ended}
@@ -11,18 +11,11 @@ use Rattle.mdb_stretches.specs.Summaries.{summary_of}
 use Rattle.mdb_stretches.specs.Surveyor.{StandsFor, rows_of}
 use Rattle.mdb_verdict.specs.declared.fault.RunFault.{RunFault}
 use Rattle.mdb_verdict.specs.declared.fault.RunFault.TheVariants.{BadRow, TooLong, Read, Write, Memory}
+use Rattle.mdb_verdict.specs.Telling.{IsNotTaken, PutsTelling}
 use Rattle.mdb_writing.specs.Output.{Breaks, Output, Puts}
 use Rattle.mdb_stretches.specs.declared.summary.Summary.{Summary}
 use Rattle.mdb_survey_text.specs.Lines.{LineForm, lines_of}
 use Rattle.mdb_survey.specs.Survey.{IsSurveying}
-
--- a text isn't put there: with want of memory nothing has changed
-abbrev pub IsNotTaken : RunFault → Output → Output → List ℕ → Type 0
-IsNotTaken (BadRow row fault) before after text = ⊥
-IsNotTaken TooLong before after text = ⊥
-IsNotTaken Read before after text = ⊥
-IsNotTaken Write before after text = Breaks before after text
-IsNotTaken Memory before after text = after ≡ before
 
 -- A surveyor stands for the rows so far, and the lines of their faults, each with the stretch that
 -- it ended, are on their way.
@@ -76,17 +69,7 @@ pub record HasAddedEnd (form : LineForm) (surveyor : Surveyor) (before after : O
   pub refused : IfErr answer (λ fault. IsNotTaken fault before after
       (form.stretch last ++ form.summary summary))
 
--- The writer failed with a front of a text that is written of the records.
-pub record IsBroken (form : LineForm) (scope : Scope) (records : List (List (List ℕ)))
-    (before after : Output) : Type 0 where
-  pub answer : Result Summary RunFault
-  pub text : List ℕ
-  pub surveying : IsSurveying form scope records answer text
-  pub broken : Breaks before after text
-
 -- what `SurveysIn` says, where some of the text may still be on its way
 abbrev pub PutsSurveying : LineForm → Scope → List (List (List ℕ)) → Output → Output
     → Result Summary RunFault → Type 0
-PutsSurveying form scope records before after answer =
-    ((text : List ℕ) × IsSurveying form scope records answer text × Puts before after text)
-    ⊎ ((answer ≡ Err Write) × IsBroken form scope records before after)
+PutsSurveying form scope records = PutsTelling (IsSurveying form scope records)

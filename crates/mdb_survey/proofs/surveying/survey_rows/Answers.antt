@@ -1,10 +1,13 @@
-use Rattle.std.proofs.Common.{rules, subst, Err, Ok, Option}
+use Rattle.std.proofs.Common.{ap, refl, rules, subst, Err, IfSome, IsErr, Ok, Option}
 use Rattle.mdb_bus.specs.declared.scope.Scope.{Scope}
 use Rattle.mdb_follow.specs.declared.follower.TheConstants.{ROWS_MAX}
+use Rattle.mdb_text.specs.declared.form.Form.{Form}
 use Rattle.mdb_verdict.specs.declared.fault.RunFault.{RunFault}
-use Rattle.mdb_verdict.specs.Ending.{HasEnded}
+use Rattle.mdb_verdict.specs.Ending.{HasEnded, IsStop}
+use Rattle.mdb_verdict.proofs.Tellings.{handed_of_output, reads_all, reads_fault, reads_output}
 use Rattle.mdb_words.specs.Row.{IsRefusal, IsRow}
 use Rattle.mdb_writing.specs.Output.{Output, begun, output}
+use Rattle.mdb_survey.specs.Survey.{survey_lines_in}
 use Rattle.mdb_survey.specs.inner.SurveySteps.{HasSurveyed, PutsSurveying}
 use Rattle.mdb_survey.proofs.NoRows.{none_are_reached}
 use Rattle.mdb_survey.proofs.Surveyings as surveyings
@@ -13,9 +16,9 @@ use Rattle.mdb_survey.proofs.surveying.survey_rows.Goals as goal
 
 pub returns-in-Ok-None-clause-surveys : goal.returns-in-Ok-None-clause-surveys
 returns-in-Ok-None-clause-surveys g c all to_come =
-    let form = g.F.Form.lines in
     let held = g.W.Write.contents in
     let taker = c.read_rows.new.taker in
+    let form = survey_lines_in taker.form in
     let before : Output = begun (held c.args.writer.now) in
     let now : Output = output (held c.read_rows.new.out) taker.printer.page in
     let later : Output = output (held c.end.new.writer) c.end.new.self.printer.page in
@@ -25,7 +28,8 @@ returns-in-Ok-None-clause-surveys g c all to_come =
     let Ended : Option RunFault → Type 0 = λ o.
     HasEnded IsRow IsRefusal (HasSurveyed form taker.scope taker.surveyor before now)
     (Stops form taker.scope before now) ROWS_MAX all (Ok o) in
-    let Puts : Scope → Type 0 = λ s. PutsSurveying form s all before later c.end.result in
+    let Puts : Scope × Form → Type 0 = λ kept.
+    PutsSurveying (survey_lines_in kept.1) kept.0 all before later c.end.result in
     subst Puts c.read_rows.ensures.same_scope
     (surveyings.whole law form taker.scope all taker.surveyor before now later
     (subst Ended c.in-Ok-None.field-0-is (c.in-Ok-None.ensures.ended all to_come)) c.end.result
@@ -33,28 +37,30 @@ returns-in-Ok-None-clause-surveys g c all to_come =
 
 pub returns-in-Ok-Some-clause-surveys : goal.returns-in-Ok-Some-clause-surveys
 returns-in-Ok-Some-clause-surveys g c all to_come =
-    let form = g.F.Form.lines in
     let held = g.W.Write.contents in
     let taker = c.read_rows.new.taker in
+    let form = survey_lines_in taker.form in
     let before : Output = begun (held c.args.writer.now) in
     let now : Output = output (held c.read_rows.new.out) taker.printer.page in
     let Ended : Option RunFault → Type 0 = λ o.
     HasEnded IsRow IsRefusal (HasSurveyed form taker.scope taker.surveyor before now)
     (Stops form taker.scope before now) ROWS_MAX all (Ok o) in
-    let Puts : Scope → Type 0 = λ s. PutsSurveying form s all before now (Err c.in-Ok-Some.fault) in
+    let Puts : Scope × Form → Type 0 = λ kept.
+    PutsSurveying (survey_lines_in kept.1) kept.0 all before now (Err c.in-Ok-Some.fault) in
     subst Puts c.read_rows.ensures.same_scope
     (surveyings.lines_untaken form taker.scope all before now c.in-Ok-Some.fault
     (subst Ended c.in-Ok-Some.field-0-is (c.in-Ok-Some.ensures.ended all to_come)))
 
 pub returns-in_ok-stop-in-Err-clause-surveys : goal.returns-in_ok-stop-in-Err-clause-surveys
 returns-in_ok-stop-in-Err-clause-surveys g c all to_come =
-    let form = g.F.Form.lines in
     let held = g.W.Write.contents in
     let taker = c.read_rows.new.taker in
+    let form = survey_lines_in taker.form in
     let before : Output = begun (held c.args.writer.now) in
     let now : Output = output (held c.read_rows.new.out) taker.printer.page in
     let later : Output = output (held c.stop.new.writer) c.stop.new.self.printer.page in
-    let Puts : Scope → Type 0 = λ s. PutsSurveying form s all before later (Err c.in-Err.fault) in
+    let Puts : Scope × Form → Type 0 = λ kept.
+    PutsSurveying (survey_lines_in kept.1) kept.0 all before later (Err c.in-Err.fault) in
     subst Puts c.read_rows.ensures.same_scope
     (surveyings.told_with_last form taker.scope all taker.surveyor before now later c.in-Err.fault
     (search rules) (c.in-Err.ensures.ended all to_come) c.in_ok-stop-in-Err.field-0
@@ -62,16 +68,17 @@ returns-in_ok-stop-in-Err-clause-surveys g c all to_come =
 
 pub returns-in_err-stop-in-Err-clause-surveys : goal.returns-in_err-stop-in-Err-clause-surveys
 returns-in_err-stop-in-Err-clause-surveys g c all to_come =
-    let form = g.F.Form.lines in
     let held = g.W.Write.contents in
     let taker = c.read_rows.new.taker in
+    let form = survey_lines_in taker.form in
     let before : Output = begun (held c.args.writer.now) in
     let now : Output = output (held c.read_rows.new.out) taker.printer.page in
     let later : Output = output (held c.stop.new.writer) c.stop.new.self.printer.page in
     let law =
     none_are_reached c.followers_stand_for_reached_rows.ensures
     c.fronts_of_reached_rows_are_reached.ensures in
-    let Puts : Scope → Type 0 = λ s. PutsSurveying form s all before later c.from_residual.result in
+    let Puts : Scope × Form → Type 0 = λ kept.
+    PutsSurveying (survey_lines_in kept.1) kept.0 all before later c.from_residual.result in
     subst Puts c.read_rows.ensures.same_scope
     (surveyings.last_refused law form taker.scope all taker.surveyor before now later c.in-Err.fault
     (search rules) (c.in-Err.ensures.ended all to_come) c.in_err-stop-in-Err.field-0.0
@@ -79,15 +86,61 @@ returns-in_err-stop-in-Err-clause-surveys g c all to_come =
 
 pub returns-else-ne-clause-surveys : goal.returns-else-ne-clause-surveys
 returns-else-ne-clause-surveys g c all to_come =
-    let form = g.F.Form.lines in
     let held = g.W.Write.contents in
     let taker = c.read_rows.new.taker in
+    let form = survey_lines_in taker.form in
     let before : Output = begun (held c.args.writer.now) in
     let now : Output = output (held c.read_rows.new.out) taker.printer.page in
     let law =
     none_are_reached c.followers_stand_for_reached_rows.ensures
     c.fronts_of_reached_rows_are_reached.ensures in
-    let Puts : Scope → Type 0 = λ s. PutsSurveying form s all before now (Err c.in-Err.fault) in
+    let Puts : Scope × Form → Type 0 = λ kept.
+    PutsSurveying (survey_lines_in kept.1) kept.0 all before now (Err c.in-Err.fault) in
     subst Puts c.read_rows.ensures.same_scope
     (surveyings.out_of_memory law form taker.scope all taker.surveyor before now c.in-Err.fault
     (search rules) (c.in-Err.ensures.ended all to_come))
+
+pub returns-in-Ok-None-clause-reads : goal.returns-in-Ok-None-clause-reads
+returns-in-Ok-None-clause-reads g c =
+    reads_all IsErr g.R.Read.remaining c.args.records.now c.read_rows.new.records
+    (Ok c.in-Ok-None.field-0) c.in-Ok-None.ensures.whole c.in-Ok-None.ensures.met
+    (ap Ok c.in-Ok-None.field-0-is) c.end.result
+    (surveyings.end_of_output _ _ _ _ c.end.result c.end.ensures)
+
+pub returns-in-Ok-Some-clause-reads : goal.returns-in-Ok-Some-clause-reads
+returns-in-Ok-Some-clause-reads g c =
+    let held = g.W.Write.contents in
+    let taker = c.read_rows.new.taker in
+    let form = survey_lines_in taker.form in
+    let before : Output = begun (held c.args.writer.now) in
+    let now : Output = output (held c.read_rows.new.out) taker.printer.page in
+    let Stop : Option RunFault → Type 0 = λ stop.
+    IfSome stop (IsStop (Stops form taker.scope before now)) in
+    let stopped = subst Stop c.in-Ok-Some.field-0-is c.in-Ok-Some.ensures.stopped in
+    reads_output IsErr g.R.Read.remaining c.args.records.now c.read_rows.new.records
+    (Err c.in-Ok-Some.fault) refl
+    (surveyings.stop_of_output form taker.scope before now _ c.in-Ok-Some.fault stopped.2)
+
+pub returns-in_ok-stop-in-Err-clause-reads : goal.returns-in_ok-stop-in-Err-clause-reads
+returns-in_ok-stop-in-Err-clause-reads g c =
+    reads_fault {Stop = RunFault} IsErr g.R.Read.remaining c.args.records.now
+    c.read_rows.new.records
+    (Err c.in-Err.fault) c.in-Err.fault (λ other. refl) c.in-Err.ensures.heard
+    c.in-Err.ensures.met refl (Err c.in-Err.fault) refl
+
+pub returns-in_err-stop-in-Err-clause-reads : goal.returns-in_err-stop-in-Err-clause-reads
+returns-in_err-stop-in-Err-clause-reads g c =
+    reads_output IsErr g.R.Read.remaining c.args.records.now c.read_rows.new.records
+    c.from_residual.result
+    (surveyings.handed_is_err c.in_err-stop-in-Err.field-0.0 c.from_residual.result
+    c.from_residual.ensures.1)
+    (handed_of_output c.in_err-stop-in-Err.field-0.0 c.from_residual.result
+    (surveyings.last_of_output _ _ _ _ c.in_err-stop-in-Err.field-0.0
+    c.in_err-stop-in-Err.ensures) c.from_residual.ensures.1)
+
+pub returns-else-ne-clause-reads : goal.returns-else-ne-clause-reads
+returns-else-ne-clause-reads g c =
+    reads_fault {Stop = RunFault} IsErr g.R.Read.remaining c.args.records.now
+    c.read_rows.new.records
+    (Err c.in-Err.fault) c.in-Err.fault (λ other. refl) c.in-Err.ensures.heard
+    c.in-Err.ensures.met refl (Err c.in-Err.fault) refl

@@ -1,13 +1,14 @@
 use Rattle.std.proofs.Common.{take}
 use Rattle.mdb_bus.specs.Bus.{scope_of}
 use Rattle.mdb_writing.specs.Output.{output}
+use Rattle.mdb_show.specs.Show.{lines_in}
 use Rattle.mdb_show.proofs.ShowSteps.{Adds}
 use Rattle.mdb_show.proofs.showing.Lines.add_all.Given as goal
 
 -- the lines of the rows so far are added
 abbrev pub invariant-loop-event : goal.invariant-loop-event
 invariant-loop-event g l =
-    Adds g.F.Form.lines (scope_of l.fn.self.bus) l.fn.self l.self
+    Adds (lines_in l.form) (scope_of l.fn.self.bus) l.fn.self l.self
     (output (g.W.Write.contents l.fn.writer) l.fn.printer.page)
     (output (g.W.Write.contents l.writer) l.printer.page) (take l.event-index l.events)
     l.event-index

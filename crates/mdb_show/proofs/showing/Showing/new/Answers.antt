@@ -1,7 +1,9 @@
+use Rattle.mdb_show.specs.Show.{lines_in}
 use Rattle.mdb_show.proofs.Showings.{begins}
 use Rattle.mdb_show.proofs.showing.Showing.new.Goals as goal
 
 pub returns-clause-shown : goal.returns-clause-shown
-returns-clause-shown g c =
-    begins g.F.Form.lines c.args.scope.now c.new.result c.new-2.result.page c.new.ensures.scope
+returns-clause-shown c =
+    begins (lines_in c.args.form) c.args.scope.now c.new.result c.new-2.result.page
+    c.new.ensures.scope
     c.new.ensures.stands c.new.ensures.rows c.new.ensures.shown c.new-2.ensures

@@ -2,17 +2,19 @@ use Rattle.std.proofs.Common.{subst, sym}
 use Rattle.mdb_bus.specs.Bus.{scope_of}
 use Rattle.mdb_verdict.specs.Ending.{HasTakenOrStopped}
 use Rattle.mdb_writing.specs.Output.{begun, output}
+use Rattle.mdb_show.specs.Show.{lines_in}
 use Rattle.mdb_show.specs.inner.ShowSteps.{HasShown, HasStopped}
 use Rattle.mdb_show.proofs.Showings.{added}
 use Rattle.mdb_show.proofs.showing.ShowingTakeRows.take_all.Goals as goal
 
 pub returns-clause-taken : goal.returns-clause-taken
 returns-clause-taken g c before earlier has =
+    let form = lines_in c.args.self.now.form in
     let held = begun (g.W.Write.contents before) in
     let now = output (g.W.Write.contents c.add_all.new.writer) c.add_all.new.printer.page in
-    subst (λ s. HasTakenOrStopped (HasShown g.F.Form.lines s c.add_all.new.self held now)
-    (HasStopped g.F.Form.lines s c.add_all.new.self held now) earlier c.args.rows.now
-    c.transpose.result) (sym c.add_all.ensures.scope)
-    (added g.F.Form.lines (scope_of c.args.self.now.lines.bus) c.add_all.new.self held now earlier
+    subst (λ s. HasTakenOrStopped (HasShown form s c.add_all.new.self held now)
+    (HasStopped form s c.add_all.new.self held now) earlier c.args.rows.now c.transpose.result)
+    (sym c.add_all.ensures.scope)
+    (added form (scope_of c.args.self.now.lines.bus) c.add_all.new.self held now earlier
     c.args.rows.now c.add_all.result c.transpose.result c.transpose.ensures
     (c.add_all.ensures.added held earlier has))

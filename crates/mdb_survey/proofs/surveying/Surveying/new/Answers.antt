@@ -1,7 +1,9 @@
+use Rattle.mdb_survey.specs.Survey.{survey_lines_in}
 use Rattle.mdb_survey.proofs.Surveys.{begins}
 use Rattle.mdb_survey.proofs.surveying.Surveying.new.Goals as goal
 
 pub returns-clause-surveyed : goal.returns-clause-surveyed
-returns-clause-surveyed g c =
-    begins g.F.Form.lines c.args.scope.now c.scoped.result c.new.result.page c.scoped.ensures.stands
+returns-clause-surveyed c =
+    begins (survey_lines_in c.args.form) c.args.scope.now c.scoped.result c.new.result.page
+    c.scoped.ensures.stands
     c.scoped.ensures.empty c.new.ensures

@@ -1,0 +1,90 @@
+-- What is told of records while they are read, where `Is` says which text goes with which answer.
+use Rattle.std.specs.Prelude.{◌≡◌, ◌≢◌, ◌⊎◌, ℕ, List, ⊤, Option, None, Result, Err, IfErr, IfSome, IsSome}
+use Rattle.std.specs.Io.KnownBytes.{Appends}
+use Rattle.mdb_records.specs.declared.ReadFault.{ReadFault}
+use Rattle.mdb_records.specs.declared.ReadFault.TheVariants as reading
+use Rattle.mdb_records.specs.declared.Records.{Records}
+use Rattle.mdb_records.specs.ToCome.{IsOverLimit, fault_of}
+use Rattle.mdb_verdict.specs.declared.fault.RunFault.{RunFault}
+use Rattle.mdb_verdict.specs.declared.fault.RunFault.TheVariants.{BadRow, TooLong, Read, Write, Memory}
+use Rattle.mdb_verdict.specs.Verdict.{HasCause}
+use Rattle.mdb_writing.specs.Output.{Breaks, Output, Puts}
+use Rattle.mdb_writing.specs.Written.{HasTaken}
+
+-- The writer took a front of a text that goes with some answer.
+pub record IsCutShort {Answer : Type 0} (Is : Result Answer RunFault → List ℕ → Type 0)
+    (before after : Option (List ℕ)) : Type 0 where
+  pub answer : Result Answer RunFault
+  pub text : List ℕ
+  pub is : Is answer text
+  pub taken : HasTaken before after text
+
+-- By the bytes that a writer held before and after: it took the text of the answer; or the answer
+-- is that it failed, and it took a front of a text.
+abbrev pub Tells : {Answer : Type 0} → (Result Answer RunFault → List ℕ → Type 0)
+    → Option (List ℕ) → Option (List ℕ) → Result Answer RunFault → Type 0
+Tells Is before after answer =
+    ((text : List ℕ) × Is answer text × Appends before after text)
+    ⊎ ((answer ≡ Err Write) × IsCutShort Is before after)
+
+-- a fault of reading that was met is the fault, or that of a line before it
+abbrev pub IsMetBy : ReadFault → RunFault → Type 0
+IsMetBy met (BadRow row fault) = ⊥
+IsMetBy met TooLong = ⊥
+IsMetBy met Read = met ≡ reading.Read
+IsMetBy met Write = ⊤
+IsMetBy met Memory = ⊤
+
+-- How an answer stands to the reading of the records, where `IsPart` says that it doesn't tell all
+-- of them. It doesn't of more bytes than there may be, nor after a fault of reading. That they
+-- can't be read is answered only where the reading met that; and where it met a fault, this or one
+-- of the output is answered, if any is.
+pub record Reads {R Answer : Type 0} (IsPart : Result Answer RunFault → Type 0)
+    (remaining : R → Option (List ℕ)) (old new : Records R) (answer : Result Answer RunFault)
+    : Type 0 where
+  pub whole : IsOverLimit remaining old → IsPart answer
+  pub heard : IfErr answer (HasCause (fault_of new))
+  pub met : fault_of old ≡ None → IsSome (fault_of new) → IsPart answer
+  pub told : fault_of old ≡ None → IfSome (fault_of new) (λ fault. IfErr answer (IsMetBy fault))
+
+-- The rest serves private functions: a text isn't put there; with want of memory nothing has
+-- changed.
+abbrev pub IsNotTaken : RunFault → Output → Output → List ℕ → Type 0
+IsNotTaken (BadRow row fault) before after text = ⊥
+IsNotTaken TooLong before after text = ⊥
+IsNotTaken Read before after text = ⊥
+IsNotTaken Write before after text = Breaks before after text
+IsNotTaken Memory before after text = after ≡ before
+
+-- The writer failed with a front of a text that goes with some answer.
+pub record IsBroken {Answer : Type 0} (Is : Result Answer RunFault → List ℕ → Type 0)
+    (before after : Output) : Type 0 where
+  pub answer : Result Answer RunFault
+  pub text : List ℕ
+  pub is : Is answer text
+  pub broken : Breaks before after text
+
+-- what `Tells` says, where some of the text may still be on its way
+abbrev pub PutsTelling : {Answer : Type 0} → (Result Answer RunFault → List ℕ → Type 0)
+    → Output → Output → Result Answer RunFault → Type 0
+PutsTelling Is before after answer =
+    ((text : List ℕ) × Is answer text × Puts before after text)
+    ⊎ ((answer ≡ Err Write) × IsBroken Is before after)
+
+-- What waits is written with an answer, or the writer fails at it. Where it failed before, it is
+-- given nothing more.
+pub data IsFinished {Answer : Type 0} (answer : Result Answer RunFault) (now : Output)
+    (later : Option (List ℕ)) (last : Result Answer RunFault) : Type 0 where
+  broken : answer ≡ Err Write → last ≡ answer → later ≡ now.held → IsFinished answer now later last
+  whole : answer ≢ Err Write → last ≡ answer → Appends now.held later now.waiting
+      → IsFinished answer now later last
+  cut : answer ≢ Err Write → last ≡ Err Write → HasTaken now.held later now.waiting
+      → IsFinished answer now later last
+
+-- a fault of the output
+abbrev pub IsOfOutput : RunFault → Type 0
+IsOfOutput (BadRow row fault) = ⊥
+IsOfOutput TooLong = ⊥
+IsOfOutput Read = ⊥
+IsOfOutput Write = ⊤
+IsOfOutput Memory = ⊤
