@@ -61,7 +61,8 @@ pub refused : {T E : Type 0} (IsOf : Result T E → List ℕ → Type 0) (failed
     → ((text : List ℕ) → IsOf (Err failed) text → ⊥)
     → IsSent IsOf failed (begun before) now (Err fault) → Refuses failed now later fault told
     → IsAnswered IsOf failed before later (Err told)
-refused {T} {E} IsOf failed before later now fault told never (inl sent) (inl (other, same, written)) =
+refused {T} {E} IsOf failed before later now fault told never (inl sent)
+    (inl (other, same, written)) =
     let P : E → Type 0 = λ f. IsAnswered IsOf failed before later (Err f) in
     subst P (sym same) (inl (
       sent.0,
@@ -80,11 +81,14 @@ refused {T} {E} IsOf failed before later now fault told never (inl sent)
             (sent.0 ++ refusal_line) (more_waits before now sent.0 refusal_line sent.2) taken;
       },
     )
-refused {T} {E} IsOf failed before later now fault told never (inl sent) (inr (inr (is, same, kept))) =
+refused {T} {E} IsOf failed before later now fault told never (inl sent)
+    (inr (inr (is, same, kept))) =
     absurd (never sent.0 (subst (λ (f : E). IsOf (Err f) sent.0) is sent.1))
-refused {T} {E} IsOf failed before later now fault told never (inr broken) (inl (other, same, rest)) =
+refused {T} {E} IsOf failed before later now fault told never (inr broken)
+    (inl (other, same, rest)) =
     absurd (other (let is : Err fault ≡ Err failed = broken.0 in cc))
-refused {T} {E} IsOf failed before later now fault told never (inr broken) (inr (inl (other, same, rest))) =
+refused {T} {E} IsOf failed before later now fault told never (inr broken)
+    (inr (inl (other, same, rest))) =
     absurd (other (let is : Err fault ≡ Err failed = broken.0 in cc))
 refused {T} {E} IsOf failed before later now fault told never (inr broken)
     (inr (inr (is, same, kept))) = inr (

@@ -7,9 +7,9 @@ pub mod HexDigits
 pub mod Merges
 pub mod Orders
 pub mod Part
-pub mod PlainRecords
 pub mod PlainRows
 pub mod Powers
 pub mod Readings
 pub mod Records
 pub mod Tallies
+pub mod Whole

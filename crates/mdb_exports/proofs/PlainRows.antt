@@ -1,96 +1,15 @@
--- The fields of rows as they are written: plain ones, which tell those rows; and the text of rows.
-use Rattle.std.proofs.Common.{arith, refl, ap, ◌∙◌, ◌≡◌, ◌+◌, ◌/◌, ◌%◌, ◌^◌, ◌<◌, ℕ}
-use Rattle.std.proofs.Common.{true, List, [], ◌∷◌, ◌++◌, map, All}
-use Rattle.std.proofs.lemmas.Bool.Decides.{nat_tests}
-use Rattle.std.proofs.lemmas.List.Elements.{All-nil, All-cons, All-head, All-tail, All-weaker}
-use Rattle.std.specs.Char.{IsAsciiDigit, IsAsciiHexdigit}
-use Rattle.std.specs.Fmt.{decimal, digit_glyph}
+-- That rows are read back as they are written; and which events are rows.
+use Rattle.std.proofs.Common.{refl, ap, ◌∙◌, ◌≡◌, ◌^◌, ◌<◌, ℕ, List, [], ◌∷◌, ◌++◌, map, All}
+use Rattle.std.proofs.lemmas.List.Elements.{All-nil, All-cons, All-head, All-tail}
+use Rattle.csv.specs.Reading.{default_config, records, strip_bom}
 use Rattle.mdb_words.specs.declared.event.Event.{Event}
 use Rattle.mdb_words.specs.declared.event.Event.TheVariants.{Word, Break}
 use Rattle.mdb_words.specs.declared.word.Line.{Line}
-use Rattle.mdb_words.specs.declared.word.Line.TheVariants.{Controller, Peripheral}
-use Rattle.mdb_words.specs.Digits.{IsDecimal, hex_word}
-use Rattle.mdb_words.specs.Row.{IsRow, break_letter, letter_of, row_fields}
-use Rattle.csv.specs.Reading.{default_config, records, strip_bom}
-use Rattle.mdb_exports.specs.Rows.{row_line, rows_text}
+use Rattle.mdb_words.specs.Row.{IsRow, row_fields}
+use Rattle.mdb_records.proofs.PlainRecords.{ArePlain, lines_of, read_of_lines}
+use Rattle.mdb_records.proofs.PlainRows.{IsWritten, break_written, row_written, word_written}
 use Rattle.mdb_exports.specs.ReadBack.{AreReadBack, IsRowEvent}
-use Rattle.mdb_exports.proofs.PlainRecords.{ArePlain, IsPlain, IsPlainByte, lines_of, read_of_lines}
-use Rattle.mdb_words.proofs.Numerals.{IsDecimal-decimal, IsDecimal-lt, IsHexWord-hex_word}
-
-digit_plain : (c : ℕ) → IsAsciiDigit c → IsPlainByte c
-digit_plain c digit = (omega (arith, digit), omega (arith, digit))
-
-decimal_plain : (most n : ℕ) → IsDecimal most (decimal n) n → All IsPlainByte (decimal n)
-decimal_plain most n is = All-weaker IsAsciiDigit IsPlainByte digit_plain (decimal n) is.digits
-
-glyph_digit : (d : ℕ) → d < 16 → IsAsciiHexdigit (digit_glyph true d)
-glyph_digit d h = grind (arith, nat_tests)
-
-glyph_plain : (d : ℕ) → d < 16 → IsPlainByte (digit_glyph true d)
-glyph_plain d h = grind (arith, nat_tests)
-
-three : {A : Type 0} (P : A → Type 0) (a b c : A) → P a → P b → P c → All P (a ∷ b ∷ c ∷ [])
-three P a b c p q r =
-    All-cons P a (b ∷ c ∷ []) p (All-cons P b (c ∷ []) q (All-cons P c [] r (All-nil P)))
-
-word_plain : (word : ℕ) → word < 512 → All IsPlainByte (hex_word word)
-word_plain word small =
-    three IsPlainByte (digit_glyph true (word / 256)) (digit_glyph true (word / 16 % 16))
-    (digit_glyph true (word % 16)) (glyph_plain _ (omega arith)) (glyph_plain _ (omega arith))
-    (glyph_plain _ (omega arith))
-
-one_plain : (c : ℕ) → IsPlainByte c → All IsPlainByte (c ∷ [])
-one_plain c plain = All-cons IsPlainByte c [] plain (All-nil IsPlainByte)
-
-letter_plain : (line : Line) → IsPlainByte (letter_of line)
-letter_plain Controller = (omega arith, omega arith)
-letter_plain Peripheral = (omega arith, omega arith)
-
--- three plain fields, of which the first is a number
-plain_of : (most n : ℕ) (letter : ℕ) (value : List ℕ) → IsDecimal most (decimal n) n
-    → IsPlainByte letter → All IsPlainByte value → IsPlain (decimal n ∷ (letter ∷ []) ∷ value ∷ [])
-plain_of most n letter value is plain others = record {
-  first = decimal n;
-  second = letter ∷ [];
-  third = value;
-  are = refl;
-  some = is.some;
-  first_plain = decimal_plain most n is;
-  second_plain = one_plain letter plain;
-  third_plain = others;
-}
-
--- An event of a row, written as one.
-
-abbrev IsWritten : Event → Type 0
-IsWritten event = IsRow (row_fields event) event × IsPlain (row_fields event)
-
-word_written : (at : ℕ) (line : Line) (word : ℕ) → at < 10 ^ 15 → word < 512
-    → IsWritten (Word at line word)
-word_written at line word early small =
-    let start : IsDecimal 15 (decimal at) at =
-    IsDecimal-decimal 15 at (omega arith) early (omega arith) in (
-      (decimal at, hex_word word, refl, start, IsHexWord-hex_word word small),
-      plain_of 15 at (letter_of line) (hex_word word) start (letter_plain line)
-          (word_plain word small),
-    )
-
-break_written : (at span : ℕ) → at < 10 ^ 15 → span < 10 ^ 9 → IsWritten (Break at span)
-break_written at span early short =
-    let start : IsDecimal 15 (decimal at) at =
-    IsDecimal-decimal 15 at (omega arith) early (omega arith) in
-    let long : IsDecimal 9 (decimal span) span =
-    IsDecimal-decimal 9 span (omega arith) short (omega arith) in (
-      (decimal at, decimal span, refl, start, long),
-      plain_of 15 at break_letter (decimal span) start (omega arith, omega arith)
-          (decimal_plain 9 span long),
-    )
-
-row_written : (row : Event) → IsRowEvent row → IsWritten row
-row_written (Word at line word) (fields, is) =
-    word_written at line word (IsDecimal-lt 15 is.0 at is.3) is.4.small
-row_written (Break at span) (fields, is) =
-    break_written at span (IsDecimal-lt 15 is.0 at is.3) (IsDecimal-lt 9 is.1 span is.4)
+use Rattle.mdb_exports.specs.Rows.{row_line, rows_text}
 
 -- a word and a break that are small enough for a row
 pub small_word : (at : ℕ) (line : Line) (word : ℕ) → at < 10 ^ 15 → word < 512
@@ -104,10 +23,13 @@ small_break at span early short =
 
 -- Rows.
 
+written : (row : Event) → IsRowEvent row → IsWritten row
+written row (fields, is) = row_written fields row is
+
 all_plain : (rows : List Event) → All IsRowEvent rows → ArePlain (map row_fields rows)
 all_plain [] all = tt
 all_plain (row ∷ rows) all = (
-  (row_written row (All-head IsRowEvent row rows all)).1,
+  (written row (All-head IsRowEvent row rows all)).1,
   all_plain rows (All-tail IsRowEvent row rows all),
 )
 
@@ -117,7 +39,7 @@ TellsItself row = IsRow (row_fields row) row
 all_tell : (rows : List Event) → All IsRowEvent rows → All TellsItself rows
 all_tell [] all = All-nil TellsItself
 all_tell (row ∷ rows) all = All-cons TellsItself row rows
-    (row_written row (All-head IsRowEvent row rows all)).0
+    (written row (All-head IsRowEvent row rows all)).0
     (all_tell rows (All-tail IsRowEvent row rows all))
 
 text_is : (rows : List Event) → rows_text rows ≡ lines_of (map row_fields rows)

@@ -13,5 +13,6 @@ pub mod Refusals
 pub mod Rows
 pub mod Times
 pub mod Told
+pub mod Whole
 pub mod inner
 pub mod shared

@@ -1,5 +1,6 @@
 -- Where something was passed over.
-use Rattle.std.specs.Prelude.{◌≡◌, ◌+◌, ◌-◌, ◌*◌, ◌^◌, ◌++◌, ◌≤◌, ℕ, List, All, IsPermutation, length, min}
+use Rattle.std.specs.Prelude.{◌≡◌, ◌+◌, ◌-◌, ◌*◌, ◌^◌, ◌++◌, ◌≤◌, ℕ, List, All, IsPermutation}
+use Rattle.std.specs.Prelude.{length, min}
 use Rattle.std.specs.List.Sorted.{IsNonDecreasingBy}
 use Rattle.mdb_words.specs.declared.word.Line.{Line}
 use Rattle.mdb_words.specs.declared.word.Line.TheVariants.{Controller, Peripheral}

@@ -3,8 +3,8 @@ use Rattle.std.specs.Prelude.{◌≡◌, ◌⊎◌, ℕ, List, [], ◌∷◌, �
 use Rattle.std.specs.Io.KnownBytes.{Appends}
 use Rattle.mdb_writing.specs.Written.{HasTaken}
 
--- A line that is no row of a transcript: it has one field. So no checker takes what stands before it
--- for a whole recording.
+-- A line that is no row of a transcript: it has one field. So no checker takes what stands before
+-- it for a whole recording.
 abbrev pub refusal_line : List ℕ
 refusal_line = codes "mdbimport refused this export" ++ 10 ∷ []
 

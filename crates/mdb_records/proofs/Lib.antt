@@ -7,3 +7,5 @@ pub mod PartFacts
 pub mod PlainFacts
 pub mod LineFacts
 pub mod ReadingFacts
+pub mod PlainRecords
+pub mod PlainRows

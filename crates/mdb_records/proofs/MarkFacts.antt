@@ -1,5 +1,6 @@
 -- How a limited reader's reads follow the text with the mark.
-use Rattle.std.proofs.Common.{◌≡◌, ◌≤◌, ◌<◌, ◌+◌, ◌-◌, ℕ, zero, suc, List, [], ◌∷◌, ◌++◌, take, length, Option, Some, None, false, refl, sym, ap, arith, ◌∙◌, get_or}
+use Rattle.std.proofs.Common.{◌≡◌, ◌≤◌, ◌<◌, ◌+◌, ◌-◌, ℕ, zero, suc, List, [], ◌∷◌, ◌++◌, take}
+use Rattle.std.proofs.Common.{length, Option, Some, None, false, refl, sym, ap, arith, ◌∙◌, get_or}
 use Rattle.std.proofs.lemmas.List.{length-take, take-append-le}
 use Rattle.std.specs.Prelude.{is_some}
 use Rattle.std.specs.Io.KnownBytes.{Consumes, IsAtEnd, Keeps, prepend_known}

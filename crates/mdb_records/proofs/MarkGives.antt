@@ -1,5 +1,6 @@
 -- What the limit makes of a text at whose start a byte order mark may stand.
-use Rattle.std.proofs.Common.{◌<◌, length, ◌≡◌, ◌≤◌, ◌⊎◌, inl, inr, ℕ, zero, suc, Bool, List, [], ◌∷◌, ◌++◌, true, false, refl, ap, arith, eqb-true}
+use Rattle.std.proofs.Common.{◌<◌, length, ◌≡◌, ◌≤◌, ◌⊎◌, inl, inr, ℕ, zero, suc, Bool, List, []}
+use Rattle.std.proofs.Common.{◌∷◌, ◌++◌, true, false, refl, ap, arith, eqb-true}
 use Rattle.std.specs.Prelude.{All, if◌then◌else◌, ◌&&◌}
 use Rattle.std.proofs.lemmas.List.Elements.{All-cons, All-nil}
 use Rattle.csv.specs.Reading.{is_bom, strip_bom}

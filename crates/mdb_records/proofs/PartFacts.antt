@@ -1,5 +1,7 @@
 -- The parts of a text, one more, and the one at a place.
-use Rattle.std.proofs.Common.{◌≡◌, ◌≤◌, ◌<◌, ◌+◌, ◌-◌, ℕ, zero, suc, List, [], ◌∷◌, ◌++◌, take, drop, get_or, length, None, Some, min, refl, sym, ap, arith, ◌∙◌, length-drop, take_all}
+use Rattle.std.proofs.Common.{◌≡◌, ◌≤◌, ◌<◌, ◌+◌, ◌-◌, ℕ, zero, suc, List, [], ◌∷◌, ◌++◌, take}
+use Rattle.std.proofs.Common.{drop, get_or, length, None, Some, min, refl, sym, ap, arith, ◌∙◌}
+use Rattle.std.proofs.Common.{length-drop, take_all}
 use Rattle.std.proofs.lemmas.List.{drop_all}
 use native.Mathlib.Decide.{dec_lt}
 use Rattle.csv.specs.Records.{field_at}

@@ -1,5 +1,6 @@
 -- What a reader of lines has left, and what it does with the record that comes next.
-use Rattle.std.specs.Prelude.{◌≡◌, ◌-◌, Bool, true, false, ℕ, List, [], ◌∷◌, take, drop, ⊤, ◌⊎◌, Option, Some, None, IfSome, IsSome, option_map}
+use Rattle.std.specs.Prelude.{◌≡◌, ◌-◌, Bool, true, false, ℕ, List, [], ◌∷◌, take, drop, ⊤, ◌⊎◌}
+use Rattle.std.specs.Prelude.{Option, Some, None, IfSome, IsSome, option_map}
 use Rattle.std.specs.Io.KnownBytes.{Keeps, prepend_known}
 use Rattle.csv.specs.Machine.{line_feed, next_record}
 use Rattle.csv.specs.Reading.{default_config, strip_bom}

@@ -1,5 +1,6 @@
 -- What is left of the text, whoever reads its next record.
-use Rattle.std.specs.Prelude.{◌≡◌, ◌-◌, ◌⊎◌, Bool, true, false, ℕ, List, [], ◌∷◌, Option, Some, None, IsSome}
+use Rattle.std.specs.Prelude.{◌≡◌, ◌-◌, ◌⊎◌, Bool, true, false, ℕ, List, [], ◌∷◌, Option, Some}
+use Rattle.std.specs.Prelude.{None, IsSome}
 use Rattle.std.specs.declared.io.ErrorKind.TheVariants.{WouldBlock}
 use Rattle.csv.specs.Machine.{line_feed, next_record}
 use Rattle.csv.specs.Reading.{default_config, reader_config, reader_source, reader_state, source_of}

@@ -1,5 +1,6 @@
 -- Which records are still to come from a reader of records.
-use Rattle.std.specs.Prelude.{◌≡◌, ◌≤◌, ◌++◌, ◌⊎◌, Bool, true, false, ℕ, List, [], ◌∷◌, Option, None, All}
+use Rattle.std.specs.Prelude.{◌≡◌, ◌≤◌, ◌++◌, ◌⊎◌, Bool, true, false, ℕ, List, [], ◌∷◌, Option}
+use Rattle.std.specs.Prelude.{None, All}
 use Rattle.csv.specs.Machine.{ends_at_end}
 use Rattle.csv.specs.Reading.{AreRecords, default_config}
 use Rattle.csv.specs.declared.parser.State.{State}

@@ -8,7 +8,9 @@
 //! reads the text from the first other record on. Both ways give the same records.
 #![tactic(auto)]
 
-ghost use Rattle.std.specs.Prelude.{◌≡◌, ◌<◌, ◌≤◌, ◌+◌, ◌-◌, ◌^◌, ◌↔◌, ◌⊎◌, min, ℕ, All, List, [], None, length, true, IfErr, IfOk, OnOk, IfSome, IsSome, IsTrue, Some, Err, if◌then◌else◌};
+ghost use Rattle.std.specs.Prelude.{◌≡◌, ◌<◌, ◌≤◌, ◌+◌, ◌-◌, ◌^◌, ◌↔◌, ◌⊎◌, min, ℕ, All, List, []};
+ghost use Rattle.std.specs.Prelude.{None, length, true, IfErr, IfOk, OnOk, IfSome, IsSome, IsTrue};
+ghost use Rattle.std.specs.Prelude.{Some, Err, if◌then◌else◌};
 ghost use Rattle.csv.specs.Reading.{default_config, records, strip_bom};
 ghost use Rattle.csv.specs.Records as csv;
 ghost use Rattle.mdb_records.specs.Fields.{fields_of};

@@ -1,6 +1,7 @@
 // A record at the front of a text that stands on a line of its own, with no quote.
 
-ghost use Rattle.std.specs.Prelude.{◌≡◌, ◌≤◌, ◌==◌, ◌||◌, ◌++◌, ◌∷◌, All, [], false, true, length, take, OnOk, IfOk};
+ghost use Rattle.std.specs.Prelude.{◌≡◌, ◌≤◌, ◌==◌, ◌||◌, ◌++◌, ◌∷◌, All, [], false, true, length};
+ghost use Rattle.std.specs.Prelude.{take, OnOk, IfOk};
 ghost use Rattle.mdb_records.specs.Fields.{parted};
 ghost use Rattle.mdb_records.specs.Plain.{HasFront, Means, is_special};
 

@@ -1,6 +1,7 @@
 // Who reads the next record: lines as long as they are plain, and then csv.
 
-ghost use Rattle.std.specs.Prelude.{◌≡◌, ◌≤◌, ℕ, List, IfOk, OnOk, IsSome, if◌then◌else◌, option_map, true};
+ghost use Rattle.std.specs.Prelude.{◌≡◌, ◌≤◌, ℕ, List, IfOk, OnOk, IsSome, if◌then◌else◌};
+ghost use Rattle.std.specs.Prelude.{option_map, true};
 ghost use Rattle.csv.specs.Reading.{error_kind, is_io, stops_reader};
 ghost use Rattle.csv.specs.Records.{fields_of};
 ghost use Rattle.mdb_records.specs.SetUp.{IsSetUp, reader_in};

@@ -33,3 +33,10 @@ Refuses failed now later fault told =
     ((fault ≢ failed) × (told ≡ fault) × Appends now.held later (now.waiting ++ refusal_line))
     ⊎ ((fault ≢ failed) × (told ≡ failed) × HasTaken now.held later (now.waiting ++ refusal_line))
     ⊎ ((fault ≡ failed) × (told ≡ fault) × (later ≡ now.held))
+
+-- A fault is told once the line of a refused export was written, where no row was before; or the
+-- writer failed at that, and so is the fault that is told.
+abbrev pub IsClosed : {E : Type 0} → E → E → Option (List ℕ) → Option (List ℕ) → E → Type 0
+IsClosed failed fault before after told =
+    ((told ≡ fault) × Appends before after refusal_line)
+    ⊎ ((told ≡ failed) × HasTaken before after refusal_line)

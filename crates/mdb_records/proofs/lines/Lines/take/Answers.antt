@@ -3,7 +3,8 @@ use Rattle.mdb_records.specs.Lines.{limited_remaining, unread}
 use Rattle.mdb_records.specs.Plain.{BeginsLow}
 use Rattle.mdb_records.proofs.LineFacts.{takes-line, unread-dropped}
 use Rattle.mdb_records.proofs.lines.Lines.take.Goals as goal
-use Rattle.mdb_records.proofs.lines.Lines.take.Goals.{else-not-self-via-then-not-self+else-begins_high, else-not-self-via-else-not-self}
+use Rattle.mdb_records.proofs.lines.Lines.take.Goals.{else-not-self-via-then-not-self+else-begins_high}
+use Rattle.mdb_records.proofs.lines.Lines.take.Goals.{else-not-self-via-else-not-self}
 
 pub returns-in-Ok-Line-clause-steps : goal.returns-in-Ok-Line-clause-steps
 returns-in-Ok-Line-clause-steps g c =

@@ -152,3 +152,9 @@ read_of_lines those plain =
     ∙ (ap (λ text. records_from default_config (suc (length (lines_of those))) st.StartRecord text)
     (lines_are those plain)
     ∙ (enough (length (lines_of those)) those (bytes those) ∙ back those plain)))
+
+-- plain records after plain ones
+pub plain_append : (one other : List (List (List ℕ))) → ArePlain one → ArePlain other
+    → ArePlain (one ++ other)
+plain_append [] other plain more = more
+plain_append (fields ∷ one) other plain more = (plain.0, plain_append one other plain.1 more)

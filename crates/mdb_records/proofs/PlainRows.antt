@@ -1,0 +1,89 @@
+-- The fields of rows as they are written: plain ones, which tell those rows.
+use Rattle.std.proofs.Common.{arith, refl, ◌/◌, ◌%◌, ◌^◌, ◌<◌, ℕ, true, List, [], ◌∷◌, All}
+use Rattle.std.proofs.lemmas.Bool.Decides.{nat_tests}
+use Rattle.std.proofs.lemmas.List.Elements.{All-nil, All-cons, All-weaker}
+use Rattle.std.specs.Char.{IsAsciiDigit, IsAsciiHexdigit}
+use Rattle.std.specs.Fmt.{decimal, digit_glyph}
+use Rattle.mdb_words.specs.declared.event.Event.{Event}
+use Rattle.mdb_words.specs.declared.event.Event.TheVariants.{Word, Break}
+use Rattle.mdb_words.specs.declared.word.Line.{Line}
+use Rattle.mdb_words.specs.declared.word.Line.TheVariants.{Controller, Peripheral}
+use Rattle.mdb_words.specs.Digits.{IsDecimal, hex_word}
+use Rattle.mdb_words.specs.Row.{IsRow, break_letter, letter_of, row_fields}
+use Rattle.mdb_records.proofs.PlainRecords.{IsPlain, IsPlainByte}
+use Rattle.mdb_words.proofs.Numerals.{IsDecimal-decimal, IsDecimal-lt, IsHexWord-hex_word}
+
+digit_plain : (c : ℕ) → IsAsciiDigit c → IsPlainByte c
+digit_plain c digit = (omega (arith, digit), omega (arith, digit))
+
+decimal_plain : (most n : ℕ) → IsDecimal most (decimal n) n → All IsPlainByte (decimal n)
+decimal_plain most n is = All-weaker IsAsciiDigit IsPlainByte digit_plain (decimal n) is.digits
+
+glyph_digit : (d : ℕ) → d < 16 → IsAsciiHexdigit (digit_glyph true d)
+glyph_digit d h = grind (arith, nat_tests)
+
+glyph_plain : (d : ℕ) → d < 16 → IsPlainByte (digit_glyph true d)
+glyph_plain d h = grind (arith, nat_tests)
+
+three : {A : Type 0} (P : A → Type 0) (a b c : A) → P a → P b → P c → All P (a ∷ b ∷ c ∷ [])
+three P a b c p q r =
+    All-cons P a (b ∷ c ∷ []) p (All-cons P b (c ∷ []) q (All-cons P c [] r (All-nil P)))
+
+word_plain : (word : ℕ) → word < 512 → All IsPlainByte (hex_word word)
+word_plain word small =
+    three IsPlainByte (digit_glyph true (word / 256)) (digit_glyph true (word / 16 % 16))
+    (digit_glyph true (word % 16)) (glyph_plain _ (omega arith)) (glyph_plain _ (omega arith))
+    (glyph_plain _ (omega arith))
+
+pub one_plain : (c : ℕ) → IsPlainByte c → All IsPlainByte (c ∷ [])
+one_plain c plain = All-cons IsPlainByte c [] plain (All-nil IsPlainByte)
+
+letter_plain : (line : Line) → IsPlainByte (letter_of line)
+letter_plain Controller = (omega arith, omega arith)
+letter_plain Peripheral = (omega arith, omega arith)
+
+-- three plain fields, of which the first is a number
+pub plain_of : (most n : ℕ) (letter : ℕ) (value : List ℕ) → IsDecimal most (decimal n) n
+    → IsPlainByte letter → All IsPlainByte value → IsPlain (decimal n ∷ (letter ∷ []) ∷ value ∷ [])
+plain_of most n letter value is plain others = record {
+  first = decimal n;
+  second = letter ∷ [];
+  third = value;
+  are = refl;
+  some = is.some;
+  first_plain = decimal_plain most n is;
+  second_plain = one_plain letter plain;
+  third_plain = others;
+}
+
+-- An event of a row, written as one.
+
+abbrev pub IsWritten : Event → Type 0
+IsWritten event = IsRow (row_fields event) event × IsPlain (row_fields event)
+
+pub word_written : (at : ℕ) (line : Line) (word : ℕ) → at < 10 ^ 15 → word < 512
+    → IsWritten (Word at line word)
+word_written at line word early small =
+    let start : IsDecimal 15 (decimal at) at =
+    IsDecimal-decimal 15 at (omega arith) early (omega arith) in (
+      (decimal at, hex_word word, refl, start, IsHexWord-hex_word word small),
+      plain_of 15 at (letter_of line) (hex_word word) start (letter_plain line)
+          (word_plain word small),
+    )
+
+pub break_written : (at span : ℕ) → at < 10 ^ 15 → span < 10 ^ 9 → IsWritten (Break at span)
+break_written at span early short =
+    let start : IsDecimal 15 (decimal at) at =
+    IsDecimal-decimal 15 at (omega arith) early (omega arith) in
+    let long : IsDecimal 9 (decimal span) span =
+    IsDecimal-decimal 9 span (omega arith) short (omega arith) in (
+      (decimal at, decimal span, refl, start, long),
+      plain_of 15 at break_letter (decimal span) start (omega arith, omega arith)
+          (decimal_plain 9 span long),
+    )
+
+pub row_written : (fields : List (List ℕ)) (event : Event) → IsRow fields event → IsWritten event
+row_written fields (Word at line word) is =
+    word_written at line word (IsDecimal-lt 15 is.0 at is.3) is.4.small
+row_written fields (Break at span) is =
+    break_written at span (IsDecimal-lt 15 is.0 at is.3) (IsDecimal-lt 9 is.1 span is.4)
