@@ -1,5 +1,6 @@
 -- The first fault of a table, from what stops its reading.
-use Rattle.std.proofs.Common.{◌≡◌, inl, inr, ◌≤◌, ◌-◌, ◌^◌, ◌++◌, ℕ, length, length-append, List, [], ◌∷◌, refl, sym, ap, subst, ◌∙◌, Option, arith}
+use Rattle.std.proofs.Common.{◌≡◌, inl, inr, ◌≤◌, ◌-◌, ◌^◌, ◌++◌, ℕ, length, length-append, List}
+use Rattle.std.proofs.Common.{[], ◌∷◌, refl, sym, ap, subst, ◌∙◌, Option, arith}
 use Rattle.mdb_words.specs.declared.word.Line.{Line}
 use Rattle.mdb_records.specs.declared.Records.{Records}
 use Rattle.mdb_levels.specs.Faults.{Claims, IsShown, IsShownAtEnd}
@@ -18,7 +19,8 @@ use Rattle.mdb_edges.specs.declared.fault.FormFault.TheVariants as form
 use Rattle.mdb_edges.specs.declared.fault.Stop.{Stop}
 use Rattle.mdb_edges.specs.declared.fault.Stop.TheVariants as stop
 use Rattle.mdb_edges.specs.declared.options.EdgesOptions.{EdgesOptions}
-use Rattle.mdb_edges.specs.Faults.{IsFirstFault, IsLevelless, IsMisformed, IsMisplaced, IsNoHeader, HasNoHeader, IsOfLine, IsReached, IsTooEarly}
+use Rattle.mdb_edges.specs.Faults.{IsFirstFault, IsLevelless, IsMisformed, IsMisplaced, IsNoHeader}
+use Rattle.mdb_edges.specs.Faults.{HasNoHeader, IsOfLine, IsReached, IsTooEarly}
 use Rattle.mdb_edges.specs.Table.{IsHeader, IsMoment}
 use Rattle.mdb_edges.specs.inner.Stops.{IsEarly, IsMet, IsOfRecord, IsTellOf}
 use Rattle.mdb_edges.proofs.Tables.{SoFar}
@@ -93,7 +95,8 @@ first_at (stop.Level line instant) (told.Level n micros wire) options records nu
       subst (λ l. IsLevelless options columns row l met.0) (sym tells.2) met.1,
       tells.1 ∙ met.2,
     )
-first_at (stop.Levels (levels.Line line wrong)) (told.Line n micros wire f) options records number columns ms others
+first_at (stop.Levels (levels.Line line wrong)) (told.Line n micros wire f) options records number
+    columns ms others
     at met tells = (
       columns,
       ms,
@@ -105,15 +108,18 @@ first_at (stop.Levels (levels.Line line wrong)) (told.Line n micros wire f) opti
           (of_line line wrong options columns ms others met)),
       tells.1,
     )
-first_at (stop.Levels levels.Memory) told.Memory options records number columns ms others at met tells = tt
+first_at (stop.Levels levels.Memory) told.Memory options records number columns ms others at met
+    tells = tt
 first_at (stop.Form fault) _ options records number columns ms others at met tells = absurd tells
 first_at (stop.Order instant fault) _ options records number columns ms others at met tells =
     absurd tells
 first_at (stop.Level line instant) _ options records number columns ms others at met tells =
     absurd tells
-first_at (stop.Levels (levels.Line line wrong)) _ options records number columns ms others at met tells =
+first_at (stop.Levels (levels.Line line wrong)) _ options records number columns ms others at met
+    tells =
     absurd tells
-first_at (stop.Levels levels.Memory) _ options records number columns ms others at met tells = absurd tells
+first_at (stop.Levels levels.Memory) _ options records number columns ms others at met tells =
+    absurd tells
 
 -- what is wrong with a record is met there
 

@@ -1,5 +1,6 @@
 -- The columns of a header.
-use Rattle.std.proofs.Common.{◌≡◌, inl, inr, ◌<◌, ◌≤◌, ◌+◌, ℕ, zero, suc, List, [], ◌∷◌, length, Option, Some, None, IfSome, IfNone, sym, ap, subst, ◌∙◌, arith}
+use Rattle.std.proofs.Common.{◌≡◌, inl, inr, ◌<◌, ◌≤◌, ◌+◌, ℕ, zero, suc, List, [], ◌∷◌, length}
+use Rattle.std.proofs.Common.{Option, Some, None, IfSome, IfNone, sym, ap, subst, ◌∙◌, arith}
 use Rattle.csv.specs.Records.{field_at}
 use Rattle.mdb_exports.specs.Fields.{bare}
 use Rattle.mdb_edges.specs.declared.columns.Columns.{Columns}

@@ -1,11 +1,9 @@
--- A table has one list of rows, in the order of their times.
+-- A table has one list of rows.
 use Rattle.std.proofs.Common.{◌≡◌, ℕ, List, sym, subst, ◌∙◌}
-use Rattle.std.specs.List.{AllPairs}
 use Rattle.mdb_words.specs.declared.event.Event.{Event}
 use Rattle.mdb_exports.specs.declared.places.Place.{Place}
-use Rattle.mdb_exports.specs.Order.{Precedes}
 use Rattle.mdb_levels.specs.Moments.{AreRowsOfBus}
-use Rattle.mdb_levels.proofs.OneBus.{bus_in_order, one_bus}
+use Rattle.mdb_levels.proofs.OneBus.{one_bus}
 use Rattle.mdb_edges.specs.Table.{AreMoments, AreRowsOfTable, IsHeader}
 use Rattle.mdb_edges.specs.declared.options.EdgesOptions.{EdgesOptions}
 use Rattle.mdb_edges.proofs.Headers.{one_header}
@@ -29,9 +27,3 @@ one_table options records rows others pulses pulses2 damaged damaged2 one other 
     other.told)) in
     one_bus options.skip_damaged one.moments rows others pulses pulses2 damaged damaged2 one.bus
     (subst (λ l. AreRowsOfBus options.skip_damaged l others pulses2 damaged2) moments other.bus)
-
-pub table_in_order : (options : EdgesOptions) (records : List (List (List ℕ))) (rows : List Event)
-    (pulses damaged : List Place) → AreRowsOfTable options records rows pulses damaged
-    → AllPairs Precedes rows
-table_in_order options records rows pulses damaged table =
-    bus_in_order options.skip_damaged table.moments rows pulses damaged table.bus

@@ -1,6 +1,8 @@
 -- Times in parts of an instant.
-use Rattle.std.proofs.Common.{◌≡◌, inl, inr, ◌<◌, ◌≤◌, ◌+◌, ◌-◌, ◌*◌, ◌^◌, ℕ, List, sym, ap, subst, ◌∙◌, arith}
-use Rattle.std.proofs.Math.Nat.{mul-pos, one-le-pow, lt_of_mul-lt-mul_right, mul-mul-mul_comm, mul_assoc, mul_comm, mul-lt-mul_of_pos_right}
+use Rattle.std.proofs.Common.{◌≡◌, inl, inr, ◌<◌, ◌≤◌, ◌+◌, ◌-◌, ◌*◌, ◌^◌, ℕ, List, sym, ap, subst}
+use Rattle.std.proofs.Common.{◌∙◌, arith}
+use Rattle.std.proofs.Math.Nat.{mul-pos, one-le-pow, lt_of_mul-lt-mul_right, mul-mul-mul_comm}
+use Rattle.std.proofs.Math.Nat.{mul_assoc, mul_comm, mul-lt-mul_of_pos_right}
 use Rattle.std.proofs.lemmas.Nat.{pow-add}
 use Rattle.mdb_exports.specs.Numbers.{IsNumber}
 use Rattle.mdb_exports.specs.Times.{per_second}

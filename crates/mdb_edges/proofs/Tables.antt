@@ -1,5 +1,7 @@
 -- How a table is read, record by record.
-use Rattle.std.proofs.Common.{◌≡◌, Bool, inl, inr, ◌<◌, ◌≤◌, ◌+◌, ◌++◌, append_assoc, append-nil, true, false, ℕ, zero, suc, take, drop, length, length-append, ◌-◌, List, [], ◌∷◌, refl, sym, ap, subst, ◌∙◌, Option, arith}
+use Rattle.std.proofs.Common.{◌≡◌, Bool, inl, inr, ◌<◌, ◌≤◌, ◌+◌, ◌++◌, append_assoc, append-nil}
+use Rattle.std.proofs.Common.{true, false, ℕ, zero, suc, take, drop, length, length-append, ◌-◌}
+use Rattle.std.proofs.Common.{List, [], ◌∷◌, refl, sym, ap, subst, ◌∙◌, Option, arith}
 use Rattle.std.proofs.Math.Seq.{take-append_seam}
 use Rattle.std.proofs.lemmas.List.{length-take, take-append-drop, take_all}
 use Rattle.mdb_records.specs.ToCome.{Advances, ToCome, current_fields}
@@ -17,7 +19,8 @@ use Rattle.mdb_levels.specs.declared.moment.Moment.{Moment}
 use Rattle.mdb_edges.specs.declared.options.EdgesOptions.{EdgesOptions}
 use Rattle.mdb_edges.specs.Table.{AreMoments, AreRowsOfTable, IsHeader, IsMoment}
 use Rattle.mdb_edges.specs.inner.Stops.{Denies, IsNumbered, IsOfTable, IsTellOf, Refutes}
-use Rattle.mdb_edges.specs.inner.Reading.{BeginSame, Comes, HasEnded, HasRead, IsBusOfTable, IsHeaded}
+use Rattle.mdb_edges.specs.inner.Reading.{BeginSame, Comes, HasEnded, HasRead, IsBusOfTable}
+use Rattle.mdb_edges.specs.inner.Reading.{IsHeaded}
 use Rattle.mdb_levels.specs.Faults.{AreBarred, Claims, HaveNoRows}
 use Rattle.mdb_exports.specs.declared.places.Place.{Place}
 use Rattle.mdb_levels.specs.Lines.{HaveEnded, HaveHeard, IsBus}
@@ -130,7 +133,8 @@ pub barred_next : (fault : LevelsFault) (options : EdgesOptions) (columns : Colu
     → Claims fault (λ line start kind. AreBarred options.skip_damaged (ms ++ m ∷ []))
     → Denies (stop.Levels fault) (Comes options columns (body ++ row ∷ rest) rows)
 barred_next fault options columns earliest lines body rest row ms rows m has is claims =
-    claims_deny fault (AreBarred options.skip_damaged (ms ++ m ∷ [])) (Comes options columns (body ++ row ∷ rest) rows)
+    claims_deny fault (AreBarred options.skip_damaged (ms ++ m ∷ []))
+    (Comes options columns (body ++ row ∷ rest) rows)
     (λ barred comes.
     let next = next_is options columns earliest lines body rest row ms rows has comes in
     let same = one_moment options columns row next.moment m next.is is in
@@ -249,7 +253,8 @@ pub all_come : {R : Type 0} (remaining : R → Option (List ℕ)) (old now : Rec
     (all : List (List (List ℕ)))
     (so_far : SoFar remaining old options columns earliest number lines all)
     → Advances remaining now false so_far.rest
-    → ((ms : List Moment) → HaveHeard options.skip_damaged lines ms → HaveEnded options.skip_damaged ended ms)
+    → ((ms : List Moment) → HaveHeard options.skip_damaged lines ms
+    → HaveEnded options.skip_damaged ended ms)
     → HasEnded options columns ended all
 all_come remaining old now options columns earliest number lines ended all so_far none ends =
     record {
@@ -280,7 +285,8 @@ pub none_come : {R : Type 0} (remaining : R → Option (List ℕ)) (old now : Re
     (others : List (List (List ℕ))) (rows : List Event)
     (so_far : SoFar remaining old options columns earliest number lines all)
     → Advances remaining now false so_far.rest
-    → ((ms : List Moment) → HaveHeard options.skip_damaged lines ms → Claims fault (λ line start kind. HaveNoRows options.skip_damaged ms))
+    → ((ms : List Moment) → HaveHeard options.skip_damaged lines ms
+    → Claims fault (λ line start kind. HaveNoRows options.skip_damaged ms))
     → IsTellOf (stop.Levels fault) number e
     → Refutes e (λ n. BeginSame (n - 1) all others × Comes options columns others rows)
 none_come remaining old now options columns earliest number lines all fault e others rows so_far
@@ -422,19 +428,26 @@ pub no_table : (e : EdgesFault) (options : EdgesOptions) (columns : Columns)
     → (others : List (List (List ℕ))) (rows : List Event) (pulses damaged : List Place)
     → Refutes e
     (λ n. BeginSame n all others × AreRowsOfTable options others rows pulses damaged)
-no_table (told.Form number fault) options columns all rest head some refuted others rows pulses damaged =
+no_table (told.Form number fault) options columns all rest head some refuted others rows pulses
+    damaged =
     λ both. refuted both.1.body rows
-    (parts_of_table options columns all rest others rows pulses damaged number head some both.0 both.1)
-no_table (told.Order number micros fault) options columns all rest head some refuted others rows pulses damaged =
+    (parts_of_table options columns all rest others rows pulses damaged number head some both.0
+    both.1)
+no_table (told.Order number micros fault) options columns all rest head some refuted others rows
+    pulses damaged =
     λ both. refuted both.1.body rows
-    (parts_of_table options columns all rest others rows pulses damaged number head some both.0 both.1)
-no_table (told.Level number micros line) options columns all rest head some refuted others rows pulses damaged =
+    (parts_of_table options columns all rest others rows pulses damaged number head some both.0
+    both.1)
+no_table (told.Level number micros line) options columns all rest head some refuted others rows
+    pulses damaged =
     λ both. refuted both.1.body rows
-    (parts_of_table options columns all rest others rows pulses damaged number head some both.0 both.1)
+    (parts_of_table options columns all rest others rows pulses damaged number head some both.0
+    both.1)
 no_table (told.Line number micros line fault) options columns all rest head some refuted others
     rows pulses damaged =
     λ both. refuted both.1.body rows
-    (parts_of_table options columns all rest others rows pulses damaged number head some both.0 both.1)
+    (parts_of_table options columns all rest others rows pulses damaged number head some both.0
+    both.1)
 no_table told.Read options columns all rest head some refuted others rows pulses damaged = tt
 no_table told.Write options columns all rest head some refuted others rows pulses damaged =
     absurd (refuted [] [])
@@ -449,13 +462,16 @@ pub no_head_table : (e : EdgesFault) (options : EdgesOptions) (all others : List
 no_head_table (told.Form number fault) options all others refuted rows pulses damaged = λ both.
     refuted both.1.body both.1.columns
     (both.0, record { header = both.1.header; parts = both.1.parts; named = both.1.named })
-no_head_table (told.Order number micros fault) options all others refuted rows pulses damaged = λ both.
+no_head_table (told.Order number micros fault) options all others refuted rows pulses damaged =
+    λ both.
     refuted both.1.body both.1.columns
     (both.0, record { header = both.1.header; parts = both.1.parts; named = both.1.named })
-no_head_table (told.Level number micros line) options all others refuted rows pulses damaged = λ both.
+no_head_table (told.Level number micros line) options all others refuted rows pulses damaged =
+    λ both.
     refuted both.1.body both.1.columns
     (both.0, record { header = both.1.header; parts = both.1.parts; named = both.1.named })
-no_head_table (told.Line number micros line fault) options all others refuted rows pulses damaged = λ both.
+no_head_table (told.Line number micros line fault) options all others refuted rows pulses damaged =
+    λ both.
     refuted both.1.body both.1.columns
     (both.0, record { header = both.1.header; parts = both.1.parts; named = both.1.named })
 no_head_table told.Read options all others refuted rows pulses damaged = tt

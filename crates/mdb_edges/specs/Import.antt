@@ -1,40 +1,21 @@
 -- A table from a reader, and its rows to a writer.
-use Rattle.std.specs.Prelude.{⊤, ◌≡◌, ◌⊎◌, ◌≤◌, ◌-◌, ◌^◌, ℕ, List, Option, Some, length, take}
-use Rattle.std.specs.Io.KnownBytes.{Appends}
+use Rattle.std.specs.Prelude.{⊤, ◌≡◌, ◌⊎◌, ◌≤◌, ◌-◌, ◌^◌, ℕ, List, Option, Some, Result}
+use Rattle.std.specs.Prelude.{length, take}
 use Rattle.mdb_words.specs.declared.event.Event.{Event}
 use Rattle.mdb_records.specs.ToCome.{ToCome, fault_of}
 use Rattle.mdb_records.specs.declared.ReadFault.TheVariants as reading
 use Rattle.mdb_records.specs.declared.Records.{Records}
 use Rattle.mdb_exports.specs.declared.places.Place.{Place}
-use Rattle.mdb_exports.specs.Records.{export_records}
-use Rattle.mdb_exports.specs.Refusal.{refusal_line}
-use Rattle.mdb_exports.specs.Rows.{rows_text}
-use Rattle.mdb_writing.specs.Written.{HasTaken}
-use Rattle.mdb_levels.specs.Told.{IsWritten, part_of}
+use Rattle.mdb_exports.specs.Refusal.{IsAnswered}
+use Rattle.mdb_exports.specs.Whole.{IsWhole}
+use Rattle.mdb_levels.specs.Told.{IsTold, part_of}
 use Rattle.mdb_levels.specs.declared.part.LevelsImported.{LevelsImported}
 use Rattle.mdb_edges.specs.Faults.{IsFirstFault}
 use Rattle.mdb_edges.specs.Table.{AreRowsOfTable}
 use Rattle.mdb_edges.specs.declared.fault.EdgesFault.{EdgesFault}
-use Rattle.mdb_edges.specs.declared.fault.EdgesFault.TheVariants.{Form, Order, Level, Line, Read, Write, Memory}
+use Rattle.mdb_edges.specs.declared.fault.EdgesFault.TheVariants.{Form, Order, Level, Line, Read}
+use Rattle.mdb_edges.specs.declared.fault.EdgesFault.TheVariants.{Write, Memory}
 use Rattle.mdb_edges.specs.declared.options.EdgesOptions.{EdgesOptions}
-
--- the rows of the table of these records that are in the part were written
-pub record AreImported (options : EdgesOptions) (records : List (List (List ℕ)))
-    (told : LevelsImported) (before after : Option (List ℕ)) : Type 0 where
-  pub rows : List Event
-  pub pulses : List Place
-  pub damaged : List Place
-  pub of_table : AreRowsOfTable options records rows pulses damaged
-  pub written : IsWritten options.from options.until rows pulses damaged told before after
-
--- the table of these records has rows, and of those in the part a front was written
-pub record ArePartial (options : EdgesOptions) (records : List (List (List ℕ)))
-    (before after : Option (List ℕ)) : Type 0 where
-  pub rows : List Event
-  pub pulses : List Place
-  pub damaged : List Place
-  pub of_table : AreRowsOfTable options records rows pulses damaged
-  pub written : HasTaken before after (rows_text (part_of options.from options.until rows))
 
 -- No table has rows that begins with the first of these records, so many, whatever comes behind
 -- them. (Where there are fewer, that is the table of these alone.)
@@ -64,26 +45,19 @@ AreRefusedFor options records Read = ⊤
 AreRefusedFor options records Write = ⊥
 AreRefusedFor options records Memory = ⊤
 
--- The same, and what was written: the line that no checker takes. Where writing failed, a front of
--- the rows was taken, or one of that line.
-abbrev pub AreRefused : EdgesOptions → List (List (List ℕ)) → EdgesFault → Option (List ℕ) →
-    Option (List ℕ) → Type 0
-AreRefused options records fault before after =
-    (AreRefusedFor options records fault × Appends before after refusal_line)
-    ⊎ ((fault ≡ Write) × (ArePartial options records before after
-    ⊎ ((cause : EdgesFault) × AreRefusedFor options records cause
-    × HasTaken before after refusal_line)))
+-- the answer to the records of a table, and the text of the rows that are written of them
+abbrev pub IsImport : EdgesOptions → List (List (List ℕ)) → Result LevelsImported EdgesFault
+    → List ℕ → Type 0
+IsImport options records answer text =
+    IsWhole (AreRowsOfTable options records) (IsTold options.from options.until)
+    (part_of options.from options.until) (AreRefusedFor options records) answer text
 
--- the same of the records of a text
-abbrev pub IsImported : EdgesOptions → List ℕ → LevelsImported → Option (List ℕ) → Option (List ℕ)
-    → Type 0
-IsImported options text told before after =
-    AreImported options (export_records text) told before after
-
-abbrev pub IsRefused : EdgesOptions → List ℕ → EdgesFault → Option (List ℕ) → Option (List ℕ) →
-    Type 0
-IsRefused options text fault before after =
-    AreRefused options (export_records text) fault before after
+-- The bytes that a writer held before the answer to these records and after it. The text of the
+-- rows was written, or, where the answer is a refusal, the line of one.
+abbrev pub Imports : EdgesOptions → List (List (List ℕ)) → Option (List ℕ) → Option (List ℕ)
+    → Result LevelsImported EdgesFault → Type 0
+Imports options records before after answer =
+    IsAnswered (IsImport options records) Write before after answer
 
 -- a read of records failed after they stood so; or there are so many records or more
 abbrev pub IsUnread : {R : Type 0} → (R → Option (List ℕ)) → Records R → Records R → ℕ → Type 0

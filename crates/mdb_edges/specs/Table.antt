@@ -1,5 +1,6 @@
 -- A table of edges: its columns, its records, and its rows.
-use Rattle.std.specs.Prelude.{◌≡◌, ◌≢◌, ◌⊎◌, ⊤, ◌+◌, ◌*◌, ◌^◌, ◌<◌, ◌≤◌, Bool, true, false, ℕ, List, [], ◌∷◌, length, Option, Some, None, option_map, string_bytes}
+use Rattle.std.specs.Prelude.{◌≡◌, ◌≢◌, ◌⊎◌, ⊤, ◌+◌, ◌*◌, ◌^◌, ◌<◌, ◌≤◌, Bool, true, false, ℕ, List}
+use Rattle.std.specs.Prelude.{[], ◌∷◌, length, Option, Some, None, option_map, string_bytes}
 use Rattle.csv.specs.Records.{field_at}
 use Rattle.mdb_words.specs.declared.event.Event.{Event}
 use Rattle.mdb_exports.specs.declared.places.Place.{Place}

@@ -1,11 +1,9 @@
 //! Laws of the rows of a table. Each function's contract is the law, and its body is empty.
 
 ghost use Rattle.std.specs.Prelude.{◌≡◌, ℕ, List};
-ghost use Rattle.std.specs.List.{AllPairs};
 ghost use Rattle.mdb_words.specs.declared.event.Event.{Event};
 ghost use Rattle.mdb_exports.specs.ReadBack.{AreReadBack};
 ghost use Rattle.mdb_exports.specs.declared.places.Place.{Place};
-ghost use Rattle.mdb_exports.specs.Order.{Precedes};
 ghost use Rattle.mdb_levels.specs.Told.{part_of};
 ghost use Rattle.mdb_edges.specs.Table.{AreRowsOfTable};
 ghost use Rattle.mdb_edges.specs.declared.options.EdgesOptions.{EdgesOptions};
@@ -17,13 +15,6 @@ pub fn rows_are_the_only_ones()
         AreRowsOfTable options records rows pulses damaged →
         AreRowsOfTable options records others pulses2 damaged2 →
         (others ≡ rows) × (pulses2 ≡ pulses) × (damaged2 ≡ damaged) }
-{}
-
-/// The rows of a table stand in the order of their times, at one time that of the controller first.
-pub fn rows_stand_in_order()
-    ensures { (options : EdgesOptions) (records : List (List (List ℕ))) (rows : List Event)
-        (pulses damaged : List Place) →
-        AreRowsOfTable options records rows pulses damaged → AllPairs Precedes rows }
 {}
 
 /// What is written of a table is read as just the rows that were written.

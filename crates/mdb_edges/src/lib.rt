@@ -1,5 +1,5 @@
-//! Imports a table of edges, which a logic analyser exports if it decodes nothing. [`import_edges`]
-//! turns it into the rows that `mdbcheck` reads.
+//! Imports a table of edges, which a logic analyser exports if it decodes nothing.
+//! [`import_edge_records`] turns it into the rows that `mdbcheck` reads.
 //!
 //! A table has a record for each change: its time, and the level of each channel from then on. The
 //! words and breaks of both lines come from `mdb_levels`. Nothing is guessed.
@@ -23,5 +23,5 @@ mod record;
 mod table;
 
 pub use fault::{EdgesFault, FormFault, OrderFault};
-pub use import::{import_edge_records, import_edges};
+pub use import::import_edge_records;
 pub use options::EdgesOptions;

@@ -1,5 +1,6 @@
 -- How a frame goes on, bit by bit.
-use Rattle.std.proofs.Common.{◌≡◌, inl, inr, ◌<◌, ◌≤◌, ◌+◌, ◌-◌, ◌^◌, if◌then◌else◌, Bool, false, ℕ, suc, List, sym, ap, subst, ◌∙◌, arith}
+use Rattle.std.proofs.Common.{◌≡◌, inl, inr, ◌<◌, ◌≤◌, ◌+◌, ◌-◌, ◌^◌, if◌then◌else◌, Bool, false, ℕ}
+use Rattle.std.proofs.Common.{suc, List, sym, ap, subst, ◌∙◌, arith}
 use Rattle.mdb_levels.specs.declared.finding.Finding.{Finding}
 use Rattle.mdb_words.specs.declared.word.Line.{Line}
 use Rattle.mdb_levels.specs.declared.frame.Frame.{Frame}
@@ -50,7 +51,8 @@ bits_read level f g more here before =
           (more.data_bit some))
     ]))
 
-pub read_on : (skip : Bool) (line : Line) (level : ℕ → Bool) (known : ℕ) (rows : List Finding) (f g : Frame)
+pub read_on : (skip : Bool) (line : Line) (level : ℕ → Bool) (known : ℕ) (rows : List Finding)
+    (f g : Frame)
     → IsReadOn f g → level f.next ≡ f.high → IsFramed skip line level known rows f
     → IsFramed skip line level known rows g
 read_on skip line level known rows f g more here framed =
@@ -78,7 +80,8 @@ read_on skip line level known rows f g more here framed =
     }
 
 -- the level at the next bit's middle
-pub at_next : (skip : Bool) (line : Line) (level : ℕ → Bool) (known at : ℕ) (rows : List Finding) (f : Frame)
+pub at_next : (skip : Bool) (line : Line) (level : ℕ → Bool) (known at : ℕ) (rows : List Finding)
+    (f : Frame)
     → IsFramed skip line level known rows f → Holds level known at f.high → f.next < at
     → level f.next ≡ f.high
 at_next skip line level known at rows f framed holds lt =

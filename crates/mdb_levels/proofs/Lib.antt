@@ -9,3 +9,4 @@ pub mod Shown
 pub mod PartRows
 pub mod OneBus
 pub mod ReadBack
+pub mod Told

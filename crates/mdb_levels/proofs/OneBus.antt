@@ -1,5 +1,6 @@
 -- The bus has one list of rows, in the order of their times.
-use Rattle.std.proofs.Common.{◌++◌, ◌≡◌, inl, inr, ◌≤◌, ◌+◌, ◌-◌, Bool, true, ℕ, List, [], ◌∷◌, refl, sym, ap, subst, ◌∙◌, arith}
+use Rattle.std.proofs.Common.{◌++◌, ◌≡◌, inl, inr, ◌≤◌, ◌+◌, ◌-◌, Bool, true, ℕ, List, [], ◌∷◌}
+use Rattle.std.proofs.Common.{refl, sym, ap, subst, ◌∙◌, arith}
 use Rattle.std.specs.List.{AllPairs}
 use Rattle.mdb_words.specs.declared.event.Event.{Event}
 use Rattle.mdb_words.specs.declared.event.Event.TheVariants.{Word, Break}
@@ -9,7 +10,8 @@ use Rattle.mdb_exports.specs.Order.{Precedes, Merges}
 use Rattle.mdb_exports.proofs.Merges.{one_merge}
 use Rattle.mdb_exports.proofs.Orders.{Ordered, all_pairs, merged_in_order}
 use Rattle.mdb_exports.specs.declared.places.Place.{Place}
-use Rattle.mdb_levels.specs.Levels.{AreFoundOn, Follows, damaged_in, micros_of, middle_of, place_at, pulses_in, rows_in, silent, word, broken, pulsed, harmed, lost}
+use Rattle.mdb_levels.specs.Levels.{AreFoundOn, Follows, damaged_in, micros_of, middle_of, place_at}
+use Rattle.mdb_levels.specs.Levels.{pulses_in, rows_in, silent, word, broken, pulsed, harmed, lost}
 use Rattle.mdb_levels.specs.declared.finding.Finding.{Finding}
 use Rattle.mdb_levels.specs.declared.finding.Finding.TheVariants.{Row, Pulse, Damaged}
 use Rattle.mdb_levels.specs.Moments.{AreRowsOfBus, level_of}

@@ -1,5 +1,6 @@
 -- The part of the rows that is asked for, row by row.
-use Rattle.std.proofs.Common.{ap, sym, ◌∙◌, ◌≡◌, Bool, ◌||◌, if◌then◌else◌, ℕ, Option, List, [], ◌∷◌, ◌++◌}
+use Rattle.std.proofs.Common.{ap, sym, ◌∙◌, ◌≡◌, Bool, ◌||◌, if◌then◌else◌, ℕ, Option, List, []}
+use Rattle.std.proofs.Common.{◌∷◌, ◌++◌}
 use Rattle.std.specs.Prelude.{filter}
 use Rattle.std.proofs.lemmas.List.Elements.{filter-append}
 use Rattle.mdb_words.specs.declared.event.Event.{Event}
@@ -10,14 +11,16 @@ use Rattle.mdb_levels.specs.inner.Parts.{IsNoted}
 use Rattle.mdb_levels.specs.declared.part.LevelsImported.{LevelsImported}
 
 pub told_more : (from until : Option ℕ) (rows : List Event) (row : Event)
-    (before after : LevelsImported) → IsCounted from until rows before → IsNoted from until before after row
+    (before after : LevelsImported) → IsCounted from until rows before
+    → IsNoted from until before after row
     → IsCounted from until (rows ++ row ∷ []) after
 told_more from until rows row before after told noted = record {
   rows_are =
       count_more (is_taken from until) rows row before.rows after.rows told.rows_are noted.rows_are;
   before =
       count_more (is_before from) rows row before.before after.before told.before noted.before;
-  after = count_more (is_behind from until) rows row before.after after.after told.after noted.after;
+  after = count_more (is_behind from until) rows row before.after after.after told.after
+      noted.after;
   marked =
       noted.said.marked
       ∙ (ap (λ b. b || is_marked row) told.marked ∙ sym (any_more is_marked rows row));

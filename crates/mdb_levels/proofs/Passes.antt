@@ -1,10 +1,13 @@
 -- Over words, breaks and pulses, from where nothing is open.
-use Rattle.std.proofs.Common.{◌≡◌, ◌⊎◌, inl, inr, ◌<◌, ◌≤◌, ◌-◌, ◌^◌, Bool, true, false, ℕ, refl, sym, subst, arith}
+use Rattle.std.proofs.Common.{◌≡◌, ◌⊎◌, inl, inr, ◌<◌, ◌≤◌, ◌-◌, ◌^◌, Bool, true, false, ℕ, refl}
+use Rattle.std.proofs.Common.{sym, subst, arith}
 use Rattle.mdb_words.specs.declared.word.Line.{Line}
 use Rattle.mdb_words.specs.declared.word.Line.TheVariants.{Controller}
 use Rattle.mdb_levels.specs.declared.fault.LineFault.{LineFault}
-use Rattle.mdb_levels.specs.declared.fault.LineFault.TheVariants.{Framing, DeviceBreak, LongBreak, Cut}
-use Rattle.mdb_levels.specs.Faults.{Begins, IsHeldLow, IsWrong, Passes, over_break, over_pulse, over_word, there}
+use Rattle.mdb_levels.specs.declared.fault.LineFault.TheVariants.{Framing, DeviceBreak, LongBreak}
+use Rattle.mdb_levels.specs.declared.fault.LineFault.TheVariants.{Cut}
+use Rattle.mdb_levels.specs.Faults.{Begins, IsHeldLow, IsWrong, Passes, over_break, over_pulse}
+use Rattle.mdb_levels.specs.Faults.{over_word, there}
 use Rattle.mdb_levels.specs.Levels.{Falls, IsBreak, IsFrame, Rises, micros_of, middle_of}
 use Rattle.mdb_levels.specs.inner.Standing.{Holds}
 use Rattle.mdb_levels.proofs.Orders.{compared, differ}
@@ -144,7 +147,8 @@ wrong_pulse DeviceBreak line level start seen wrong high = held_pulse level star
 wrong_pulse LongBreak line level start seen wrong high = held_pulse level start seen wrong.0 high
 wrong_pulse Cut line level start seen wrong high = wrong
 
-pub pulse_no_word : (level : ℕ → Bool) (s start value : ℕ) → s ≡ start → level (middle_of s 0) ≡ true
+pub pulse_no_word : (level : ℕ → Bool) (s start value : ℕ) → s ≡ start
+    → level (middle_of s 0) ≡ true
     → IsFrame level start value → ⊥
 pulse_no_word level s start value same high frame =
     differ (level (middle_of start 0)) (subst (λ x. level (middle_of x 0) ≡ true) same high)

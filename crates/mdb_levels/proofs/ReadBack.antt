@@ -1,5 +1,6 @@
 -- The rows of the bus are rows of a transcript, and are read back.
-use Rattle.std.proofs.Common.{arith, refl, sym, subst, inl, inr, ◌≡◌, ◌+◌, ◌-◌, ◌^◌, ◌<◌, ◌≤◌, Bool, true, false, cond, ℕ, zero, suc, List, [], ◌∷◌, All, Option}
+use Rattle.std.proofs.Common.{arith, refl, sym, subst, inl, inr, ◌≡◌, ◌+◌, ◌-◌, ◌^◌, ◌<◌, ◌≤◌, Bool}
+use Rattle.std.proofs.Common.{true, false, cond, ℕ, zero, suc, List, [], ◌∷◌, All, Option}
 use Rattle.std.specs.Prelude.{nat_le}
 use Rattle.std.proofs.lemmas.List.Elements.{All-nil, All-cons}
 use Rattle.std.proofs.lemmas.Bool.{cases_lt}
@@ -13,7 +14,8 @@ use Rattle.mdb_exports.proofs.Merges.{merged_all}
 use Rattle.mdb_exports.proofs.Part.{some_of}
 use Rattle.mdb_exports.proofs.PlainRows.{read_back, small_break, small_word}
 use Rattle.mdb_exports.specs.declared.places.Place.{Place}
-use Rattle.mdb_levels.specs.Levels.{AreFoundOn, Follows, bits_value, micros_of, middle_of, rows_in, silent, word, broken, pulsed, harmed, lost}
+use Rattle.mdb_levels.specs.Levels.{AreFoundOn, Follows, bits_value, micros_of, middle_of, rows_in}
+use Rattle.mdb_levels.specs.Levels.{silent, word, broken, pulsed, harmed, lost}
 use Rattle.mdb_levels.specs.declared.finding.Finding.{Finding}
 use Rattle.mdb_levels.specs.Moments.{AreRowsOfBus, AreSmall, level_at, level_of, level_on}
 use Rattle.mdb_levels.specs.Told.{is_taken, part_of}

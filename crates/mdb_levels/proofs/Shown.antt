@@ -1,5 +1,6 @@
 -- What both lines come to, by their moments.
-use Rattle.std.proofs.Common.{◌≡◌, Bool, ◌≤◌, ◌+◌, ◌++◌, append_assoc, ◌-◌, ◌^◌, false, ℕ, min, ap, ◌∙◌, List, [], ◌∷◌, sym, subst}
+use Rattle.std.proofs.Common.{◌≡◌, Bool, ◌≤◌, ◌+◌, ◌++◌, append_assoc, ◌-◌, ◌^◌, false, ℕ, min, ap}
+use Rattle.std.proofs.Common.{◌∙◌, List, [], ◌∷◌, sym, subst}
 use Rattle.mdb_words.specs.declared.event.Event.{Event}
 use Rattle.mdb_exports.specs.declared.places.Place.{Place}
 use Rattle.mdb_levels.specs.declared.finding.Finding.{Finding}
@@ -10,14 +11,19 @@ use Rattle.mdb_levels.specs.declared.fault.LevelsFault.TheVariants as levels
 use Rattle.mdb_levels.specs.declared.fault.Wrong.{Wrong}
 use Rattle.mdb_levels.specs.declared.lines.Lines.{Lines}
 use Rattle.mdb_levels.specs.declared.moment.Moment.{Moment}
-use Rattle.mdb_levels.specs.Faults.{AreBarred, AreFine, Claims, HaveNoRows, IsFineUntil, IsShown, IsShownAtEnd}
+use Rattle.mdb_levels.specs.Faults.{AreBarred, AreFine, Claims, HaveNoRows, IsFineUntil, IsShown}
+use Rattle.mdb_levels.specs.Faults.{IsShownAtEnd}
 use Rattle.mdb_levels.specs.Levels.{AreFoundOn}
 use Rattle.mdb_levels.specs.Lines.{HaveHeard}
 use Rattle.mdb_levels.specs.Moments.{AreRising, AreRowsOfBus, end_of, level_of}
-use Rattle.mdb_levels.specs.inner.Waves.{IsBarred, IsEmpty, IsFineBy, IsShownBy, IsShownInEnd, IsStopOf, IsWhole}
+use Rattle.mdb_levels.specs.inner.Waves.{IsBarred, IsEmpty, IsFineBy, IsShownBy, IsShownInEnd}
+use Rattle.mdb_levels.specs.inner.Waves.{IsStopOf, IsWhole}
 use Rattle.mdb_levels.proofs.Waves.{fine_by, fits_at, shown_front, shows_at}
 use Rattle.std.specs.Prelude.{IsPermutation}
-use Rattle.std.proofs.lemmas.List.Sorted.{IsPermutation-append_comm, IsPermutation-append_left, IsPermutation-append_right, IsPermutation-refl, IsPermutation-sym, IsPermutation-trans, length_permutation}
+use Rattle.std.proofs.lemmas.List.Sorted.{IsPermutation-append_comm, IsPermutation-append_left}
+use Rattle.std.proofs.lemmas.List.Sorted.{IsPermutation-append_right, IsPermutation-refl}
+use Rattle.std.proofs.lemmas.List.Sorted.{IsPermutation-sym, IsPermutation-trans}
+use Rattle.std.proofs.lemmas.List.Sorted.{length_permutation}
 use Rattle.mdb_exports.specs.Places.{AreNoted}
 use Rattle.mdb_exports.specs.declared.places.Places.{Places}
 use Rattle.mdb_levels.specs.Levels.{damaged_in, pulses_in}

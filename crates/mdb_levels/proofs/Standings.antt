@@ -1,19 +1,26 @@
 -- What is known of a line's rows where it stands.
-use Rattle.std.proofs.Common.{◌≡◌, ◌⊎◌, inl, inr, ◌<◌, ◌≤◌, ◌+◌, ◌-◌, ◌^◌, ◌&&◌, not, ◌++◌, append_assoc, append-nil, Bool, true, false, ℕ, List, [], ◌∷◌, refl, sym, ap, subst, ◌∙◌, arith}
+use Rattle.std.proofs.Common.{◌≡◌, ◌⊎◌, inl, inr, ◌<◌, ◌≤◌, ◌+◌, ◌-◌, ◌^◌, ◌&&◌, not, ◌++◌}
+use Rattle.std.proofs.Common.{append_assoc, append-nil, Bool, true, false, ℕ, List, [], ◌∷◌, refl}
+use Rattle.std.proofs.Common.{sym, ap, subst, ◌∙◌, arith}
 use Rattle.mdb_words.specs.declared.event.Event.{Event}
 use Rattle.mdb_words.specs.declared.event.Event.TheVariants.{Word, Break}
 use Rattle.mdb_words.specs.declared.word.Line.{Line}
 use Rattle.mdb_words.specs.declared.word.Line.TheVariants.{Controller}
 use Rattle.mdb_levels.specs.declared.frame.Frame.{Frame}
 use Rattle.mdb_levels.specs.declared.receiver.State.{State}
-use Rattle.mdb_levels.specs.declared.receiver.State.TheVariants.{Unknown, Idle, Framed, Low, Waiting}
-use Rattle.mdb_levels.specs.Levels.{AreFoundOn, Falls, Follows, IsBreak, IsDamaged, IsFrame, IsHighAgain, Rises, bits_value, micros_of, middle_of, place_at, silent, word, broken, pulsed, harmed, lost}
+use Rattle.mdb_levels.specs.declared.receiver.State.TheVariants.{Unknown, Idle, Framed, Low}
+use Rattle.mdb_levels.specs.declared.receiver.State.TheVariants.{Waiting}
+use Rattle.mdb_levels.specs.Levels.{AreFoundOn, Falls, Follows, IsBreak, IsDamaged, IsFrame}
+use Rattle.mdb_levels.specs.Levels.{IsHighAgain, Rises, bits_value, micros_of, middle_of, place_at}
+use Rattle.mdb_levels.specs.Levels.{silent, word, broken, pulsed, harmed, lost}
 use Rattle.mdb_levels.specs.declared.finding.Finding.{Finding}
 use Rattle.mdb_levels.specs.declared.finding.Finding.TheVariants.{Row, Pulse, Damaged}
-use Rattle.mdb_levels.specs.inner.Standing.{HasNone, Holds, IsBreakRow, IsDue, IsFramed, IsIdle, IsLow, IsPulse, IsWaiting, Leads, Stands, held_of}
+use Rattle.mdb_levels.specs.inner.Standing.{HasNone, Holds, IsBreakRow, IsDue, IsFramed, IsIdle}
+use Rattle.mdb_levels.specs.inner.Standing.{IsLow, IsPulse, IsWaiting, Leads, Stands, held_of}
 use Rattle.mdb_levels.specs.Faults.{Passes, there}
 use Rattle.mdb_levels.proofs.Orders.{compared, differ, zero_or}
-use Rattle.mdb_levels.proofs.Passes.{one_end, one_fall, one_rise, passes_break, passes_pulse, passes_word, pulse_no_break, pulse_no_word}
+use Rattle.mdb_levels.proofs.Passes.{one_end, one_fall, one_rise, passes_break, passes_pulse}
+use Rattle.mdb_levels.proofs.Passes.{passes_word, pulse_no_break, pulse_no_word}
 
 -- what follows from where a line falls
 
@@ -380,12 +387,14 @@ pub extended : (level : ℕ → Bool) (from known at : ℕ) (b : Bool) → Holds
 extended level from known at b one other t le lt =
     elim (compared t known) [ inl sooner ↦ one t le sooner | inr later ↦ other t later lt ]
 
-unnil : (skip : Bool) (line : Line) (level : ℕ → Bool) (known : ℕ) (state : State) (rows : List Finding)
+unnil : (skip : Bool) (line : Line) (level : ℕ → Bool) (known : ℕ) (state : State)
+    (rows : List Finding)
     → Stands skip line level known state rows → Stands skip line level known state (rows ++ [])
 unnil skip line level known state rows stands =
     subst (Stands skip line level known state) (sym (append-nil rows)) stands
 
-framed_to : (skip : Bool) (line : Line) (level : ℕ → Bool) (known at : ℕ) (rows : List Finding) (f : Frame)
+framed_to : (skip : Bool) (line : Line) (level : ℕ → Bool) (known at : ℕ) (rows : List Finding)
+    (f : Frame)
     → IsFramed skip line level known rows f → known ≤ at → at ≤ f.next → Holds level known at f.high
     → IsFramed skip line level at rows f
 framed_to skip line level known at rows f framed le ge holds = record {
@@ -404,7 +413,8 @@ framed_to skip line level known at rows f framed le ge holds = record {
   was_high = λ s. let was = framed.was_high s in (was.0, was.1, omega (arith, was.2, le), was.3);
 }
 
-stayed : (skip : Bool) (line : Line) (level : ℕ → Bool) (known at : ℕ) (state : State) (rows : List Finding)
+stayed : (skip : Bool) (line : Line) (level : ℕ → Bool) (known at : ℕ) (state : State)
+    (rows : List Finding)
     → IsDue at state → Stands skip line level known state rows → known ≤ at
     → Holds level known at (held_of state) → Stands skip line level at state rows
 stayed skip line level known at Unknown rows due stands le holds =
@@ -434,16 +444,20 @@ stayed skip line level known at (Waiting start) rows due stands le holds = recor
   low = extended level (middle_of start 10) known at false stands.low holds;
 }
 
-pub waited : (skip : Bool) (line : Line) (level : ℕ → Bool) (known at : ℕ) (state : State) (rows : List Finding)
+pub waited : (skip : Bool) (line : Line) (level : ℕ → Bool) (known at : ℕ) (state : State)
+    (rows : List Finding)
     → IsDue at state → Stands skip line level known state rows → known ≤ at
     → Holds level known at (held_of state) → Stands skip line level at state (rows ++ [])
 waited skip line level known at state rows due stands le holds =
-    unnil skip line level at state rows (stayed skip line level known at state rows due stands le holds)
+    unnil skip line level at state rows
+    (stayed skip line level known at state rows due stands le holds)
 
 -- a frame whose stop bit is read
 
-pub worded : (skip : Bool) (line : Line) (level : ℕ → Bool) (known at : ℕ) (rows : List Finding) (f : Frame)
-    → f.taken ≡ 10 → f.high ≡ true → IsFramed skip line level known rows f → known ≤ at → f.next < at
+pub worded : (skip : Bool) (line : Line) (level : ℕ → Bool) (known at : ℕ) (rows : List Finding)
+    (f : Frame)
+    → f.taken ≡ 10 → f.high ≡ true → IsFramed skip line level known rows f → known ≤ at
+    → f.next < at
     → Holds level known at f.high
     → IsIdle skip line level at (rows ++ Row (Word (micros_of f.start) line f.value) ∷ [])
 worded skip line level known at rows f ten high framed le lt holds =
@@ -454,7 +468,8 @@ worded skip line level known at rows f ten high framed le lt holds =
     record {
       from = middle_of f.start 10;
       leads =
-          leads_word skip line level rows framed.from f.start f.value framed.leads framed.falls (record {
+          leads_word skip line level rows framed.from f.start f.value framed.leads framed.falls
+          (record {
             start_bit = framed.start_bit (omega (arith, ten));
             data_bits = framed.data_bits ∙ ap (λ k. bits_value level f.start (k - 1)) ten;
             stop_bit = subst (λ x. level x ≡ true) middle (here f.next (omega arith) lt);
@@ -463,8 +478,10 @@ worded skip line level known at rows f ten high framed le lt holds =
       high = λ t sooner later. here t (omega (arith, sooner, middle)) later;
     }
 
-pub lowered : (skip : Bool) (line : Line) (level : ℕ → Bool) (known at : ℕ) (rows : List Finding) (f : Frame)
-    → f.taken ≡ 10 → f.steady ≡ true → IsFramed skip line level known rows f → known ≤ at → f.next < at
+pub lowered : (skip : Bool) (line : Line) (level : ℕ → Bool) (known at : ℕ) (rows : List Finding)
+    (f : Frame)
+    → f.taken ≡ 10 → f.steady ≡ true → IsFramed skip line level known rows f → known ≤ at
+    → f.next < at
     → Holds level known at f.high → IsLow skip line level at (rows ++ []) f.start
 lowered skip line level known at rows f ten steady framed le lt holds =
     let middle : f.next ≡ middle_of f.start 10 = f.at_middle ∙ ap (λ k. middle_of f.start k) ten in
@@ -560,7 +577,8 @@ pulse_passed skip line level known at rows f framed is = record {
 -- a line whose level is taken
 
 pub risen_first : (skip : Bool) (line : Line) (level : ℕ → Bool) (at : ℕ) (rows : List Finding)
-    → Stands skip line level at Unknown rows → level at ≡ true → IsIdle skip line level (at + 1) (rows ++ [])
+    → Stands skip line level at Unknown rows → level at ≡ true
+    → IsIdle skip line level (at + 1) (rows ++ [])
 risen_first skip line level at rows stands high =
     subst (λ r. IsIdle skip line level (at + 1) (r ++ [])) (sym stands.0) (record {
       from = at;
@@ -608,7 +626,8 @@ still_low skip line level at start rows stands low =
           (λ t le lt. let same : t ≡ at = omega (arith, le, lt) in ap level same ∙ low);
     })
 
-pub fallen : (skip : Bool) (line : Line) (level : ℕ → Bool) (at : ℕ) (rows : List Finding) (f : Frame)
+pub fallen : (skip : Bool) (line : Line) (level : ℕ → Bool) (at : ℕ) (rows : List Finding)
+    (f : Frame)
     → f.start ≡ at → f.taken ≡ 0 → f.value ≡ 0 → f.high ≡ false → f.steady ≡ true
     → Stands skip line level at Idle rows → level at ≡ false
     → Stands skip line level (at + 1) (Framed f) (rows ++ [])
@@ -643,12 +662,14 @@ one_false true true h = inr refl
 one_false true false h = absurd cc
 one_false false b h = inl refl
 
-pub turned_framed : (skip : Bool) (line : Line) (level : ℕ → Bool) (at : ℕ) (rows : List Finding) (f g : Frame)
+pub turned_framed : (skip : Bool) (line : Line) (level : ℕ → Bool) (at : ℕ) (rows : List Finding)
+    (f g : Frame)
     (high : Bool) → at ≤ f.next → g.start ≡ f.start → g.next ≡ f.next → g.taken ≡ f.taken
     → g.value ≡ f.value → g.high ≡ high → g.steady ≡ (f.steady && not high)
     → Stands skip line level at (Framed f) rows → level at ≡ high
     → Stands skip line level (at + 1) (Framed g) (rows ++ [])
-turned_framed skip line level at rows f g high due start next taken value level_is steady framed here =
+turned_framed skip line level at rows f g high due start next taken value level_is steady framed
+    here =
     unnil skip line level (at + 1) (Framed g) rows (record {
       from = framed.from;
       leads = framed.leads;
@@ -678,7 +699,8 @@ turned_framed skip line level at rows f g high due start next taken value level_
       ];
     })
 
-pub broke : (skip : Bool) (line : Line) (level : ℕ → Bool) (at start : ℕ) (rows : List Finding) (row : Event)
+pub broke : (skip : Bool) (line : Line) (level : ℕ → Bool) (at start : ℕ) (rows : List Finding)
+    (row : Event)
     → IsBreakRow line start at row → IsLow skip line level at rows start → level at ≡ true
     → IsIdle skip line level (at + 1) (rows ++ Row row ∷ [])
 broke skip line level at start rows row is stands high =
@@ -903,15 +925,18 @@ ends_pulse skip line level known at rows f framed is le high after =
     ])))
 
 -- the end of a table behind the word of a frame
-pub ends_row : (skip : Bool) (line : Line) (level : ℕ → Bool) (known : ℕ) (rows : List Finding) (state : State)
-    → state ≡ Idle → Stands skip line level known state rows → ((t : ℕ) → known ≤ t → level t ≡ true)
+pub ends_row : (skip : Bool) (line : Line) (level : ℕ → Bool) (known : ℕ) (rows : List Finding)
+    (state : State)
+    → state ≡ Idle → Stands skip line level known state rows
+    → ((t : ℕ) → known ≤ t → level t ≡ true)
     → AreFoundOn skip line level rows
 ends_row skip line level known rows state is stands after =
     subst (AreFoundOn skip line level) (append-nil rows) (ends_idle skip line level known rows
     (subst (λ s. Stands skip line level known s rows) is stands) after)
 
 -- the end of a table where no frame is open
-pub ends_quiet : (skip : Bool) (line : Line) (level : ℕ → Bool) (known : ℕ) (rows : List Finding) (state : State)
+pub ends_quiet : (skip : Bool) (line : Line) (level : ℕ → Bool) (known : ℕ) (rows : List Finding)
+    (state : State)
     → (state ≡ Unknown) ⊎ (state ≡ Idle) → Stands skip line level known state rows
     → ((t : ℕ) → known ≤ t → level t ≡ held_of state) → AreFoundOn skip line level (rows ++ [])
 ends_quiet skip line level known rows state is stands after = elim is [
@@ -920,6 +945,7 @@ ends_quiet skip line level known rows state is stands after = elim is [
       (subst (λ s. Stands skip line level known s rows) unknown stands)
       (subst (λ s. (t : ℕ) → known ≤ t → level t ≡ held_of s) unknown after)
   | inr idle ↦
-      ends_idle skip line level known rows (subst (λ s. Stands skip line level known s rows) idle stands)
+      ends_idle skip line level known rows
+      (subst (λ s. Stands skip line level known s rows) idle stands)
       (subst (λ s. (t : ℕ) → known ≤ t → level t ≡ held_of s) idle after)
 ]

@@ -1,5 +1,6 @@
 -- How the levels of a line go on, moment by moment.
-use Rattle.std.proofs.Common.{◌≡◌, ◌<◌, ◌≤◌, ◌+◌, ◌++◌, append_assoc, if◌then◌else◌, nat_le, Bool, false, ℕ, List, [], ◌∷◌, refl, sym, ap, subst, ◌∙◌, arith}
+use Rattle.std.proofs.Common.{◌≡◌, ◌<◌, ◌≤◌, ◌+◌, ◌++◌, append_assoc, if◌then◌else◌, nat_le, Bool}
+use Rattle.std.proofs.Common.{false, ℕ, List, [], ◌∷◌, refl, sym, ap, subst, ◌∙◌, arith}
 use Rattle.std.proofs.lemmas.Bool.Decides.{nat_tests}
 use Rattle.mdb_words.specs.declared.word.Line.{Line}
 use Rattle.mdb_levels.specs.declared.lines.Wave.{Wave}
@@ -14,8 +15,10 @@ use Rattle.mdb_levels.specs.Levels.{AreFoundOn, damaged_in, pulses_in, rows_in}
 use Rattle.mdb_levels.specs.declared.finding.Finding.{Finding}
 use Rattle.mdb_levels.specs.declared.finding.Finding.TheVariants.{Row, Pulse, Damaged}
 use Rattle.mdb_levels.specs.declared.passed.Passed.{Passed}
-use Rattle.mdb_levels.specs.inner.Standing.{HasNone, Holds, IsWrongBy, IsWrongInEnd, Stands, held_of}
-use Rattle.mdb_levels.specs.inner.Waves.{AreAdded, Fits, HasHeard, HasStopped, HasTurned, IsFineBy, IsNow, IsPassed, Shows, last_of}
+use Rattle.mdb_levels.specs.inner.Standing.{HasNone, Holds, IsWrongBy, IsWrongInEnd, Stands}
+use Rattle.mdb_levels.specs.inner.Standing.{held_of}
+use Rattle.mdb_levels.specs.inner.Waves.{AreAdded, Fits, HasHeard, HasStopped, HasTurned, IsFineBy}
+use Rattle.mdb_levels.specs.inner.Waves.{IsNow, IsPassed, Shows, last_of}
 use Rattle.mdb_levels.proofs.Wrongs.{fine_where}
 
 pub shown_more : (line : Line) (level : ℕ → Bool) (b : Bool) (from : ℕ) (ms : List Moment)
@@ -147,10 +150,12 @@ turned_more skip old wave line ms m at high found first second a b c heard now s
             subst (λ f. Stands skip line level (end_of 0 (ms ++ m ∷ [])) wave.state f)
             (append_assoc found first second)
             (subst
-            (λ l. Stands skip l level (end_of 0 (ms ++ m ∷ [])) wave.state ((found ++ first) ++ second))
+            (λ l. Stands skip l level (end_of 0 (ms ++ m ∷ [])) wave.state
+            ((found ++ first) ++ second))
             heard.same
             (subst
-            (λ s. Stands s old.line level (end_of 0 (ms ++ m ∷ [])) wave.state ((found ++ first) ++ second))
+            (λ s. Stands s old.line level (end_of 0 (ms ++ m ∷ [])) wave.state
+            ((found ++ first) ++ second))
             heard.skips
             (subst (λ t. Stands old.skip old.line level t wave.state ((found ++ first) ++ second))
             (ap (λ t. t + 1) (sym now.instant) ∙ sym (end_more 0 ms m))

@@ -1,16 +1,21 @@
 -- Nothing is wrong with a line that its levels show up to where it stands, and what is wrong else.
-use Rattle.std.proofs.Common.{◌≡◌, inl, inr, ◌<◌, ◌≤◌, ◌+◌, ◌-◌, Bool, true, false, ℕ, List, refl, sym, ap, subst, ◌∙◌, arith}
+use Rattle.std.proofs.Common.{◌≡◌, inl, inr, ◌<◌, ◌≤◌, ◌+◌, ◌-◌, Bool, true, false, ℕ, List, refl}
+use Rattle.std.proofs.Common.{sym, ap, subst, ◌∙◌, arith}
 use Rattle.mdb_levels.specs.declared.finding.Finding.{Finding}
 use Rattle.mdb_words.specs.declared.word.Line.{Line}
 use Rattle.mdb_levels.specs.declared.fault.LineFault.{LineFault}
-use Rattle.mdb_levels.specs.declared.fault.LineFault.TheVariants.{Framing, DeviceBreak, LongBreak, Cut}
+use Rattle.mdb_levels.specs.declared.fault.LineFault.TheVariants.{Framing, DeviceBreak, LongBreak}
+use Rattle.mdb_levels.specs.declared.fault.LineFault.TheVariants.{Cut}
 use Rattle.mdb_levels.specs.declared.fault.Wrong.{Wrong}
 use Rattle.mdb_levels.specs.declared.frame.Frame.{Frame}
 use Rattle.mdb_levels.specs.declared.receiver.State.{State}
-use Rattle.mdb_levels.specs.declared.receiver.State.TheVariants.{Unknown, Idle, Framed, Low, Waiting}
-use Rattle.mdb_levels.specs.Faults.{Begins, IsFineUntil, IsHeldLow, IsWrong, Passes, over_break, over_pulse, over_word, there}
+use Rattle.mdb_levels.specs.declared.receiver.State.TheVariants.{Unknown, Idle, Framed, Low}
+use Rattle.mdb_levels.specs.declared.receiver.State.TheVariants.{Waiting}
+use Rattle.mdb_levels.specs.Faults.{Begins, IsFineUntil, IsHeldLow, IsWrong, Passes, over_break}
+use Rattle.mdb_levels.specs.Faults.{over_pulse, over_word, there}
 use Rattle.mdb_levels.specs.Levels.{Falls, micros_of, middle_of}
-use Rattle.mdb_levels.specs.inner.Standing.{Holds, IsFramed, IsIdle, IsLow, IsNoBreak, IsWrongBy, IsWrongInEnd, Leads, Stands}
+use Rattle.mdb_levels.specs.inner.Standing.{Holds, IsFramed, IsIdle, IsLow, IsNoBreak, IsWrongBy}
+use Rattle.mdb_levels.specs.inner.Standing.{IsWrongInEnd, Leads, Stands}
 use Rattle.mdb_levels.proofs.Orders.{compared, differ, zero_or}
 use Rattle.mdb_levels.proofs.Passes.{one_fall, seen_late, wrong_behind}
 use Rattle.mdb_levels.proofs.Standings.{frame_after, frame_start}
@@ -251,7 +256,8 @@ fine_where skip line level known (Waiting start) rows strict stands =
 -- what is wrong with a frame
 
 pub mixed_by : (skip : Bool) (line : Line) (level : ℕ → Bool) (known at : ℕ)
-    (rows : List Finding) (f : Frame) (wrong : Wrong) → skip ≡ false → wrong ≡ record { start = f.start; fault = Framing } → f.taken ≡ 10
+    (rows : List Finding) (f : Frame) (wrong : Wrong) → skip ≡ false
+    → wrong ≡ record { start = f.start; fault = Framing } → f.taken ≡ 10
     → f.high ≡ false → f.steady ≡ false → IsFramed skip line level known rows f → known ≤ at
     → f.next < at → Holds level known at f.high → IsWrongBy line level at wrong
 mixed_by skip line level known at rows f wrong strict is ten low steady framed le lt holds =
@@ -297,7 +303,8 @@ no_break_is LongBreak line level start end fails held = (held, fails.0, fails.1)
 no_break_is Cut line level start end fails held = absurd fails
 
 pub no_break_by : (skip : Bool) (line : Line) (level : ℕ → Bool) (at start : ℕ)
-    (rows : List Finding) (fault : LineFault) → skip ≡ false → IsNoBreak line (micros_of (at - start)) fault
+    (rows : List Finding) (fault : LineFault) → skip ≡ false
+    → IsNoBreak line (micros_of (at - start)) fault
     → IsLow skip line level at rows start → level at ≡ true
     → IsWrongBy line level at (record { start = start; fault = fault })
 no_break_by skip line level at start rows fault strict fails stands high = record {

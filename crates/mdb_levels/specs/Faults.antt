@@ -5,10 +5,12 @@ use Rattle.mdb_words.specs.declared.word.Line.TheVariants.{Controller, Periphera
 use Rattle.mdb_words.specs.declared.event.Event.{Event}
 use Rattle.mdb_exports.specs.declared.places.Place.{Place}
 use Rattle.mdb_levels.specs.declared.finding.Finding.{Finding}
-use Rattle.mdb_levels.specs.Levels.{AreFoundOn, Falls, IsBreak, IsFrame, Rises, micros_of, middle_of}
+use Rattle.mdb_levels.specs.Levels.{AreFoundOn, Falls, IsBreak, IsFrame, Rises, micros_of}
+use Rattle.mdb_levels.specs.Levels.{middle_of}
 use Rattle.mdb_levels.specs.Moments.{AreRising, AreRowsOfBus, end_of, level_of}
 use Rattle.mdb_levels.specs.declared.fault.LineFault.{LineFault}
-use Rattle.mdb_levels.specs.declared.fault.LineFault.TheVariants.{Framing, DeviceBreak, LongBreak, Cut}
+use Rattle.mdb_levels.specs.declared.fault.LineFault.TheVariants.{Framing, DeviceBreak, LongBreak}
+use Rattle.mdb_levels.specs.declared.fault.LineFault.TheVariants.{Cut}
 use Rattle.mdb_levels.specs.declared.fault.LevelsFault.{LevelsFault}
 use Rattle.mdb_levels.specs.declared.fault.LevelsFault.TheVariants as levels
 use Rattle.mdb_levels.specs.declared.fault.Wire.{Wire}

@@ -1,5 +1,6 @@
 -- What the levels of a line tell: words in frames, breaks, and what is passed over.
-use Rattle.std.specs.Prelude.{◌≡◌, ◌⊎◌, ◌+◌, ◌-◌, ◌*◌, ◌/◌, ◌^◌, ◌<◌, ◌≤◌, Bool, true, false, ℕ, zero, suc, List, [], ◌∷◌, if◌then◌else◌}
+use Rattle.std.specs.Prelude.{◌≡◌, ◌⊎◌, ◌+◌, ◌-◌, ◌*◌, ◌/◌, ◌^◌, ◌<◌, ◌≤◌, Bool, true, false, ℕ}
+use Rattle.std.specs.Prelude.{zero, suc, List, [], ◌∷◌, if◌then◌else◌}
 use Rattle.mdb_words.specs.declared.event.Event.{Event}
 use Rattle.mdb_words.specs.declared.event.Event.TheVariants.{Word, Break}
 use Rattle.mdb_words.specs.declared.word.Line.{Line}
@@ -73,7 +74,8 @@ place_at line start = record { at = micros_of start; line = line }
 -- Or it falls, and that is one of these:
 --   * a frame: it goes on so after the middle of the stop bit
 --   * on the controller's line a break: it goes on so after that
---   * a pulse, as the line is high at the middle of what would be the start bit: it goes on so there
+--   * a pulse, as the line is high at the middle of what would be the start bit: it goes on so
+--   there
 --   * where damage is skipped, a damaged word: it goes on so where the line is high again after the
 --     middle of the stop bit; where it never is, nothing more is found
 pub data Follows : Bool → Line → (ℕ → Bool) → ℕ → List Finding → Type 0 where

@@ -12,7 +12,8 @@ use Rattle.mdb_words.specs.declared.word.Line.{Line}
 use Rattle.mdb_exports.specs.Fields.{bare, has_byte}
 use Rattle.mdb_rows_import.specs.Fields.{line_fields, parts_of, separator_of}
 use Rattle.mdb_rows_import.specs.Rows.{AreOf, AreTitles, BeginWithNoDigit, HasNoDigit}
-use Rattle.mdb_rows_import.specs.Rows.{IsHeaderOf, IsLine, IsRowOf, IsTitle, NameNoLine, NamesNothing}
+use Rattle.mdb_rows_import.specs.Rows.{IsHeaderOf, IsLine, IsRowOf, IsTitle, NameNoLine}
+use Rattle.mdb_rows_import.specs.Rows.{NamesNothing}
 use Rattle.mdb_exports.specs.Times.{IsLength, IsSeconds, IsTime, IsTimeForm}
 use Rattle.mdb_rows_import.specs.Values.{IsWord}
 use Rattle.mdb_rows_import.specs.declared.options.RowsOptions.{RowsOptions}

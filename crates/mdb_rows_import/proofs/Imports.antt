@@ -30,7 +30,8 @@ use Rattle.mdb_rows_import.specs.inner.Steps.{HasImported, IsInside, IsNext, IsN
 use Rattle.mdb_rows_import.specs.inner.Steps.{IsRefusalFor, PutsImport, TakesOne}
 use Rattle.mdb_rows_import.specs.inner.Steps.{TellsSame, part_line}
 use Rattle.mdb_rows_import.specs.declared.fault.ImportFault.{ImportFault}
-use Rattle.mdb_rows_import.specs.declared.fault.ImportFault.TheVariants.{BadRecord, Read, Write, Memory}
+use Rattle.mdb_rows_import.specs.declared.fault.ImportFault.TheVariants.{BadRecord, Read, Write}
+use Rattle.mdb_rows_import.specs.declared.fault.ImportFault.TheVariants.{Memory}
 use Rattle.mdb_exports.specs.declared.told.Imported.{Imported}
 use Rattle.mdb_exports.specs.declared.fault.RecordFault.{RecordFault}
 use Rattle.mdb_rows_import.specs.declared.importing.Importing.{Importing}

@@ -1,14 +1,12 @@
 -- What the import of an export answers, and what it writes.
 use Rattle.std.specs.Prelude.{◌≡◌, ◌+◌, ℕ, List, [], ◌∷◌, ◌++◌, length, filter, Bool, true, false}
 use Rattle.std.specs.Prelude.{IfSome, IfNone, Option, Some, None, ⊤, Result, Ok, Err}
-use Rattle.std.specs.Io.KnownBytes.{Appends}
 use Rattle.mdb_words.specs.Event.{start_of}
 use Rattle.std.specs.List.{list_any}
 use Rattle.mdb_words.specs.declared.event.Event.{Event}
 use Rattle.mdb_records.specs.declared.ReadFault.{ReadFault}
 use Rattle.mdb_records.specs.declared.ReadFault.TheVariants as reading
 use Rattle.mdb_exports.specs.Places.{AreNoted}
-use Rattle.mdb_exports.specs.Records.{export_records}
 use Rattle.mdb_exports.specs.Refusal.{IsAnswered}
 use Rattle.mdb_exports.specs.Rows.{rows_text}
 use Rattle.mdb_exports.specs.Told.{is_controllers, is_marked, is_peripherals, told_count}
@@ -21,7 +19,8 @@ use Rattle.mdb_rows_import.specs.Rows.{AreEvents, AreEventsWith, StandsForRow, I
 use Rattle.mdb_rows_import.specs.Rows.{TellsTime, last_with}
 use Rattle.mdb_rows_import.specs.declared.options.RowsOptions.{RowsOptions}
 use Rattle.mdb_rows_import.specs.declared.fault.ImportFault.{ImportFault}
-use Rattle.mdb_rows_import.specs.declared.fault.ImportFault.TheVariants.{BadRecord, Read, Write, Memory}
+use Rattle.mdb_rows_import.specs.declared.fault.ImportFault.TheVariants.{BadRecord, Read, Write}
+use Rattle.mdb_rows_import.specs.declared.fault.ImportFault.TheVariants.{Memory}
 use Rattle.mdb_exports.specs.declared.told.Imported.{Imported}
 
 -- the events of the part that was asked for
@@ -131,12 +130,6 @@ abbrev pub Imports : RowsOptions → List (List (List ℕ)) → Option (List ℕ
     → Result Imported ImportFault → Type 0
 Imports options records before after answer =
     IsAnswered (IsImport options records) Write before after answer
-
--- an export whose bytes are this text: all its rows are written, and nothing else
-abbrev pub IsImported : RowsOptions → List ℕ → Option (List ℕ) → Option (List ℕ) → Type 0
-IsImported options text before after =
-    (rows : List Event) × AreImported options (export_records text) rows
-    × Appends before after (rows_text rows)
 
 -- what a fault of reading is told as
 abbrev pub import_fault_of : ReadFault → ImportFault

@@ -1,12 +1,11 @@
 //! The import of rows: record by record, as they are read.
 
-ghost use Rattle.std.specs.Prelude.{◌≡◌, ◌<◌, ◌-◌, ◌^◌, [], List, ℕ, IfErr, IfOk, IfSome, OnOk};
+ghost use Rattle.std.specs.Prelude.{◌≡◌, ◌<◌, ◌-◌, ◌^◌, [], List, ℕ, IfErr, OnOk};
 ghost use Rattle.std.specs.Prelude.{None, OnErr, Some, length, true};
 ghost use Rattle.mdb_records.specs.Fields.{fields_of};
 ghost use Rattle.mdb_records.specs.ToCome.{ToCome};
-ghost use Rattle.mdb_words.specs.Event.{start_of};
-ghost use Rattle.mdb_exports.specs.Records.{HasFailed, export_records};
-ghost use Rattle.mdb_rows_import.specs.Imports.{AreRead, Imports, IsImported, IsTold};
+ghost use Rattle.mdb_exports.specs.Records.{HasFailed};
+ghost use Rattle.mdb_rows_import.specs.Imports.{AreRead, Imports, IsTold};
 ghost use Rattle.mdb_rows_import.specs.Fields.{line_fields};
 ghost use Rattle.mdb_writing.specs.Output.{Breaks, Puts, begun, output};
 ghost use Rattle.mdb_rows_import.specs.Rows.{last_with};
@@ -20,9 +19,7 @@ use super::fault::ImportFault;
 use super::fields::join;
 use super::options::RowsOptions;
 use super::rows::{event_in, is_header, time_in};
-use mdb_exports::{
-    Imported, Places, RecordFault, expect_after, line_of, records_of, write_refused,
-};
+use mdb_exports::{Imported, Places, RecordFault, expect_after, line_of, write_refused};
 use mdb_records::{Record, Records};
 use mdb_words::{Event, Line};
 use mdb_writing::{Page, WriteFailed};
@@ -30,6 +27,8 @@ use std::alloc::Global;
 use std::io::{Read, Write};
 
 /// Imports the records that are still to come, and writes their rows as it reads.
+///
+/// Those of an export are what [`mdb_exports::records_of`] answers for its reader.
 ///
 /// # Errors
 ///
@@ -58,26 +57,6 @@ pub fn import_records<R: Read + Drop, W: Write>(
         }
         Err(fault) => Err(importing.refuse(fault, writer)),
     }
-}
-
-/// Imports the text that a reader has left, and writes the rows as it reads.
-///
-/// # Errors
-///
-/// As [`import_records`].
-pub fn import_rows<R: Read + Drop, W: Write>(
-    alloc: Global,
-    options: &RowsOptions,
-    reader: R,
-    writer: &mut W,
-) -> Result<Imported, ImportFault>
-    ensures imported { IfSome (R.remaining reader) (λ text. IfOk result (λ imported.
-        IsImported options.now text (W.contents writer.old) (W.contents writer.new))) }
-    ensures imports { IfSome (R.remaining reader) (λ text. Imports options.now
-        (export_records text) (W.contents writer.old) (W.contents writer.new) result) }
-{
-    let mut records = records_of(alloc, reader);
-    import_records(alloc, options, &mut records, writer)
 }
 
 /// How far an import has come.

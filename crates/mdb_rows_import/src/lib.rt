@@ -1,4 +1,4 @@
-//! Imports rows in other forms: [`import_rows`] turns exports of recorders and spreadsheets into
+//! Imports rows in other forms: [`import_records`] turns exports of recorders and spreadsheets into
 //! the rows that `mdbcheck` reads.
 //!
 //! Each record of an export is a row, a header, or refused. Outside the part that is asked for, a
@@ -15,5 +15,5 @@ mod rows;
 mod values;
 
 pub use fault::ImportFault;
-pub use importing::{import_records, import_rows};
+pub use importing::import_records;
 pub use options::RowsOptions;

@@ -198,25 +198,6 @@ events_same options (header ∷ rows) events others damaged more one two =
     rows_same options one.0 None rows others events more damaged
     (subst (λ c. AreRows options c None rows others more) columns two.2) one.2
 
--- nothing is left out unless that was asked for
-
-none_out : (options : SaleaeOptions) (columns : Columns) (last : Option ℕ)
-    (records : List (List (List ℕ))) (events : List Event) (damaged : List Place)
-    → options.skip_damaged ≡ false → AreRows options columns last records events damaged
-    → damaged ≡ []
-none_out options columns last [] events damaged unasked are = are.1
-none_out options columns last (row ∷ records) events damaged unasked (inl are) =
-    none_out options columns (Some (start_of are.0)) records are.1 damaged unasked are.5
-none_out options columns last (row ∷ records) events damaged unasked (inr out) =
-    let asked : true ≡ false = sym out.3.asked ∙ unasked in absurd (cc)
-
-pub nothing_out : (options : SaleaeOptions) (records : List (List (List ℕ))) (events : List Event)
-    (damaged : List Place) → options.skip_damaged ≡ false
-    → AreEvents options records events damaged → damaged ≡ []
-nothing_out options [] events damaged unasked are = absurd are
-nothing_out options (header ∷ rows) events damaged unasked are =
-    none_out options are.0 None rows events damaged unasked are.2
-
 -- each event is one of a row
 
 event_small : (options : SaleaeOptions) (columns : Columns) (fields : List (List ℕ))

@@ -1,16 +1,11 @@
 -- What is written of a table.
-use Rattle.std.proofs.Common.{refl, sym, subst, inl, inr, ◌≡◌, ℕ, List, [], ◌∷◌}
-use Rattle.std.proofs.Common.{Option, Result, Ok, Err}
-use Rattle.std.specs.Prelude.{IfOk}
-use Rattle.std.specs.Io.KnownBytes.{Appends}
-use Rattle.mdb_exports.specs.Records.{export_records}
+use Rattle.std.proofs.Common.{refl, inl, inr, ◌≡◌, ℕ, List, [], ◌∷◌, Option, Result, Err}
 use Rattle.mdb_exports.proofs.Closing.{sent_as}
 use Rattle.mdb_writing.proofs.Outputs.{put_begun}
 use Rattle.mdb_writing.specs.Output.{Output, begun, output}
 use Rattle.mdb_exports.specs.declared.told.Imported.{Imported}
 use Rattle.mdb_saleae.specs.Columns.{IsColumns}
-use Rattle.mdb_saleae.specs.Imports.{Imports, IsHeaderAnswer, IsImport, IsImported, IsRowsImport}
-use Rattle.mdb_saleae.specs.Rows.{AreEvents}
+use Rattle.mdb_saleae.specs.Imports.{IsHeaderAnswer, IsImport, IsRowsImport}
 use Rattle.mdb_saleae.specs.inner.Steps.{PutsRows, PutsTable}
 use Rattle.mdb_saleae.specs.declared.columns.Columns.{Columns}
 use Rattle.mdb_saleae.specs.declared.fault.SaleaeFault.{SaleaeFault}
@@ -57,20 +52,3 @@ never_written options all text (inr header) = header.0
 -- a writer that fails is no failed read
 pub write_apart : Write ≡ Read → ⊥
 write_apart is = absurd (cc)
-
--- a table whose rows are all written
-pub imported_ok : (options : SaleaeOptions) (text : List ℕ) (before after : Option (List ℕ))
-    (answer : Result Imported SaleaeFault)
-    → Imports options (export_records text) before after answer
-    → IfOk answer (λ imported. IsImported options text before after)
-imported_ok options text before after (Ok imported) (inl (written, inl is, appends)) =
-    let P : List ℕ → Type 0 = λ t. Appends before after t in
-    let Q : List (List (List ℕ)) → Type 0 = λ l. AreEvents options l is.import.0 is.import.1 in (
-      is.import.0,
-      is.import.1,
-      subst Q (sym is.split) (is.columns, is.are, is.import.2),
-      subst P is.import.4 appends,
-    )
-imported_ok options text before after (Ok imported) (inl (written, inr is, appends)) = absurd is.0
-imported_ok options text before after (Ok imported) (inr cut) = absurd (let never = cut.0 in cc)
-imported_ok options text before after (Err told) written = tt

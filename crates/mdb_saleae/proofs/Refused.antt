@@ -1,6 +1,8 @@
 -- Records that are no rows, and why.
-use Rattle.std.proofs.Common.{arith, refl, sym, subst, inl, inr, ◌∙◌, ◌≡◌, ◌≤◌, ℕ, List, length, Bool}
-use Rattle.std.proofs.Common.{true, false, Option, Some, None, Result, Ok, Err, IsSome, IfSome, IfErr}
+use Rattle.std.proofs.Common.{arith, refl, sym, subst, inl, inr, ◌∙◌, ◌≡◌, ◌≤◌, ℕ, List, length}
+use Rattle.std.proofs.Common.{Bool}
+use Rattle.std.proofs.Common.{true, false, Option, Some, None, Result, Ok, Err, IsSome, IfSome}
+use Rattle.std.proofs.Common.{IfErr}
 use Rattle.std.proofs.Common.{IfOk}
 use Rattle.mdb_words.specs.Event.{start_of}
 use Rattle.mdb_words.specs.declared.event.Event.{Event}

@@ -1,5 +1,6 @@
 -- Rows and what is told of them, event by event.
-use Rattle.std.proofs.Common.{cond, refl, ap, sym, subst, inl, inr, ◌∙◌, ◌≡◌, ℕ, Bool, true, false, ◌||◌}
+use Rattle.std.proofs.Common.{cond, refl, ap, sym, subst, inl, inr, ◌∙◌, ◌≡◌, ℕ, Bool, true, false}
+use Rattle.std.proofs.Common.{◌||◌}
 use Rattle.std.proofs.Common.{List, [], ◌∷◌, ◌++◌, append_assoc, Option, Some}
 use Rattle.std.specs.Prelude.{filter}
 use Rattle.std.proofs.lemmas.List.{append-nil}

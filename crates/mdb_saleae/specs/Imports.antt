@@ -2,12 +2,10 @@
 use Rattle.std.specs.Prelude.{◌≡◌, ◌⊎◌, ◌+◌, ◌&&◌, ℕ, List, [], ◌∷◌, ◌++◌, ⊤, length, filter, not}
 use Rattle.std.specs.Prelude.{Bool, true, Option, Some, None, Result, Ok, Err}
 use Rattle.std.specs.List.{list_any}
-use Rattle.std.specs.Io.KnownBytes.{Appends}
 use Rattle.mdb_words.specs.Event.{start_of}
 use Rattle.mdb_words.specs.declared.event.Event.{Event}
 use Rattle.mdb_records.specs.declared.ReadFault.{ReadFault}
 use Rattle.mdb_records.specs.declared.ReadFault.TheVariants as reading
-use Rattle.mdb_exports.specs.Records.{export_records}
 use Rattle.mdb_exports.specs.Told.{is_controllers, is_marked, is_peripherals, told_count}
 use Rattle.mdb_exports.specs.Part.{is_from, is_until}
 use Rattle.mdb_exports.specs.Places.{AreNoted}
@@ -18,7 +16,7 @@ use Rattle.mdb_exports.specs.declared.places.Place.{Place}
 use Rattle.mdb_exports.specs.declared.told.Imported.{Imported}
 use Rattle.mdb_saleae.specs.Columns.{IsColumns, IsHeaderFault}
 use Rattle.mdb_saleae.specs.Refusals.{IsFault}
-use Rattle.mdb_saleae.specs.Rows.{AreEvents, AreRows, IsLeftOut, IsTableRow, last_start}
+use Rattle.mdb_saleae.specs.Rows.{AreRows, IsLeftOut, IsTableRow, last_start}
 use Rattle.mdb_saleae.specs.declared.columns.Columns.{Columns}
 use Rattle.mdb_saleae.specs.declared.fault.RowFault.{RowFault}
 use Rattle.mdb_saleae.specs.declared.fault.SaleaeFault.{SaleaeFault}
@@ -144,13 +142,6 @@ abbrev pub Imports : SaleaeOptions → List (List (List ℕ)) → Option (List �
     → Result Imported SaleaeFault → Type 0
 Imports options records before after answer =
     IsAnswered (IsImport options records) Write before after answer
-
--- a table whose bytes are this text: all its rows are written, and nothing else
-abbrev pub IsImported : SaleaeOptions → List ℕ → Option (List ℕ) → Option (List ℕ) → Type 0
-IsImported options text before after =
-    (events : List Event) × (damaged : List Place)
-    × AreEvents options (export_records text) events damaged
-    × Appends before after (part_text options events)
 
 -- what a fault of reading is told as
 abbrev pub read_fault_of : ReadFault → SaleaeFault

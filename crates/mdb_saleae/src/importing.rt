@@ -1,15 +1,15 @@
 //! The import of a table: record by record, as they are read.
 
-ghost use Rattle.std.specs.Prelude.{◌≡◌, ◌<◌, ◌≤◌, ◌+◌, ◌-◌, ◌^◌, [], List, ℕ, IfErr, IfOk, IfSome};
+ghost use Rattle.std.specs.Prelude.{◌≡◌, ◌<◌, ◌≤◌, ◌+◌, ◌-◌, ◌^◌, [], List, ℕ, IfErr};
 ghost use Rattle.std.specs.Prelude.{OnErr, OnOk, None, Some, length};
 ghost use Rattle.mdb_records.specs.Fields.{fields_of};
 ghost use Rattle.mdb_records.specs.ToCome.{ToCome, fault_of};
 ghost use Rattle.mdb_words.specs.Event.{start_of};
-ghost use Rattle.mdb_exports.specs.Records.{HasFailed, export_records};
+ghost use Rattle.mdb_exports.specs.Records.{HasFailed};
 ghost use Rattle.mdb_writing.specs.Output.{Breaks, Puts, begun, output};
 ghost use Rattle.mdb_exports.specs.shared.Closing.{Refuses, telling};
 ghost use Rattle.mdb_exports.specs.shared.Told.{IsKept, IsSaid};
-ghost use Rattle.mdb_saleae.specs.Imports.{Imports, IsImported, IsTold};
+ghost use Rattle.mdb_saleae.specs.Imports.{Imports, IsTold};
 ghost use Rattle.mdb_saleae.specs.inner.Steps.{Begins, HasFailedBehind, HasImported, IsNext};
 ghost use Rattle.mdb_saleae.specs.inner.Steps.{IsNoted, PutsRows, PutsTable};
 ghost use Rattle.mdb_saleae.specs.inner.Steps.{TakesOne, fault_at, part_line};
@@ -18,24 +18,25 @@ use super::columns::{Columns, read_columns};
 use super::fault::{RowFault, SaleaeFault};
 use super::options::SaleaeOptions;
 use super::rows::{Found, Refusal, found_in};
-use mdb_exports::{Imported, Places, expect_after, line_of, records_of, write_refused};
+use mdb_exports::{Imported, Places, expect_after, line_of, write_refused};
 use mdb_records::{ReadFault, Record, Records};
 use mdb_words::{Event, Line};
 use mdb_writing::{Page, WriteFailed};
-use std::alloc::Global;
 use std::io::{Read, Write};
 
 /// Imports the records that are still to come, the header first, and writes their rows as it reads.
+///
+/// Those of a table are what [`mdb_exports::records_of`] answers for its reader.
 ///
 /// # Errors
 ///
 /// `NoHeader` where there is no record, and `BadHeader` where the first one lacks a column or has
 /// one twice. `BadRow`, or `BadRecord` where its time isn't known, for the first record behind it
 /// that is no row after the one before it, and isn't left out: then the rows of all records before
-/// it were written. `Read` where the reader failed and `Memory` where memory was refused: then those
-/// of some first records were. After these rows, or where there are none, comes a line that is no
-/// row, so that no checker takes them for a whole recording. `Write` where the writer failed: then
-/// it took a front of what is written where it doesn't fail.
+/// it were written. `Read` where the reader failed and `Memory` where memory was refused: then
+/// those of some first records were. After these rows, or where there are none, comes a line that
+/// is no row, so that no checker takes them for a whole recording. `Write` where the writer failed:
+/// then it took a front of what is written where it doesn't fail.
 pub fn import_table<R: Read + Drop, W: Write>(
     options: &SaleaeOptions,
     records: &mut Records<R>,
@@ -55,26 +56,6 @@ pub fn import_table<R: Read + Drop, W: Write>(
         }
         Err(fault) => Err(importing.refuse(fault, writer)),
     }
-}
-
-/// Imports the table that a reader has left, and writes the rows as it reads.
-///
-/// # Errors
-///
-/// As [`import_table`].
-pub fn import_saleae<R: Read + Drop, W: Write>(
-    alloc: Global,
-    options: &SaleaeOptions,
-    reader: R,
-    writer: &mut W,
-) -> Result<Imported, SaleaeFault>
-    ensures imported { IfSome (R.remaining reader) (λ text. IfOk result (λ imported.
-        IsImported options.now text (W.contents writer.old) (W.contents writer.new))) }
-    ensures imports { IfSome (R.remaining reader) (λ text. Imports options.now
-        (export_records text) (W.contents writer.old) (W.contents writer.new) result) }
-{
-    let mut records = records_of(alloc, reader);
-    import_table(options, &mut records, writer)
 }
 
 /// The columns that the first of the records that are still to come names.

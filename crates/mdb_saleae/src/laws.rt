@@ -1,6 +1,6 @@
 //! Laws of tables and of their times. Each function's contract is the law, and its body is empty.
 
-ghost use Rattle.std.specs.Prelude.{◌≡◌, ◌+◌, ◌*◌, ◌^◌, ◌<◌, IfSome, List, [], false, filter, ℕ};
+ghost use Rattle.std.specs.Prelude.{◌≡◌, ◌+◌, ◌*◌, ◌^◌, ◌<◌, IfSome, List, filter, ℕ};
 ghost use Rattle.mdb_words.specs.declared.event.Event.{Event};
 ghost use Rattle.mdb_exports.specs.Numbers.{IsNearest};
 ghost use Rattle.mdb_exports.specs.declared.places.Place.{Place};
@@ -23,13 +23,6 @@ pub fn events_of_a_table_are_the_only_ones()
         (events others : List Event) (damaged more : List Place)
         → AreEvents options records events damaged → AreEvents options records others more
         → (others ≡ events) × (more ≡ damaged) }
-{}
-
-/// Nothing is left out of a table unless that was asked for.
-pub fn nothing_is_left_out_unasked()
-    ensures { (options : SaleaeOptions) (records : List (List (List ℕ))) (events : List Event)
-        (damaged : List Place) → options.skip_damaged ≡ false
-        → AreEvents options records events damaged → damaged ≡ [] }
 {}
 
 /// What is written of a table is read as just the rows that were written.

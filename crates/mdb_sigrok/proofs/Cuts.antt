@@ -1,5 +1,8 @@
 -- Texts cut in two, and their lines.
-use Rattle.std.proofs.Common.{◌≡◌, ◌≢◌, ◌==◌, ℕ, zero, suc, ◌+◌, ◌-◌, ◌<◌, List, [], ◌∷◌, ◌++◌, length, get_or, take, drop, map, Option, None, Some, refl, sym, ap, subst, ◌∙◌, arith, cond, if◌then◌else◌, true, false, add-one, length-drop}
+use Rattle.std.proofs.Common.{◌≡◌, ◌≢◌, ◌==◌, ℕ, zero, suc, ◌+◌, ◌-◌, ◌<◌, List, [], ◌∷◌, ◌++◌}
+use Rattle.std.proofs.Common.{length, get_or, take, drop, map, Option, None, Some, refl, sym, ap}
+use Rattle.std.proofs.Common.{subst, ◌∙◌, arith, cond, if◌then◌else◌, true, false, add-one}
+use Rattle.std.proofs.Common.{length-drop}
 use Rattle.std.proofs.Math.Seq.{take-append_seam}
 use Rattle.std.proofs.lemmas.Bool.{eqb-true}
 use Rattle.std.proofs.lemmas.Int.{clamps}

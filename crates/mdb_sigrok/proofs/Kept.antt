@@ -1,9 +1,12 @@
 -- What is kept of the notes of both lines.
-use Rattle.std.proofs.Common.{◌≡◌, ◌-◌, ◌^◌, min, List, [], ◌++◌, append_assoc, append-nil, Result, Ok, Err, OnOk, sym, ap, subst, ◌∙◌}
+use Rattle.std.proofs.Common.{◌≡◌, ◌-◌, ◌^◌, min, List, [], ◌++◌, append_assoc, append-nil, Result}
+use Rattle.std.proofs.Common.{Ok, Err, OnOk, sym, ap, subst, ◌∙◌}
 use Rattle.std.specs.Prelude.{IsPermutation}
 use Rattle.std.specs.List.{flat_map}
 use Rattle.std.proofs.lemmas.Grind.{flat_map-append}
-use Rattle.std.proofs.lemmas.List.Sorted.{IsPermutation-append_comm, IsPermutation-append_left, IsPermutation-append_right, IsPermutation-sym, IsPermutation-trans, length_permutation}
+use Rattle.std.proofs.lemmas.List.Sorted.{IsPermutation-append_comm, IsPermutation-append_left}
+use Rattle.std.proofs.lemmas.List.Sorted.{IsPermutation-append_right, IsPermutation-sym}
+use Rattle.std.proofs.lemmas.List.Sorted.{IsPermutation-trans, length_permutation}
 use Rattle.mdb_words.specs.declared.event.Event.{Event}
 use Rattle.mdb_words.specs.declared.word.Line.{Line}
 use Rattle.mdb_words.specs.declared.word.Line.TheVariants.{Controller, Peripheral}
@@ -126,7 +129,13 @@ more_kept one two three s a t b first second = record {
 pub both_kept : (c d e f : State) (sent told : List Event) (answered told_too : List Event)
     (one two three : Passed) (s a : List Note) → AreKept Controller s sent told one two
     → AreKept Peripheral a answered told_too two three
-    → IsKept (record { controller = c; devices = d; sent = sent; answered = answered; passed = one })
+    → IsKept (record {
+      controller = c;
+      devices = d;
+      sent = sent;
+      answered = answered;
+      passed = one;
+    })
     (record { controller = e; devices = f; sent = told; answered = told_too; passed = three }) s a
 both_kept c d e f sent told answered told_too one two three s a first second = record {
   sent_rows = first.rows;

@@ -1,5 +1,6 @@
 -- How the records of a line go on.
-use Rattle.std.proofs.Common.{arith, ◌≡◌, ◌≢◌, ◌<◌, ◌≤◌, ℕ, ◌+◌, ◌⊎◌, inl, inr, Bool, true, false, List, [], ◌∷◌, ◌++◌, refl, sym, ap, subst, ◌∙◌}
+use Rattle.std.proofs.Common.{arith, ◌≡◌, ◌≢◌, ◌<◌, ◌≤◌, ℕ, ◌+◌, ◌⊎◌, inl, inr, Bool, true, false}
+use Rattle.std.proofs.Common.{List, [], ◌∷◌, ◌++◌, refl, sym, ap, subst, ◌∙◌}
 use Rattle.mdb_words.specs.declared.event.Event.TheVariants.{Word, Break}
 use Rattle.mdb_words.specs.declared.word.Line.{Line}
 use Rattle.mdb_sigrok.specs.declared.note.Note.{Note}
@@ -8,7 +9,9 @@ use Rattle.mdb_sigrok.specs.declared.pair.Pair.{Pair}
 use Rattle.mdb_sigrok.specs.declared.pair.What.{What}
 use Rattle.mdb_sigrok.specs.declared.pair.What.TheVariants.{Start, Data, FrameError, BreakEnd}
 use Rattle.mdb_sigrok.specs.Text.{micros_of}
-use Rattle.mdb_sigrok.specs.Rows.{IsBreak, IsErrorOf, IsLow, IsPulse, IsStart, HasNoError, LineRows, nothing, unfinished, pulse, word, broken, damaged, damaged_low, break_of, length_of}
+use Rattle.mdb_sigrok.specs.Rows.{IsBreak, IsErrorOf, IsLow, IsPulse, IsStart, HasNoError, LineRows}
+use Rattle.mdb_sigrok.specs.Rows.{nothing, unfinished, pulse, word, broken, damaged, damaged_low}
+use Rattle.mdb_sigrok.specs.Rows.{break_of, length_of}
 use Rattle.mdb_sigrok.specs.inner.Steps.{EndsWith, IsState, LowNote, of_break, of_damage}
 use Rattle.mdb_sigrok.specs.declared.line.State.{State}
 use Rattle.mdb_sigrok.specs.declared.line.Open.TheVariants.{Nothing}

@@ -1,10 +1,12 @@
 -- How a trace goes on, pair by pair.
-use Rattle.std.proofs.Common.{◌≡◌, ℕ, Bool, true, false, if◌then◌else◌, List, [], ◌∷◌, ◌++◌, append_assoc, codes, append-nil, refl, sym, ap, subst, ◌∙◌}
+use Rattle.std.proofs.Common.{◌≡◌, ℕ, Bool, true, false, if◌then◌else◌, List, [], ◌∷◌, ◌++◌}
+use Rattle.std.proofs.Common.{append_assoc, codes, append-nil, refl, sym, ap, subst, ◌∙◌}
 use Rattle.mdb_words.specs.declared.event.Event.{Event}
 use Rattle.mdb_words.specs.declared.word.Line.{Line}
 use Rattle.mdb_words.specs.declared.word.Line.TheVariants.{Controller, Peripheral}
 use Rattle.mdb_sigrok.specs.declared.fault.SigrokFault.{SigrokFault}
-use Rattle.mdb_sigrok.specs.declared.fault.SigrokFault.TheVariants.{Form, Order, Read, Write, Memory}
+use Rattle.mdb_sigrok.specs.declared.fault.SigrokFault.TheVariants.{Form, Order, Read, Write}
+use Rattle.mdb_sigrok.specs.declared.fault.SigrokFault.TheVariants.{Memory}
 use Rattle.mdb_sigrok.specs.declared.line.State.{State}
 use Rattle.mdb_sigrok.specs.declared.note.Note.{Note}
 use Rattle.mdb_sigrok.specs.declared.options.SigrokOptions.{SigrokOptions}
@@ -13,7 +15,9 @@ use Rattle.mdb_sigrok.specs.declared.reading.Passed.{Passed}
 use Rattle.mdb_sigrok.specs.Notes.{rows_in}
 use Rattle.mdb_sigrok.specs.Rows.{LineRows}
 use Rattle.mdb_sigrok.specs.Trace.{Refutes, TellPairs, last, more, is_line, on_line}
-use Rattle.mdb_sigrok.specs.inner.Pairs.{Bars, Begins, BothEnd, Comes, Ends, Finds, GoBy, Goes, IsNext, IsOfTrace, LineLeads, Moves, Remains, Stand, Stops, Tells, first_of}
+use Rattle.mdb_sigrok.specs.inner.Pairs.{Bars, Begins, BothEnd, Comes, Ends, Finds, GoBy, Goes}
+use Rattle.mdb_sigrok.specs.inner.Pairs.{IsNext, IsOfTrace, LineLeads, Moves, Remains, Stand, Stops}
+use Rattle.mdb_sigrok.specs.inner.Pairs.{Tells, first_of}
 use Rattle.mdb_sigrok.specs.inner.Steps.{EndsWith, Leads, open_pairs}
 use Rattle.mdb_sigrok.proofs.Kept.{both_kept, kept_none, more_kept, none_kept}
 use Rattle.mdb_sigrok.proofs.Whats.{one_next}
@@ -240,7 +244,8 @@ pub device_goes : (skip : Bool) (c a b : State) (sent answered told : List Event
     (record { controller = c; devices = a; sent = sent; answered = answered; passed = one })
     (record { controller = c; devices = b; sent = sent; answered = told; passed = two }) pair
 device_goes skip c a b sent answered told one two pair is here at_line =
-    let goes = subst (λ l. Goes skip l a b (pair ∷ []) answered told one two) here at_line in record {
+    let goes = subst (λ l. Goes skip l a b (pair ∷ []) answered told one two) here at_line in
+    record {
       sent = [];
       answered = goes.told;
       controller = waits skip Controller c (on_line Controller (pair ∷ [])) (no_controller pair is);
@@ -463,7 +468,8 @@ both_end skip a b c d sent told answered told_too one two three is_one is_two at
       controller = first.ends;
       devices = second.ends;
       kept =
-          both_kept a b c d sent told answered told_too one two three first.told second.told first.kept
+          both_kept a b c d sent told answered told_too one two three first.told second.told
+          first.kept
           second.kept;
     }
 

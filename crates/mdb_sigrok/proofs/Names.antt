@@ -1,5 +1,6 @@
 -- Names of hexadecimal digits.
-use Rattle.std.proofs.Common.{◌≡◌, ◌≤◌, ◌<◌, ℕ, List, length, take, subst, All, Bool, true, false, not, Option, Some, None, IfSome, IfNone}
+use Rattle.std.proofs.Common.{◌≡◌, ◌≤◌, ◌<◌, ℕ, List, length, take, subst, All, Bool, true, false}
+use Rattle.std.proofs.Common.{not, Option, Some, None, IfSome, IfNone}
 use Rattle.std.proofs.lemmas.List.{take_all}
 use Rattle.std.specs.Fmt.{digit_glyph}
 use Rattle.std.specs.Option.{is_some}

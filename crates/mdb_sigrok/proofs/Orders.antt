@@ -9,7 +9,8 @@ use Rattle.mdb_exports.proofs.Orders.{Ordered, all_pairs, merged_in_order}
 use Rattle.mdb_sigrok.specs.declared.note.Note.{Note}
 use Rattle.mdb_sigrok.specs.declared.pair.Pair.{Pair}
 use Rattle.mdb_sigrok.specs.Notes.{rows_in}
-use Rattle.mdb_sigrok.specs.Rows.{LineRows, nothing, unfinished, pulse, word, broken, damaged, damaged_low}
+use Rattle.mdb_sigrok.specs.Rows.{LineRows, nothing, unfinished, pulse, word, broken, damaged}
+use Rattle.mdb_sigrok.specs.Rows.{damaged_low}
 use Rattle.mdb_sigrok.specs.Text.{micros_of}
 
 -- rows from a later microsecond on are rows from an earlier one on
@@ -35,7 +36,8 @@ ordered_of {line = line} {e = e} (damaged start data_pair frame value pairs note
     single rest) =
     ordered_from line e (micros_of start.from + 1) (rows_in notes)
     (let late = starts.late in omega (arith, late)) (ordered_of rest)
-ordered_of {line = line} {e = e} (damaged_low start data_pair frame end value pairs notes starts what
+ordered_of {line = line} {e = e}
+    (damaged_low start data_pair frame end value pairs notes starts what
     error low none rest) =
     ordered_from line e (micros_of start.from + 1) (rows_in notes)
     (let late = starts.late in omega (arith, late)) (ordered_of rest)

@@ -1,8 +1,10 @@
 -- A record is read in one way.
-use Rattle.std.proofs.Common.{◌≡◌, ℕ, Bool, true, false, List, ◌∷◌, ◌++◌, get_or, refl, sym, ap, subst, ◌∙◌, arith}
+use Rattle.std.proofs.Common.{◌≡◌, ℕ, Bool, true, false, List, ◌∷◌, ◌++◌, get_or, refl, sym, ap}
+use Rattle.std.proofs.Common.{subst, ◌∙◌, arith}
 use Rattle.std.proofs.lemmas.List.{append_cancel_left}
 use Rattle.mdb_sigrok.specs.Text.{IsCut, IsTime, Lacks}
-use Rattle.mdb_sigrok.specs.Record.{AreNames, IsField, IsHead, IsRecord, before_name, before_tid, end_of, front_of}
+use Rattle.mdb_sigrok.specs.Record.{AreNames, IsField, IsHead, IsRecord, before_name, before_tid}
+use Rattle.mdb_sigrok.specs.Record.{end_of, front_of}
 use Rattle.mdb_sigrok.specs.inner.Heads.{HasHead}
 use Rattle.mdb_sigrok.proofs.Cuts.{no_cut, one_cut}
 use Rattle.mdb_sigrok.proofs.Digits.{one_time, time_lacks_comma}

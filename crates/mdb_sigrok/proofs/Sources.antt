@@ -1,5 +1,7 @@
 -- How a trace goes on, as it is read from a reader whose bytes are known.
-use Rattle.std.proofs.Common.{◌≡◌, ◌⊎◌, inl, inr, ℕ, Bool, true, false, List, [], ◌∷◌, codes, Option, None, Some, Result, Ok, Err, IfSome, IfNone, IfErr, IfOk, subst}
+use Rattle.std.proofs.Common.{◌≡◌, ◌⊎◌, inl, inr, ℕ, Bool, true, false, List, [], ◌∷◌, codes}
+use Rattle.std.proofs.Common.{Option, None, Some, Result, Ok, Err, IfSome, IfNone, IfErr, IfOk}
+use Rattle.std.proofs.Common.{subst}
 use Rattle.std.specs.Io.KnownBytes.{Appends, Keeps}
 use Rattle.mdb_writing.specs.Written.{HasTaken}
 use Rattle.mdb_words.specs.declared.event.Event.{Event}
@@ -16,17 +18,20 @@ use Rattle.mdb_sigrok.specs.declared.reading.Passed.{Passed}
 use Rattle.mdb_sigrok.specs.declared.rows.TraceRows.{TraceRows}
 use Rattle.mdb_sigrok.specs.declared.tally.SigrokRows.{SigrokRows}
 use Rattle.mdb_sigrok.specs.Found.{IsFound, IsOnly}
-use Rattle.mdb_sigrok.specs.Import.{IsImported, IsRefused}
+use Rattle.mdb_sigrok.specs.Import.{Imports}
 use Rattle.mdb_sigrok.specs.Part.{IsTold}
 use Rattle.mdb_sigrok.specs.Text.{lines_of}
 use Rattle.mdb_sigrok.specs.Trace.{AreRowsOfTrace, Refutes}
-use Rattle.mdb_sigrok.specs.inner.Closed.{IsClosed}
+use Rattle.mdb_exports.specs.shared.Closing.{IsClosed}
 use Rattle.mdb_sigrok.specs.inner.Fronts.{AreFirst, Leaves}
-use Rattle.mdb_sigrok.specs.inner.Pairs.{Bars, Begins, BothEnd, Finds, GoBy, IsNext, Moves, Stand, Stops, Tells}
+use Rattle.mdb_sigrok.specs.inner.Pairs.{Bars, Begins, BothEnd, Finds, GoBy, IsNext, Moves, Stand}
+use Rattle.mdb_sigrok.specs.inner.Pairs.{Stops, Tells}
 use Rattle.mdb_sigrok.specs.inner.Tallies.{part_text}
 use Rattle.mdb_sigrok.proofs.Fronts.{first_alone, line_alone, one_line}
-use Rattle.mdb_sigrok.proofs.Moves.{all_found, barred_stops, moves_by, moves_none, moves_on, moves_stop, refutes_too, start_stops}
-use Rattle.mdb_sigrok.proofs.Traces.{found_rows, imported_of, only_rows, partial_of, refused_of, refused_rows}
+use Rattle.mdb_sigrok.proofs.Moves.{all_found, barred_stops, moves_by, moves_none, moves_on}
+use Rattle.mdb_sigrok.proofs.Moves.{moves_stop, refutes_too, start_stops}
+use Rattle.mdb_sigrok.proofs.Traces.{found_rows, imported_of, only_rows, partial_of, refused_of}
+use Rattle.mdb_sigrok.proofs.Traces.{refused_rows}
 
 -- pair by pair
 
@@ -35,7 +40,8 @@ pub moves_begin : (options : SigrokOptions) (a : Option (List ℕ)) (stand : Sta
 moves_begin options None stand = tt
 moves_begin options (Some text) stand = moves_none options true (lines_of text) stand
 
-pub moves_twice : (options : SigrokOptions) (more : Bool) (a b c : Option (List ℕ)) (one two three : Stand)
+pub moves_twice : (options : SigrokOptions) (more : Bool) (a b c : Option (List ℕ))
+    (one two three : Stand)
     → Leaves a b (λ text rest. Moves options true (lines_of text) one true (lines_of rest) two)
     → Leaves b c (λ text rest. Moves options true (lines_of text) two more (lines_of rest) three)
     → Leaves a c (λ text rest. Moves options true (lines_of text) one more (lines_of rest) three)
@@ -43,10 +49,12 @@ moves_twice options more None b c one two three first second = tt
 moves_twice options more (Some text) None c one two three first second = absurd first
 moves_twice options more (Some text) (Some mid) None one two three first second = absurd second
 moves_twice options more (Some text) (Some mid) (Some rest) one two three first second =
-    moves_on options true true more (lines_of text) (lines_of mid) (lines_of rest) one two three first
+    moves_on options true true more (lines_of text) (lines_of mid) (lines_of rest) one two three
+    first
     second
 
-pub stops_behind : (fault : SigrokFault) (options : SigrokOptions) (a b : Option (List ℕ)) (one two : Stand)
+pub stops_behind : (fault : SigrokFault) (options : SigrokOptions) (a b : Option (List ℕ))
+    (one two : Stand)
     → Leaves a b (λ text rest. Moves options true (lines_of text) one true (lines_of rest) two)
     → IfSome b (λ text. (fault ≡ Read) ⊎ Stops fault options true (lines_of text) two)
     → IfSome a (λ text. (fault ≡ Read) ⊎ Stops fault options true (lines_of text) one)
@@ -60,7 +68,8 @@ stops_behind fault options (Some text) (Some mid) one two moves stops = elim sto
 
 -- by two lines that are shown
 
-pub shown_moves : (options : SigrokOptions) (more : Bool) (a b : Option (List ℕ)) (pair : Pair) (one two : Stand)
+pub shown_moves : (options : SigrokOptions) (more : Bool) (a b : Option (List ℕ)) (pair : Pair)
+    (one two : Stand)
     → Leaves a b (λ text rest. IsNext options.swap (lines_of text) pair more (lines_of rest))
     → GoBy options.skip_damaged one two pair
     → Leaves a b (λ text rest. Moves options true (lines_of text) one more (lines_of rest) two)
@@ -69,11 +78,14 @@ shown_moves options more (Some text) None pair one two next go = absurd next
 shown_moves options more (Some text) (Some rest) pair one two next go =
     moves_by options (lines_of text) one two pair more (lines_of rest) next go
 
-pub shown_stops : (fault : SigrokFault) (options : SigrokOptions) (more : Bool) (a b : Option (List ℕ)) (pair : Pair)
+pub shown_stops : (fault : SigrokFault) (options : SigrokOptions) (more : Bool)
+    (a b : Option (List ℕ)) (pair : Pair)
     (stand : Stand)
     → Leaves a b (λ text rest. IsNext options.swap (lines_of text) pair more (lines_of rest))
-    → (pair.line ≡ Controller → Bars fault options.skip_damaged Controller stand.controller (pair ∷ []))
-    → (pair.line ≡ Peripheral → Bars fault options.skip_damaged Peripheral stand.devices (pair ∷ []))
+    → (pair.line ≡ Controller → Bars fault options.skip_damaged Controller stand.controller
+    (pair ∷ []))
+    → (pair.line ≡ Peripheral → Bars fault options.skip_damaged Peripheral stand.devices
+    (pair ∷ []))
     → IfSome a (λ text. (fault ≡ Read) ⊎ Stops fault options true (lines_of text) stand)
 shown_stops fault options more None b pair stand next one two = tt
 shown_stops fault options more (Some text) None pair stand next one two = absurd next
@@ -214,7 +226,7 @@ pub imported_by : (options : SigrokOptions) (known : Option (List ℕ)) (found :
     → ((pulses damaged : List Place) → AreNoted found.pulses pulses
     → AreNoted found.damaged damaged → IsTold options found.rows.items pulses damaged told)
     → Appends before after (part_text options found.rows.items)
-    → IfSome known (λ text. IsImported options text told before after)
+    → IfSome known (λ text. Imports options text before after (Ok told))
 imported_by options None found told before after is tally written = tt
 imported_by options (Some text) found told before after is tally written =
     imported_of options text found told before after is tally written
@@ -223,7 +235,7 @@ pub partial_by : (options : SigrokOptions) (known : Option (List ℕ)) (found : 
     (fault : SigrokFault) (before after : Option (List ℕ))
     → IfSome known (λ text. IsFound options text found)
     → HasTaken before after (part_text options found.rows.items) → fault ≡ Write
-    → IfSome known (λ text. IsRefused options text fault before after)
+    → IfSome known (λ text. Imports options text before after (Err fault))
 partial_by options None found fault before after is taken write = tt
 partial_by options (Some text) found fault before after is taken write =
     partial_of options text found fault before after is taken write
@@ -233,8 +245,8 @@ pub refused_by : (options : SigrokOptions) (known : Option (List ℕ)) (fault to
     → IfSome known (λ text. (fault ≡ Read)
     ⊎ ((rows : List Event) (pulses damaged : List Place)
     → Refutes fault (AreRowsOfTrace options text rows pulses damaged)))
-    → IsClosed fault before after told
-    → IfSome known (λ text. IsRefused options text told before after)
+    → IsClosed Write fault before after told
+    → IfSome known (λ text. Imports options text before after (Err told))
 refused_by options None fault told before after never closed = tt
 refused_by options (Some text) fault told before after never closed =
     refused_of options text fault told before after never closed

@@ -1,5 +1,6 @@
 -- What is told of rows, with one more.
-use Rattle.std.proofs.Common.{ap, sym, subst, ◌∙◌, ◌≡◌, ◌+◌, ◌<◌, ℕ, ◌||◌, List, [], ◌∷◌, ◌++◌, get_or, length, take}
+use Rattle.std.proofs.Common.{ap, sym, subst, ◌∙◌, ◌≡◌, ◌+◌, ◌<◌, ℕ, ◌||◌, List, [], ◌∷◌, ◌++◌}
+use Rattle.std.proofs.Common.{get_or, length, take}
 use Rattle.std.proofs.lemmas.List.{take_more}
 use Rattle.mdb_words.specs.declared.event.Event.{Event}
 use Rattle.mdb_exports.specs.Places.{AreNoted}
@@ -12,7 +13,8 @@ use Rattle.mdb_sigrok.specs.inner.Tallies.{IsNoted}
 use Rattle.mdb_sigrok.specs.declared.options.SigrokOptions.{SigrokOptions}
 use Rattle.mdb_sigrok.specs.declared.tally.SigrokRows.{SigrokRows}
 
-told_with : (options : SigrokOptions) (rows : List Event) (pulses damaged : List Place) (row : Event)
+told_with : (options : SigrokOptions) (rows : List Event) (pulses damaged : List Place)
+    (row : Event)
     (before after : SigrokRows) → IsTold options rows pulses damaged before
     → IsNoted options before after row → IsTold options (rows ++ row ∷ []) pulses damaged after
 told_with options rows pulses damaged row before after told noted = record {

@@ -1,25 +1,29 @@
 -- The rows of a trace are those of both its lines.
-use Rattle.std.proofs.Common.{◌≡◌, ◌⊎◌, inl, inr, List, ℕ, [], ◌∷◌, codes, ap, refl, sym, subst, ◌∙◌, Option}
+use Rattle.std.proofs.Common.{◌≡◌, ◌⊎◌, inl, inr, List, ℕ, [], ◌∷◌, codes, ap, refl, sym, subst}
+use Rattle.std.proofs.Common.{◌∙◌, Option, Ok, Err}
+use Rattle.std.specs.List.{list_any}
 use Rattle.std.specs.Io.KnownBytes.{Appends}
 use Rattle.mdb_writing.specs.Written.{HasTaken}
 use Rattle.mdb_words.specs.declared.event.Event.{Event}
 use Rattle.mdb_words.specs.declared.word.Line.{Line}
 use Rattle.mdb_exports.specs.Order.{Merges}
 use Rattle.mdb_exports.specs.Places.{AreNoted}
-use Rattle.mdb_exports.specs.Refusal.{refusal_line}
+use Rattle.mdb_exports.specs.Told.{is_controllers, is_marked, is_peripherals, told_count}
+use Rattle.mdb_exports.specs.shared.Closing.{IsClosed}
 use Rattle.mdb_exports.specs.declared.places.Place.{Place}
 use Rattle.mdb_exports.proofs.Merges.{one_merge}
+use Rattle.mdb_exports.proofs.Whole.{all_written, front_written, none_written}
 use Rattle.mdb_sigrok.specs.Found.{IsFound, IsOnly}
-use Rattle.mdb_sigrok.specs.Import.{IsImported, IsPartial, IsRefused}
+use Rattle.mdb_sigrok.specs.Import.{Imports, IsFault}
 use Rattle.mdb_sigrok.specs.Notes.{damage_in, places_in, pulse_in, rows_in}
-use Rattle.mdb_sigrok.specs.Part.{IsTold}
+use Rattle.mdb_sigrok.specs.Part.{IsTold, is_before, is_behind, is_taken, part_of}
 use Rattle.mdb_sigrok.specs.Text.{lines_of}
 use Rattle.mdb_sigrok.specs.Trace.{AreRowsOfTrace, Refutes, TellPairs}
-use Rattle.mdb_sigrok.specs.inner.Closed.{IsClosed}
 use Rattle.mdb_sigrok.specs.inner.Pairs.{Finds, Tells}
 use Rattle.mdb_sigrok.specs.inner.Tallies.{part_text}
 use Rattle.mdb_sigrok.specs.declared.fault.SigrokFault.{SigrokFault}
-use Rattle.mdb_sigrok.specs.declared.fault.SigrokFault.TheVariants.{Form, Order, Read, Write, Memory}
+use Rattle.mdb_sigrok.specs.declared.fault.SigrokFault.TheVariants.{Form, Order, Read, Write}
+use Rattle.mdb_sigrok.specs.declared.fault.SigrokFault.TheVariants.{Memory}
 use Rattle.mdb_sigrok.specs.declared.note.Note.{Note}
 use Rattle.mdb_sigrok.specs.declared.options.SigrokOptions.{SigrokOptions}
 use Rattle.mdb_sigrok.specs.declared.reading.Passed.{Passed}
@@ -113,63 +117,72 @@ refused_rows Read options text first rest is never = λ rows pulses damaged. nev
 refused_rows Write options text first rest is never = λ rows pulses damaged. never [] []
 refused_rows Memory options text first rest is never = λ rows pulses damaged. tt
 
--- a trace that gives no rows, where the line that is no row was written
-closed_of : (options : SigrokOptions) (text : List ℕ) (fault : SigrokFault)
-    (before after : Option (List ℕ))
+-- what is answered of a trace that is refused
+fault_of : (options : SigrokOptions) (text : List ℕ) (fault : SigrokFault)
     → ((rows : List Event) (pulses damaged : List Place)
-    → Refutes fault (AreRowsOfTrace options text rows pulses damaged))
-    → Appends before after refusal_line → IsRefused options text fault before after
-closed_of options text (Form number wrong) before after never line = (never, line)
-closed_of options text (Order number micros wire wrong) before after never line = (never, line)
-closed_of options text Read before after never line = line
-closed_of options text Write before after never line = absurd (never [] [] [])
-closed_of options text Memory before after never line = line
+    → Refutes fault (AreRowsOfTrace options text rows pulses damaged)) → IsFault options text fault
+fault_of options text (Form number wrong) never = never
+fault_of options text (Order number micros wire wrong) never = never
+fault_of options text Read never = tt
+fault_of options text Write never = absurd (never [] [] [])
+fault_of options text Memory never = tt
 
 pub refused_of : (options : SigrokOptions) (text : List ℕ) (fault told : SigrokFault)
     (before after : Option (List ℕ))
     → (fault ≡ Read)
     ⊎ ((rows : List Event) (pulses damaged : List Place)
     → Refutes fault (AreRowsOfTrace options text rows pulses damaged))
-    → IsClosed fault before after told → IsRefused options text told before after
-refused_of options text fault told before after never closed = elim closed [
-  | inl done ↦
-      subst (λ f. IsRefused options text f before after) (sym done.0) (elim never [
-        | inl read ↦ subst (λ f. IsRefused options text f before after) (sym read) done.1
-        | inr refutes ↦ closed_of options text fault before after refutes done.1
-      ])
-  | inr failed ↦
-      let taken : IsRefused options text Write before after = inr failed.1 in
-      subst (λ f. IsRefused options text f before after) (sym failed.0) taken
-]
+    → IsClosed Write fault before after told → Imports options text before after (Err told)
+refused_of options text fault told before after (inl read) closed =
+    none_written (AreRowsOfTrace options text) (IsTold options) (part_of options)
+    (IsFault options text) Write before after fault told
+    (subst (IsFault options text) (sym read) tt) closed
+refused_of options text fault told before after (inr refutes) closed =
+    none_written (AreRowsOfTrace options text) (IsTold options) (part_of options)
+    (IsFault options text) Write before after fault told (fault_of options text fault refutes)
+    closed
 
--- the rows of the part are written, or a front of them
+-- and of one whose rows were found: those of the part were written, or a front of them
 pub imported_of : (options : SigrokOptions) (text : List ℕ) (found : TraceRows) (told : SigrokRows)
     (before after : Option (List ℕ)) → IsFound options text found
     → ((pulses damaged : List Place) → AreNoted found.pulses pulses
     → AreNoted found.damaged damaged → IsTold options found.rows.items pulses damaged told)
     → Appends before after (part_text options found.rows.items)
-    → IsImported options text told before after
-imported_of options text found told before after is tally written = record {
-  rows = found.rows.items;
-  pulses = is.pulses;
-  damaged = is.damaged;
-  are = is.are;
-  tally = tally is.pulses is.damaged is.pulses_noted is.damaged_noted;
-  written = subst (Appends before after) (part_text_is options found.rows.items) written;
+    → Imports options text before after (Ok told)
+imported_of options text found told before after is tally written =
+    all_written (AreRowsOfTrace options text) (IsTold options) (part_of options)
+    (IsFault options text) Write before after told found.rows.items is.pulses is.damaged is.are
+    (tally is.pulses is.damaged is.pulses_noted is.damaged_noted)
+    (subst (Appends before after) (part_text_is options found.rows.items) written)
+
+abbrev told_of : SigrokOptions → TraceRows → SigrokRows
+told_of options found = record {
+  rows = told_count (is_taken options) found.rows.items;
+  before = told_count (is_before options) found.rows.items;
+  after = told_count (is_behind options) found.rows.items;
+  marked = list_any is_marked found.rows.items;
+  controller = list_any is_controllers found.rows.items;
+  peripheral = list_any is_peripherals found.rows.items;
+  pulses = found.pulses;
+  damaged = found.damaged;
 }
 
 pub partial_of : (options : SigrokOptions) (text : List ℕ) (found : TraceRows) (fault : SigrokFault)
     (before after : Option (List ℕ)) → IsFound options text found
     → HasTaken before after (part_text options found.rows.items) → fault ≡ Write
-    → IsRefused options text fault before after
+    → Imports options text before after (Err fault)
 partial_of options text found fault before after is taken write =
-    let partial : IsPartial options text before after =
-    record {
-      rows = found.rows.items;
-      pulses = is.pulses;
-      damaged = is.damaged;
-      are = is.are;
-      written = subst (HasTaken before after) (part_text_is options found.rows.items) taken;
-    } in
-    let told : IsRefused options text Write before after = inl partial in
-    subst (λ f. IsRefused options text f before after) (sym write) told
+    subst (λ f. Imports options text before after (Err f)) (sym write)
+    (front_written (AreRowsOfTrace options text) (IsTold options) (part_of options)
+    (IsFault options text) Write before after (told_of options found) found.rows.items is.pulses
+    is.damaged is.are (record {
+      rows = refl;
+      before = refl;
+      after = refl;
+      marked = refl;
+      controller = refl;
+      peripheral = refl;
+      pulses_noted = is.pulses_noted;
+      damaged_noted = is.damaged_noted;
+    })
+    (subst (HasTaken before after) (part_text_is options found.rows.items) taken))

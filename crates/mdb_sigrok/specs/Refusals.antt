@@ -1,5 +1,6 @@
 -- Why a record is refused where it stands.
-use Rattle.std.specs.Prelude.{◌≡◌, ◌≢◌, ◌⊎◌, ◌+◌, ◌^◌, ◌<◌, ◌≤◌, Bool, true, false, ℕ, List, [], length, codes, All}
+use Rattle.std.specs.Prelude.{◌≡◌, ◌≢◌, ◌⊎◌, ◌+◌, ◌^◌, ◌<◌, ◌≤◌, Bool, true, false, ℕ, List, []}
+use Rattle.std.specs.Prelude.{length, codes, All}
 use Rattle.std.specs.Fmt.{digit_glyph}
 use Rattle.mdb_words.specs.Digits.{hex_word}
 use Rattle.mdb_words.specs.declared.word.Line.{Line}

@@ -5,7 +5,8 @@ use Rattle.mdb_words.specs.declared.word.Line.{Line}
 use Rattle.mdb_words.specs.declared.word.Line.TheVariants.{Controller, Peripheral}
 use Rattle.mdb_sigrok.specs.declared.pair.Pair.{Pair}
 use Rattle.mdb_sigrok.specs.declared.fault.SigrokFault.{SigrokFault}
-use Rattle.mdb_sigrok.specs.declared.fault.SigrokFault.TheVariants.{Form, Order, Read, Write, Memory}
+use Rattle.mdb_sigrok.specs.declared.fault.SigrokFault.TheVariants.{Form, Order, Read, Write}
+use Rattle.mdb_sigrok.specs.declared.fault.SigrokFault.TheVariants.{Memory}
 use Rattle.mdb_sigrok.specs.Text.{lines_of}
 use Rattle.mdb_sigrok.specs.Record.{IsPair}
 use Rattle.mdb_exports.specs.Order.{Merges}

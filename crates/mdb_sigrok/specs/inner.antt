@@ -1,4 +1,3 @@
-pub mod Closed
 pub mod Fronts
 pub mod Heads
 pub mod Pairs

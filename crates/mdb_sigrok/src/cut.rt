@@ -1,6 +1,7 @@
 //! Texts cut in two, and in lines.
 
-ghost use Rattle.std.specs.Prelude.{◌≡◌, ◌≢◌, ◌<◌, ◌↔◌, ◌++◌, ◌∷◌, [], List, ℕ, length, IfSome, IfNone, IsTrue};
+ghost use Rattle.std.specs.Prelude.{◌≡◌, ◌≢◌, ◌<◌, ◌↔◌, ◌++◌, ◌∷◌, [], List, ℕ, length, IfSome};
+ghost use Rattle.std.specs.Prelude.{IfNone, IsTrue};
 ghost use Rattle.mdb_sigrok.specs.Text.{IsCut, Lacks, lines_of, without_return};
 ghost use Rattle.mdb_sigrok.specs.inner.Fronts.{HasLine};
 ghost use Rattle.mdb_sigrok.specs.inner.Places.{IsFirstAt};

@@ -1,8 +1,8 @@
 //! A trace from a reader, as rows to a writer.
 
 ghost use Rattle.std.specs.Prelude.{IfSome};
-ghost use Rattle.mdb_sigrok.specs.Import.{AnswersTo};
-ghost use Rattle.mdb_sigrok.specs.inner.Closed.{IsClosed};
+ghost use Rattle.mdb_exports.specs.shared.Closing.{IsClosed};
+ghost use Rattle.mdb_sigrok.specs.Import.{Imports};
 
 use super::fault::SigrokFault;
 use super::options::SigrokOptions;
@@ -33,7 +33,7 @@ pub fn import_sigrok<R: Read + Drop, W: Write>(
     reader: R,
     writer: &mut W,
 ) -> Result<SigrokRows, SigrokFault>
-    ensures { IfSome (R.remaining reader) (λ text. AnswersTo options.now text
+    ensures { IfSome (R.remaining reader) (λ text. Imports options.now text
         (W.contents writer.old) (W.contents writer.new) result) }
 {
     let TraceRows {
@@ -53,7 +53,8 @@ pub fn import_sigrok<R: Read + Drop, W: Write>(
 /// Writes the line that ends a refused trace, and answers why it is refused, or that writing
 /// failed.
 fn closed<W: Write>(fault: SigrokFault, writer: &mut W) -> SigrokFault
-    ensures { IsClosed fault (W.contents writer.old) (W.contents writer.new) result }
+    ensures { IsClosed SigrokFault.Write fault (W.contents writer.old) (W.contents writer.new)
+        result }
 {
     match write_refusal(writer) {
         Ok(()) => fault,

@@ -8,7 +8,8 @@ ghost use Rattle.mdb_sigrok.specs.Refusals.{IsNoneAfterError};
 ghost use Rattle.mdb_sigrok.specs.Rows.{IsBreak, IsErrorOf, IsLow, IsPulse, IsStart, LineRows};
 ghost use Rattle.mdb_sigrok.specs.Rows.{length_of};
 ghost use Rattle.mdb_sigrok.specs.Text.{micros_of};
-ghost use Rattle.mdb_sigrok.specs.inner.Steps.{Blocks, EndsWith, IsNoEnd, IsNoMore, IsOpen, IsState};
+ghost use Rattle.mdb_sigrok.specs.inner.Steps.{Blocks, EndsWith, IsNoEnd, IsNoMore, IsOpen};
+ghost use Rattle.mdb_sigrok.specs.inner.Steps.{IsState};
 ghost use Rattle.mdb_sigrok.specs.inner.Steps.{LowNote, noted_by, open_pairs, told_by};
 
 use super::fault::OrderFault;

@@ -1,7 +1,8 @@
 //! The options of the import of a trace.
 
 ghost use Rattle.std.specs.Prelude.{◌≡◌};
-ghost use Rattle.mdb_sigrok.specs.Part.{is_before as before_part, is_behind as behind_part, is_taken as in_part};
+ghost use Rattle.mdb_sigrok.specs.Part.{is_before as before_part, is_behind as behind_part};
+ghost use Rattle.mdb_sigrok.specs.Part.{is_taken as in_part};
 
 use mdb_words::Event;
 

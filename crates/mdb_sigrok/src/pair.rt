@@ -1,6 +1,7 @@
 //! What the decoder saw: two records, one where it begins and one where it ends.
 
-ghost use Rattle.std.specs.Prelude.{◌≡◌, ◌≢◌, ◌++◌, ◌<◌, ℕ, List, [], IfSome, IfNone, IfOk, IfErr, true};
+ghost use Rattle.std.specs.Prelude.{◌≡◌, ◌≢◌, ◌++◌, ◌<◌, ℕ, List, [], IfSome, IfNone, IfOk, IfErr};
+ghost use Rattle.std.specs.Prelude.{true};
 ghost use Rattle.std.specs.Fmt.{digit_glyph};
 ghost use Rattle.mdb_words.specs.Digits.{hex_word};
 ghost use Rattle.mdb_words.specs.declared.word.Line.{Line};

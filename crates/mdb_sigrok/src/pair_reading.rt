@@ -1,6 +1,7 @@
 //! The records of a trace, two by two.
 
-ghost use Rattle.std.specs.Prelude.{◌≡◌, ◌<◌, ◌++◌, ◌∷◌, [], Bool, true, false, List, ℕ, length, codes, IfOk, IfErr, IfNone, IfSome, IsTrue, ◌↔◌};
+ghost use Rattle.std.specs.Prelude.{◌≡◌, ◌<◌, ◌++◌, ◌∷◌, [], Bool, true, false, List, ℕ, length};
+ghost use Rattle.std.specs.Prelude.{codes, IfOk, IfErr, IfNone, IfSome, IsTrue, ◌↔◌};
 ghost use Rattle.mdb_sigrok.specs.declared.pair.Pair.{Pair};
 ghost use Rattle.mdb_sigrok.specs.Text.{lines_of, micros_of};
 ghost use Rattle.mdb_sigrok.specs.inner.Fronts.{HasLine, HasTwo};

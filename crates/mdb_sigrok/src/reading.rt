@@ -1,13 +1,15 @@
 //! Both lines of the bus, as a trace is read.
 
-ghost use Rattle.std.specs.Prelude.{◌≡◌, ◌++◌, ◌∷◌, [], ℕ, true, false, List, codes, IfOk, IfErr, OnOk};
+ghost use Rattle.std.specs.Prelude.{◌≡◌, ◌++◌, ◌∷◌, [], ℕ, true, false, List, codes, IfOk, IfErr};
+ghost use Rattle.std.specs.Prelude.{OnOk};
 ghost use Rattle.mdb_sigrok.specs.declared.note.Note.{Note};
 ghost use Rattle.mdb_sigrok.specs.declared.options.SigrokOptions.{SigrokOptions};
 ghost use Rattle.mdb_sigrok.specs.Text.{lines_of};
 ghost use Rattle.mdb_sigrok.specs.Trace.{Refutes};
 ghost use Rattle.mdb_sigrok.specs.Rows.{LineRows};
 ghost use Rattle.mdb_sigrok.specs.inner.Fronts.{AreFirst};
-ghost use Rattle.mdb_sigrok.specs.inner.Pairs.{Adds, AreKept, Bars, Begins, BothEnd, Ends, GoBy, Goes};
+ghost use Rattle.mdb_sigrok.specs.inner.Pairs.{Adds, AreKept, Bars, Begins, BothEnd, Ends, GoBy};
+ghost use Rattle.mdb_sigrok.specs.inner.Pairs.{Goes};
 ghost use Rattle.mdb_sigrok.specs.inner.Pairs.{IsOfTrace, IsReady, Moves, Stops};
 ghost use Rattle.mdb_sigrok.specs.inner.Stands.{stand_of};
 ghost use Rattle.mdb_sigrok.specs.inner.Steps.{IsOpen, noted_by, open_pairs, told_by};

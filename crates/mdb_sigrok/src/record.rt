@@ -2,7 +2,8 @@
 
 ghost use Rattle.std.specs.Prelude.{◌≡◌, ◌≢◌, ◌++◌, Bool, ℕ, List, IfSome, IfNone, IfOk, IfErr};
 ghost use Rattle.mdb_sigrok.specs.inner.Heads.{HasHead};
-ghost use Rattle.mdb_sigrok.specs.Record.{AreNames, IsField, IsHead, IsRecord, before_name, before_tid, end_of, front_of};
+ghost use Rattle.mdb_sigrok.specs.Record.{AreNames, IsField, IsHead, IsRecord, before_name};
+ghost use Rattle.mdb_sigrok.specs.Record.{before_tid, end_of, front_of};
 
 use super::cut::{after, cut_at, cut_near, is_text};
 use super::fault::FormFault;

@@ -1,6 +1,7 @@
 //! The lines of a trace, from its reader.
 
-ghost use Rattle.std.specs.Prelude.{◌≡◌, ◌≢◌, ◌≤◌, ◌++◌, ℕ, List, length, take, IfSome, IfNone, IsNone, IfOk, IfErr, OnOk};
+ghost use Rattle.std.specs.Prelude.{◌≡◌, ◌≢◌, ◌≤◌, ◌++◌, ℕ, List, length, take, IfSome, IfNone};
+ghost use Rattle.std.specs.Prelude.{IsNone, IfOk, IfErr, OnOk};
 ghost use Rattle.std.specs.Io.BufRead.{DropsThrough, take_through};
 ghost use Rattle.std.specs.Io.KnownBytes.{Keeps};
 ghost use Rattle.mdb_sigrok.specs.Text.{lines_of};
@@ -121,7 +122,9 @@ fn append_line<B: BufRead>(reader: &mut B, held: &mut Vec<u8>) -> Result<(), Sig
 
 /// Why a trace can't be read from its reader.
 fn fault_of_reading(kind: ErrorKind) -> SigrokFault
-    ensures { IsOfReading result }
+    ensures either { IsOfReading result }
+    ensures read { result ≡ SigrokFault.Read → kind ≢ ErrorKind.OutOfMemory }
+    ensures memory { result ≡ SigrokFault.Memory → kind ≡ ErrorKind.OutOfMemory }
 {
     if kind == ErrorKind::OutOfMemory {
         SigrokFault::Memory

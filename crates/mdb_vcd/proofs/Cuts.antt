@@ -1,5 +1,7 @@
 -- The words of a text.
-use Rattle.std.proofs.Common.{◌≡◌, ℕ, suc, zero, ◌<◌, Bool, true, false, cond, List, [], ◌∷◌, ◌++◌, length, take, drop, get_or, refl, sym, ap, ◌∙◌, arith, append_assoc, append-nil, add-one, length-append, ◌+◌}
+use Rattle.std.proofs.Common.{◌≡◌, ℕ, suc, zero, ◌<◌, Bool, true, false, cond, List, [], ◌∷◌, ◌++◌}
+use Rattle.std.proofs.Common.{length, take, drop, get_or, refl, sym, ap, ◌∙◌, arith, append_assoc}
+use Rattle.std.proofs.Common.{append-nil, add-one, length-append, ◌+◌}
 use Rattle.mdb_vcd.specs.Text.{IsWord, ended, is_blank, words_from, words_of}
 use Rattle.mdb_vcd.specs.inner.Words.{IsBegun, IsParted, IsPlain}
 
@@ -83,7 +85,8 @@ around_by : (word : List ℕ) (d : ℕ) (front : List ℕ) (c : ℕ) (rest : Lis
     → cond b (ended word ++ words_of (front ++ c ∷ rest))
     (words_from (word ++ d ∷ []) (front ++ c ∷ rest))
     ≡ cond b (ended word ++ words_of front) (words_from (word ++ d ∷ []) front) ++ words_of rest
-around_by word d front c rest true one two = one ∙ sym (append_assoc (ended word) (words_of front) (words_of rest))
+around_by word d front c rest true one two = one
+    ∙ sym (append_assoc (ended word) (words_of front) (words_of rest))
 around_by word d front c rest false one two = two
 
 -- two texts of which the first ends in a blank

@@ -1,5 +1,6 @@
 -- A dump that was read so far, and both lines.
-use Rattle.std.proofs.Common.{◌≡◌, ◌≢◌, ◌<◌, ◌≤◌, ℕ, Bool, true, false, List, [], ◌∷◌, ◌++◌, Ok, inl, inr, refl, sym, ap, subst, ◌∙◌, append-nil, arith, nat_lt, cond}
+use Rattle.std.proofs.Common.{◌≡◌, ◌≢◌, ◌<◌, ◌≤◌, ℕ, Bool, true, false, List, [], ◌∷◌, ◌++◌, Ok}
+use Rattle.std.proofs.Common.{inl, inr, refl, sym, ap, subst, ◌∙◌, append-nil, arith, nat_lt, cond}
 use Rattle.mdb_levels.specs.Faults.{AreBarred, AreFine, Claims, HaveNoRows, IsShown, IsShownAtEnd}
 use Rattle.mdb_levels.specs.Lines.{HaveEnded, HaveHeard}
 use Rattle.mdb_levels.specs.Moments.{AreRising, end_of}
@@ -138,9 +139,11 @@ shown_before o old next words word moment (levels.Line line wrong) has goes late
       reached = reached o old words has;
       goes = goes;
       later = later;
-      shown = subst (λ m. IsShown o.skip_damaged (has.done ++ m ∷ []) m.at line wrong.start wrong.fault) is
+      shown = subst (λ m. IsShown o.skip_damaged (has.done ++ m ∷ []) m.at line wrong.start
+          wrong.fault) is
           (shows has.done has.heard before);
-      barred = subst (λ m. AreBarred o.skip_damaged (has.done ++ m ∷ [])) is (bars has.done has.heard before);
+      barred = subst (λ m. AreBarred o.skip_damaged (has.done ++ m ∷ [])) is
+          (bars has.done has.heard before);
     }
 
 -- the end
@@ -159,7 +162,8 @@ pub ended : (o : VcdOptions) (dump : Dump) (heard last : Lines) (words : List (L
     → moment ≡ moment_of dump.stand.now
     → ((done : List Moment) → HaveHeard o.skip_damaged dump.lines done → end_of 0 done ≤ moment.at
     → HaveHeard o.skip_damaged heard (done ++ moment ∷ []))
-    → ((moments : List Moment) → HaveHeard o.skip_damaged heard moments → HaveEnded o.skip_damaged last moments)
+    → ((moments : List Moment) → HaveHeard o.skip_damaged heard moments
+    → HaveEnded o.skip_damaged last moments)
     → HasEnded o last words
 ended o dump heard last words moment has body is hears ends =
     let at : moment.at ≡ dump.stand.now.at = ap (λ m. m.at) is in
@@ -199,7 +203,8 @@ shown_after o dump words moment (levels.Line line wrong) has body is bars shows 
       done = has.done;
       reached = reached o dump words has;
       body = body;
-      shown = inl (subst (λ m. IsShown o.skip_damaged (has.done ++ m ∷ []) m.at line wrong.start wrong.fault) is
+      shown = inl (subst (λ m. IsShown o.skip_damaged (has.done ++ m ∷ []) m.at line wrong.start
+          wrong.fault) is
           (shows has.done has.heard before));
       none = subst (λ m. HaveNoRows o.skip_damaged (has.done ++ m ∷ [])) is none;
     }
@@ -211,7 +216,8 @@ pub shown_at_end : (o : VcdOptions) (dump : Dump) (heard : Lines) (words : List 
     → HaveHeard o.skip_damaged heard (done ++ moment ∷ []))
     → ((moments : List Moment) → HaveHeard o.skip_damaged heard moments
     → Claims fault (λ _ _ _. HaveNoRows o.skip_damaged moments))
-    → ((moments : List Moment) → HaveHeard o.skip_damaged heard moments → Claims fault (IsShownAtEnd o.skip_damaged moments))
+    → ((moments : List Moment) → HaveHeard o.skip_damaged heard moments
+    → Claims fault (IsShownAtEnd o.skip_damaged moments))
     → Claims fault (λ line from what. IsShownAfter o words line from what)
 shown_at_end o dump heard words moment levels.Memory has body is hears bars shows = tt
 shown_at_end o dump heard words moment (levels.Line line wrong) has body is hears bars shows =
@@ -224,8 +230,10 @@ shown_at_end o dump heard words moment (levels.Line line wrong) has body is hear
       reached = reached o dump words has;
       body = body;
       shown = inr (
-        subst (λ m. AreFine o.skip_damaged (has.done ++ m ∷ [])) is (are_fine o.skip_damaged heard moments all),
-        subst (λ m. IsShownAtEnd o.skip_damaged (has.done ++ m ∷ []) line wrong.start wrong.fault) is
+        subst (λ m. AreFine o.skip_damaged (has.done ++ m ∷ [])) is
+            (are_fine o.skip_damaged heard moments all),
+        subst (λ m. IsShownAtEnd o.skip_damaged (has.done ++ m ∷ []) line wrong.start wrong.fault)
+            is
             (shows moments all),
       );
       none = subst (λ m. HaveNoRows o.skip_damaged (has.done ++ m ∷ [])) is (bars moments all);

@@ -7,3 +7,4 @@ pub mod OneDump
 pub mod Sources
 pub mod Steps
 pub mod Texts
+pub mod Answers

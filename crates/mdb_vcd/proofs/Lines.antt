@@ -1,5 +1,6 @@
 -- A dump, line by line.
-use Rattle.std.proofs.Common.{◌≡◌, ℕ, List, [], ◌∷◌, ◌++◌, refl, sym, ap, subst, ◌∙◌, append-nil, append_assoc}
+use Rattle.std.proofs.Common.{◌≡◌, ℕ, List, [], ◌∷◌, ◌++◌, refl, sym, ap, subst, ◌∙◌, append-nil}
+use Rattle.std.proofs.Common.{append_assoc}
 use Rattle.mdb_vcd.specs.Text.{words_of}
 use Rattle.mdb_vcd.specs.declared.dump.Dump.{Dump}
 use Rattle.mdb_vcd.specs.declared.fault.Halt.{Halt}

@@ -1,12 +1,10 @@
--- A dump has one list of rows, in the order of their times.
+-- A dump has one list of rows.
 use Rattle.std.proofs.Common.{◌≡◌, ℕ, List, [], ◌∷◌, ◌++◌, sym, ap, subst, ◌∙◌}
-use Rattle.std.specs.List.{AllPairs}
 use Rattle.mdb_words.specs.declared.event.Event.{Event}
-use Rattle.mdb_exports.specs.Order.{Precedes}
 use Rattle.mdb_exports.specs.declared.places.Place.{Place as Passed}
 use Rattle.mdb_levels.specs.Moments.{AreRowsOfBus}
 use Rattle.mdb_levels.specs.declared.moment.Moment.{Moment}
-use Rattle.mdb_levels.proofs.OneBus.{bus_in_order, one_bus}
+use Rattle.mdb_levels.proofs.OneBus.{one_bus}
 use Rattle.mdb_vcd.specs.Dump.{AreMoments, AreRowsOfDump, Place, passed}
 use Rattle.mdb_vcd.specs.declared.options.VcdOptions.{VcdOptions}
 
@@ -29,9 +27,3 @@ one_dump o text rows others pulses pulses2 damaged damaged2 one other =
     one_bus o.skip_damaged one.moments rows others pulses pulses2 damaged damaged2 one.are
     (subst (λ l. AreRowsOfBus o.skip_damaged l others pulses2 damaged2)
     (one_told o _ _ other.moments one.moments other.told one.told) other.are)
-
-pub dump_in_order : (o : VcdOptions) (text : List ℕ) (rows : List Event)
-    (pulses damaged : List Passed) → AreRowsOfDump o text rows pulses damaged
-    → AllPairs Precedes rows
-dump_in_order o text rows pulses damaged dump =
-    bus_in_order o.skip_damaged dump.moments rows pulses damaged dump.are

@@ -1,5 +1,7 @@
 -- A dump, as it is read from a reader.
-use Rattle.std.proofs.Common.{◌≡◌, ◌≢◌, ◌==◌, ◌⊎◌, ◌+◌, true, false, length, inl, inr, ℕ, Bool, List, [], ◌∷◌, ◌++◌, Option, Some, None, IfSome, refl, sym, ap, subst, ◌∙◌, append-nil, append_assoc, arith}
+use Rattle.std.proofs.Common.{◌≡◌, ◌≢◌, ◌==◌, ◌⊎◌, ◌+◌, true, false, length, inl, inr, ℕ, Bool}
+use Rattle.std.proofs.Common.{List, [], ◌∷◌, ◌++◌, Option, Some, None, IfSome, refl, sym, ap, subst}
+use Rattle.std.proofs.Common.{◌∙◌, append-nil, append_assoc, arith}
 use Rattle.std.specs.Io.BufRead.{DropsThrough, drop_through, take_through}
 use Rattle.mdb_words.specs.declared.event.Event.{Event}
 use Rattle.mdb_words.specs.declared.word.Line.{Line}
@@ -14,8 +16,9 @@ use Rattle.mdb_levels.specs.declared.fault.LineFault.{LineFault}
 use Rattle.mdb_levels.specs.declared.moment.Moment.{Moment}
 use Rattle.mdb_vcd.specs.Body.{moment_of}
 use Rattle.mdb_vcd.specs.Dump.{AreMoments, AreRowsOfDump, passed, start}
-use Rattle.mdb_vcd.specs.Faults.{AreLines, IsCut, IsOnLine, IsShownAfter, IsShownBefore, IsStopped, lines_in}
-use Rattle.mdb_vcd.specs.Import.{HasNoRows}
+use Rattle.mdb_vcd.specs.Faults.{AreLines, IsCut, IsOnLine, IsShownAfter, IsShownBefore, IsStopped}
+use Rattle.mdb_vcd.specs.Faults.{lines_in}
+use Rattle.mdb_vcd.specs.Import.{HasNoRows, IsFault}
 use Rattle.mdb_vcd.specs.Text.{words_of}
 use Rattle.mdb_vcd.specs.declared.dump.Dump.{Dump}
 use Rattle.mdb_vcd.specs.declared.fault.Halt.{Halt}
@@ -25,10 +28,12 @@ use Rattle.mdb_vcd.specs.declared.fault.Stop.TheVariants as stop
 use Rattle.mdb_vcd.specs.declared.fault.VcdFault.{VcdFault}
 use Rattle.mdb_vcd.specs.declared.fault.VcdFault.TheVariants as told
 use Rattle.mdb_vcd.specs.declared.options.VcdOptions.{VcdOptions}
-use Rattle.mdb_vcd.specs.inner.Reading.{HasCome, HasComeBy, HasEnded, HasRead, IsBusOf, IsFault, IsHaltedAtEnd, IsHaltedIn, told_at, wire_of}
+use Rattle.mdb_vcd.specs.inner.Reading.{HasCome, HasComeBy, HasEnded, HasRead, IsBusOf}
+use Rattle.mdb_vcd.specs.inner.Reading.{IsHaltedAtEnd, IsHaltedIn, told_at, wire_of}
 use Rattle.mdb_vcd.proofs.Dumps.{passed_later}
 use Rattle.mdb_vcd.proofs.Steps.{moments_left}
-use Rattle.mdb_vcd.proofs.Texts.{counted, line_ended, lines_behind, none_taken, one_line, through, words_behind}
+use Rattle.mdb_vcd.proofs.Texts.{counted, line_ended, lines_behind, none_taken, one_line, through}
+use Rattle.mdb_vcd.proofs.Texts.{words_behind}
 
 -- no rows, by what stops
 
@@ -123,7 +128,8 @@ words_split line behind one = elim (line_ended (line ++ behind)) [
         (all ∙ (ap (λ l. take_through 10 (line ++ behind) ++ l) none
         ∙ (append-nil (take_through 10 (line ++ behind)) ∙ sym one)))
 
-on_line : (o : VcdOptions) (text : List ℕ) (number : ℕ) (halt : Halt) (at : InLine o text number halt)
+on_line : (o : VcdOptions) (text : List ℕ) (number : ℕ) (halt : Halt)
+    (at : InLine o text number halt)
     → IsOnLine text number (words_of at.front ++ at.halts.front) at.halts.word
 on_line o text number halt at = record {
   before = at.front;

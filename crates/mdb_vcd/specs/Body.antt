@@ -1,5 +1,6 @@
 -- What stands below the header (IEEE 1364, value change dump files): times, and changes of values.
-use Rattle.std.specs.Prelude.{◌==◌, ◌||◌, ◌*◌, ◌^◌, if◌then◌else◌, not, nat_lt, ℕ, Bool, false, List, [], ◌∷◌, Option, Some, None, Result, Ok, Err}
+use Rattle.std.specs.Prelude.{◌==◌, ◌||◌, ◌*◌, ◌^◌, if◌then◌else◌, not, nat_lt, ℕ, Bool, false}
+use Rattle.std.specs.Prelude.{List, [], ◌∷◌, Option, Some, None, Result, Ok, Err}
 use Rattle.std.specs.Str.{bytes_eq}
 use Rattle.mdb_words.specs.declared.word.Line.{Line}
 use Rattle.mdb_words.specs.declared.word.Line.TheVariants.{Controller, Peripheral}
@@ -18,7 +19,8 @@ use Rattle.mdb_vcd.specs.declared.fault.LevelFault.TheVariants.{Lost, NoLevel}
 use Rattle.mdb_vcd.specs.declared.fault.Stop.{Stop}
 use Rattle.mdb_vcd.specs.declared.fault.Stop.TheVariants.{Form, Early, Level}
 
--- what a word is, by its first byte: a time (`#`, 35), a digit and the code of its variable (`0`, `1`,
+-- what a word is, by its first byte: a time (`#`, 35), a digit and the code of its variable (`0`,
+-- `1`,
 -- `x`, `X`, `z`, `Z`), bits (`b`, `B`), another value (`r`, `R`, `s`, `S`), or a command (`$`, 36)
 abbrev pub kind_of : ℕ → Kind
 kind_of c =

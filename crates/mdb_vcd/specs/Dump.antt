@@ -1,5 +1,6 @@
 -- A dump, and its rows.
-use Rattle.std.specs.Prelude.{◌≡◌, ◌==◌, ◌++◌, if◌then◌else◌, nat_lt, ℕ, List, [], ◌∷◌, Option, Some, None, Result, Ok, Err}
+use Rattle.std.specs.Prelude.{◌≡◌, ◌==◌, ◌++◌, if◌then◌else◌, nat_lt, ℕ, List, [], ◌∷◌, Option}
+use Rattle.std.specs.Prelude.{Some, None, Result, Ok, Err}
 use Rattle.mdb_words.specs.declared.event.Event.{Event}
 use Rattle.mdb_exports.specs.declared.places.Place.{Place as Passed}
 use Rattle.mdb_levels.specs.Moments.{AreRising, AreRowsOfBus}
@@ -21,8 +22,8 @@ use Rattle.mdb_vcd.specs.declared.reader.Mode.{Mode}
 use Rattle.mdb_vcd.specs.declared.reader.Mode.TheVariants.{Outside, Inside, Body, Valued, Commented}
 
 -- A place in a dump: between the commands of the header, in one whose words so far are these, among
--- the times and changes, behind a value whose variable comes next, or in a comment. And what is known
--- there: what the header told, and the time and the levels.
+-- the times and changes, behind a value whose variable comes next, or in a comment. And what is
+-- known there: what the header told, and the time and the levels.
 pub record Place : Type 0 where
   pub mode : Mode
   pub heading : Heading
@@ -49,7 +50,8 @@ behind_header place None = Ok (record place { mode = Body })
 -- behind the `$end` of a command of these words
 abbrev pub command_done : VcdOptions → Place → Keyword → List (List ℕ) → Result Place Stop
 command_done options place key.Definitions words =
-    behind_header place (lack_of place.heading.scale place.heading.controller place.heading.peripheral)
+    behind_header place (lack_of place.heading.scale place.heading.controller
+    place.heading.peripheral)
 command_done options place other words =
     behind_command place (with_command options place.heading other words)
 
@@ -124,8 +126,8 @@ after_word options place (first ∷ rest) = behind_word options place first rest
 abbrev pub passed : Known → Known → List Moment
 passed before now = if nat_lt before.at now.at then moment_of before ∷ [] else []
 
--- The moments that words tell from a place on: one for each time, with the levels behind all changes
--- of that time.
+-- The moments that words tell from a place on: one for each time, with the levels behind all
+-- changes of that time.
 abbrev pub AreMoments : VcdOptions → Place → List (List ℕ) → List Moment → Type 0
 AreMoments options place [] moments =
     (place.mode ≡ Body) × (moments ≡ moment_of place.now ∷ [])

@@ -1,5 +1,6 @@
 -- Why a dump is refused: the first word at which something is wrong, and what is wrong there.
-use Rattle.std.specs.Prelude.{◌≡◌, ◌≢◌, ◌⊎◌, ⊤, ◌+◌, ◌<◌, ◌==◌, ◌++◌, if◌then◌else◌, ℕ, suc, List, [], ◌∷◌, Ok, Err}
+use Rattle.std.specs.Prelude.{◌≡◌, ◌≢◌, ◌⊎◌, ⊤, ◌+◌, ◌<◌, ◌==◌, ◌++◌, if◌then◌else◌, ℕ, suc, List}
+use Rattle.std.specs.Prelude.{[], ◌∷◌, Ok, Err}
 use Rattle.std.specs.Io.BufRead.{take_through}
 use Rattle.mdb_words.specs.declared.word.Line.{Line}
 use Rattle.mdb_levels.specs.Faults.{AreBarred, AreFine, HaveNoRows, IsShown, IsShownAtEnd, line_of}

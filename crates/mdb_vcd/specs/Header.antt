@@ -1,5 +1,6 @@
 -- The header of a dump (IEEE 1364, value change dump files): commands, each up to the word `$end`.
-use Rattle.std.specs.Prelude.{◌||◌, ◌++◌, if◌then◌else◌, ℕ, Bool, true, false, List, [], ◌∷◌, Option, Some, None, Result, Ok, Err, codes, option_map, string_bytes}
+use Rattle.std.specs.Prelude.{◌||◌, ◌++◌, if◌then◌else◌, ℕ, Bool, true, false, List, [], ◌∷◌}
+use Rattle.std.specs.Prelude.{Option, Some, None, Result, Ok, Err, codes, option_map, string_bytes}
 use Rattle.std.specs.List.{concat}
 use Rattle.std.specs.Str.{bytes_eq}
 use Rattle.mdb_vcd.specs.Numbers.{scale_in}
@@ -11,8 +12,8 @@ use Rattle.mdb_vcd.specs.declared.keyword.Keyword.TheVariants as key
 use Rattle.mdb_vcd.specs.declared.options.VcdOptions.{VcdOptions}
 
 -- What a header has told so far: the parts of a unit of its times, the path of the open scope (the
--- names of all that are open, each with a point behind it), the paths of the scopes around that one,
--- the innermost first, and the codes of both lines.
+-- names of all that are open, each with a point behind it), the paths of the scopes around that
+-- one, the innermost first, and the codes of both lines.
 pub record Heading : Type 0 where
   pub scale : Option ℕ
   pub path : List ℕ

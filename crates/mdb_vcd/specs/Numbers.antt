@@ -1,5 +1,6 @@
 -- Times and timescales. Time is counted in parts: thirds of 10^-24 of a second.
-use Rattle.std.specs.Prelude.{◌==◌, ◌&&◌, ◌+◌, ◌-◌, ◌*◌, ◌^◌, if◌then◌else◌, ℕ, Bool, false, List, [], ◌∷◌, Option, Some, None, nat_le, fold, codes}
+use Rattle.std.specs.Prelude.{◌==◌, ◌&&◌, ◌+◌, ◌-◌, ◌*◌, ◌^◌, if◌then◌else◌, ℕ, Bool, false, List}
+use Rattle.std.specs.Prelude.{[], ◌∷◌, Option, Some, None, nat_le, fold, codes}
 use Rattle.std.specs.List.{list_all}
 use Rattle.std.specs.Str.{bytes_eq}
 

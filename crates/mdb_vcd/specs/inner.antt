@@ -1,4 +1,3 @@
-pub mod Ends
 pub mod Places
 pub mod Reading
 pub mod Words

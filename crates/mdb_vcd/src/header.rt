@@ -39,8 +39,8 @@ fn is_called(told: &Option<String>, capital: u8, small: u8, path: &[u8], name: &
     }
 }
 
-/// Whether a line's code has to be noted: it is that of a variable of this size and code, if that is
-/// called so. It has one bit, and no other variable that is called so has another code.
+/// Whether a line's code has to be noted: it is that of a variable of this size and code, if that
+/// is called so. It has one bit, and no other variable that is called so has another code.
 fn expect_code(called: bool, size: &[u8], code: &[u8], old: &Option<Vec<u8>>) -> Result<bool, Stop>
     ensures ok { IfOk result (λ more. code_told called size.now code.now
         (option_map (λ c. c.items) old.now)

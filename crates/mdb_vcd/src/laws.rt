@@ -1,9 +1,7 @@
 //! Laws of the rows of a dump. Each function's contract is the law, and its body is empty.
 
 ghost use Rattle.std.specs.Prelude.{◌≡◌, ℕ, List};
-ghost use Rattle.std.specs.List.{AllPairs};
 ghost use Rattle.mdb_words.specs.declared.event.Event.{Event};
-ghost use Rattle.mdb_exports.specs.Order.{Precedes};
 ghost use Rattle.mdb_exports.specs.declared.places.Place.{Place};
 ghost use Rattle.mdb_vcd.specs.Dump.{AreRowsOfDump};
 ghost use Rattle.mdb_vcd.specs.declared.options.VcdOptions.{VcdOptions};
@@ -15,11 +13,4 @@ pub fn rows_are_the_only_ones()
         AreRowsOfDump options text rows pulses damaged →
         AreRowsOfDump options text others pulses2 damaged2 →
         (others ≡ rows) × (pulses2 ≡ pulses) × (damaged2 ≡ damaged) }
-{}
-
-/// The rows of a dump stand in the order of their times, at one time that of the controller first.
-pub fn rows_stand_in_order()
-    ensures { (options : VcdOptions) (text : List ℕ) (rows : List Event)
-        (pulses damaged : List Place) →
-        AreRowsOfDump options text rows pulses damaged → AllPairs Precedes rows }
 {}

@@ -1,6 +1,7 @@
 //! Times and timescales.
 
-ghost use Rattle.std.specs.Prelude.{◌≡◌, ◌≢◌, ◌<◌, ◌≤◌, ◌*◌, ◌^◌, ◌∷◌, ℕ, List, IfNone, IfSome, min, true, false};
+ghost use Rattle.std.specs.Prelude.{◌≡◌, ◌≢◌, ◌<◌, ◌≤◌, ◌*◌, ◌^◌, ◌∷◌, ℕ, List, IfNone, IfSome};
+ghost use Rattle.std.specs.Prelude.{min, true, false};
 ghost use Rattle.std.specs.List.{list_all};
 ghost use Rattle.mdb_vcd.specs.Numbers.{are_digits as digits, behind as rest_behind, is_digit};
 ghost use Rattle.mdb_vcd.specs.Numbers.{number_of as number_told, scale_by as scale_with};

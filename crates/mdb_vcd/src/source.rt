@@ -1,8 +1,9 @@
 //! A dump from its reader.
 
 ghost use Rattle.std.specs.Prelude.{◌≡◌, ◌≢◌, ◌⊎◌, [], IfErr, IfOk, IfSome, OnOk};
+ghost use Rattle.mdb_vcd.specs.Import.{IsFault};
 ghost use Rattle.mdb_vcd.specs.Text.{words_of};
-ghost use Rattle.mdb_vcd.specs.inner.Reading.{HasEnded, HasRead, IsBusOf, IsFault};
+ghost use Rattle.mdb_vcd.specs.inner.Reading.{HasEnded, HasRead, IsBusOf};
 
 use super::dump::Dump;
 use super::fault::VcdFault;
@@ -77,7 +78,9 @@ fn read_lines<B: BufRead>(
 
 /// Why a dump can't be read from its reader.
 fn fault_of_reading(kind: ErrorKind) -> VcdFault
-    ensures { (result ≡ VcdFault.Read) ⊎ (result ≡ VcdFault.Memory) }
+    ensures either { (result ≡ VcdFault.Read) ⊎ (result ≡ VcdFault.Memory) }
+    ensures read { result ≡ VcdFault.Read → kind ≢ ErrorKind.OutOfMemory }
+    ensures memory { result ≡ VcdFault.Memory → kind ≡ ErrorKind.OutOfMemory }
 {
     if kind == ErrorKind::OutOfMemory {
         VcdFault::Memory

@@ -1,6 +1,7 @@
 //! The words of a text.
 
-ghost use Rattle.std.specs.Prelude.{◌≡◌, ◌<◌, ◌≤◌, ◌∷◌, ◌++◌, [], true, length, take, drop, IfNone, IfSome, slice_index};
+ghost use Rattle.std.specs.Prelude.{◌≡◌, ◌<◌, ◌≤◌, ◌∷◌, ◌++◌, [], true, length, take, drop, IfNone};
+ghost use Rattle.std.specs.Prelude.{IfSome, slice_index};
 ghost use Rattle.mdb_vcd.specs.Text.{IsWord, is_blank as blank, words_of};
 ghost use Rattle.mdb_vcd.specs.inner.Words.{IsBegun, IsParted, IsPlain};
 

@@ -15,8 +15,8 @@ const READ_SIZE: usize = 65_536;
 /// The status where the program can't begin.
 const NOT_BEGUN: u8 = 2;
 
-/// Refuses what hasn't begun, for this reason: one line on standard error, and on standard output that
-/// of a refused export. A stream that can't be written gets none.
+/// Refuses what hasn't begun, for this reason: one line on standard error, and on standard output
+/// that of a refused export. A stream that can't be written gets none.
 fn refuse(rt: &HostRuntime, reason: &str, error: io::Error) -> u8 {
     let _ = write_refusal(&mut rt.stdout());
     let _ = eprintln!(rt; "mdbimport: {reason}{error}");

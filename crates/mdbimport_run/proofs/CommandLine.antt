@@ -24,7 +24,8 @@ use Rattle.mdbimport_run.specs.Program.{manual_command, mdbimport_manual, of_edg
 use Rattle.mdbimport_run.specs.Program.{of_rows, of_saleae, of_sigrok, rows_command}
 use Rattle.mdbimport_run.specs.Program.{saleae_command, sigrok_command}
 use Rattle.mdb_vcd.specs.declared.options.VcdOptions.{VcdOptions}
-use Rattle.mdbimport_run.specs.Program.{AskForVcd, AskTheSameOfDump, NameVcd, common_of_vcd, of_vcd, vcd_command}
+use Rattle.mdbimport_run.specs.Program.{AskForVcd, AskTheSameOfDump, NameVcd, common_of_vcd, of_vcd}
+use Rattle.mdbimport_run.specs.Program.{vcd_command}
 use Rattle.mdbimport_run.specs.inner.CommandLine.{AskFor, FindSigrok, FindTask, commands}
 use Rattle.mdbimport_run.specs.declared.command_line.Task.{Task}
 use Rattle.mdbimport_run.specs.declared.command_line.Task.TheVariants.{Edges, Manual, Rows, Saleae}

@@ -13,7 +13,8 @@ use Rattle.mdb_sigrok.specs.Part.{is_taken, part_of}
 use Rattle.mdb_sigrok.specs.Record.{IsName, IsPair}
 use Rattle.mdb_exports.specs.declared.places.Place.{Place}
 use Rattle.mdb_sigrok.specs.Notes.{rows_in}
-use Rattle.mdb_sigrok.specs.Rows.{LineRows, break_of, nothing, unfinished, pulse, word, broken, damaged, damaged_low}
+use Rattle.mdb_sigrok.specs.Rows.{LineRows, break_of, nothing, unfinished, pulse, word, broken}
+use Rattle.mdb_sigrok.specs.Rows.{damaged, damaged_low}
 use Rattle.mdb_sigrok.specs.declared.note.Note.{Note}
 use Rattle.mdb_sigrok.specs.Text.{micros_of}
 use Rattle.mdb_sigrok.specs.Trace.{AreRowsOfTrace, TellPairs, is_line, last, more, on_line}
@@ -83,9 +84,11 @@ rows_small (broken start data_pair frame end value pairs notes begins is wrong l
     (rows_small rest (All-tail IsSmall end pairs ends))
 rows_small (damaged start data_pair frame value pairs notes begins is wrong alone rest) all =
     rows_small rest (after_three start data_pair frame pairs all)
-rows_small (damaged_low start data_pair frame end value pairs notes begins is wrong low no_break rest)
+rows_small (damaged_low start data_pair frame end value pairs notes begins is wrong low no_break
+    rest)
     all =
-    rows_small rest (All-tail IsSmall end pairs (after_three start data_pair frame (end ∷ pairs) all))
+    rows_small rest (All-tail IsSmall end pairs
+    (after_three start data_pair frame (end ∷ pairs) all))
 
 pub trace_read_back : (options : SigrokOptions) (text : List ℕ) (rows : List Event)
     (passed left_out : List Place) → AreRowsOfTrace options text rows passed left_out

@@ -1,5 +1,6 @@
 -- What the answer of the program says.
-use Rattle.std.proofs.Common.{Global, List, codes, subst, sym, ◌≡◌, ℕ, Option, Some, None, IfSome, Result, Ok, Err, IfOk, IfErr}
+use Rattle.std.proofs.Common.{Global, List, codes, subst, sym, ◌≡◌, ℕ, Option, Some, None, IfSome}
+use Rattle.std.proofs.Common.{Result}
 use Rattle.std.specs.Prelude.{String, map, string_bytes}
 use Rattle.mdb_saleae.specs.Imports as table
 use Rattle.mdb_saleae.specs.declared.fault.SaleaeFault.{SaleaeFault}
@@ -8,17 +9,19 @@ use Rattle.mdb_edges.specs.Import as edges
 use Rattle.mdb_edges.specs.declared.fault.EdgesFault.{EdgesFault}
 use Rattle.mdb_edges.specs.declared.options.EdgesOptions.{EdgesOptions}
 use Rattle.mdb_levels.specs.declared.part.LevelsImported.{LevelsImported}
-use Rattle.mdbimport_run.specs.Program.{IsEdgesAnswer, IsTextWritten, Kind, NameATask, NameManual, NameTask, Says, left_by, no_memory, of_edges, of_manual, of_rows, of_saleae, of_sigrok}
+use Rattle.mdbimport_run.specs.Program.{IsTextWritten, Kind, NameATask, NameManual}
+use Rattle.mdbimport_run.specs.Program.{NameTask, Says, left_by, no_memory, of_edges, of_manual}
+use Rattle.mdbimport_run.specs.Program.{of_rows, of_saleae, of_sigrok}
 use Rattle.mdb_vcd.specs.Import as vcd
 use Rattle.mdb_vcd.specs.declared.fault.VcdFault.{VcdFault}
 use Rattle.mdb_vcd.specs.declared.options.VcdOptions.{VcdOptions}
-use Rattle.mdbimport_run.specs.Program.{IsVcdAnswer, of_vcd}
+use Rattle.mdbimport_run.specs.Program.{of_vcd}
 use Rattle.mdb_exports.specs.Records.{export_records}
-use Rattle.mdb_rows_import.specs.Imports.{Imports}
+use Rattle.mdb_rows_import.specs.Imports as export
 use Rattle.mdb_rows_import.specs.declared.fault.ImportFault.{ImportFault}
 use Rattle.mdb_exports.specs.declared.told.Imported.{Imported}
 use Rattle.mdb_rows_import.specs.declared.options.RowsOptions.{RowsOptions}
-use Rattle.mdb_sigrok.specs.Import.{AnswersTo}
+use Rattle.mdb_sigrok.specs.Import as trace
 use Rattle.mdb_sigrok.specs.declared.fault.SigrokFault.{SigrokFault}
 use Rattle.mdb_sigrok.specs.declared.options.SigrokOptions.{SigrokOptions}
 use Rattle.mdb_sigrok.specs.declared.tally.SigrokRows.{SigrokRows}
@@ -28,7 +31,8 @@ use Rattle.mdbimport_run.specs.declared.ended.Ended.TheVariants as ended
 use Rattle.mdbimport_run.specs.declared.refusal.Refusal.{Refusal}
 use Rattle.mdbimport_run.specs.inner.CommandLine.{AskFor}
 use Rattle.mdbimport_run.specs.declared.command_line.Task.{Task}
-use Rattle.mdbimport_run.specs.declared.command_line.Task.TheVariants.{Edges, Manual, Rows, Saleae, Sigrok, Vcd}
+use Rattle.mdbimport_run.specs.declared.command_line.Task.TheVariants.{Edges, Manual, Rows, Saleae}
+use Rattle.mdbimport_run.specs.declared.command_line.Task.TheVariants.{Sigrok, Vcd}
 use Rattle.mdbimport_run.specs.Program.{mdbimport_manual}
 use Rattle.command_words.specs.Grammar.{chosen}
 use Rattle.command_words.specs.Manual.{AskForManual}
@@ -68,7 +72,8 @@ refused read given refusal same why names =
     (λ named. why_none (map string_bytes read) refusal why named.0 named.1) names
 
 pub refused_says : (known : Option (List ℕ)) (words : List (List ℕ))
-    (before after : Option (List ℕ)) (refusal : Refusal) (answer : Result (Prim.Unit {0}) WriteFailed)
+    (before after : Option (List ℕ)) (refusal : Refusal)
+    (answer : Result (Prim.Unit {0}) WriteFailed)
     → (NameATask words → refusal ≡ no_memory) → IsTextWritten (left_by refusal) before after answer
     → IfSome known (λ text. Says words text before after (Refused refusal answer))
 refused_says None words before after refusal answer why written = tt
@@ -77,13 +82,13 @@ refused_says (Some text) words before after refusal answer why written = (why, w
 -- the answer of a task is that of its words
 pub rows_say : (words : List (List ℕ)) (options : RowsOptions) (before after : Option (List ℕ))
     (answer : Result Imported ImportFault) → AskFor words (Rows options) → (text : List ℕ)
-    → Imports options (export_records text) before after answer
+    → export.Imports options (export_records text) before after answer
     → Says words text before after (ended.Rows answer)
 rows_say words options before after answer asks text imports = (options, asks, imports)
 
 pub sigrok_says : (words : List (List ℕ)) (options : SigrokOptions) (before after : Option (List ℕ))
     (answer : Result SigrokRows SigrokFault) → AskFor words (Sigrok options) → (text : List ℕ)
-    → AnswersTo options text before after answer
+    → trace.Imports options text before after answer
     → Says words text before after (ended.Sigrok answer)
 sigrok_says words options before after answer asks text answers = (options, asks, answers)
 
@@ -95,13 +100,13 @@ saleae_says words options before after answer asks text imports = (options, asks
 
 pub edges_say : (words : List (List ℕ)) (options : EdgesOptions) (before after : Option (List ℕ))
     (answer : Result LevelsImported EdgesFault) → AskFor words (Edges options) → (text : List ℕ)
-    → IsEdgesAnswer options text before after answer
+    → edges.Imports options (export_records text) before after answer
     → Says words text before after (ended.Edges answer)
 edges_say words options before after answer asks text answers = (options, asks, answers)
 
 pub vcd_says : (words : List (List ℕ)) (options : VcdOptions) (before after : Option (List ℕ))
     (answer : Result LevelsImported VcdFault) → AskFor words (Vcd options) → (text : List ℕ)
-    → IsVcdAnswer options text before after answer
+    → vcd.Imports options text before after answer
     → Says words text before after (ended.Vcd answer)
 vcd_says words options before after answer asks text answers = (options, asks, answers)
 
@@ -111,26 +116,3 @@ pub manual_says : (words : List (List ℕ)) (page : List ℕ) (before after : Op
     → IfSome known (λ text. Says words text before after (ended.Manual answer))
 manual_says words page before after answer asks written None = tt
 manual_says words page before after answer asks written (Some text) = (page, asks, written)
-
--- what is said of both answers to the records of a table of edges is said of the answer
-pub edges_answer : (Come : List (List (List ℕ)) → Type 0) (text : List ℕ) (options : EdgesOptions)
-    (before after : Option (List ℕ)) (answer : Result LevelsImported EdgesFault)
-    → IfOk answer (λ told.
-    (all : List (List (List ℕ))) → Come all → edges.AreImported options all told before after)
-    → IfErr answer (λ fault.
-    (all : List (List (List ℕ))) → Come all → edges.AreRefused options all fault before after)
-    → Come (export_records text) → IsEdgesAnswer options text before after answer
-edges_answer Come text options before after (Ok told) written refused come =
-    written (export_records text) come
-edges_answer Come text options before after (Err fault) written refused come =
-    refused (export_records text) come
-
--- the same of both answers to a dump
-pub vcd_answer : (known : Option (List ℕ)) (options : VcdOptions) (before after : Option (List ℕ))
-    (answer : Result LevelsImported VcdFault)
-    → IfOk answer (λ told. IfSome known (λ text. vcd.IsImported options text told before after))
-    → IfErr answer (λ fault. IfSome known (λ text. vcd.IsRefused options text fault before after))
-    → IfSome known (λ text. IsVcdAnswer options text before after answer)
-vcd_answer None options before after answer written refuses = tt
-vcd_answer (Some text) options before after (Ok told) written refuses = written
-vcd_answer (Some text) options before after (Err fault) written refuses = refuses

@@ -13,22 +13,20 @@ use Rattle.mdb_writing.specs.Written.{HasTaken}
 use Rattle.mdb_writing.specs.declared.failed.WriteFailed.{WriteFailed}
 use Rattle.mdb_exports.specs.Records.{export_records}
 use Rattle.mdb_exports.specs.Refusal.{refusal_line}
-use Rattle.mdb_rows_import.specs.Imports.{Imports}
+use Rattle.mdb_rows_import.specs.Imports as export
 use Rattle.mdb_rows_import.specs.declared.options.RowsOptions.{RowsOptions}
 use Rattle.mdb_exports.specs.declared.units.Unit.{Unit}
 use Rattle.mdb_exports.specs.declared.units.Unit.TheVariants as unit
-use Rattle.mdb_sigrok.specs.Import.{AnswersTo}
+use Rattle.mdb_sigrok.specs.Import as trace
 use Rattle.mdb_sigrok.specs.declared.options.SigrokOptions.{SigrokOptions}
 use Rattle.mdb_saleae.specs.Imports as table
 use Rattle.mdb_saleae.specs.declared.options.SaleaeOptions.{SaleaeOptions}
 use Rattle.mdb_edges.specs.Import as edges
-use Rattle.mdb_edges.specs.declared.fault.EdgesFault.{EdgesFault}
 use Rattle.mdb_edges.specs.declared.options.EdgesOptions.{EdgesOptions}
-use Rattle.mdb_levels.specs.declared.part.LevelsImported.{LevelsImported}
 use Rattle.mdb_vcd.specs.Import as vcd
-use Rattle.mdb_vcd.specs.declared.fault.VcdFault.{VcdFault}
 use Rattle.mdb_vcd.specs.declared.options.VcdOptions.{VcdOptions}
-use Rattle.mdbimport_run.specs.declared.manual.TheConstants.{ABOUT, EDGES, MANUAL, REST, ROWS, SALEAE, SIGROK}
+use Rattle.mdbimport_run.specs.declared.manual.TheConstants.{ABOUT, EDGES, MANUAL, REST, ROWS}
+use Rattle.mdbimport_run.specs.declared.manual.TheConstants.{SALEAE, SIGROK}
 use Rattle.mdbimport_run.specs.declared.manual.TheConstants.{VCD}
 use Rattle.mdbimport_run.specs.declared.ended.Ended.{Ended}
 use Rattle.mdbimport_run.specs.declared.ended.Ended.TheVariants.{Rows, Sigrok, Saleae, Edges}
@@ -333,22 +331,6 @@ IsAnswerTo words (Vcd answer) = NameTask of_vcd words
 IsAnswerTo words (Manual answer) = NameTask of_manual words
 IsAnswerTo words (Refused refusal written) = NameATask words → refusal ≡ no_memory
 
--- what the answer to a table of edges says of its text, and of the bytes that the writer held
-abbrev pub IsEdgesAnswer : EdgesOptions → List ℕ → Option (List ℕ) → Option (List ℕ)
-    → Result LevelsImported EdgesFault → Type 0
-IsEdgesAnswer options text before after (Ok told) =
-    edges.IsImported options text told before after
-IsEdgesAnswer options text before after (Err fault) =
-    edges.IsRefused options text fault before after
-
--- what the answer to a dump says of its text
-abbrev pub IsVcdAnswer : VcdOptions → List ℕ → Option (List ℕ) → Option (List ℕ)
-    → Result LevelsImported VcdFault → Type 0
-IsVcdAnswer options text before after (Ok told) =
-    vcd.IsImported options text told before after
-IsVcdAnswer options text before after (Err fault) =
-    vcd.IsRefused options text fault before after
-
 -- a text was written, or a front of it, where the writer failed
 abbrev pub IsTextWritten : List ℕ → Option (List ℕ) → Option (List ℕ)
     → Result (Prim.Unit {0}) WriteFailed → Type 0
@@ -367,15 +349,15 @@ left_by _ = refusal_line
 -- what they leave was written.
 abbrev pub Says : List (List ℕ) → List ℕ → Option (List ℕ) → Option (List ℕ) → Ended → Type 0
 Says words text before after (Rows answer) = (options : RowsOptions) × NameRows words options
-    × Imports options (export_records text) before after answer
+    × export.Imports options (export_records text) before after answer
 Says words text before after (Sigrok answer) = (options : SigrokOptions)
-    × NameSigrok words options × AnswersTo options text before after answer
+    × NameSigrok words options × trace.Imports options text before after answer
 Says words text before after (Saleae answer) = (options : SaleaeOptions)
     × NameSaleae words options × table.Imports options (export_records text) before after answer
 Says words text before after (Edges answer) = (options : EdgesOptions)
-    × NameEdges words options × IsEdgesAnswer options text before after answer
+    × NameEdges words options × edges.Imports options (export_records text) before after answer
 Says words text before after (Vcd answer) = (options : VcdOptions)
-    × NameVcd words options × IsVcdAnswer options text before after answer
+    × NameVcd words options × vcd.Imports options text before after answer
 Says words text before after (Manual answer) = (page : List ℕ)
     × NameManual words page × IsTextWritten page before after answer
 Says words text before after (Refused refusal written) =

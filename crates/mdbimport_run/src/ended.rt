@@ -34,8 +34,8 @@ pub enum Ended {
     Vcd(Result<LevelsImported, VcdFault>),
     /// The words name `manual`, and its text was written, or the writer failed.
     Manual(Result<(), WriteFailed>),
-    /// The words were refused, and there was no import. The line of a refused export was written, or
-    /// the writer failed.
+    /// The words were refused, and there was no import. The line of a refused export was written,
+    /// or the writer failed.
     Refused(Refusal, Result<(), WriteFailed>),
 }
 

@@ -3,11 +3,13 @@
 ghost use Rattle.std.specs.Prelude.{◌≡◌, ◌⊎◌, IfSome, map, option_map, string_bytes};
 ghost use Rattle.command_words.specs.Manual.{manual_text};
 ghost use Rattle.mdb_exports.specs.Records.{export_records};
-ghost use Rattle.mdb_rows_import.specs.Imports.{Imports};
-ghost use Rattle.mdbimport_run.specs.Program.{IsAnswerTo, IsEdgesAnswer, IsLeft, IsTextWritten};
-ghost use Rattle.mdbimport_run.specs.Program.{IsVcdAnswer, Says, mdbimport_manual};
+ghost use Rattle.mdb_edges.specs.Import.{Imports as ImportsEdges};
+ghost use Rattle.mdb_rows_import.specs.Imports.{Imports as ImportsRows};
 ghost use Rattle.mdb_saleae.specs.Imports.{Imports as ImportsTable};
-ghost use Rattle.mdb_sigrok.specs.Import.{AnswersTo};
+ghost use Rattle.mdb_sigrok.specs.Import.{Imports as ImportsTrace};
+ghost use Rattle.mdb_vcd.specs.Import.{Imports as ImportsDump};
+ghost use Rattle.mdbimport_run.specs.Program.{IsAnswerTo, IsLeft, IsTextWritten, Says};
+ghost use Rattle.mdbimport_run.specs.Program.{mdbimport_manual};
 
 use super::command_line::{PROGRAM, Task, task_of};
 use super::complaint::{tell, tell_of_dump, tell_of_edges, tell_of_table, tell_of_trace};
@@ -27,8 +29,8 @@ use std::io::{Read, Write};
 
 /// Runs the program over its words, the program's name first, and answers how that ended: with the
 /// answer of the import that the words name, with that of writing the manual, or that they are
-/// refused. Refused words write the line of a refused export, which no checker takes. Those that ask
-/// for help or for the version write nothing.
+/// refused. Refused words write the line of a refused export, which no checker takes. Those that
+/// ask for help or for the version write nothing.
 ///
 /// One line on `err` says why there is no import, or no whole one. Where there is one, lines on
 /// `err` tell what was passed over, and what is likely to be wrong with the recording. Where `err`
@@ -68,7 +70,7 @@ fn run_rows<R: Read + Drop, W: Write, E: Write>(
     out: &mut W,
     err: &mut E,
 ) -> Result<Imported, ImportFault>
-    ensures { IfSome (R.remaining reader) (λ text. Imports options.now (export_records text)
+    ensures { IfSome (R.remaining reader) (λ text. ImportsRows options.now (export_records text)
         (W.contents out.old) (W.contents out.new) result) }
 {
     let mut records = records_of(alloc, reader);
@@ -85,7 +87,7 @@ fn run_sigrok<R: Read + Drop, W: Write, E: Write>(
     out: &mut W,
     err: &mut E,
 ) -> Result<SigrokRows, SigrokFault>
-    ensures { IfSome (R.remaining reader) (λ text. AnswersTo options.now text
+    ensures { IfSome (R.remaining reader) (λ text. ImportsTrace options.now text
         (W.contents out.old) (W.contents out.new) result) }
 {
     let answer = import_sigrok(alloc, options, reader, out);
@@ -118,7 +120,7 @@ fn run_edges<R: Read + Drop, W: Write, E: Write>(
     out: &mut W,
     err: &mut E,
 ) -> Result<LevelsImported, EdgesFault>
-    ensures { IfSome (R.remaining reader) (λ text. IsEdgesAnswer options.now text
+    ensures { IfSome (R.remaining reader) (λ text. ImportsEdges options.now (export_records text)
         (W.contents out.old) (W.contents out.new) result) }
 {
     let mut records = records_of(alloc, reader);
@@ -135,7 +137,7 @@ fn run_vcd<R: Read + Drop, W: Write, E: Write>(
     out: &mut W,
     err: &mut E,
 ) -> Result<LevelsImported, VcdFault>
-    ensures { IfSome (R.remaining reader) (λ text. IsVcdAnswer options.now text
+    ensures { IfSome (R.remaining reader) (λ text. ImportsDump options.now text
         (W.contents out.old) (W.contents out.new) result) }
 {
     let answer = import_vcd(alloc, options, reader, out);

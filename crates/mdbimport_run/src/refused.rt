@@ -14,8 +14,8 @@ use mdb_writing::WriteFailed;
 use std::alloc::Global;
 use std::io::Write;
 
-/// Ends the output of words that are refused, so that no checker takes it. Words that ask for help or
-/// for the version write nothing.
+/// Ends the output of words that are refused, so that no checker takes it. Words that ask for help
+/// or for the version write nothing.
 pub(crate) fn end_refused<W: Write>(refusal: Refusal, out: &mut W) -> Result<(), WriteFailed>
     ensures { IsTextWritten (left_by refusal) (W.contents out.old) (W.contents out.new) result }
 {

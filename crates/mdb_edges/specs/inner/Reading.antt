@@ -1,19 +1,15 @@
 -- How a table is read, record by record. This file serves private functions and proofs: no public
 -- clause cites it.
-use Rattle.std.specs.Prelude.{◌≡◌, ◌⊎◌, ℕ, List, ◌∷◌, Option, take}
-use Rattle.std.specs.Io.KnownBytes.{Keeps}
+use Rattle.std.specs.Prelude.{◌≡◌, ℕ, List, ◌∷◌, take}
 use Rattle.mdb_words.specs.declared.event.Event.{Event}
 use Rattle.mdb_exports.specs.declared.places.Place.{Place}
 use Rattle.mdb_levels.specs.Lines.{HaveEnded, HaveHeard}
 use Rattle.mdb_levels.specs.Moments.{AreRowsOfBus, end_of}
 use Rattle.mdb_levels.specs.declared.lines.Lines.{Lines}
 use Rattle.mdb_levels.specs.declared.moment.Moment.{Moment}
-use Rattle.mdb_edges.specs.Import.{ArePartial, AreRefusedFor}
 use Rattle.mdb_levels.specs.declared.lines.Bus.{Bus}
 use Rattle.mdb_exports.specs.Places.{AreNoted}
 use Rattle.mdb_edges.specs.Table.{AreMoments, AreRowsOfTable, IsHeader}
-use Rattle.mdb_edges.specs.declared.fault.EdgesFault.{EdgesFault}
-use Rattle.mdb_edges.specs.declared.fault.EdgesFault.TheVariants.{Write}
 use Rattle.mdb_edges.specs.declared.columns.Columns.{Columns}
 use Rattle.mdb_edges.specs.declared.options.EdgesOptions.{EdgesOptions}
 
@@ -41,14 +37,6 @@ pub record IsBusOfTable (options : EdgesOptions) (records : List (List (List ℕ
   pub of_table : AreRowsOfTable options records bus.rows.items pulses damaged
   pub pulses_noted : AreNoted bus.pulses pulses
   pub damaged_noted : AreNoted bus.damaged damaged
-
--- what a fault tells of records, where nothing was written; where writing failed, a front of the
--- rows was
-abbrev pub AreUnclosed : EdgesOptions → List (List (List ℕ)) → EdgesFault → Option (List ℕ) →
-    Option (List ℕ) → Type 0
-AreUnclosed options records fault before after =
-    (AreRefusedFor options records fault × Keeps before after)
-    ⊎ ((fault ≡ Write) × ArePartial options records before after)
 
 -- records begin with a header of these columns, and these come behind it
 pub record IsHeaded (options : EdgesOptions) (all : List (List (List ℕ))) (columns : Columns)

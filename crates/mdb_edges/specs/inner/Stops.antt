@@ -11,7 +11,8 @@ use Rattle.mdb_edges.specs.declared.options.EdgesOptions.{EdgesOptions}
 use Rattle.mdb_edges.specs.declared.fault.Stop.{Stop}
 use Rattle.mdb_edges.specs.declared.fault.Stop.TheVariants as stop
 use Rattle.mdb_edges.specs.declared.fault.EdgesFault.{EdgesFault}
-use Rattle.mdb_edges.specs.declared.fault.EdgesFault.TheVariants.{Form, Order, Level, Line, Read, Write, Memory}
+use Rattle.mdb_edges.specs.declared.fault.EdgesFault.TheVariants.{Form, Order, Level, Line, Read}
+use Rattle.mdb_edges.specs.declared.fault.EdgesFault.TheVariants.{Write, Memory}
 
 -- something stands in the table
 abbrev pub IsOfTable : Stop → Type 0

@@ -1,19 +1,23 @@
 -- Where a line stands while its levels are read. This file serves private functions and proofs: no
 -- public clause cites it.
-use Rattle.std.specs.Prelude.{◌≡◌, ◌+◌, ◌-◌, ◌^◌, ◌<◌, ◌≤◌, ◌++◌, if◌then◌else◌, Bool, true, false, ℕ, List, [], ◌∷◌, Option, Some, None}
+use Rattle.std.specs.Prelude.{◌≡◌, ◌+◌, ◌-◌, ◌^◌, ◌<◌, ◌≤◌, ◌++◌, if◌then◌else◌, Bool, true, false}
+use Rattle.std.specs.Prelude.{ℕ, List, [], ◌∷◌, Option, Some, None}
 use Rattle.mdb_words.specs.declared.event.Event.{Event}
 use Rattle.mdb_words.specs.declared.event.Event.TheVariants.{Break}
 use Rattle.mdb_words.specs.declared.word.Line.{Line}
 use Rattle.mdb_words.specs.declared.word.Line.TheVariants.{Controller, Peripheral}
 use Rattle.mdb_levels.specs.Faults.{Begins, IsWrong, IsWrongAtEnd, Passes}
-use Rattle.mdb_levels.specs.Levels.{AreFoundOn, Falls, Follows, IsDamaged, Rises, bits_value, micros_of, middle_of}
+use Rattle.mdb_levels.specs.Levels.{AreFoundOn, Falls, Follows, IsDamaged, Rises, bits_value}
+use Rattle.mdb_levels.specs.Levels.{micros_of, middle_of}
 use Rattle.mdb_levels.specs.declared.fault.LineFault.{LineFault}
-use Rattle.mdb_levels.specs.declared.fault.LineFault.TheVariants.{Framing, DeviceBreak, LongBreak, Cut}
+use Rattle.mdb_levels.specs.declared.fault.LineFault.TheVariants.{Framing, DeviceBreak, LongBreak}
+use Rattle.mdb_levels.specs.declared.fault.LineFault.TheVariants.{Cut}
 use Rattle.mdb_levels.specs.declared.fault.Wrong.{Wrong}
 use Rattle.mdb_levels.specs.declared.finding.Finding.{Finding}
 use Rattle.mdb_levels.specs.declared.frame.Frame.{Frame}
 use Rattle.mdb_levels.specs.declared.receiver.State.{State}
-use Rattle.mdb_levels.specs.declared.receiver.State.TheVariants.{Unknown, Idle, Framed, Low, Waiting}
+use Rattle.mdb_levels.specs.declared.receiver.State.TheVariants.{Unknown, Idle, Framed, Low}
+use Rattle.mdb_levels.specs.declared.receiver.State.TheVariants.{Waiting}
 
 -- what was found, or nothing
 abbrev pub told_by : Option Finding → List Finding

@@ -15,7 +15,8 @@ use Rattle.mdb_levels.specs.declared.fault.LevelsFault.{LevelsFault}
 use Rattle.mdb_levels.specs.declared.fault.LevelsFault.TheVariants as levels
 use Rattle.mdb_levels.specs.declared.fault.Wrong.{Wrong}
 use Rattle.mdb_levels.specs.Faults.{IsFineUntil}
-use Rattle.mdb_levels.specs.inner.Standing.{HasNone, Holds, IsWrongBy, IsWrongInEnd, Stands, held_of}
+use Rattle.mdb_levels.specs.inner.Standing.{HasNone, Holds, IsWrongBy, IsWrongInEnd, Stands}
+use Rattle.mdb_levels.specs.inner.Standing.{held_of}
 
 -- levels are those of a line that moments tell, up to the last of them
 abbrev pub Shows : Line → (ℕ → Bool) → Bool → ℕ → List Moment → Type 0

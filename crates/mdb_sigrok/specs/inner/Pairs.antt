@@ -8,7 +8,8 @@ use Rattle.mdb_exports.specs.Places.{AreNoted}
 use Rattle.mdb_exports.specs.declared.places.Place.{Place}
 use Rattle.mdb_exports.specs.declared.places.Places.{Places}
 use Rattle.mdb_sigrok.specs.declared.fault.SigrokFault.{SigrokFault}
-use Rattle.mdb_sigrok.specs.declared.fault.SigrokFault.TheVariants.{Form, Order, Read, Write, Memory}
+use Rattle.mdb_sigrok.specs.declared.fault.SigrokFault.TheVariants.{Form, Order, Read, Write}
+use Rattle.mdb_sigrok.specs.declared.fault.SigrokFault.TheVariants.{Memory}
 use Rattle.mdb_sigrok.specs.declared.line.State.{State}
 use Rattle.mdb_sigrok.specs.declared.line.Open.TheVariants.{Nothing}
 use Rattle.mdb_sigrok.specs.declared.note.Note.{Note}

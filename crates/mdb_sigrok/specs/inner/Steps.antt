@@ -1,5 +1,6 @@
 -- How a line goes on, record by record.
-use Rattle.std.specs.Prelude.{◌≡◌, ◌≤◌, ◌+◌, ◌++◌, Bool, true, false, ℕ, List, [], ◌∷◌, Option, None, Some}
+use Rattle.std.specs.Prelude.{◌≡◌, ◌≤◌, ◌+◌, ◌++◌, Bool, true, false, ℕ, List, [], ◌∷◌, Option}
+use Rattle.std.specs.Prelude.{None, Some}
 use Rattle.mdb_words.specs.declared.word.Line.{Line}
 use Rattle.mdb_sigrok.specs.declared.note.Note.{Note}
 use Rattle.mdb_sigrok.specs.declared.note.Note.TheVariants.{Row, Damaged}

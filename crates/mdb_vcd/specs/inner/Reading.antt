@@ -1,6 +1,6 @@
 -- How a dump was read so far. This file serves private functions and proofs: no public clause cites
 -- it.
-use Rattle.std.specs.Prelude.{◌≡◌, ◌≢◌, ◌⊎◌, ◌+◌, ◌≤◌, ◌++◌, ℕ, List, [], ◌∷◌, Option, Some, None}
+use Rattle.std.specs.Prelude.{◌≡◌, ◌⊎◌, ◌+◌, ◌≤◌, ◌++◌, ℕ, List, [], ◌∷◌, Option, Some, None}
 use Rattle.mdb_words.specs.declared.word.Line.{Line}
 use Rattle.mdb_words.specs.declared.word.Line.TheVariants.{Controller, Peripheral}
 use Rattle.mdb_levels.specs.Faults.{Claims}
@@ -16,8 +16,8 @@ use Rattle.mdb_levels.specs.declared.lines.Bus.{Bus}
 use Rattle.mdb_levels.specs.declared.lines.Lines.{Lines}
 use Rattle.mdb_levels.specs.declared.moment.Moment.{Moment}
 use Rattle.mdb_vcd.specs.Dump.{AreMoments, AreRowsOfDump, start}
-use Rattle.mdb_vcd.specs.Faults.{AreLines, IsCut, IsFirstFault, IsShownAfter, IsShownBefore, IsStopped, Reads, lines_in}
-use Rattle.mdb_vcd.specs.Import.{HasNoRows, IsRefutedBy}
+use Rattle.mdb_vcd.specs.Faults.{AreLines, IsCut, IsShownAfter, IsShownBefore}
+use Rattle.mdb_vcd.specs.Faults.{IsStopped, Reads, lines_in}
 use Rattle.mdb_vcd.specs.Text.{words_of}
 use Rattle.mdb_vcd.specs.declared.fault.FormFault.TheVariants as form
 use Rattle.mdb_vcd.specs.declared.fault.Halt.{Halt}
@@ -105,11 +105,6 @@ abbrev pub HasComeBy : VcdOptions → Option (List ℕ) → Option (List ℕ) �
 HasComeBy options None now number dump = Unit {0}
 HasComeBy options (Some text) None number dump = ⊥
 HasComeBy options (Some text) (Some rest) number dump = HasCome options text rest number dump
-
--- a fault that is told of reading, or of a dump
-abbrev pub IsFault : VcdOptions → List ℕ → VcdFault → Type 0
-IsFault options text fault =
-    IsFirstFault options text fault × IsRefutedBy fault (HasNoRows options text) × (fault ≢ told.Write)
 
 -- the rows of a dump and what was passed over, as they are held
 pub record IsBusOf (options : VcdOptions) (text : List ℕ) (bus : Bus) : Type 0 where

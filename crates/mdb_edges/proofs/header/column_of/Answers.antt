@@ -1,7 +1,8 @@
 use Rattle.std.proofs.Common.{false, ◌+◌, arith, refl, subst, sym}
 use Rattle.std.specs.Prelude.{option_map}
 use Rattle.mdb_records.specs.Fields.{fields_of}
-use Rattle.mdb_edges.proofs.Headers.{IsFoundBelow, all_found, first_found, found_same, found_twice, none_found}
+use Rattle.mdb_edges.proofs.Headers.{IsFoundBelow, all_found, first_found, found_same, found_twice}
+use Rattle.mdb_edges.proofs.Headers.{none_found}
 use Rattle.mdb_levels.proofs.Orders.{differ}
 use Rattle.mdb_edges.proofs.header.column_of.Goals.{then-is+in_default, else-is}
 use Rattle.mdb_edges.proofs.header.column_of.Goals as goal

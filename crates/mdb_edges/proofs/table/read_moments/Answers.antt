@@ -67,13 +67,15 @@ returns-in-Err-end-clause-why g c header all named to_come =
     let none =
     subst P c.in-Ok-false.field-0-test
     (c.in-Ok-false.ensures.next so_far.rest so_far.to_come) in
-    first_at (stop.Levels c.in-Err-end.fault) c.at.result c.args.options.now (header ∷ all) c.loop-number.number
+    first_at (stop.Levels c.in-Err-end.fault) c.at.result c.args.options.now (header ∷ all)
+    c.loop-number.number
     c.args.columns.now so_far.moments []
     (reached g.R.Read.remaining c.loop-number.records c.args.options.now c.args.columns.now
     c.loop-number.earliest c.loop-number.number c.loop-number.lines all [] header so_far none
     named)
     (met_end c.in-Err-end.fault c.args.options.now c.args.columns.now so_far.moments
-    (c.in-Err-end.ensures.wrong c.args.options.now.skip_damaged so_far.moments so_far.has.heard)) c.at.ensures
+    (c.in-Err-end.ensures.wrong c.args.options.now.skip_damaged so_far.moments so_far.has.heard))
+    c.at.ensures
 
 pub returns-in-Err-take_record-clause-why : goal.returns-in-Err-take_record-clause-why
 returns-in-Err-take_record-clause-why g c header all named to_come =
@@ -96,7 +98,8 @@ returns-in-Err-clause-failed g c is =
 
 pub returns-in-Err-end-clause-failed : goal.returns-in-Err-end-clause-failed
 returns-in-Err-end-clause-failed g c is =
-    absurd (no_read (stop.Levels c.in-Err-end.fault) c.loop-number.number c.at.result c.at.ensures is)
+    absurd (no_read (stop.Levels c.in-Err-end.fault) c.loop-number.number c.at.result c.at.ensures
+    is)
 
 pub returns-in-Err-take_record-clause-failed : goal.returns-in-Err-take_record-clause-failed
 returns-in-Err-take_record-clause-failed g c is =

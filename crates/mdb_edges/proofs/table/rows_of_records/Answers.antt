@@ -7,8 +7,10 @@ use Rattle.mdb_edges.proofs.table.rows_of_records.Goals as goal
 pub returns-in_err-columns-clause-err : goal.returns-in_err-columns-clause-err
 returns-in_err-columns-clause-err g c =
     handed_on c.from_residual.result c.in_err-columns.field-0.0 _ c.from_residual.ensures
-    (λ all to_come others rows pulses damaged. no_head_table c.in_err-columns.field-0.0 c.args.options.now all
-    others (λ rest columns. c.in_err-columns.ensures.err all others rest columns to_come) rows pulses damaged)
+    (λ all to_come others rows pulses damaged. no_head_table c.in_err-columns.field-0.0
+    c.args.options.now all
+    others (λ rest columns. c.in_err-columns.ensures.err all others rest columns to_come) rows
+    pulses damaged)
 
 pub returns-in_err-read_moments-clause-err : goal.returns-in_err-read_moments-clause-err
 returns-in_err-read_moments-clause-err g c =

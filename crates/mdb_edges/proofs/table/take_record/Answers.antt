@@ -30,7 +30,8 @@ returns-in-Ok-clause-ok c body moments has =
       read_more c.args.options.now c.args.columns.now c.args.earliest c.args.lines.now
           c.take.new.self body (fields_of c.args.row.now) moments c.in_ok-moment.moment has
           c.in_ok-moment.ensures.ok later
-          (c.in-Ok.ensures.ok c.args.options.now.skip_damaged moments has.heard (omega (arith, later, has.next))),
+          (c.in-Ok.ensures.ok c.args.options.now.skip_damaged moments has.heard
+          (omega (arith, later, has.next))),
     )
 
 pub returns-in-Err-clause-err : goal.returns-in-Err-clause-err
@@ -40,7 +41,8 @@ returns-in-Err-clause-err c body rest moments rows has =
     barred_next c.in-Err.fault c.args.options.now c.args.columns.now c.args.earliest
     c.args.lines.now body rest (fields_of c.args.row.now) moments rows
     c.in_ok-moment.moment has c.in_ok-moment.ensures.ok
-    (c.in-Err.ensures.err c.args.options.now.skip_damaged moments has.heard (omega (arith, later, has.next)))
+    (c.in-Err.ensures.err c.args.options.now.skip_damaged moments has.heard
+    (omega (arith, later, has.next)))
 
 pub returns-in_err-moment-clause-why : goal.returns-in_err-moment-clause-why
 returns-in_err-moment-clause-why c =
@@ -62,4 +64,5 @@ returns-in-Err-clause-why c body rest moments has =
     let behind : end_of 0 moments ≤ c.in_ok-moment.moment.at = omega (arith, later, has.next) in
     met_lines c.in-Err.fault c.args.options.now c.args.columns.now moments
     (fields_of c.args.row.now) rest c.in_ok-moment.moment
-    c.in_ok-moment.ensures.ok behind (c.in-Err.ensures.wrong c.args.options.now.skip_damaged moments has.heard behind)
+    c.in_ok-moment.ensures.ok behind
+    (c.in-Err.ensures.wrong c.args.options.now.skip_damaged moments has.heard behind)

@@ -69,6 +69,7 @@ returns-in-Err-clause-ok c level known rows stands le holds =
     let is =
     c.in-Err.ensures.err skip line level known rows framed
     (subst (λ n. Holds level known n c.in-Framed.frame.high) (sym c.parts.ensures.value) held) in
-    subst (λ p. IsIdle skip line level c.args.at (rows ++ Pulse p ∷ [])) (sym c.in-Err.ensures.place)
+    subst (λ p. IsIdle skip line level c.args.at (rows ++ Pulse p ∷ []))
+    (sym c.in-Err.ensures.place)
     (pulse_passed skip line level known c.args.at rows c.in-Framed.frame framed
     (subst (λ n. IsPulse level c.in-Framed.frame.start n) c.parts.ensures.value is))

@@ -1,6 +1,7 @@
 use Rattle.std.proofs.Common.{◌∙◌, ◌-◌, arith, length, sym}
 use Rattle.mdb_sigrok.proofs.Cuts.{not_returned, nothing_returned, returned}
-use Rattle.mdb_sigrok.proofs.cut.trimmed.Goals.{then-is_empty-via-then-is_empty, then-is_empty-via-else-is_empty+then-line-ne13}
+use Rattle.mdb_sigrok.proofs.cut.trimmed.Goals.{then-is_empty-via-then-is_empty}
+use Rattle.mdb_sigrok.proofs.cut.trimmed.Goals.{then-is_empty-via-else-is_empty+then-line-ne13}
 use Rattle.mdb_sigrok.proofs.cut.trimmed.Goals as goal
 
 pub returns-then-is_empty : goal.returns-then-is_empty

@@ -8,5 +8,6 @@ returns-clause-ok c =
     damaged_state c.args.skip c.args.state.now.line c.args.state.now.earliest c.args.start.now
     c.args.value.now c.args.frame.now c.args.pair.now c.args.word c.time-at.result c.value.result
     (told_by c.in_ok-itself.itself) c.begin.new.state (search rules) c.requires.start
-    c.requires.word c.requires.error c.requires.other (search rules) c.time-at.ensures c.value.ensures.value
+    c.requires.word c.requires.error c.requires.other (search rules) c.time-at.ensures
+    c.value.ensures.value
     c.in_ok-itself.ensures.ok

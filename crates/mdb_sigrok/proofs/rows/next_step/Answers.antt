@@ -3,7 +3,8 @@ use Rattle.mdb_sigrok.specs.Text.{lines_of}
 use Rattle.mdb_sigrok.specs.inner.Fronts.{AreFirst, Leaves}
 use Rattle.mdb_sigrok.specs.inner.Pairs.{IsNext}
 use Rattle.mdb_sigrok.specs.inner.Stands.{stand_of}
-use Rattle.mdb_sigrok.proofs.Sources.{err_too, held_stops, none_of, shown_moves, shown_stops, some_of}
+use Rattle.mdb_sigrok.proofs.Sources.{err_too, held_stops, none_of, shown_moves, shown_stops}
+use Rattle.mdb_sigrok.proofs.Sources.{some_of}
 use Rattle.mdb_exports.proofs.Handed.{handed_on}
 use Rattle.mdb_sigrok.proofs.rows.next_step.Goals as goal
 
@@ -14,7 +15,8 @@ returns-in-Some-clause-ok g c =
     let next =
     some_of c.in_ok-shown.field-0 shown (λ found. Leaves (left c.args.reader.now)
     (left c.pass_pair.new.reader)
-    (λ text rest. IsNext c.args.options.now.swap (lines_of text) found.pair found.more (lines_of rest)))
+    (λ text rest. IsNext c.args.options.now.swap (lines_of text) found.pair found.more
+    (lines_of rest)))
     c.in-Some.is c.in_ok-shown.ensures.some in
     shown_moves c.args.options.now shown.more (left c.args.reader.now) (left c.pass_pair.new.reader)
     shown.pair (stand_of c.args.both.now) (stand_of c.take.new.self) next
@@ -27,7 +29,8 @@ returns-in_err-take-clause-err g c =
     let next =
     some_of c.in_ok-shown.field-0 shown (λ found. Leaves (left c.args.reader.now)
     (left c.pass_pair.new.reader)
-    (λ text rest. IsNext c.args.options.now.swap (lines_of text) found.pair found.more (lines_of rest)))
+    (λ text rest. IsNext c.args.options.now.swap (lines_of text) found.pair found.more
+    (lines_of rest)))
     c.in-Some.is c.in_ok-shown.ensures.some in
     handed_on c.from_residual-in_err-take.result c.in_err-take.field-0.0 _
     c.from_residual-in_err-take.ensures

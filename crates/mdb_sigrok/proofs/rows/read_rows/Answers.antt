@@ -2,7 +2,8 @@ use Rattle.std.proofs.Common.{inr, rules, subst, sym}
 use Rattle.mdb_sigrok.specs.Text.{lines_of}
 use Rattle.mdb_sigrok.specs.Trace.{AreRowsOfTrace, Refutes}
 use Rattle.mdb_sigrok.specs.inner.Fronts.{AreFirst, Leaves}
-use Rattle.mdb_sigrok.proofs.Sources.{err_too, found_rows_by, of_any, only_rows_by, parts_too, refused_rows_by}
+use Rattle.mdb_sigrok.proofs.Sources.{err_too, found_rows_by, of_any, only_rows_by, parts_too}
+use Rattle.mdb_sigrok.proofs.Sources.{refused_rows_by}
 use Rattle.mdb_exports.proofs.Handed.{handed_on}
 use Rattle.mdb_sigrok.proofs.rows.read_rows.Goals as goal
 

@@ -1,7 +1,8 @@
 use Rattle.std.proofs.Common.{IfSome, inl, refl, subst, sym, ◌∙◌}
 use Rattle.mdb_vcd.specs.declared.fault.VcdFault.TheVariants.{Read}
-use Rattle.mdb_vcd.specs.inner.Reading.{IsFault}
-use Rattle.mdb_vcd.proofs.Sources.{come_ended, come_halted, come_halted_at_end, come_none, come_on, empty_line, full_line, read_fault, shown_line}
+use Rattle.mdb_vcd.specs.Import.{IsFault}
+use Rattle.mdb_vcd.proofs.Sources.{come_ended, come_halted, come_halted_at_end, come_none, come_on}
+use Rattle.mdb_vcd.proofs.Sources.{empty_line, full_line, read_fault, shown_line}
 use Rattle.mdb_vcd.proofs.source.read_lines.Goals as goal
 
 pub loop-number-init : goal.loop-number-init
@@ -11,7 +12,7 @@ loop-number-init g c =
 pub returns-in-Err-clause-err : goal.returns-in-Err-clause-err
 returns-in-Err-clause-err g c =
     read_fault c.args.options.now (g.B.Read.remaining c.args.reader.now) c.fault_of_reading.result
-    c.fault_of_reading.ensures
+    c.fault_of_reading.ensures.either
 
 pub returns-in-Ok-end-clause-ok : goal.returns-in-Ok-end-clause-ok
 returns-in-Ok-end-clause-ok g c =

@@ -15,7 +15,8 @@ returns-in_err-break_length-clause-refused c =
 pub returns-in_err-common-clause-refused : goal.returns-in_err-common-clause-refused
 returns-in_err-common-clause-refused c =
     passed_up c.from_residual-in_err-common.result c.in_err-common.field-0.0
-    (λ refusal. (options : SaleaeOptions) → FindSaleae c.args.found.now options → refusal ≡ no_memory)
+    (λ refusal. (options : SaleaeOptions) → FindSaleae c.args.found.now options
+    → refusal ≡ no_memory)
     c.from_residual-in_err-common.ensures.1
     (λ options asks. c.in_err-common.ensures.refused _ asks.common)
 

@@ -1,4 +1,5 @@
-use Rattle.mdbimport_run.proofs.CommandLine.{alone, one_edges, one_manual, one_rows, one_saleae, one_sigrok, one_vcd}
+use Rattle.mdbimport_run.proofs.CommandLine.{alone, one_edges, one_manual, one_rows, one_saleae}
+use Rattle.mdbimport_run.proofs.CommandLine.{one_sigrok, one_vcd}
 use Rattle.mdbimport_run.proofs.laws.command_lines_name_one_task.Goals as goal
 
 pub returns-clause-rows : goal.returns-clause-rows

@@ -1,14 +1,17 @@
 use Rattle.std.proofs.Common.{refl}
 use Rattle.std.proofs.lemmas.Option.{IfSome_then}
-use Rattle.mdbimport_run.specs.declared.command_line.Task.TheVariants.{Edges, Manual, Rows, Saleae, Sigrok, Vcd}
-use Rattle.mdbimport_run.proofs.Status.{asked, edges_say, manual_says, refused, refused_says, rows_say, saleae_says, sigrok_says, vcd_says}
+use Rattle.mdbimport_run.specs.declared.command_line.Task.TheVariants.{Edges, Manual, Rows, Saleae}
+use Rattle.mdbimport_run.specs.declared.command_line.Task.TheVariants.{Sigrok, Vcd}
+use Rattle.mdbimport_run.proofs.Status.{asked, edges_say, manual_says, refused, refused_says}
+use Rattle.mdbimport_run.proofs.Status.{rows_say, saleae_says, sigrok_says, vcd_says}
 use Rattle.mdbimport_run.proofs.program.run.Goals as goal
 
 pub returns-clause-says : goal.returns-clause-says
 returns-clause-says g c =
     refused_says (g.R.Read.remaining c.args.reader) _ (g.W.Write.contents c.args.out.now)
     (g.W.Write.contents c.end_refused-written.new.out) c.in-Err.refusal c.end_refused-written.result
-    (refused _ c.args.words.items c.in-Err.refusal c.as_slice.ensures.value c.in-Err.ensures.refused)
+    (refused _ c.args.words.items c.in-Err.refusal c.as_slice.ensures.value
+    c.in-Err.ensures.refused)
     c.end_refused-written.ensures
 
 pub returns-clause-task : goal.returns-clause-task

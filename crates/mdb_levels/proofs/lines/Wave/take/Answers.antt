@@ -12,7 +12,8 @@ returns-in-Err-clause-err c skip line moments moment found heard now = (
   heard.same,
   λ level shows.
       let wave = c.args.self.now in
-      let r = ready skip wave line moments moment c.args.at c.args.high found heard now level shows in
+      let r = ready skip wave line moments moment c.args.at c.args.high found heard now level
+      shows in
       none_on skip wave line moments level found heard
       (c.in-Err.ensures.err level (end_of 0 moments) found r.stands r.before r.holds),
 )
@@ -85,7 +86,8 @@ returns-in-Err-turn-clause-err c skip line moments moment found heard now = (
       let old = c.args.self.now in
       let mid = c.add.new.self in
       let first = told_by c.in-Ok.found in
-      let r = ready skip old line moments moment c.args.at c.args.high found heard now level shows in
+      let r = ready skip old line moments moment c.args.at c.args.high found heard now level
+      shows in
       let one = c.in-Ok.ensures.ok level (end_of 0 moments) found r.stands r.before r.holds in
       let one_on =
       subst (λ s. Stands s mid.line level c.args.at mid.state (found ++ first))

@@ -5,7 +5,8 @@ use Rattle.mdb_records.specs.declared.ReadFault.TheVariants as reading
 use Rattle.mdb_writing.specs.Output.{begun, output}
 use Rattle.mdb_rows_import.specs.inner.Steps.{PutsImport}
 use Rattle.mdb_rows_import.specs.declared.fault.ImportFault.{ImportFault}
-use Rattle.mdb_rows_import.proofs.Imports.{all_taken, counted_all, read_fault, none_imported, not_read}
+use Rattle.mdb_rows_import.proofs.Imports.{all_taken, counted_all, read_fault, none_imported}
+use Rattle.mdb_rows_import.proofs.Imports.{not_read}
 use Rattle.mdb_rows_import.proofs.Imports.{not_taken, one_further}
 use Rattle.mdb_rows_import.proofs.importing.Importing.take_all.Goals as goal
 

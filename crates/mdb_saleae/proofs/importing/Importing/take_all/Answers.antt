@@ -4,7 +4,8 @@ use Rattle.mdb_records.specs.Fields.{fields_of}
 use Rattle.mdb_records.specs.ToCome.{Advances}
 use Rattle.mdb_records.specs.declared.ReadFault.TheVariants as reading
 use Rattle.mdb_writing.specs.Output.{begun, output}
-use Rattle.mdb_saleae.proofs.Imports.{next_number, all_taken, counted_all, none_imported, not_read, not_taken}
+use Rattle.mdb_saleae.proofs.Imports.{next_number, all_taken, counted_all, none_imported, not_read}
+use Rattle.mdb_saleae.proofs.Imports.{not_taken}
 use Rattle.mdb_saleae.proofs.Imports.{one_further, read_fault}
 use Rattle.std.proofs.lemmas.Result.{err_from_is_err_and}
 use Rattle.mdb_exports.proofs.Handed.{handed_on}

@@ -12,7 +12,8 @@ pub returns-in-Ok-take-clause-ok : goal.returns-in-Ok-take-clause-ok
 returns-in-Ok-take-clause-ok c = λ words has.
     read_later c.args.options.now c.args.self.now
     (record { stand = c.take.new.self; lines = c.take-then-parts.new.self }) words c.args.word.now
-    c.moment.result has c.in-Ok.ensures.ok (omega (arith, c.if-parts.true, c.parts.ensures.value, c.parts-2.ensures.value))
+    c.moment.result has c.in-Ok.ensures.ok
+    (omega (arith, c.if-parts.true, c.parts.ensures.value, c.parts-2.ensures.value))
     c.moment.ensures (c.in-Ok-take.ensures.ok c.args.options.now.skip_damaged)
 
 pub returns-in-Err-take-clause-err : goal.returns-in-Err-take-clause-err
