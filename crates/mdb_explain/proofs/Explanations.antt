@@ -12,8 +12,9 @@ use Rattle.mdb_explained_runs.specs.declared.mark.Mark.TheVariants.{Lost, Restar
 use Rattle.mdb_explain.specs.Explain.{explanation_records, explanation_text, mark_fields}
 use Rattle.mdb_explain.specs.Replay.{AreMarkRows, IsMarkRow, dash, mark_letter}
 use Rattle.mdb_verdict.specs.Rows.{AreRows}
-use Rattle.mdb_explain.proofs.PlainRecords.{ArePlain, IsPlain, IsPlainByte, plain_append, read_of_lines}
-use Rattle.mdb_explain.proofs.PlainRows.{IsWritten, one_plain, plain_of, row_written}
+use Rattle.mdb_records.proofs.PlainRecords.{ArePlain, IsPlain, IsPlainByte, plain_append}
+use Rattle.mdb_records.proofs.PlainRecords.{read_of_lines}
+use Rattle.mdb_records.proofs.PlainRows.{IsWritten, one_plain, plain_of, row_written}
 use Rattle.mdb_words.proofs.Numerals.{IsDecimal-decimal}
 
 -- Rows.

@@ -4,7 +4,5 @@ pub mod Explanations
 pub mod MarkAnswers
 pub mod MarkSteps
 pub mod OneReplayAnswer
-pub mod PlainRecords
-pub mod PlainRows
 pub mod ReplayedExplanations
 pub mod ReplayedTranscripts
