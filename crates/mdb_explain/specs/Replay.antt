@@ -214,7 +214,7 @@ IsReplayAnswer scope limit records (Err (marked.Run run.Memory)) = ⊤
 -- an answer that the records themselves have: every one but a refused read, write or memory
 abbrev pub IsOwnReplay : Result Outcome MarkedFault → Type 0
 IsOwnReplay (Ok outcome) = ⊤
-IsOwnReplay (Err (marked.Run fault)) = IsOwnAnswer (Err fault)
+IsOwnReplay (Err (marked.Run fault)) = IsOwnAnswer {Answer = Outcome} (Err fault)
 IsOwnReplay (Err (marked.Mark row)) = ⊤
 
 -- an input is answered that it can't be read only where the reading of its records met that

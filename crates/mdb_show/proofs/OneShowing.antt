@@ -11,7 +11,8 @@ use Rattle.mdb_bus.specs.LinkFaults.{IsLinkFault, RowBreaks, situation_of}
 use Rattle.mdb_follow.specs.declared.follower.TheConstants.{ROWS_MAX}
 use Rattle.mdb_verdict.specs.declared.fault.RunFault.{RunFault}
 use Rattle.mdb_verdict.specs.declared.fault.RunFault.TheVariants.{BadRow, TooLong, Read, Write, Memory}
-use Rattle.mdb_show.specs.Show.{AreShown, IsOwnShowing, IsShowingIn}
+use Rattle.mdb_show.specs.Show.{AreShown, IsShowingIn}
+use Rattle.mdb_verdict.specs.Verdict.{IsOwnAnswer}
 use Rattle.mdb_show.specs.Lines.{LineForm, closed_pieces, lines_of}
 use Rattle.mdb_verdict.proofs.OneAnswer.{GoesOn, compared, one_refusal, row_not_refused, row_one}
 use Rattle.mdb_bus.specs.declared.scope.Scope.{Scope}
@@ -114,7 +115,7 @@ record Ending (form : LineForm) (scope : Scope) (records : List (List (List ℕ)
 
 ending : (form : LineForm) (scope : Scope) → BusLaws scope
     → (records : List (List (List ℕ))) (answer : Result (Option LinkFault) RunFault) (text : List ℕ)
-    → IsShowingIn form scope records answer text → IsOwnShowing answer
+    → IsShowingIn form scope records answer text → IsOwnAnswer answer
     → Ending form scope records answer text
 ending form scope laws records (Ok None) text is own = record {
   pieces = is.pieces;
@@ -269,7 +270,7 @@ one_end form scope laws pieces rest a (Err Memory) s t p q = absurd q
 pub one_showing : (form : LineForm) (scope : Scope) → BusLaws scope
     → (records : List (List (List ℕ))) (a b : Result (Option LinkFault) RunFault) (s t : List ℕ)
     → IsShowingIn form scope records a s → IsShowingIn form scope records b t
-    → IsOwnShowing a → IsOwnShowing b → (a ≡ b) × (s ≡ t)
+    → IsOwnAnswer a → IsOwnAnswer b → (a ≡ b) × (s ≡ t)
 one_showing form scope laws records a b s t p q own other =
     let first : Ending form scope records a s = ending form scope laws records a s p own in
     let second : Ending form scope records b t = ending form scope laws records b t q other in

@@ -1,5 +1,5 @@
 -- How far the lines of some rows have come.
-use Rattle.std.proofs.Common.{arith, refl, ap, sym, subst, inl, inr, ◌∙◌, ◌≡◌, ◌+◌, ◌<◌, ◌≤◌, ℕ, List, [], ◌∷◌, ◌++◌, Option, Some, None, Result, Ok, Err, length, length-append, append_assoc, take, drop, get_or, add-one, take-append-drop}
+use Rattle.std.proofs.Common.{arith, refl, ap, sym, subst, inl, inr, ◌∙◌, ◌≡◌, ◌+◌, ◌<◌, ◌≤◌, ℕ, List, [], ◌∷◌, ◌++◌, Option, Some, None, Result, Err, length, length-append, append_assoc, take, drop, get_or, add-one, take-append-drop}
 use Rattle.std.proofs.lemmas.List.{append-nil, take_more}
 use Rattle.std.proofs.Math.Seq.{drop-cons}
 use Rattle.std.specs.Prelude.{IsErrAnd}
@@ -15,6 +15,7 @@ use Rattle.mdb_verdict.specs.declared.fault.RunFault.{RunFault}
 use Rattle.mdb_verdict.specs.declared.fault.RunFault.TheVariants.{BadRow, TooLong, Read, Write, Memory}
 use Rattle.mdb_show.specs.declared.showing.Lines.{Lines}
 use Rattle.mdb_verdict.specs.Telling.{IsNotTaken}
+use Rattle.mdb_verdict.proofs.Tellings.{handed_on}
 use Rattle.mdb_writing.specs.Output.{Output, Puts}
 use Rattle.mdb_show.specs.inner.ShowSteps.{HasAdded, HasPieces, HasShown, IsAdded, IsAddedToFault, LeadInto, ended_text}
 use Rattle.mdb_show.specs.Lines.{LineForm, closed_pieces, lines_of}
@@ -309,23 +310,6 @@ line_untaken form scope lines left before now later earlier events i text has ad
       subst P (sym not_taken) has.written,
     )
 
--- the same, handed on by `?`
-line_refused : (form : LineForm) (scope : Scope) (lines left : Lines) (before now later : Output)
-    (earlier events : List Event) (i : ℕ) (text : List ℕ)
-    → (has : HasShown form scope lines before now (earlier ++ take i events))
-    → IsAdded form scope earlier events (lines_of form (closed_pieces has.pieces) ++ text)
-    → (fault : RunFault) → IsNotTaken fault now later text
-    → (answer : Result (Option LinkFault) RunFault) → IsErrAnd answer (λ told. told ≡ fault)
-    → HasAdded form scope left before later earlier events answer
-line_refused form scope lines left before now later earlier events i text has added fault not_taken
-    (Ok showing) told =
-    absurd told
-line_refused form scope lines left before now later earlier events i text has added fault not_taken
-    (Err other) told =
-    let P : RunFault → Type 0 = λ f. HasAdded form scope left before later earlier events (Err f) in
-    subst P (sym told) (line_untaken form scope lines left before now later earlier events i text
-    has added fault not_taken)
-
 -- the line of a fault isn't put there
 pub fault_refused : (form : LineForm) (scope : Scope) (old lines left : Lines)
     (was now later : Output) (events : List Event) (i : ℕ) (event default : Event) (row : ℕ)
@@ -341,12 +325,13 @@ fault_refused form scope old lines left was now later events i event default row
     adds number faults refused not_taken answer told before earlier has_old =
     let has : HasShown form scope lines before now (earlier ++ take i events) =
     adds.shown before earlier has_old in
-    line_refused form scope lines left before now later earlier events i (form.fault row fault) has
+    handed_on (HasAdded form scope left before later earlier events) refused
+    (line_untaken form scope lines left before now later earlier events i (form.fault row fault) has
     (inr (
       fault,
       to_fault form scope lines before now earlier events i event default row fault within is
           number faults has,
-    )) refused not_taken answer told
+    )) refused not_taken) answer told
 
 -- the lines of an act aren't put there
 pub act_refused : (form : LineForm) (scope : Scope) (old lines left : Lines) (next : Bus)
@@ -369,7 +354,8 @@ act_refused form scope old lines left next was now later events i event default 
     (ordered form scope lines before now (earlier ++ take i events) has)
     (on_ordered scope lines.bus next has.pieces event (Some act) has.in_scope kept gone)
     has.closed (ap length has.are ∙ has.counted) in
-    line_refused form scope lines left before now later earlier events i
+    handed_on (HasAdded form scope left before later earlier events) refused
+    (line_untaken form scope lines left before now later earlier events i
     (ended_text form lines.shown lines.rows act) has
     (inl (record {
       pieces = gone.longer;
@@ -385,4 +371,4 @@ act_refused form scope old lines left next was now later events i event default 
             on_ordered scope lines.bus next has.pieces event (Some act) has.in_scope kept gone;
       };
       lines = sym (ap (lines_of form) added.0 ∙ added.1);
-    })) refused not_taken answer told
+    })) refused not_taken) answer told

@@ -1,6 +1,5 @@
 -- What the showing is, by how the reading of rows ended.
 use Rattle.std.proofs.Common.{arith, refl, ap, sym, subst, inl, inr, ◌∙◌, ◌≡◌, ◌+◌, ◌≤◌, ℕ, List, [], ◌∷◌, ◌++◌, Option, Some, None, Result, Ok, Err, length, length-append, append_assoc}
-use Rattle.std.specs.Prelude.{IsErrAnd}
 use Rattle.std.specs.Result.{result_transpose}
 use Rattle.mdb_words.specs.declared.event.Event.{Event}
 use Rattle.mdb_words.specs.Row.{IsRefusal, IsRow}
@@ -123,7 +122,7 @@ whole form scope all lines before now later ended cut =
     )
 
 -- the line of a tail isn't put there
-untaken : (form : LineForm) (scope : Scope) (all : List (List (List ℕ))) (lines : Lines)
+pub untaken : (form : LineForm) (scope : Scope) (all : List (List (List ℕ))) (lines : Lines)
     (before now later : Output)
     → IsTakenWhole IsRow (HasShown form scope lines before now) ROWS_MAX all
     → (fault : RunFault) → IsNotTaken fault now later (cut_text form lines.shown lines.rows)
@@ -155,20 +154,8 @@ untaken form scope all lines before now later ended Memory not_taken =
       ended.has.written,
     ))
 
-pub cut_refused : (form : LineForm) (scope : Scope) (all : List (List (List ℕ))) (lines : Lines)
-    (before now later : Output)
-    → IsTakenWhole IsRow (HasShown form scope lines before now) ROWS_MAX all
-    → (fault : RunFault) → IsNotTaken fault now later (cut_text form lines.shown lines.rows)
-    → (answer : Result (Option LinkFault) RunFault) → IsErrAnd answer (λ told. told ≡ fault)
-    → PutsShowing form scope all before later answer
-cut_refused form scope all lines before now later ended fault not_taken (Ok showing) told_is =
-    absurd told_is
-cut_refused form scope all lines before now later ended fault not_taken (Err told) told_is =
-    let P : RunFault → Type 0 = λ f. PutsShowing form scope all before later (Err f) in
-    subst P (sym told_is) (untaken form scope all lines before now later ended fault not_taken)
-
 -- a record isn't taken, or can't be read
-refused_by : (form : LineForm) (scope : Scope) (all : List (List (List ℕ))) (lines : Lines)
+pub refused_by : (form : LineForm) (scope : Scope) (all : List (List (List ℕ))) (lines : Lines)
     (before now : Output) (fault : RunFault)
     → HasEnded IsRow IsRefusal (HasShown form scope lines before now)
     (HasStopped form scope lines before now) ROWS_MAX all (Err fault)
@@ -225,17 +212,6 @@ refused_by form scope all lines before now Memory ended =
       ended.has.written,
     )
 refused_by form scope all lines before now Write ended = absurd ended
-
-pub refused : (form : LineForm) (scope : Scope) (all : List (List (List ℕ))) (lines : Lines)
-    (before now : Output) (fault : RunFault)
-    → HasEnded IsRow IsRefusal (HasShown form scope lines before now)
-    (HasStopped form scope lines before now) ROWS_MAX all (Err fault)
-    → (answer : Result (Option LinkFault) RunFault) → IsErrAnd answer (λ told. told ≡ fault)
-    → PutsShowing form scope all before now answer
-refused form scope all lines before now fault ended (Ok showing) told_is = absurd told_is
-refused form scope all lines before now fault ended (Err told) told_is =
-    let P : RunFault → Type 0 = λ f. PutsShowing form scope all before now (Err f) in
-    subst P (sym told_is) (refused_by form scope all lines before now fault ended)
 
 -- Where they end at one of the later rows.
 
@@ -336,7 +312,7 @@ at_fault form scope all lines before after fault ended =
     )
 
 -- a line isn't taken
-untaken_by : (form : LineForm) (scope : Scope) (all : List (List (List ℕ))) (lines : Lines)
+pub untaken_by : (form : LineForm) (scope : Scope) (all : List (List (List ℕ))) (lines : Lines)
     (before after : Output) (fault : RunFault)
     → IsStopped IsRow
     (λ earlier later. HasStopped form scope lines before after earlier later (Err fault))
@@ -367,18 +343,6 @@ untaken_by form scope all lines before after Memory ended =
       ended.stops.2,
     )
 
-pub line_untaken : (form : LineForm) (scope : Scope) (all : List (List (List ℕ))) (lines : Lines)
-    (before after : Output) (fault : RunFault)
-    → IsStopped IsRow
-    (λ earlier later. HasStopped form scope lines before after earlier later (Err fault))
-    ROWS_MAX all
-    → (answer : Result (Option LinkFault) RunFault) → IsErrAnd answer (λ told. told ≡ fault)
-    → PutsShowing form scope all before after answer
-line_untaken form scope all lines before after fault ended (Ok showing) is = absurd is
-line_untaken form scope all lines before after fault ended (Err told) is =
-    let P : RunFault → Type 0 = λ f. PutsShowing form scope all before after (Err f) in
-    subst P (sym is) (untaken_by form scope all lines before after fault ended)
-
 -- A fault at one of the rows is one of the output.
 
 added_of_output : (form : LineForm) (scope : Scope) (lines : Lines) (before after : Output)
@@ -401,11 +365,6 @@ stop_of_output form scope lines before after stop fault stopped is =
 
 pub fault_not_whole : (fault : RunFault) → IsNotWhole (Err fault)
 fault_not_whole fault is = absurd cc
-
-pub handed_not_whole : (fault : RunFault) (answer : Result (Option LinkFault) RunFault)
-    → IsErrAnd answer (λ other. other ≡ fault) → IsNotWhole answer
-handed_not_whole fault (Ok shown) handed is = handed
-handed_not_whole fault (Err other) handed is = absurd cc
 
 pub stopped_not_whole : (fault : LinkFault) → IsNotWhole (Ok (Some fault))
 stopped_not_whole fault is = absurd cc

@@ -1,5 +1,5 @@
 -- What `show` answers to the records of a text, and what it writes of them, in whatever form.
-use Rattle.std.specs.Prelude.{◌≡◌, ◌≢◌, ◌+◌, ◌<◌, ◌≤◌, ℕ, List, [], ◌∷◌, ◌++◌, length, ⊤, Option, Some, None, Result, Ok, Err, IfSome}
+use Rattle.std.specs.Prelude.{◌≡◌, ◌≢◌, ◌+◌, ◌<◌, ◌≤◌, ℕ, List, [], ◌∷◌, ◌++◌, length, Option, Some, None, Result, Ok, Err, IfSome}
 use Rattle.csv.specs.Reading.{default_config, records, strip_bom}
 use Rattle.mdb_words.specs.declared.event.Event.{Event}
 use Rattle.mdb_words.specs.declared.row.RowFault.{RowFault}
@@ -120,15 +120,6 @@ pub record ShowsText (scope : Scope) (left before after : Option (List ℕ))
   pub shows : IfSome left (λ text.
       ShowsIn text_lines scope (records default_config (strip_bom text)) before after answer)
   pub whole : IfSome left (λ text. BYTES_MAX < length text → IsNotWhole answer)
-
--- an answer that the records themselves have: every one but a refused read, write or memory
-abbrev pub IsOwnShowing : Result (Option LinkFault) RunFault → Type 0
-IsOwnShowing (Ok fault) = ⊤
-IsOwnShowing (Err (BadRow row fault)) = ⊤
-IsOwnShowing (Err TooLong) = ⊤
-IsOwnShowing (Err Read) = ⊥
-IsOwnShowing (Err Write) = ⊥
-IsOwnShowing (Err Memory) = ⊥
 
 -- the lines of a form
 abbrev pub lines_in : Form → LineForm

@@ -13,7 +13,7 @@ ghost use Rattle.mdb_follow.specs.declared.follower.TheConstants.{ROWS_MAX};
 ghost use Rattle.mdb_text.specs.declared.outcome.Outcome.{Outcome};
 ghost use Rattle.mdb_verdict.specs.declared.fault.RunFault.{RunFault};
 ghost use Rattle.mdb_show.specs.Lines.{LineForm};
-ghost use Rattle.mdb_show.specs.Show.{IsOwnShowing, IsShowingIn, IsShownToFaultIn};
+ghost use Rattle.mdb_show.specs.Show.{IsShowingIn, IsShownToFaultIn};
 ghost use Rattle.mdb_show.specs.ShownFault.{IsNoUpTo};
 ghost use Rattle.mdb_verdict.specs.Verdict.{IsAnswer, IsOwnAnswer};
 
@@ -24,8 +24,8 @@ use mdb_bus::laws as links;
 pub fn texts_are_shown_in_one_way()
     ensures { (form : LineForm) (scope : Scope) (records : List (List (List ℕ)))
         (a b : Result (Option LinkFault) RunFault) (s t : List ℕ)
-        → IsShowingIn form scope records a s → IsShowingIn form scope records b t → IsOwnShowing a
-        → IsOwnShowing b → (a ≡ b) × (s ≡ t) }
+        → IsShowingIn form scope records a s → IsShowingIn form scope records b t → IsOwnAnswer a
+        → IsOwnAnswer b → (a ≡ b) × (s ≡ t) }
 {
     links::fronts_of_act_lists_have_act_lists();
     links::transcripts_have_one_act_list();

@@ -13,7 +13,8 @@ use Rattle.mdb_verdict.specs.declared.fault.RunFault.{RunFault}
 use Rattle.mdb_verdict.specs.declared.fault.RunFault.TheVariants.{BadRow, TooLong, Read, Write, Memory}
 use Rattle.mdb_verdict.proofs.OneAnswer.{GoesOn, compared, one_refusal, row_not_refused}
 use Rattle.mdb_survey_text.specs.Lines.{LineForm, lines_of}
-use Rattle.mdb_survey.specs.Survey.{AreSurveyed, IsOwnSurveying, IsSurveying}
+use Rattle.mdb_survey.specs.Survey.{AreSurveyed, IsSurveying}
+use Rattle.mdb_verdict.specs.Verdict.{IsOwnAnswer}
 
 -- rows have at most one survey
 abbrev pub HaveOneSurvey : Scope → Type 0
@@ -86,7 +87,7 @@ record Ending (form : LineForm) (scope : Scope) (records : List (List (List ℕ)
 
 ending : (form : LineForm) (scope : Scope) (records : List (List (List ℕ)))
     (answer : Result Summary RunFault) (text : List ℕ) → IsSurveying form scope records answer text
-    → IsOwnSurveying answer → Ending form scope records answer text
+    → IsOwnAnswer answer → Ending form scope records answer text
 ending form scope records (Ok summary) text is own = record {
   ended = is.ended;
   last = is.last;
@@ -183,8 +184,8 @@ one_end form ended last count rest a (Err Memory) s t p q = absurd q
 -- the survey of a text is one
 pub one_surveying : (form : LineForm) (scope : Scope) → HaveOneSurvey scope
     → (records : List (List (List ℕ))) (a b : Result Summary RunFault) (s t : List ℕ)
-    → IsSurveying form scope records a s → IsSurveying form scope records b t → IsOwnSurveying a
-    → IsOwnSurveying b → (a ≡ b) × (s ≡ t)
+    → IsSurveying form scope records a s → IsSurveying form scope records b t → IsOwnAnswer a
+    → IsOwnAnswer b → (a ≡ b) × (s ≡ t)
 one_surveying form scope law records a b s t p q own other =
     let first : Ending form scope records a s = ending form scope records a s p own in
     let second : Ending form scope records b t = ending form scope records b t q other in

@@ -1,6 +1,6 @@
 -- What the survey is, by how the reading of rows ended.
 use Rattle.std.proofs.Common.{refl, ap, sym, subst, inl, inr, ◌∙◌, ◌≡◌, ℕ, List, [], ◌∷◌, ◌++◌, Result, Ok, Err, append_assoc}
-use Rattle.std.specs.Prelude.{IfErr, IsErr, IsErrAnd}
+use Rattle.std.specs.Prelude.{IfErr}
 use Rattle.mdb_words.specs.declared.event.Event.{Event}
 use Rattle.mdb_words.specs.Row.{IsRefusal, IsRow}
 use Rattle.mdb_bus.specs.declared.scope.Scope.{Scope}
@@ -128,22 +128,15 @@ pub end_refused : (form : LineForm) (surveyor : Surveyor) (now later : Output) (
     → StandsFor surveyor scope rows ended
     → IsSurvey scope rows ended last × (summary ≡ summary_of ended last)) → (fault : RunFault)
     → IsNotTaken fault now later (form.stretch last ++ form.summary summary)
-    → (answer : Result Summary RunFault) → IsErrAnd answer (λ told. told ≡ fault)
-    → HasAddedEnd form surveyor now later answer
-end_refused form surveyor now later last summary survey fault not_taken (Ok told) told_is =
-    absurd told_is
-end_refused form surveyor now later last summary survey fault not_taken (Err told) told_is =
-    record {
-      last = last;
-      summary = summary;
-      survey = survey;
-      told = tt;
-      added = tt;
-      refused =
-          subst (λ f. IsNotTaken f now later (form.stretch last ++ form.summary summary))
-          (sym told_is)
-          not_taken;
-    }
+    → HasAddedEnd form surveyor now later (Err fault)
+end_refused form surveyor now later last summary survey fault not_taken = record {
+  last = last;
+  summary = summary;
+  survey = survey;
+  told = tt;
+  added = tt;
+  refused = not_taken;
+}
 
 -- A record isn't taken, or can't be read.
 
@@ -253,17 +246,10 @@ pub last_refused : NoneAreReached → (form : LineForm) (scope : Scope) (all : L
     → HasEnded IsRow IsRefusal (HasSurveyed form scope surveyor before now)
     (Stops form scope before now) ROWS_MAX all (Err fault)
     → (other : RunFault) → HasAddedLast form surveyor now later (Err other)
-    → (answer : Result Summary RunFault) → IsErrAnd answer (λ told. told ≡ other)
-    → PutsSurveying form scope all before later answer
-last_refused law form scope all surveyor before now later fault not ended other adds (Ok summary)
-    told_is =
-    absurd told_is
-last_refused law form scope all surveyor before now later fault not ended other adds (Err told)
-    told_is =
-    let P : RunFault → Type 0 = λ f. PutsSurveying form scope all before later (Err f) in
-    subst P (sym told_is)
-    (last_untaken law form scope all surveyor before now later fault
-    (taken_up_to form scope all surveyor before now fault not ended) other adds)
+    → PutsSurveying form scope all before later (Err other)
+last_refused law form scope all surveyor before now later fault not ended other adds =
+    last_untaken law form scope all surveyor before now later fault
+    (taken_up_to form scope all surveyor before now fault not ended) other adds
 
 -- memory is refused
 pub out_of_memory : NoneAreReached → (form : LineForm) (scope : Scope) (all : List (List (List ℕ)))
@@ -332,9 +318,3 @@ stop_of_output form scope before after rows TooLong stopped = absurd stopped
 stop_of_output form scope before after rows Read stopped = absurd stopped
 stop_of_output form scope before after rows Write stopped = tt
 stop_of_output form scope before after rows Memory stopped = tt
-
--- it is handed on
-pub handed_is_err : (fault : RunFault) (answer : Result Summary RunFault)
-    → IsErrAnd answer (λ other. other ≡ fault) → IsErr answer
-handed_is_err fault (Ok summary) handed = absurd handed
-handed_is_err fault (Err other) handed = refl

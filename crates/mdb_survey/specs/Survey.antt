@@ -1,5 +1,5 @@
 -- What `survey` answers to the records of a text, and what it writes of them, in whatever form.
-use Rattle.std.specs.Prelude.{◌≡◌, ◌+◌, ◌<◌, ◌≤◌, ℕ, List, [], ◌∷◌, ◌++◌, length, ⊤, Option, Result, Ok, Err}
+use Rattle.std.specs.Prelude.{◌≡◌, ◌+◌, ◌<◌, ◌≤◌, ℕ, List, [], ◌∷◌, ◌++◌, length, Option, Result, Ok, Err}
 use Rattle.mdb_words.specs.declared.event.Event.{Event}
 use Rattle.mdb_words.specs.declared.row.RowFault.{RowFault}
 use Rattle.mdb_words.specs.Row.{IsRefusal}
@@ -109,15 +109,6 @@ SurveysIn form scope records = Tells (IsSurveying form scope records)
 abbrev pub IsCutShort : LineForm → Scope → List (List (List ℕ)) → Option (List ℕ)
     → Option (List ℕ) → Type 0
 IsCutShort form scope records = telling.IsCutShort (IsSurveying form scope records)
-
--- an answer that the records themselves have: every one but a refused read, write or memory
-abbrev pub IsOwnSurveying : Result Summary RunFault → Type 0
-IsOwnSurveying (Ok summary) = ⊤
-IsOwnSurveying (Err (BadRow row fault)) = ⊤
-IsOwnSurveying (Err TooLong) = ⊤
-IsOwnSurveying (Err Read) = ⊥
-IsOwnSurveying (Err Write) = ⊥
-IsOwnSurveying (Err Memory) = ⊥
 
 -- the lines of a form
 abbrev pub survey_lines_in : Form → LineForm

@@ -6,7 +6,8 @@ ghost use Rattle.mdb_bus.specs.declared.scope.Scope.{Scope};
 ghost use Rattle.mdb_stretches.specs.declared.summary.Summary.{Summary};
 ghost use Rattle.mdb_verdict.specs.declared.fault.RunFault.{RunFault};
 ghost use Rattle.mdb_survey_text.specs.Lines.{LineForm};
-ghost use Rattle.mdb_survey.specs.Survey.{IsOwnSurveying, IsSurveying};
+ghost use Rattle.mdb_survey.specs.Survey.{IsSurveying};
+ghost use Rattle.mdb_verdict.specs.Verdict.{IsOwnAnswer};
 
 use mdb_stretches::laws as stretches;
 
@@ -16,7 +17,7 @@ pub fn texts_are_surveyed_in_one_way()
     ensures { (form : LineForm) (scope : Scope) (records : List (List (List ℕ)))
         (a b : Result Summary RunFault) (s t : List ℕ)
         → IsSurveying form scope records a s → IsSurveying form scope records b t
-        → IsOwnSurveying a → IsOwnSurveying b → (a ≡ b) × (s ≡ t) }
+        → IsOwnAnswer a → IsOwnAnswer b → (a ≡ b) × (s ≡ t) }
 {
     stretches::rows_have_one_survey();
 }

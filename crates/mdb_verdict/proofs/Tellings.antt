@@ -14,6 +14,13 @@ use Rattle.mdb_writing.specs.Output.{Output, begun}
 use Rattle.mdb_writing.specs.Written.{HasTaken}
 use Rattle.mdb_writing.proofs.Outputs as outputs
 
+-- what holds of a fault holds of an answer that `?` hands on
+pub handed_on : {Answer : Type 0} (P : Result Answer RunFault → Type 0) (fault : RunFault)
+    → P (Err fault) → (answer : Result Answer RunFault)
+    → IsErrAnd answer (λ other. other ≡ fault) → P answer
+handed_on P fault holds (Ok done) handed = absurd handed
+handed_on P fault holds (Err other) handed = subst (λ f. P (Err f)) (sym handed) holds
+
 -- The last page is written out.
 
 -- no text goes with the answer that the writer failed
@@ -89,12 +96,6 @@ not_taken_of_output TooLong before after text not = absurd not
 not_taken_of_output Read before after text not = absurd not
 not_taken_of_output Write before after text not = tt
 not_taken_of_output Memory before after text not = tt
-
--- it is handed on
-pub handed_of_output : {Answer : Type 0} (fault : RunFault) (answer : Result Answer RunFault)
-    → IsOfOutput fault → IsErrAnd answer (λ other. other ≡ fault) → IfErr answer IsOfOutput
-handed_of_output fault (Ok done) of handed = absurd handed
-handed_of_output fault (Err other) of handed = subst IsOfOutput (sym handed) of
 
 -- the last page is written out, or the writer fails at it
 pub reads_finished : {R Answer : Type 0} (IsPart : Result Answer RunFault → Type 0)

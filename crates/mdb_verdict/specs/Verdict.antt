@@ -78,8 +78,8 @@ IsAnswer scope limit records (Err Write) = ⊤
 IsAnswer scope limit records (Err Memory) = ⊤
 
 -- an answer that the records themselves have: every one but a refused read, write or memory
-abbrev pub IsOwnAnswer : Result Outcome RunFault → Type 0
-IsOwnAnswer (Ok outcome) = ⊤
+abbrev pub IsOwnAnswer : {Answer : Type 0} → Result Answer RunFault → Type 0
+IsOwnAnswer (Ok answer) = ⊤
 IsOwnAnswer (Err (BadRow row fault)) = ⊤
 IsOwnAnswer (Err TooLong) = ⊤
 IsOwnAnswer (Err Read) = ⊥

@@ -1,5 +1,5 @@
 use Rattle.std.proofs.Common.{ap, subst, ◌∙◌, None, Ok, Option, Result, Some}
-use Rattle.std.specs.Prelude.{IfSome}
+use Rattle.std.specs.Prelude.{IfErr, IfSome}
 use Rattle.mdb_bus.specs.declared.fault.LinkFault.{LinkFault}
 use Rattle.mdb_bus.specs.declared.scope.Scope.{Scope}
 use Rattle.mdb_bus.specs.Bus.{scope_of}
@@ -7,7 +7,8 @@ use Rattle.mdb_follow.specs.declared.follower.TheConstants.{ROWS_MAX}
 use Rattle.mdb_text.specs.declared.form.Form.{Form}
 use Rattle.mdb_verdict.specs.declared.fault.RunFault.{RunFault}
 use Rattle.mdb_verdict.specs.Ending.{HasEnded, IsStop, IsStopped}
-use Rattle.mdb_verdict.proofs.Tellings.{handed_of_output, not_taken_of_output, reads_all, reads_fault, reads_output}
+use Rattle.mdb_verdict.specs.Telling.{IsOfOutput}
+use Rattle.mdb_verdict.proofs.Tellings.{handed_on, not_taken_of_output, reads_all, reads_fault, reads_output}
 use Rattle.mdb_words.specs.Row.{IsRefusal, IsRow}
 use Rattle.mdb_writing.specs.Output.{Output, begun, output}
 use Rattle.mdb_show.specs.Show.{IsNotWhole, lines_in}
@@ -28,8 +29,9 @@ returns-in_err-stop-clause-shows g c all to_come =
     let Puts : Scope × Form → Type 0 = λ kept.
     PutsShowing (lines_in kept.1) kept.0 all before now c.from_residual.result in
     subst Puts c.read_rows.ensures.same_scope
-    (showings.refused form scope all taker.lines before now c.in_err-stop.field-0.0
-    (subst Ended c.in_err-stop.was (c.read_rows.ensures.ended all to_come))
+    (handed_on (PutsShowing form scope all before now) c.in_err-stop.field-0.0
+    (showings.refused_by form scope all taker.lines before now c.in_err-stop.field-0.0
+    (subst Ended c.in_err-stop.was (c.read_rows.ensures.ended all to_come)))
     c.from_residual.result c.from_residual.ensures.1)
 
 pub returns-in_err-stop-2-clause-shows : goal.returns-in_err-stop-2-clause-shows
@@ -49,9 +51,10 @@ returns-in_err-stop-2-clause-shows g c all to_come =
     let Puts : Scope × Form → Type 0 = λ kept.
     PutsShowing (lines_in kept.1) kept.0 all before now c.from_residual-in_err-stop-2.result in
     subst Puts c.read_rows.ensures.same_scope
-    (showings.line_untaken form scope all taker.lines before now c.in_err-stop-2.field-0.0
+    (handed_on (PutsShowing form scope all before now) c.in_err-stop-2.field-0.0
+    (showings.untaken_by form scope all taker.lines before now c.in_err-stop-2.field-0.0
     (subst Stopped c.in_err-stop-2.was
-    (subst Ended c.in-Some.is (c.in_ok-stop.ensures.ended all to_come)))
+    (subst Ended c.in-Some.is (c.in_ok-stop.ensures.ended all to_come))))
     c.from_residual-in_err-stop-2.result c.from_residual-in_err-stop-2.ensures.1)
 
 pub returns-in-Some-clause-shows : goal.returns-in-Some-clause-shows
@@ -90,9 +93,10 @@ returns-in_err-add_cut-clause-shows g c all to_come =
     let Puts : Scope × Form → Type 0 = λ kept.
     PutsShowing (lines_in kept.1) kept.0 all before later c.from_residual-in_err-add_cut.result in
     subst Puts c.read_rows.ensures.same_scope
-    (showings.cut_refused form scope all taker.lines before now later
+    (handed_on (PutsShowing form scope all before later) c.in_err-add_cut.field-0.0
+    (showings.untaken form scope all taker.lines before now later
     (subst Ended c.in_default.is (c.in_ok-stop.ensures.ended all to_come))
-    c.in_err-add_cut.field-0.0 c.in_err-add_cut.ensures.refused
+    c.in_err-add_cut.field-0.0 c.in_err-add_cut.ensures.refused)
     c.from_residual-in_err-add_cut.result c.from_residual-in_err-add_cut.ensures.1)
 
 pub returns-clause-shows : goal.returns-clause-shows
@@ -135,10 +139,11 @@ returns-in_err-stop-2-clause-reads g c =
     c.in_err-stop-2.was in
     reads_output IsNotWhole g.R.Read.remaining c.args.records.now c.read_rows.new.records
     c.from_residual-in_err-stop-2.result
-    (showings.handed_not_whole c.in_err-stop-2.field-0.0 c.from_residual-in_err-stop-2.result
+    (handed_on IsNotWhole c.in_err-stop-2.field-0.0
+    (showings.fault_not_whole c.in_err-stop-2.field-0.0) c.from_residual-in_err-stop-2.result
     c.from_residual-in_err-stop-2.ensures.1)
-    (handed_of_output c.in_err-stop-2.field-0.0 c.from_residual-in_err-stop-2.result of
-    c.from_residual-in_err-stop-2.ensures.1)
+    (handed_on (λ answer. IfErr answer IsOfOutput) c.in_err-stop-2.field-0.0 of
+    c.from_residual-in_err-stop-2.result c.from_residual-in_err-stop-2.ensures.1)
 
 pub returns-in-Some-clause-reads : goal.returns-in-Some-clause-reads
 returns-in-Some-clause-reads g c =
@@ -149,11 +154,12 @@ pub returns-in_err-add_cut-clause-reads : goal.returns-in_err-add_cut-clause-rea
 returns-in_err-add_cut-clause-reads g c =
     reads_output IsNotWhole g.R.Read.remaining c.args.records.now c.read_rows.new.records
     c.from_residual-in_err-add_cut.result
-    (showings.handed_not_whole c.in_err-add_cut.field-0.0 c.from_residual-in_err-add_cut.result
+    (handed_on IsNotWhole c.in_err-add_cut.field-0.0
+    (showings.fault_not_whole c.in_err-add_cut.field-0.0) c.from_residual-in_err-add_cut.result
     c.from_residual-in_err-add_cut.ensures.1)
-    (handed_of_output c.in_err-add_cut.field-0.0 c.from_residual-in_err-add_cut.result
+    (handed_on (λ answer. IfErr answer IsOfOutput) c.in_err-add_cut.field-0.0
     (not_taken_of_output c.in_err-add_cut.field-0.0 _ _ _ c.in_err-add_cut.ensures.refused)
-    c.from_residual-in_err-add_cut.ensures.1)
+    c.from_residual-in_err-add_cut.result c.from_residual-in_err-add_cut.ensures.1)
 
 pub returns-clause-reads : goal.returns-clause-reads
 returns-clause-reads g c =

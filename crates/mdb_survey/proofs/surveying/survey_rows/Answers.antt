@@ -1,10 +1,11 @@
-use Rattle.std.proofs.Common.{ap, refl, rules, subst, Err, IfSome, IsErr, Ok, Option}
+use Rattle.std.proofs.Common.{ap, refl, rules, subst, Err, IfErr, IfSome, IsErr, Ok, Option}
 use Rattle.mdb_bus.specs.declared.scope.Scope.{Scope}
 use Rattle.mdb_follow.specs.declared.follower.TheConstants.{ROWS_MAX}
 use Rattle.mdb_text.specs.declared.form.Form.{Form}
 use Rattle.mdb_verdict.specs.declared.fault.RunFault.{RunFault}
 use Rattle.mdb_verdict.specs.Ending.{HasEnded, IsStop}
-use Rattle.mdb_verdict.proofs.Tellings.{handed_of_output, reads_all, reads_fault, reads_output}
+use Rattle.mdb_verdict.specs.Telling.{IsOfOutput}
+use Rattle.mdb_verdict.proofs.Tellings.{handed_on, reads_all, reads_fault, reads_output}
 use Rattle.mdb_words.specs.Row.{IsRefusal, IsRow}
 use Rattle.mdb_writing.specs.Output.{Output, begun, output}
 use Rattle.mdb_survey.specs.Survey.{survey_lines_in}
@@ -80,9 +81,10 @@ returns-in_err-stop-in-Err-clause-surveys g c all to_come =
     let Puts : Scope × Form → Type 0 = λ kept.
     PutsSurveying (survey_lines_in kept.1) kept.0 all before later c.from_residual.result in
     subst Puts c.read_rows.ensures.same_scope
+    (handed_on (PutsSurveying form taker.scope all before later) c.in_err-stop-in-Err.field-0.0
     (surveyings.last_refused law form taker.scope all taker.surveyor before now later c.in-Err.fault
     (search rules) (c.in-Err.ensures.ended all to_come) c.in_err-stop-in-Err.field-0.0
-    c.in_err-stop-in-Err.ensures c.from_residual.result c.from_residual.ensures.1)
+    c.in_err-stop-in-Err.ensures) c.from_residual.result c.from_residual.ensures.1)
 
 pub returns-else-ne-clause-surveys : goal.returns-else-ne-clause-surveys
 returns-else-ne-clause-surveys g c all to_come =
@@ -132,11 +134,11 @@ pub returns-in_err-stop-in-Err-clause-reads : goal.returns-in_err-stop-in-Err-cl
 returns-in_err-stop-in-Err-clause-reads g c =
     reads_output IsErr g.R.Read.remaining c.args.records.now c.read_rows.new.records
     c.from_residual.result
-    (surveyings.handed_is_err c.in_err-stop-in-Err.field-0.0 c.from_residual.result
+    (handed_on IsErr c.in_err-stop-in-Err.field-0.0 refl c.from_residual.result
     c.from_residual.ensures.1)
-    (handed_of_output c.in_err-stop-in-Err.field-0.0 c.from_residual.result
+    (handed_on (λ answer. IfErr answer IsOfOutput) c.in_err-stop-in-Err.field-0.0
     (surveyings.last_of_output _ _ _ _ c.in_err-stop-in-Err.field-0.0
-    c.in_err-stop-in-Err.ensures) c.from_residual.ensures.1)
+    c.in_err-stop-in-Err.ensures) c.from_residual.result c.from_residual.ensures.1)
 
 pub returns-else-ne-clause-reads : goal.returns-else-ne-clause-reads
 returns-else-ne-clause-reads g c =
