@@ -89,6 +89,7 @@ impl Surveyor {
         ensures ended { IfSome result (λ it. (scope : Scope) (rows : List Event)
             (ended : List Ended) → StandsFor self.old scope rows ended
             → StandsFor self.new scope (rows ++ event ∷ []) (it ∷ ended)) }
+        ensures row { IfSome result (λ it. it.fault.row ≡ rows_of self.new) }
         ensures counted { rows_of self.new ≡ rows_of self.old + 1 }
     {
         if self.take(event) {
@@ -194,6 +195,7 @@ impl Surveyor {
         ensures ended { (scope : Scope) (rows : List Event) (row : Event) (ended : List Ended)
             → HasHalted self.old scope rows row ended
             → StandsFor self.new scope (rows ++ row ∷ []) (result ∷ ended) }
+        ensures row { result.fault.row ≡ rows_of self.new }
         ensures counted { rows_of self.new ≡ rows_of self.old + 1 }
     {
         links::transcripts_have_one_act_list();
