@@ -1,10 +1,11 @@
 -- How one fault more of a survey is listed, or not.
-use Rattle.std.proofs.Common.{◌≡◌, ◌+◌, ◌<◌, ◌⊎◌, ℕ, true, false, List, [], ◌∷◌, ◌++◌, length, map, take, set, length-set, refl, sym, subst, ap, ◌∙◌, arith}
+use Rattle.std.proofs.Common.{◌≡◌, ◌+◌, ◌<◌, ◌⊎◌, ℕ, All, true, false, List, [], ◌∷◌, ◌++◌, length, map, take, set, length-set, refl, sym, subst, ap, ◌∙◌, arith}
+use Rattle.std.proofs.lemmas.List.Elements.{All-push}
 use Rattle.std.proofs.lemmas.List.{length-append, map-append, take_more_set}
 use Rattle.mdb_stretches.specs.declared.stretch.Ended.{Ended}
 use Rattle.mdb_survey_text.specs.Lines.{ended_lines, lines_of}
 use Rattle.mdb_survey_text.specs.SurveyText.{text_lines}
-use Rattle.mdb_page.specs.Surveys.{HasNoRoom, rows_of_faults, written_lines}
+use Rattle.mdb_page.specs.Surveys.{AreListed, HasNoRoom, IsPlace, rows_of_faults, written_lines}
 use Rattle.mdb_page.specs.inner.Surveying.{AreLater, HasListed}
 use Rattle.mdb_page.specs.declared.faults.FaultListing.{FaultListing}
 use Rattle.mdb_page.specs.declared.faults.PageFault.{PageFault}
@@ -12,11 +13,11 @@ use Rattle.mdb_page.specs.declared.sheet.PageLines.{PageLines}
 use Rattle.mdb_page.specs.declared.sheet.TheConstants.{LINES_ROOM}
 
 -- A fault comes after one that had no room.
-pub stays_full : (skip : ℕ) (earlier : List Ended) (it : Ended) (listing : FaultListing)
-    (faults : List PageFault) (lines : PageLines)
-    → HasListed skip earlier listing faults lines → listing.skip ≡ 0 → listing.is_full ≡ true
-    → HasListed skip (it ∷ earlier) listing faults lines
-stays_full skip earlier it listing faults lines has zero full =
+pub stays_full : (body : List ℕ) (skip : ℕ) (earlier : List Ended) (it : Ended)
+    (listing : FaultListing) (faults : List PageFault) (lines : PageLines)
+    → HasListed body skip earlier listing faults lines → listing.skip ≡ 0 → listing.is_full ≡ true
+    → HasListed body skip (it ∷ earlier) listing faults lines
+stays_full body skip earlier it listing faults lines has zero full =
     let rest : HasNoRoom (length faults) has.later has.shown =
     subst (λ b. AreLater b (length faults) has.later has.shown) full has.rest in
     record {
@@ -38,23 +39,25 @@ stays_full skip earlier it listing faults lines has zero full =
       listed = has.listed;
     }
 
-none_yet : (skip : ℕ) (earlier : List Ended) (listing : FaultListing) (faults : List PageFault)
-    (lines : PageLines) → (has : HasListed skip earlier listing faults lines)
-    → listing.is_full ≡ false → has.later ≡ []
-none_yet skip earlier listing faults lines has some_room =
+none_yet : (body : List ℕ) (skip : ℕ) (earlier : List Ended) (listing : FaultListing)
+    (faults : List PageFault) (lines : PageLines)
+    → (has : HasListed body skip earlier listing faults lines) → listing.is_full ≡ false
+    → has.later ≡ []
+none_yet body skip earlier listing faults lines has some_room =
     subst (λ b. AreLater b (length faults) has.later has.shown) some_room has.rest
 
 -- A fault has no room.
-pub fills : (skip : ℕ) (earlier : List Ended) (it : Ended) (listing next : FaultListing)
-    (faults : List PageFault) (lines : PageLines)
-    → (has : HasListed skip earlier listing faults lines) → listing.skip ≡ 0
+pub fills : (body : List ℕ) (skip : ℕ) (earlier : List Ended) (it : Ended)
+    (listing next : FaultListing) (faults : List PageFault) (lines : PageLines)
+    → (has : HasListed body skip earlier listing faults lines) → listing.skip ≡ 0
     → listing.is_full ≡ false → next.skip ≡ listing.skip → next.listed ≡ listing.listed
-    → next.is_full ≡ true
+    → next.bytes ≡ listing.bytes → next.is_full ≡ true
     → (length has.shown ≡ length faults)
     ⊎ (LINES_ROOM < length (lines_of text_lines (it ∷ has.shown)))
-    → HasListed skip (it ∷ earlier) next faults lines
-fills skip earlier it listing next faults lines has zero some_room same number full why =
-    let later = none_yet skip earlier listing faults lines has some_room in
+    → HasListed body skip (it ∷ earlier) next faults lines
+fills body skip earlier it listing next faults lines has zero some_room same number
+    size full why =
+    let later = none_yet body skip earlier listing faults lines has some_room in
     record {
       later = it ∷ [];
       shown = has.shown;
@@ -67,22 +70,26 @@ fills skip earlier it listing next faults lines has zero some_room same number f
       few = has.few;
       rest = subst (λ b. AreLater b (length faults) (it ∷ []) has.shown) (sym full)
           (record { newer = []; next = it; are = refl; full = why });
-      listed = has.listed;
+      listed = subst (λ n. AreListed n body has.shown faults lines) (sym size) has.listed;
     }
 
 -- A fault is listed.
-pub lists_one : (skip : ℕ) (earlier : List Ended) (it : Ended) (listing next : FaultListing)
-    (faults : List PageFault) (entry : PageFault) (lines after : PageLines)
-    → HasListed skip earlier listing faults lines → listing.skip ≡ 0 → listing.is_full ≡ false
+pub lists_one : (body : List ℕ) (skip : ℕ) (earlier : List Ended) (it : Ended)
+    (listing next : FaultListing) (faults : List PageFault) (entry : PageFault)
+    (lines after : PageLines)
+    → HasListed body skip earlier listing faults lines → listing.skip ≡ 0 → listing.is_full ≡ false
     → next.skip ≡ listing.skip → next.listed ≡ listing.listed + 1 → next.is_full ≡ false
-    → listing.listed < length faults → entry.row ≡ it.fault.row
+    → next.bytes ≡ listing.bytes → listing.listed < length faults → entry.row ≡ it.fault.row
+    → IsPlace listing.bytes body entry.row entry.offset
     → written_lines after ≡ written_lines lines ++ ended_lines text_lines it
-    → HasListed skip (it ∷ earlier) next (set faults listing.listed entry) after
-lists_one skip earlier it listing next faults entry lines after has zero some_room same more still
-    room row added =
+    → HasListed body skip (it ∷ earlier) next (set faults listing.listed entry) after
+lists_one body skip earlier it listing next faults entry lines after has zero some_room same more
+    still size room row is added =
     let place : ℕ = listing.listed in
     let now : List PageFault = set faults place entry in
-    let later = none_yet skip earlier listing faults lines has some_room in
+    let Place : PageFault → Type 0 =
+    λ entry. IsPlace listing.bytes body entry.row entry.offset in
+    let later = none_yet body skip earlier listing faults lines has some_room in
     let number : length (it ∷ has.shown) ≡ place + 1 = omega (arith, has.number) in
     record {
       later = [];
@@ -95,15 +102,20 @@ lists_one skip earlier it listing next faults entry lines after has zero some_ro
       number = more ∙ sym number;
       few = omega (arith, number, room, length-set faults place entry);
       rest = subst (λ b. AreLater b (length now) [] (it ∷ has.shown)) (sym still) refl;
-      listed = record {
+      listed = subst (λ n. AreListed n body (it ∷ has.shown) now after) (sym size) (record {
         rows = ap (λ n. map (λ entry. entry.row) (take n now)) number
             ∙ ap (map (λ entry. entry.row)) (take_more_set faults place entry room)
             ∙ map-append (λ entry. entry.row) (take place faults) (entry ∷ [])
             ∙ ap (λ l. l ++ entry.row ∷ [])
             (ap (λ n. map (λ entry. entry.row) (take n faults)) has.number ∙ has.listed.rows)
             ∙ ap (λ n. rows_of_faults has.shown ++ n ∷ []) row;
+        places =
+            subst (All Place)
+            (sym (ap (λ n. take n now) number ∙ take_more_set faults place entry room))
+            (All-push Place (take place faults) entry
+            (subst (λ n. All Place (take n faults)) (sym has.number) has.listed.places) is);
         text = added ∙ ap (λ l. l ++ ended_lines text_lines it) has.listed.text;
-      };
+      });
     }
 
 -- The lines of a fault, with those that are listed, are too many.

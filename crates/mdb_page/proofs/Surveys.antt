@@ -1,5 +1,5 @@
 -- What the survey of a text comes to, by how its reading ended.
-use Rattle.std.proofs.Common.{◌≡◌, ◌≢◌, ◌+◌, ◌<◌, ◌≤◌, ◌⊎◌, ℕ, Bool, true, false, List, [], ◌∷◌, ◌++◌, length, min, refl, sym, subst, ap, ◌∙◌, arith, inl, inr, zero, suc}
+use Rattle.std.proofs.Common.{◌≡◌, ◌≢◌, ◌+◌, ◌-◌, ◌<◌, ◌≤◌, ◌⊎◌, ℕ, Bool, true, false, List, [], ◌∷◌, ◌++◌, length, min, refl, sym, subst, ap, ◌∙◌, arith, inl, inr, zero, suc}
 use Rattle.std.proofs.Math.Nat.{min-eq_left, min-eq_right}
 use Rattle.std.proofs.lemmas.List.{length-append, length-map}
 use Rattle.mdb_words.specs.declared.event.Event.{Event}
@@ -16,7 +16,7 @@ use Rattle.mdb_survey_text.specs.SurveyText.{stretch_text, summary_text}
 use Rattle.mdb_page.specs.Answers.{written}
 use Rattle.mdb_page.specs.Lines as texts
 use Rattle.mdb_page.specs.Lines.{HasRead, IsLine, IsUnmarked, TellsRow}
-use Rattle.mdb_page.specs.Surveys.{EndsSo, HasNoRoom, IsSurveyed, IsWhole, faultless, faulty, no_row, too_long, unread}
+use Rattle.mdb_page.specs.Surveys.{AreListed, EndsSo, HasNoRoom, IsPlace, IsSurveyed, IsWhole, faultless, faulty, no_row, too_long, unread}
 use Rattle.mdb_page.specs.inner.Surveying.{AreLater, EndsWith, HasListed, HasSurveyed, StopsFor}
 use Rattle.mdb_page.specs.declared.answer.PageTold.{PageTold}
 use Rattle.mdb_page.specs.declared.faults.FaultListing.{FaultListing}
@@ -34,7 +34,7 @@ abbrev pub Reads : Surveyor → FaultListing → List PageFault → PageLines �
     → Surveyor → FaultListing → List PageFault → PageLines → Type 0
 Reads first before none empty text rest surveyor listing faults written =
     (scope : Scope) (skip : ℕ) → StandsFor first scope [] []
-    → HasListed skip [] before none empty
+    → HasListed text skip [] before none empty
     → HasSurveyed scope text rest skip surveyor listing faults written
 
 -- before the first line
@@ -98,12 +98,15 @@ pub goes_on_fault : (first surveyor next : Surveyor) (before listing more : Faul
     → ((scope : Scope) (rows : List Event) (ended : List Ended)
     → StandsFor surveyor scope rows ended
     → StandsFor next scope (rows ++ event ∷ []) (it ∷ ended))
-    → rows_of next ≡ rows_of surveyor + 1
-    → ((skip : ℕ) (earlier : List Ended) → HasListed skip earlier listing faults lines
-    → HasListed skip (it ∷ earlier) more longer later)
+    → rows_of next ≡ rows_of surveyor + 1 → it.fault.row ≡ rows_of next
+    → length rest ≤ listing.bytes
+    → ((skip : ℕ) (earlier : List Ended) → HasListed text skip earlier listing faults lines
+    → IsPlace listing.bytes text it.fault.row (listing.bytes - length rest)
+    → HasListed text skip (it ∷ earlier) more longer later)
     → Reads first before none empty text after next more longer later
 goes_on_fault first surveyor next before listing more none faults longer empty lines later text
-    rest bare after event it reads line tells takes counted lists scope skip stands listed =
+    rest bare after event it reads line tells takes counted row few lists scope skip stands
+    listed =
     let has = reads scope skip stands listed in
     record {
       rows = has.rows ++ event ∷ [];
@@ -111,14 +114,23 @@ goes_on_fault first surveyor next before listing more none faults longer empty l
       ended = it ∷ has.ended;
       stands = takes scope has.rows has.ended has.stands;
       counted = omega (arith, counted, has.counted, length-append has.rows (event ∷ []));
-      listed = lists skip has.ended has.listed;
+      listed = lists skip has.ended has.listed (record {
+        rows = has.rows;
+        rest = rest;
+        read = has.read;
+        event = event;
+        next = record { bare = bare; after = after; line = line; is = tells };
+        number = omega (arith, row, counted, has.counted);
+        before = omega (arith, few);
+      });
     }
 
 -- so many faults are passed over
-passed_over : (skip : ℕ) (ended : List Ended) (listing : FaultListing) (faults : List PageFault)
-    (lines : PageLines) → (has : HasListed skip ended listing faults lines)
+passed_over : (body : List ℕ) (skip : ℕ) (ended : List Ended) (listing : FaultListing)
+    (faults : List PageFault) (lines : PageLines)
+    → (has : HasListed body skip ended listing faults lines)
     → length has.passed ≡ min skip (length ended)
-passed_over skip ended listing faults lines has = by_left listing.skip has.left has.none
+passed_over body skip ended listing faults lines has = by_left listing.skip has.left has.none
   where
     whole : length ended ≡ length has.later + (length has.shown + length has.passed)
     whole = ap length has.parts ∙ length-append has.later (has.shown ++ has.passed)
@@ -225,11 +237,11 @@ pub surveyed : (scope : Scope) (text body rest : List ℕ) (skip : ℕ) (surveyo
     → IsSurvey scope has.rows has.ended last × (summary ≡ summary_of has.ended last)
     → count ≡ rows_of surveyor
     → EndsWith stop last summary count told.row told.fault (written answer) number
-    → told.offset + length rest ≡ length text → told.acts ≡ summary.faults.all
-    → told.news ≡ length has.listed.shown
+    → told.offset + length rest ≡ length text → listing.bytes ≡ length text
+    → told.acts ≡ summary.faults.all → told.news ≡ length has.listed.shown
     → IsSurveyed scope text skip faults lines told answer number
 surveyed scope text body rest skip surveyor listing faults lines stop last summary count told
-    answer number bare has stops is counted ends offset acts news =
+    answer number bare has stops is counted ends offset size acts news =
     let listed = has.listed in
     record {
       body = body;
@@ -250,9 +262,9 @@ surveyed scope text body rest skip surveyor listing faults lines stop last summa
         later = listed.later;
         passed = listed.passed;
         parts = listed.parts;
-        count = passed_over skip has.ended listing faults lines listed;
+        count = passed_over body skip has.ended listing faults lines listed;
         rest = later_ones listing.is_full (length faults) listed.later listed.shown listed.rest;
       };
       count = news;
-      listed = listed.listed;
+      listed = subst (λ n. AreListed n body listed.shown faults lines) size listed.listed;
     }

@@ -1,5 +1,5 @@
 -- What the check of a text answers.
-use Rattle.std.specs.Prelude.{◌≡◌, ℕ, List, [], ◌∷◌, ◌++◌, ◌+◌, length, take}
+use Rattle.std.specs.Prelude.{◌≡◌, ℕ, List, [], ◌+◌, length, take}
 use Rattle.mdb_words.specs.declared.event.Event.{Event}
 use Rattle.mdb_words.specs.declared.row.RowFault.{RowFault}
 use Rattle.mdb_words.specs.declared.row.RowFault.TheVariants as faults
@@ -11,7 +11,7 @@ use Rattle.mdb_follow.specs.Report.{IsReport}
 use Rattle.mdb_follow.specs.Runs.{IsReached}
 use Rattle.mdb_text.specs.declared.outcome.Outcome.TheVariants.{No, Yes}
 use Rattle.mdb_text.specs.Text.{report_text}
-use Rattle.mdb_page.specs.Lines.{HasRead, IsNoRow, IsUnmarked}
+use Rattle.mdb_page.specs.Lines.{HasRead, IsNextRow, IsNoRow, IsUnmarked}
 use Rattle.mdb_page.specs.Replays.{IsPlainOffence, IsPlainReport}
 use Rattle.mdb_page.specs.declared.answer.PageTold.{PageTold}
 use Rattle.mdb_page.specs.declared.sheet.PageText.{PageText}
@@ -21,45 +21,51 @@ abbrev pub written : PageText → List ℕ
 written answer = take answer.count answer.bytes
 
 -- All lines of a text are rows, and the answer is the text of what there is to report on these,
--- taken in a scope.
+-- taken in a scope. It is told how many rows and bytes there are.
 pub record TellsReport (Reports : Scope → List Event → Report → Type 0) (scope : Scope)
-    (text : List ℕ) (answer : PageText) : Type 0 where
+    (text : List ℕ) (told : PageTold) (answer : PageText) : Type 0 where
   pub lines : List ℕ
   pub unmarked : IsUnmarked text lines
   pub rows : List Event
   pub read : HasRead lines rows []
   pub report : Report
   pub is : Reports scope rows report
-  pub told : written answer ≡ report_text scope (Yes report)
+  pub says : written answer ≡ report_text scope (Yes report)
+  pub row : told.row ≡ length rows
+  pub offset : told.offset ≡ length text
 
--- The first lines of a text are rows, the last of which is the first that is refused, and the
--- answer is the text that says so.
+-- The first lines of a text are rows, the next line tells the first row that is refused, and the
+-- answer is the text that says so. It is told which row that is, and how many bytes stand before
+-- its line.
 pub record TellsOffence (Refuses : Scope → List Event → Event → Offence → Type 0) (scope : Scope)
-    (text : List ℕ) (answer : PageText) : Type 0 where
+    (text : List ℕ) (told : PageTold) (answer : PageText) : Type 0 where
   pub lines : List ℕ
   pub unmarked : IsUnmarked text lines
   pub rows : List Event
-  pub event : Event
   pub rest : List ℕ
-  pub read : HasRead lines (rows ++ event ∷ []) rest
+  pub read : HasRead lines rows rest
+  pub event : Event
+  pub next : IsNextRow rest event
   pub offence : Offence
   pub is : Refuses scope rows event offence
-  pub told : written answer ≡ report_text scope (No offence)
+  pub says : written answer ≡ report_text scope (No offence)
+  pub row : told.row ≡ offence.row
+  pub offset : told.offset + length rest ≡ length text
 
 -- the answers of a check: all runs together
-abbrev pub IsYes : Scope → List ℕ → PageText → Type 0
-IsYes scope text answer = TellsReport IsReport scope text answer
+abbrev pub IsYes : Scope → List ℕ → PageTold → PageText → Type 0
+IsYes scope text told answer = TellsReport IsReport scope text told answer
 
-abbrev pub IsNo : Scope → List ℕ → PageText → Type 0
-IsNo scope text answer = TellsOffence IsOffence scope text answer
+abbrev pub IsNo : Scope → List ℕ → PageTold → PageText → Type 0
+IsNo scope text told answer = TellsOffence IsOffence scope text told answer
 
 -- the answers of a replay without marks: the run in which no acknowledgement was lost, and no
 -- device restarted unseen (this profile)
-abbrev pub IsReplayedYes : Scope → List ℕ → PageText → Type 0
-IsReplayedYes scope text answer = TellsReport IsPlainReport scope text answer
+abbrev pub IsReplayedYes : Scope → List ℕ → PageTold → PageText → Type 0
+IsReplayedYes scope text told answer = TellsReport IsPlainReport scope text told answer
 
-abbrev pub IsReplayedNo : Scope → List ℕ → PageText → Type 0
-IsReplayedNo scope text answer = TellsOffence IsPlainOffence scope text answer
+abbrev pub IsReplayedNo : Scope → List ℕ → PageTold → PageText → Type 0
+IsReplayedNo scope text told answer = TellsOffence IsPlainOffence scope text told answer
 
 -- the number of a fault of a row
 abbrev pub number_of : RowFault → ℕ

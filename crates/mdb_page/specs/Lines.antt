@@ -88,3 +88,10 @@ pub record IsNoRow (text : List ℕ) (why : RowFault) : Type 0 where
   pub line : IsLine text bare after
   pub some : bare ≢ []
   pub is : TellsNoRow bare why
+
+-- The first line of a text tells a row.
+pub record IsNextRow (text : List ℕ) (event : Event) : Type 0 where
+  pub bare : List ℕ
+  pub after : List ℕ
+  pub line : IsLine text bare after
+  pub is : TellsRow bare event

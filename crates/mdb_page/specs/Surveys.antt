@@ -1,5 +1,5 @@
 -- What the survey of a text answers, tells and lists.
-use Rattle.std.specs.Prelude.{◌≡◌, ◌≢◌, ◌⊎◌, ◌+◌, ◌<◌, ◌≤◌, ℕ, List, [], ◌∷◌, ◌++◌, length, map, min, take}
+use Rattle.std.specs.Prelude.{◌≡◌, ◌≢◌, ◌⊎◌, ◌+◌, ◌<◌, ◌≤◌, ℕ, List, [], ◌∷◌, ◌++◌, All, length, map, min, take}
 use Rattle.mdb_words.specs.declared.event.Event.{Event}
 use Rattle.mdb_words.specs.declared.row.RowFault.{RowFault}
 use Rattle.mdb_bus.specs.declared.scope.Scope.{Scope}
@@ -11,7 +11,7 @@ use Rattle.mdb_stretches.specs.Summaries.{summary_of}
 use Rattle.mdb_survey_text.specs.Lines.{lines_of}
 use Rattle.mdb_survey_text.specs.SurveyText.{stretch_text, summary_text, text_lines}
 use Rattle.mdb_page.specs.Answers.{number_of, written}
-use Rattle.mdb_page.specs.Lines.{HasRead, IsLine, IsNoRow, IsUnmarked, IsUnread}
+use Rattle.mdb_page.specs.Lines.{HasRead, IsLine, IsNextRow, IsNoRow, IsUnmarked, IsUnread}
 use Rattle.mdb_page.specs.declared.answer.PageTold.{PageTold}
 use Rattle.mdb_page.specs.declared.faults.PageFault.{PageFault}
 use Rattle.mdb_page.specs.declared.sheet.PageLines.{PageLines}
@@ -45,11 +45,24 @@ pub record AreShown (skip room : ℕ) (ended shown : List Ended) : Type 0 where
   pub count : length passed ≡ min skip (length ended)
   pub rest : (later ≡ []) ⊎ HasNoRoom room later shown
 
--- Faults are listed, each with the stretch that it ended: an entry has the row of each, and the
--- lines are theirs.
-pub record AreListed (shown : List Ended) (faults : List PageFault) (lines : PageLines)
-    : Type 0 where
+-- So many bytes of a text stand before the line of a row, which has this number. `size` is the
+-- number of all bytes, and `body` is the text without its mark.
+pub record IsPlace (size : ℕ) (body : List ℕ) (row offset : ℕ) : Type 0 where
+  pub rows : List Event
+  pub rest : List ℕ
+  pub read : HasRead body rows rest
+  pub event : Event
+  pub next : IsNextRow rest event
+  pub number : row ≡ length rows + 1
+  pub before : offset + length rest ≡ size
+
+-- Faults are listed, each with the stretch that it ended: an entry has the row of each and the
+-- place of its line, and the lines are theirs.
+pub record AreListed (size : ℕ) (body : List ℕ) (shown : List Ended) (faults : List PageFault)
+    (lines : PageLines) : Type 0 where
   pub rows : map (λ entry. entry.row) (take (length shown) faults) ≡ rows_of_faults shown
+  pub places : All (λ entry. IsPlace size body entry.row entry.offset)
+      (take (length shown) faults)
   pub text : written_lines lines ≡ lines_of text_lines shown
 
 -- the first line of a text, which has bytes
@@ -110,4 +123,4 @@ pub record IsSurveyed (scope : Scope) (text : List ℕ) (skip : ℕ) (faults : L
   pub shown : List Ended
   pub are : AreShown skip (length faults) ended shown
   pub count : told.news ≡ length shown
-  pub listed : AreListed shown faults lines
+  pub listed : AreListed (length text) body shown faults lines

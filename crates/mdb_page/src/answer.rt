@@ -1,6 +1,6 @@
 //! The verdict on a text.
 
-ghost use Rattle.std.specs.Prelude.{◌≡◌, ◌≢◌, ◌≤◌, [], ◌∷◌, ◌++◌, List, ℕ, length};
+ghost use Rattle.std.specs.Prelude.{◌≡◌, ◌≢◌, ◌≤◌, [], List, length};
 ghost use Rattle.mdb_words.specs.declared.event.Event.{Event};
 ghost use Rattle.mdb_words.specs.declared.row.RowFault.{RowFault};
 ghost use Rattle.mdb_bus.specs.declared.scope.Scope.{Scope};
@@ -8,7 +8,7 @@ ghost use Rattle.mdb_follow.specs.declared.offence.Offence.{Offence};
 ghost use Rattle.mdb_text.specs.Text.{report_text};
 ghost use Rattle.mdb_page.specs.Answers.{IsBadRow, IsNo, IsReplayedNo, IsReplayedYes, IsYes};
 ghost use Rattle.mdb_page.specs.Answers.{TellsBadRow, TellsOffence, TellsReport, number_of, written};
-ghost use Rattle.mdb_page.specs.Lines.{HasRead, IsNoRow};
+ghost use Rattle.mdb_page.specs.Lines.{HasRead, IsNextRow, IsNoRow};
 ghost use Rattle.mdb_page.specs.Options.{IsTakenSo};
 
 use crate::judge::Judge;
@@ -95,9 +95,9 @@ pub extern "C" fn mdb_page_check(
     answer: &mut PageText,
 ) -> u32
     ensures yes { result ≡ 0 → (scope : Scope) × IsTakenSo options.now scope
-        × IsYes scope text.now answer.new }
+        × IsYes scope text.now told.new answer.new }
     ensures no { result ≡ 1 → (scope : Scope) × IsTakenSo options.now scope
-        × IsNo scope text.now answer.new }
+        × IsNo scope text.now told.new answer.new }
     ensures bad_row { result ≡ 2 → (scope : Scope) × IsTakenSo options.now scope
         × IsBadRow scope text.now told.new }
     ensures refused { result ≡ 5 → (scope : Scope) → IsTakenSo options.now scope → ⊥ }
@@ -123,9 +123,9 @@ pub extern "C" fn mdb_page_replay(
     answer: &mut PageText,
 ) -> u32
     ensures yes { result ≡ 0 → (scope : Scope) × IsTakenSo options.now scope
-        × IsReplayedYes scope text.now answer.new }
+        × IsReplayedYes scope text.now told.new answer.new }
     ensures no { result ≡ 1 → (scope : Scope) × IsTakenSo options.now scope
-        × IsReplayedNo scope text.now answer.new }
+        × IsReplayedNo scope text.now told.new answer.new }
     ensures refused { result ≡ 5 → options.now.joined ≡ 0
         → (scope : Scope) → IsTakenSo options.now scope → ⊥ }
     ensures taken { result ≢ 5 → (options.now.joined ≡ 0)
@@ -157,8 +157,10 @@ fn judge<J: Judge>(
 ) -> u32
     requires stands { J.stands_for judge.old scope.now [] }
     requires empty { answer.old.count ≡ 0 }
-    ensures yes { result ≡ 0 → TellsReport J.reports scope.now text.now answer.new }
-    ensures no { result ≡ 1 → TellsOffence J.refuses scope.now text.now answer.new }
+    ensures yes { result ≡ 0
+        → TellsReport J.reports scope.now text.now told.new answer.new }
+    ensures no { result ≡ 1
+        → TellsOffence J.refuses scope.now text.now told.new answer.new }
     ensures bad_row { result ≡ 2 → (rows : List Event) × J.stands_for judge.new scope.now rows
         × TellsBadRow rows text.now told.new }
     ensures options { result ≢ 5 }
@@ -210,8 +212,9 @@ fn follow<J: Judge>(judge: &mut J, scope: &Scope, rest: &mut &[u8]) -> End
     ensures left { length rest.new.now ≤ length rest.old.now }
     ensures text { result ≡ End.Text → (rows : List Event)
         × HasRead rest.old.now rows [] × J.stands_for judge.new scope.now rows }
+    ensures whole { result ≡ End.Text → rest.new.now ≡ [] }
     ensures offence { (offence : Offence) → result ≡ End.Offence offence → (rows : List Event)
-        × (event : Event) × (after : List ℕ) × HasRead rest.old.now (rows ++ event ∷ []) after
+        × (event : Event) × HasRead rest.old.now rows rest.new.now × IsNextRow rest.new.now event
         × J.refuses scope.now rows event offence }
     ensures line { (why : RowFault) → result ≡ End.Line (LineFault.BadRow why)
         → (rows : List Event) × HasRead rest.old.now rows rest.new.now

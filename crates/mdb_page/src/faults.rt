@@ -1,10 +1,11 @@
 //! The faults of a survey, as they are listed.
 
-ghost use Rattle.std.specs.Prelude.{◌≡◌, ◌∷◌, ◌≤◌, List, [], OnOk, false, true, ℕ, length};
+ghost use Rattle.std.specs.Prelude.{◌≡◌, ◌∷◌, ◌≤◌, ◌-◌, List, [], OnOk, false, true, ℕ, length};
 ghost use Rattle.mdb_stretches.specs.declared.stretch.Ended.{Ended};
 ghost use Rattle.mdb_survey_text.specs.Lines.{ended_lines};
 ghost use Rattle.mdb_survey_text.specs.SurveyText.{text_lines};
 ghost use Rattle.mdb_page.specs.Answers.{written};
+ghost use Rattle.mdb_page.specs.Surveys.{IsPlace};
 ghost use Rattle.mdb_page.specs.inner.Surveying.{HasListed};
 ghost use Rattle.mdb_page.specs.declared.faults.PageFault.{PageFault};
 ghost use Rattle.mdb_page.specs.declared.sheet.PageLines.{PageLines};
@@ -41,8 +42,9 @@ pub(crate) struct FaultListing {
 impl FaultListing {
     /// The list before the first fault of a text of so many bytes, where so many are passed over.
     pub(crate) fn after(skip: u64, bytes: usize) -> FaultListing
-        ensures { (faults : List PageFault) (lines : PageLines) → lines.count ≡ 0
-            → HasListed skip [] result faults lines }
+        ensures size { result.bytes ≡ bytes }
+        ensures listed { (body : List ℕ) (faults : List PageFault) (lines : PageLines)
+            → lines.count ≡ 0 → HasListed body skip [] result faults lines }
     {
         FaultListing {
             bytes,
@@ -54,8 +56,8 @@ impl FaultListing {
 
     /// The number of those that are listed.
     pub(crate) fn count(&self) -> u64
-        ensures { (skip : ℕ) (ended : List Ended) (faults : List PageFault) (lines : PageLines)
-            → (has : HasListed skip ended self.now faults lines)
+        ensures { (body : List ℕ) (skip : ℕ) (ended : List Ended) (faults : List PageFault)
+            (lines : PageLines) → (has : HasListed body skip ended self.now faults lines)
             → result ≡ length has.shown }
     {
         self.listed as u64
@@ -72,9 +74,11 @@ impl FaultListing {
         left: usize,
     ) -> bool
         requires { lines.old.count ≤ LINES_ROOM }
-        ensures taken { result ≡ true → (skip : ℕ) (earlier : List Ended)
-            → HasListed skip earlier self.old faults.old lines.old
-            → HasListed skip (ended.now ∷ earlier) self.new faults.new lines.new }
+        ensures taken { result ≡ true → (body : List ℕ) (skip : ℕ) (earlier : List Ended)
+            → HasListed body skip earlier self.old faults.old lines.old
+            → IsPlace self.old.bytes body ended.now.fault.row (self.old.bytes - left)
+            → HasListed body skip (ended.now ∷ earlier) self.new faults.new lines.new }
+        ensures size { self.new.bytes ≡ self.old.bytes }
         ensures count { lines.new.count ≤ LINES_ROOM }
     {
         if self.skip > 0 {
@@ -99,9 +103,11 @@ impl FaultListing {
         requires room { lines.old.count ≤ LINES_ROOM }
         requires passed { self.old.skip ≡ 0 }
         requires open { self.old.is_full ≡ false }
-        ensures taken { result ≡ true → (skip : ℕ) (earlier : List Ended)
-            → HasListed skip earlier self.old faults.old lines.old
-            → HasListed skip (ended.now ∷ earlier) self.new faults.new lines.new }
+        ensures taken { result ≡ true → (body : List ℕ) (skip : ℕ) (earlier : List Ended)
+            → HasListed body skip earlier self.old faults.old lines.old
+            → IsPlace self.old.bytes body ended.now.fault.row (self.old.bytes - left)
+            → HasListed body skip (ended.now ∷ earlier) self.new faults.new lines.new }
+        ensures size { self.new.bytes ≡ self.old.bytes }
         ensures count { lines.new.count ≤ LINES_ROOM }
     {
         if self.listed >= faults.len() {

@@ -108,10 +108,12 @@ fn survey_lines(
 ) -> Stop
     requires empty { rows_of surveyor.old ≡ 0 }
     requires room { lines.old.count ≤ LINES_ROOM }
+    requires size { length rest.old.now ≤ listing.old.bytes }
     ensures left { length rest.new.now ≤ length rest.old.now }
+    ensures size { listing.new.bytes ≡ listing.old.bytes }
     ensures surveyed { result ≢ Stop.NoRoom → (scope : Scope) (skip : ℕ)
         → StandsFor surveyor.old scope [] []
-        → HasListed skip [] listing.old faults.old lines.old
+        → HasListed rest.old.now skip [] listing.old faults.old lines.old
         → HasSurveyed scope rest.old.now rest.new.now skip surveyor.new listing.new faults.new
         lines.new }
     ensures stops { StopsFor result rest.new.now (rows_of surveyor.new) }

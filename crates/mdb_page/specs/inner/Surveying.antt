@@ -25,8 +25,8 @@ abbrev pub AreLater : Bool → ℕ → List Ended → List Ended → Type 0
 AreLater true room later shown = HasNoRoom room later shown
 AreLater false room later shown = later ≡ []
 
--- A listing has passed over the first faults, and listed others.
-pub record HasListed (skip : ℕ) (ended : List Ended) (listing : FaultListing)
+-- A listing has passed over the first faults of these lines, and listed others.
+pub record HasListed (body : List ℕ) (skip : ℕ) (ended : List Ended) (listing : FaultListing)
     (faults : List PageFault) (lines : PageLines) : Type 0 where
   pub later : List Ended
   pub shown : List Ended
@@ -37,7 +37,7 @@ pub record HasListed (skip : ℕ) (ended : List Ended) (listing : FaultListing)
   pub number : listing.listed ≡ length shown
   pub few : length shown ≤ length faults
   pub rest : AreLater listing.is_full (length faults) later shown
-  pub listed : AreListed shown faults lines
+  pub listed : AreListed listing.bytes body shown faults lines
 
 -- The first lines of a text are rows, for which a surveyor stands, and their faults are listed.
 pub record HasSurveyed (scope : Scope) (text rest : List ℕ) (skip : ℕ) (surveyor : Surveyor)
@@ -47,7 +47,7 @@ pub record HasSurveyed (scope : Scope) (text rest : List ℕ) (skip : ℕ) (surv
   pub ended : List Ended
   pub stands : StandsFor surveyor scope rows ended
   pub counted : rows_of surveyor ≡ length rows
-  pub listed : HasListed skip ended listing faults lines
+  pub listed : HasListed text skip ended listing faults lines
 
 -- what is known of the text that is left, and of the number of rows before it, where a survey ends
 abbrev pub StopsFor : Stop → List ℕ → ℕ → Type 0

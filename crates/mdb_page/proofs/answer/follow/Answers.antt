@@ -43,12 +43,17 @@ returns-in-Err-take-clause-offence g c = λ offence same.
     let event = c.in-Ok.event in (
       rows,
       event,
-      c.first_line.result.1.now,
-      row event before.read.1 (record {
-        line = c.first_line.result.0.now;
-        first = c.first_line.ensures.line;
-        is = c.without_return-line.ensures;
-      }) c.in-Ok.ensures.row,
+      before.read.1,
+      record {
+        bare = c.without_return-line.result.now;
+        after = c.first_line.result.1.now;
+        line = record {
+          line = c.first_line.result.0.now;
+          first = c.first_line.ensures.line;
+          is = c.without_return-line.ensures;
+        };
+        is = c.in-Ok.ensures.row;
+      },
       subst (λ (told : Offence). g.J.Judge.refuses c.args.scope.now rows event told)
           (ap (λ end. offence_of end c.in-Err-take.offence) same)
           (c.in-Err-take.ensures.refused c.args.scope.now rows before.read.2),

@@ -1,4 +1,4 @@
-use Rattle.std.proofs.Common.{◌≢◌, ◌+◌, ap, ◌∙◌, arith}
+use Rattle.std.proofs.Common.{◌≢◌, ◌+◌, ap, ◌∙◌, arith, length, refl}
 use Rattle.mdb_page.specs.declared.answer.End.TheVariants as end
 use Rattle.mdb_page.proofs.answer.judge.Goals as goal
 
@@ -17,7 +17,33 @@ returns-in-Text-clause-yes g c = λ zero.
       read = read.1;
       report = c.tell.result;
       is = c.tell.ensures c.args.scope.now read.0 read.2;
-      told = (c.write_as.ensures other).1;
+      says = (c.write_as.ensures other).1;
+      row = c.taken-told.ensures.counted c.args.scope.now read.0 read.2;
+      offset = omega (
+        arith,
+        ap length (c.follow-end.ensures.whole c.in-Text.is),
+        c.follow-end.ensures.left,
+        c.without_mark-rest.ensures.shorter,
+      );
+    }
+
+pub returns-in-Offence-clause-no : goal.returns-in-Offence-clause-no
+returns-in-Offence-clause-no g c = λ one.
+    let found = c.follow-end.ensures.offence c.in-Offence.offence c.in-Offence.is in
+    let other : c.write_as-in-Offence.result ≢ 6 = λ six. omega arith in
+    record {
+      lines = c.without_mark-rest.result.now;
+      unmarked = c.without_mark-rest.ensures.rest;
+      rows = found.0;
+      rest = c.follow-end.new.rest.now;
+      read = found.2;
+      event = found.1;
+      next = found.3;
+      offence = c.in-Offence.offence;
+      is = found.4;
+      says = (c.write_as-in-Offence.ensures other).1;
+      row = refl;
+      offset = omega (arith, c.follow-end.ensures.left, c.without_mark-rest.ensures.shorter);
     }
 
 pub returns-in-Line-clause-bad_row : goal.returns-in-Line-clause-bad_row

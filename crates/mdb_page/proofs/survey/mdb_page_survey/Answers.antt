@@ -10,7 +10,7 @@ returns-clause-surveyed c valid fits =
     let ends = c.end_with.ensures.ends fits in
     let has = c.survey_lines-stop.ensures.surveyed (had_room stop _ _ _ _ _ _ _ ends) scope
     c.args.skip c.scoped-surveyor.ensures.stands
-    (c.after-listing.ensures c.args.faults.now _ refl) in (
+    (c.after-listing.ensures.listed c.without_mark-rest.result.now c.args.faults.now _ refl) in (
       scope,
       c.in-Some.ensures.taken,
       surveyed scope c.args.text.now c.without_mark-rest.result.now now.rest.now c.args.skip
@@ -24,7 +24,9 @@ returns-clause-surveyed c valid fits =
             c.survey_lines-stop.ensures.left,
             c.without_mark-rest.ensures.shorter,
           ))
+          (c.survey_lines-stop.ensures.size ∙ c.after-listing.ensures.size)
           c.end_with.ensures.acts
           (c.end_with.ensures.news
-          ∙ c.count-told.ensures c.args.skip has.ended now.faults now.lines has.listed),
+          ∙ c.count-told.ensures c.without_mark-rest.result.now c.args.skip has.ended
+          now.faults now.lines has.listed),
     )

@@ -1,4 +1,4 @@
-use Rattle.std.proofs.Common.{◌≡◌, [], List, ℕ, arith, length, refl, subst}
+use Rattle.std.proofs.Common.{◌≡◌, ◌∙◌, [], List, ℕ, arith, length, refl, subst}
 use Rattle.std.proofs.Math.Nat.{le_refl}
 use Rattle.mdb_page.specs.Lines.{IsBare}
 use Rattle.mdb_page.proofs.Surveys.{goes_on_blank, goes_on_fault, goes_on_row, starts, stops_at_line}
@@ -8,6 +8,7 @@ use Rattle.mdb_page.proofs.survey.survey_lines.Goals as goal
 pub loop-line-init : goal.loop-line-init
 loop-line-init c = record {
   left = le_refl (length c.args.rest.now.now);
+  size = refl;
   few = omega (arith, c.requires.empty);
   room = c.requires.room;
   reads = starts c.args.surveyor.now c.args.listing.now c.args.faults.now c.args.lines.now
@@ -28,6 +29,7 @@ loop-line-preserved-else-not-take c =
     let before = c.loop-line.invariant in
     record {
       left = omega (arith, before.left, c.first_line.ensures.shorter);
+      size = c.take.ensures.size ∙ before.size;
       few = omega (arith, c.feed.ensures.counted, c.rows.ensures, c.if-rows-ge-ROWS_MAX.false);
       room = c.take.ensures.count;
       reads = goes_on_fault c.args.surveyor.now c.loop-line.surveyor c.feed.new.self
@@ -38,7 +40,9 @@ loop-line-preserved-else-not-take c =
           c.in-Some.ended before.reads
           (line_of c.first_line.ensures.line c.without_return-line.ensures)
           c.in-Ok.ensures.row c.in-Some.ensures.ended c.feed.ensures.counted
-          (c.if-not-take.ensures.taken refl);
+          c.in-Some.ensures.row
+          (omega (arith, before.left, before.size, c.requires.size))
+          (c.if-not-take.ensures.taken refl c.args.rest.now.now);
     }
 
 pub loop-line-preserved-in_default : goal.loop-line-preserved-in_default
@@ -46,6 +50,7 @@ loop-line-preserved-in_default c =
     let before = c.loop-line.invariant in
     record {
       left = omega (arith, before.left, c.first_line.ensures.shorter);
+      size = before.size;
       few = omega (arith, c.feed.ensures.counted, c.rows.ensures, c.if-rows-ge-ROWS_MAX.false);
       room = before.room;
       reads = goes_on_row c.args.surveyor.now c.loop-line.surveyor c.feed.new.self
@@ -63,6 +68,7 @@ loop-line-preserved c =
     let empty : bare ≡ [] = has_none bare c.if-not-is_empty.ensures in
     record {
       left = omega (arith, before.left, c.first_line.ensures.shorter);
+      size = before.size;
       few = before.few;
       room = before.room;
       reads = goes_on_blank c.args.surveyor.now c.loop-line.surveyor c.args.listing.now

@@ -1,4 +1,4 @@
-use Rattle.std.proofs.Common.{length, ◌≤◌}
+use Rattle.std.proofs.Common.{length, ◌≡◌, ◌≤◌}
 use Rattle.mdb_stretches.specs.Surveyor.{rows_of}
 use Rattle.mdb_follow.specs.declared.follower.TheConstants.{ROWS_MAX}
 use Rattle.mdb_page.specs.declared.sheet.TheConstants.{LINES_ROOM}
@@ -9,6 +9,7 @@ use Rattle.mdb_page.proofs.survey.survey_lines.Given as goal
 abbrev pub invariant-loop-line : goal.invariant-loop-line
 invariant-loop-line l = record {
   left : length l.rest.now ≤ length l.fn.rest.now;
+  size : l.listing.bytes ≡ l.fn.listing.bytes;
   few : rows_of l.surveyor ≤ ROWS_MAX;
   room : l.lines.count ≤ LINES_ROOM;
   reads : Reads l.fn.surveyor l.fn.listing l.fn.faults l.fn.lines l.fn.rest.now l.rest.now

@@ -3,6 +3,6 @@ use Rattle.std.proofs.Common.{arith}
 use Rattle.mdb_page.proofs.faults.FaultListing.take.Goals as goal
 
 pub returns-then-self-clause-taken : goal.returns-then-self-clause-taken
-returns-then-self-clause-taken c done skip earlier has =
-    stays_full skip earlier c.args.ended.now c.args.self.now c.args.faults.now
+returns-then-self-clause-taken c done body skip earlier has is =
+    stays_full body skip earlier c.args.ended.now c.args.self.now c.args.faults.now
     c.args.lines.now has (omega (arith, c.if-self-gt0.false)) c.if-self.true
