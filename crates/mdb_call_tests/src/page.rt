@@ -213,25 +213,27 @@ const COINS: &[u8] = b"0,M,108\n1146,M,008\n3000,S,100\n300000,M,10B\n301146,M,0
 903000,S,052\n904146,S,005\n905292,S,042\n906438,S,006\n907584,S,19F\n909000,M,000\n\
 1200000,M,10B\n1201146,M,00B\n2200000,M,10B\n2201146,M,00B\n3300000,M,10B\n3301146,M,00B\n";
 
+/// No news was listed here yet.
+const NO_NEWS: PageNews = PageNews {
+    first: 0,
+    last: 0,
+    start: 0,
+    end: 0,
+    amount: 0,
+    length: 0,
+    count: 0,
+    number: 0,
+    kind: 99,
+    device: 9,
+    worth: 9,
+    decimals: 9,
+    is_acknowledged: 9,
+    is_token: 9,
+};
+
 #[test]
 fn news_are_listed_and_taken_up_again(rt: HostRuntime) {
-    let blank = PageNews {
-        first: 0,
-        last: 0,
-        start: 0,
-        end: 0,
-        amount: 0,
-        length: 0,
-        count: 0,
-        number: 0,
-        kind: 99,
-        device: 9,
-        worth: 9,
-        decimals: 9,
-        is_acknowledged: 9,
-        is_token: 9,
-    };
-    let mut news = [blank; 7];
+    let mut news = [NO_NEWS; 7];
     let mut told = nothing();
     assert_eq!(rt;
         mdb_page_list(&power_on(), COINS, 0, 0, &mut told, &mut [], &mut news),
@@ -253,13 +255,55 @@ fn news_are_listed_and_taken_up_again(rt: HostRuntime) {
     assert_eq!(rt; (news[5].first, news[5].last), (31, 36));
     assert_eq!(rt; (news[5].start, news[5].end), (1201146, 3301146));
     assert_eq!(rt; news[6].kind, 99);
-    let mut one = [blank; 1];
+    let mut one = [NO_NEWS; 1];
     assert_eq!(rt;
         mdb_page_list(&power_on(), COINS, 0, 4, &mut told, &mut [], &mut one),
         0
     );
     assert_eq!(rt; (told.news, one[0].kind), (6, 1));
     assert_eq!(rt; one[0].is_acknowledged, 1);
+}
+
+/// A validator reports two bills, of which the second is a token. A reader approves 20 units of its
+/// scale factor for item 7.
+const APPROVED: &[u8] =
+    b"0,M,133\n1146,M,033\n3000,S,080\n4146,S,081\n5292,S,101\n7000,M,000\n300000,M,113\n\
+301146,M,000\n302292,M,000\n303438,M,014\n304584,M,000\n305730,M,007\n306876,M,02E\n\
+309000,S,005\n310146,S,000\n311292,S,014\n312438,S,119\n314000,M,000\n";
+
+#[test]
+fn news_have_the_amounts_of_their_devices(rt: HostRuntime) {
+    let mut options = power_on();
+    options.joined = 1;
+    let mut bill = [0; 36];
+    bill[..14].copy_from_slice(b"\x01\x19\x78\x00\x64\x02\x01\x90\x00\x00\xFF\x01\xFF\x88");
+    options.setups[1] = PageSetup {
+        count: 14,
+        bytes: bill,
+    };
+    let mut reader = [0; 36];
+    reader[..9].copy_from_slice(b"\x01\x01\x19\x78\x05\x02\x05\x00\x9F");
+    options.setups[2] = PageSetup {
+        count: 9,
+        bytes: reader,
+    };
+    let mut news = [NO_NEWS; 5];
+    let mut told = nothing();
+    assert_eq!(rt;
+        mdb_page_list(&options, APPROVED, 0, 0, &mut told, &mut [], &mut news),
+        0
+    );
+    assert_eq!(rt; (told.news, told.row), (4, 18));
+    assert_eq!(rt; (news[0].kind, news[0].number, news[0].amount), (4, 0, 100));
+    assert_eq!(rt;
+        (news[0].is_token, news[0].decimals, news[0].device),
+        (0, 2, 2)
+    );
+    assert_eq!(rt; (news[1].kind, news[1].number, news[1].amount), (4, 1, 0));
+    assert_eq!(rt; (news[1].is_token, news[1].worth), (1, 2));
+    assert_eq!(rt; (news[2].kind, news[2].number, news[2].amount), (7, 7, 100));
+    assert_eq!(rt; (news[3].kind, news[3].device, news[3].amount), (9, 3, 100));
+    assert_eq!(rt; (news[3].worth, news[3].decimals, news[3].count), (2, 2, 1));
 }
 
 #[test]

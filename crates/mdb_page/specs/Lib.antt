@@ -5,5 +5,4 @@ pub mod Options
 pub mod Replays
 pub mod Rises
 pub mod Surveys
-pub mod Worth
 pub mod inner

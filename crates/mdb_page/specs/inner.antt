@@ -1,3 +1,4 @@
 pub mod Listing
+pub mod News
 pub mod Rising
 pub mod Surveying

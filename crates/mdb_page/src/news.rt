@@ -1,11 +1,10 @@
 //! The news of a recording: what its acts tell of money, sales, resets, breaks and silences.
 
-ghost use Rattle.std.specs.Prelude.{◌≡◌, ◌<◌, ◌*◌, IfSome, option_map};
-ghost use Rattle.mdb_cash.specs.Bill.{bill_value};
+ghost use Rattle.std.specs.Prelude.{◌≡◌, ◌<◌, ◌*◌, IfSome};
 ghost use Rattle.mdb_cash.specs.BillMessages as bills;
 ghost use Rattle.mdb_cash.specs.Changer.{coin_value};
 ghost use Rattle.mdb_cash.specs.ChangerMessages as coins_told;
-ghost use Rattle.mdb_page.specs.Worth.{bill_worth, coin_worth, worth_of};
+ghost use Rattle.mdb_page.specs.inner.News as spec;
 
 use crate::rows::{Rows, device_number};
 use crate::watch::{Unanswered, Watch};
@@ -87,7 +86,9 @@ enum Kind {
 
 impl Kind {
     /// Its number.
-    fn number(self) -> u8 {
+    fn number(self) -> u8
+        ensures { result ≡ spec.kind_number self }
+    {
         match self {
             Kind::Tube => 0,
             Kind::CashBox => 1,
@@ -131,14 +132,14 @@ struct Fact {
 impl Fact {
     /// One without an amount.
     fn plain(kind: Kind) -> Fact
-        ensures { result.worth ≡ Worth.Nothing }
+        ensures { result ≡ spec.plain_fact kind }
     {
         Fact::of_item(kind, 0, Worth::Nothing)
     }
 
     /// One about an item.
     fn of_item(kind: Kind, item: u16, worth: Worth) -> Fact
-        ensures { result.worth ≡ worth }
+        ensures { result ≡ spec.item_fact kind item worth }
     {
         Fact {
             kind,
@@ -151,7 +152,7 @@ impl Fact {
 
     /// One about coins of a type.
     fn of_coins(kind: Kind, setup: &Option<ChangerSetup>, coin: u8, count: u8) -> Fact
-        ensures { result.worth ≡ worth_of (option_map (λ setup. setup.decimals) setup.now)
+        ensures { result ≡ spec.coins_fact setup.now kind coin count
             (count * coin_value setup.now coin) }
     {
         Fact {
@@ -168,8 +169,7 @@ impl Fact {
 
     /// One about a bill of a type.
     fn of_bill(kind: Kind, setup: &Option<BillSetup>, number: u8) -> Fact
-        ensures { result.worth ≡ worth_of (option_map (λ setup. setup.decimals) setup.now)
-            (bill_value setup.now number) }
+        ensures { result ≡ spec.bill_fact setup.now kind number }
     {
         Fact {
             kind,
@@ -197,7 +197,9 @@ struct Tally {
 
 impl Tally {
     /// The tally before the first entry, where so many are passed over.
-    fn skipping(skip: u64) -> Tally {
+    fn skipping(skip: u64) -> Tally
+        ensures { (result.skip ≡ skip) × (result.put ≡ 0) × (result.entries ≡ 0) }
+    {
         Tally {
             skip,
             put: 0,
@@ -207,7 +209,8 @@ impl Tally {
 
     /// The place of one entry more, if it isn't passed over and there is room for it.
     fn next(&mut self, room: usize) -> Option<usize>
-        ensures { IfSome result (λ place. place < room) }
+        ensures room { IfSome result (λ place. place < room) }
+        ensures counted { spec.Counts room self.old self.new result }
     {
         self.entries = self.entries.saturating_add(1);
         if self.skip > 0 {
@@ -223,12 +226,16 @@ impl Tally {
     }
 
     /// How many entries were put.
-    fn put(&self) -> usize {
+    fn put(&self) -> usize
+        ensures { result ≡ self.now.put }
+    {
         self.put
     }
 
     /// How many entries there were.
-    fn entries(&self) -> u64 {
+    fn entries(&self) -> u64
+        ensures { result ≡ self.now.entries }
+    {
         self.entries
     }
 }
@@ -246,7 +253,9 @@ pub(crate) struct NewsListing {
 
 impl NewsListing {
     /// The list before the first act of a recording that begins so, where so many are passed over.
-    pub(crate) fn start(begins: &Beginning, skip: u64) -> NewsListing {
+    pub(crate) fn start(begins: &Beginning, skip: u64) -> NewsListing
+        ensures { (result.tally.skip ≡ skip) × (result.tally.entries ≡ 0) }
+    {
         NewsListing {
             tally: Tally::skipping(skip),
             waiting: 0,
@@ -290,7 +299,9 @@ impl NewsListing {
     }
 
     /// How many there were.
-    pub(crate) fn count(&self) -> u64 {
+    pub(crate) fn count(&self) -> u64
+        ensures { result ≡ self.now.tally.entries }
+    {
         self.tally.entries()
     }
 
@@ -382,7 +393,9 @@ impl NewsListing {
 }
 
 /// What a command to the changer tells.
-fn changer_asked(setup: &Option<ChangerSetup>, command: ChangerCommand) -> Option<Fact> {
+fn changer_asked(setup: &Option<ChangerSetup>, command: ChangerCommand) -> Option<Fact>
+    ensures { result ≡ spec.changer_asked setup.now command }
+{
     match command {
         ChangerCommand::Reset => Some(Fact::plain(Kind::Reset)),
         ChangerCommand::Dispense(coins) => {
@@ -394,7 +407,9 @@ fn changer_asked(setup: &Option<ChangerSetup>, command: ChangerCommand) -> Optio
 }
 
 /// What a command to the validator tells.
-fn bill_asked(command: BillCommand) -> Option<Fact> {
+fn bill_asked(command: BillCommand) -> Option<Fact>
+    ensures { result ≡ spec.bill_asked command }
+{
     match command {
         BillCommand::Reset => Some(Fact::plain(Kind::Reset)),
         _ => None,
@@ -402,7 +417,9 @@ fn bill_asked(command: BillCommand) -> Option<Fact> {
 }
 
 /// What a command to a reader tells.
-fn reader_asked(config: Option<ReaderConfig>, command: ReaderCommand) -> Option<Fact> {
+fn reader_asked(config: Option<ReaderConfig>, command: ReaderCommand) -> Option<Fact>
+    ensures { result ≡ spec.reader_asked config command }
+{
     Some(match command {
         ReaderCommand::Reset => Fact::plain(Kind::Reset),
         ReaderCommand::VendRequest { price, item } => {
@@ -423,8 +440,7 @@ fn reader_asked(config: Option<ReaderConfig>, command: ReaderCommand) -> Option<
 
 /// What a message of the changer tells.
 fn changer_told(setup: &Option<ChangerSetup>, message: ChangerMsg) -> Option<Fact>
-    ensures { IfSome result (λ fact.
-        fact.worth ≡ coin_worth setup.now (coins_told.part_of message)) }
+    ensures { result ≡ spec.changer_told setup.now (coins_told.part_of message) }
 {
     match message {
         ChangerMsg::Tube { coin, .. } => Some(Fact::of_coins(Kind::Tube, setup, coin, 1)),
@@ -440,8 +456,7 @@ fn changer_told(setup: &Option<ChangerSetup>, message: ChangerMsg) -> Option<Fac
 
 /// What a message of the validator tells.
 fn bill_told(setup: &Option<BillSetup>, message: BillMsg) -> Option<Fact>
-    ensures { IfSome result (λ fact.
-        fact.worth ≡ bill_worth setup.now (bills.part_of message)) }
+    ensures { result ≡ spec.bill_told setup.now (bills.part_of message) }
 {
     match message {
         BillMsg::Stacked(number) => Some(Fact::of_bill(Kind::Stacked, setup, number)),
@@ -453,7 +468,9 @@ fn bill_told(setup: &Option<BillSetup>, message: BillMsg) -> Option<Fact>
 }
 
 /// What a message of a reader tells.
-fn reader_told(config: Option<ReaderConfig>, message: ReaderMsg) -> Option<Fact> {
+fn reader_told(config: Option<ReaderConfig>, message: ReaderMsg) -> Option<Fact>
+    ensures { result ≡ spec.reader_told config message }
+{
     match message {
         ReaderMsg::JustReset => Some(Fact::plain(Kind::ResetTold)),
         ReaderMsg::BeginSession { funds } => {
@@ -473,7 +490,9 @@ fn reader_told(config: Option<ReaderConfig>, message: ReaderMsg) -> Option<Fact>
 }
 
 /// The entry of what an act of a device tells.
-fn entry_of(rows: &Rows, device: Device, fact: Fact) -> PageNews {
+fn entry_of(rows: &Rows, device: Device, fact: Fact) -> PageNews
+    ensures { spec.ShowsFact rows.now device fact result }
+{
     let (worth, amount, decimals) = match fact.worth {
         Worth::Nothing => (0, 0, 0),
         Worth::Unknown => (1, 0, 0),

@@ -6,7 +6,7 @@ ghost use Rattle.mdb_cash.specs.Bill.{bill_value};
 ghost use Rattle.mdb_cash.specs.Changer as values;
 ghost use Rattle.mdb_cash.specs.Credits as credits;
 ghost use Rattle.mdb_cashless.specs.Reader as readers;
-ghost use Rattle.mdb_page.specs.Worth.{worth_of};
+ghost use Rattle.mdb_page.specs.inner.News.{worth_of};
 
 use mdb_msgs::{BillSetup, ChangerSetup, ReaderConfig};
 
