@@ -27,7 +27,7 @@ Tells Is before after answer =
     ((text : List ℕ) × Is answer text × Appends before after text)
     ⊎ ((answer ≡ Err Write) × IsCutShort Is before after)
 
--- a fault of reading that was met is the fault, or that of a line before it
+-- the fault of reading that was met is the fault, or one of the output is
 abbrev pub IsMetBy : ReadFault → RunFault → Type 0
 IsMetBy met (BadRow row fault) = ⊥
 IsMetBy met TooLong = ⊥
@@ -47,8 +47,8 @@ pub record Reads {R Answer : Type 0} (IsPart : Result Answer RunFault → Type 0
   pub met : fault_of old ≡ None → IsSome (fault_of new) → IsPart answer
   pub told : fault_of old ≡ None → IfSome (fault_of new) (λ fault. IfErr answer (IsMetBy fault))
 
--- The rest serves private functions: a text isn't put there; with want of memory nothing has
--- changed.
+-- The rest serves `Printer` and private functions: a text isn't put there; with want of memory
+-- nothing has changed.
 abbrev pub IsNotTaken : RunFault → Output → Output → List ℕ → Type 0
 IsNotTaken (BadRow row fault) before after text = ⊥
 IsNotTaken TooLong before after text = ⊥
