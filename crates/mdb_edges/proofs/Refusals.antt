@@ -1,22 +1,15 @@
--- What is answered of a table.
-use Rattle.std.proofs.Common.{inl, inr, sym, ◌∙◌, ◌≡◌, List, ℕ, [], Option, Ok, Err}
-use Rattle.std.specs.Io.KnownBytes.{Keeps}
+-- What is answered of a table that is refused.
+use Rattle.std.proofs.Common.{inl, inr, sym, ◌∙◌, ◌≡◌, List, ℕ, [], Option, Err}
 use Rattle.mdb_words.specs.declared.event.Event.{Event}
-use Rattle.mdb_exports.proofs.Whole.{all_written, closed_kept, none_written}
-use Rattle.mdb_exports.specs.Places.{AreNoted}
-use Rattle.mdb_exports.specs.Rows.{rows_text}
+use Rattle.mdb_exports.proofs.Whole.{none_written}
 use Rattle.mdb_exports.specs.declared.places.Place.{Place}
 use Rattle.mdb_exports.specs.shared.Closing.{IsClosed}
-use Rattle.mdb_levels.proofs.Told.{front_of_part}
-use Rattle.mdb_levels.specs.Told.{IsTold, IsWritten, part_of}
-use Rattle.mdb_levels.specs.declared.lines.Bus.{Bus}
-use Rattle.mdb_levels.specs.declared.part.LevelsImported.{LevelsImported}
-use Rattle.mdb_writing.specs.Written.{HasTaken}
+use Rattle.mdb_levels.specs.Told.{IsTold, part_of}
 use Rattle.mdb_edges.specs.Faults.{IsFirstFault}
 use Rattle.mdb_edges.specs.Import.{AreRefusedFor, Imports}
 use Rattle.mdb_edges.specs.Table.{AreRowsOfTable}
 use Rattle.mdb_edges.specs.inner.Stops.{Refutes}
-use Rattle.mdb_edges.specs.inner.Reading.{BeginSame, IsBusOfTable}
+use Rattle.mdb_edges.specs.inner.Reading.{BeginSame}
 use Rattle.mdb_edges.specs.declared.fault.EdgesFault.{EdgesFault}
 use Rattle.mdb_edges.specs.declared.fault.EdgesFault.TheVariants.{Form, Order, Level, Line, Read}
 use Rattle.mdb_edges.specs.declared.fault.EdgesFault.TheVariants.{Write, Memory}
@@ -51,35 +44,6 @@ table_refused options all fault told before after first never closed =
     none_written (AreRowsOfTable options all) (IsTold options.from options.until)
     (part_of options.from options.until) (AreRefusedFor options all) Write before after fault told
     (refused_for options all fault first never) closed
-
--- and of one whose rows were read: they were written, or a front of them, or memory was refused
-pub table_written : (options : EdgesOptions) (all : List (List (List ℕ))) (bus : Bus)
-    (told : LevelsImported) (before after : Option (List ℕ)) → IsBusOfTable options all bus
-    → ((pulses damaged : List Place) → AreNoted bus.pulses pulses → AreNoted bus.damaged damaged
-    → IsWritten options.from options.until bus.rows.items pulses damaged told before after)
-    → Imports options all before after (Ok told)
-table_written options all bus told before after is written =
-    let done = written is.pulses is.damaged is.pulses_noted is.damaged_noted in
-    all_written (AreRowsOfTable options all) (IsTold options.from options.until)
-    (part_of options.from options.until) (AreRefusedFor options all) Write before after told
-    bus.rows.items is.pulses is.damaged is.of_table done.counted done.text
-
-pub front_of_table : (options : EdgesOptions) (all : List (List (List ℕ))) (bus : Bus)
-    (before after : Option (List ℕ)) → IsBusOfTable options all bus
-    → HasTaken before after (rows_text (part_of options.from options.until bus.rows.items))
-    → Imports options all before after (Err Write)
-front_of_table options all bus before after is taken =
-    front_of_part (AreRowsOfTable options all) (AreRefusedFor options all) Write before after
-    options.from options.until bus is.pulses is.damaged is.of_table is.pulses_noted
-    is.damaged_noted taken
-
-pub no_memory : (options : EdgesOptions) (all : List (List (List ℕ))) (told : EdgesFault)
-    (before held after : Option (List ℕ)) → Keeps before held
-    → IsClosed Write Memory held after told → Imports options all before after (Err told)
-no_memory options all told before held after kept closed =
-    none_written (AreRowsOfTable options all) (IsTold options.from options.until)
-    (part_of options.from options.until) (AreRefusedFor options all) Write before after Memory told
-    tt (closed_kept Write Memory before held after told kept closed)
 
 -- a failed read that is told is one
 pub failed_so : (fault told : EdgesFault) (before after : Option (List ℕ))
