@@ -17,7 +17,6 @@ use crate::{Offence, Report, laws};
 use mdb_bus::{Act, Blame, Bus, LinkFault, Scope, laws as bus_laws};
 use mdb_msgs::{DeviceSet, Setups};
 use mdb_words::{Event, Time};
-use std::mem;
 
 /// The most rows that a recording may have (this profile).
 pub const ROWS_MAX: u64 = 100_000_000;
@@ -34,7 +33,7 @@ pub struct Follower {
     silences: Silences,
     rows: u64,
     offence: Option<Offence>,
-    /// Room for the act that a row ends. Between rows what is in it is of no matter.
+    /// Room for the act that a row ends. Between rows its content is irrelevant.
     act: Act,
     ghost few: { rows ≤ 100000000 },
     ghost standing: { ∥ AreStanding sides ∥₁ },
@@ -147,7 +146,7 @@ impl Follower {
     }
 
     /// The act that ended with the last row, where [`Follower::feed_ending`] has just answered that
-    /// one did. At any other time it is of no matter which act this is.
+    /// one did. At any other time it is some act.
     #[inline(always)]
     pub fn act(&self) -> &Act
         ensures { result.now ≡ act_of self.now }
@@ -162,35 +161,6 @@ impl Follower {
         ensures numbered { IfSome result (λ offence. offence.row ≡ rows_of self.now + 1) }
     {
         self.offence
-    }
-
-    /// Accepts the next row like [`Follower::feed`], and returns the act that ends with it, if one
-    /// does.
-    ///
-    /// An act is large, and is moved out of the follower. If you don't need it, `feed` is faster.
-    /// If you only look at it, [`Follower::feed_ending`] is.
-    ///
-    /// # Errors
-    ///
-    /// Those of `feed`.
-    pub fn feed_act(&mut self, event: Event) -> Result<Option<Act>, Offence>
-        requires { rows_of self.old < ROWS_MAX }
-        ensures taken { IfOk result (λ _. HasTakenRows self.old self.new (event ∷ [])) }
-        ensures act { (events : List Event) → StandsFor self.old events
-            → IfOk result (IsEndedAct (scope_of self.old) events event) }
-        ensures refused { IfErr result (HasRefused self.old self.new event) }
-        ensures repeats { IfSome (offence_of self.old) (λ offence.
-            (result ≡ Err offence) × (self.new ≡ self.old)) }
-        ensures scope { scope_of self.new ≡ scope_of self.old }
-    {
-        if let Some(offence) = self.offence {
-            return Err(offence);
-        }
-        match self.take(event) {
-            Some(true) => Ok(Some(mem::replace(&mut self.act, Act::Foreign))),
-            Some(false) => Ok(None),
-            None => Err(self.noted()),
-        }
     }
 
     /// Accepts rows up to the first impossible one.
