@@ -7,7 +7,7 @@ use Rattle.mdb_words.specs.declared.event.Event.TheVariants.{Word, Break}
 use Rattle.mdb_words.specs.declared.word.Line.{Line}
 use Rattle.mdb_words.specs.declared.word.Line.TheVariants.{Controller, Peripheral}
 use Rattle.mdb_blocks.specs.Block.{block_of, controller_words}
-use Rattle.mdb_msgs.specs.declared.answer.AnswerForm.{AnswerForm}
+use Rattle.mdb_msgs.specs.declared.answer.DataForm.{DataForm}
 use Rattle.mdb_msgs.specs.declared.command.Command.{Command}
 use Rattle.mdb_msgs.specs.declared.reply.Reply.{Reply}
 use Rattle.mdb_msgs.specs.declared.need.Need.{Need}
@@ -697,7 +697,7 @@ more_reply scope command reply rest front row some right stands earlier =
     let same = same_from_push bytes last.0 (256 + sum bytes % 256) last.1 last.2 in
     let Spoken : List ℕ → Type 0 = λ words. Say Peripheral words front in
     let gaps = inside (events_of rest) front row some right.spaced in
-    let May : Option AnswerForm → Type 0 = λ form. IsSome form in
+    let May : Option DataForm → Type 0 = λ form. IsSome form in
     let is_reply = right.said.0 in
     let begun : IsReplyFront command bytes = record {
       allowed = subst May (sym is_reply.answers.answer.form) refl;

@@ -1,6 +1,5 @@
 -- The bytes of commands.
-use Rattle.std.proofs.Common.{arith, refl, ◌≡◌, ◌<◌, ◌≤◌, ◌%◌, ◌/◌, if◌then◌else◌, Bool, true, false, ℕ, [], ◌∷◌, None, length}
-use Rattle.std.proofs.lemmas.Bool.Decides.{nat_tests}
+use Rattle.std.proofs.Common.{arith, refl, ◌≡◌, ◌<◌, ◌≤◌, ℕ, [], ◌∷◌, Option, Some, None, length}
 use Rattle.mdb_msgs.specs.declared.command.Command.{Command}
 use Rattle.mdb_msgs.specs.declared.command.Command.TheVariants.{Changer, Bill, Reader}
 use Rattle.mdb_msgs.specs.declared.command.ChangerCommand.{ChangerCommand}
@@ -9,9 +8,11 @@ use Rattle.mdb_msgs.specs.declared.command.BillCommand.{BillCommand}
 use Rattle.mdb_msgs.specs.declared.command.BillCommand.TheVariants as bill
 use Rattle.mdb_msgs.specs.declared.command.ReaderCommand.{ReaderCommand}
 use Rattle.mdb_msgs.specs.declared.command.ReaderCommand.TheVariants as reader
-use Rattle.mdb_msgs.specs.declared.need.Need.TheVariants.{More, Foreign}
+use Rattle.mdb_msgs.specs.declared.command.Device.{Device}
+use Rattle.mdb_msgs.specs.declared.need.Need.TheVariants.{More}
 use Rattle.mdb_msgs.specs.Commands.{bill_bytes, changer_bytes, command_bytes, reader_address, reader_bytes}
-use Rattle.mdb_msgs.specs.Needs.{bill_need, changer_need, is_for, reader_need}
+use Rattle.mdb_msgs.specs.Needs.{device_at, need_for}
+use Rattle.mdb_msgs.proofs.Addresses.{low}
 use Rattle.mdb_bus.specs.declared.scope.Scope.{Scope}
 use Rattle.mdb_bus.specs.Scopes.{needed_in}
 use Rattle.mdb_bus.proofs.Followed.{within}
@@ -35,31 +36,12 @@ command_some (Bill command) = bill_some command
 command_some (Reader unit command) = reader_some (reader_address unit) command
 
 -- a first byte that leaves its length to the second is a byte
-by_device : (first : ℕ) (changer one bill other : Bool) → is_for 0x08 first ≡ changer
-    → is_for 0x10 first ≡ one
-    → is_for 0x30 first ≡ bill → is_for 0x60 first ≡ other
-    → (if changer then changer_need first None
-    else if one then reader_need (first % 8) None
-    else if bill then bill_need first None
-    else if other then reader_need (first % 8) None
-    else Foreign)
-    ≡ More → first < 256
-by_device first true one bill other a b c d more =
-    let is : first / 8 ≡ 1 = grind (arith, nat_tests) in
-    omega (arith, is)
-by_device first false true bill other a b c d more =
-    let is : first / 8 ≡ 2 = grind (arith, nat_tests) in
-    omega (arith, is)
-by_device first false false true other a b c d more =
-    let is : first / 8 ≡ 6 = grind (arith, nat_tests) in
-    omega (arith, is)
-by_device first false false false true a b c d more =
-    let is : first / 8 ≡ 12 = grind (arith, nat_tests) in
-    omega (arith, is)
-by_device first false false false false a b c d more = cc more
+by_device : (first : ℕ) (device : Option Device) → device_at first ≡ device
+    → need_for device first None ≡ More → first < 256
+by_device first (Some device) at more = low first device at
+by_device first None at more = cc more
 
 pub more_low : (scope : Scope) (first : ℕ) → needed_in scope (first ∷ []) ≡ More → first < 256
 more_low scope first more =
-    by_device first (is_for 0x08 first) (is_for 0x10 first) (is_for 0x30 first) (is_for 0x60 first)
-    refl refl refl refl
+    by_device first (device_at first) refl
     (within scope (first ∷ []) More more (λ same. cc same)).1

@@ -1,71 +1,21 @@
 -- The fronts of commands' blocks: they are of bytes, and what they need stays as they grow.
-use Rattle.std.proofs.Common.{arith, refl, Bool, true, false, if◌then◌else◌, sym, ◌∙◌, ◌≡◌, ◌≢◌, ◌%◌, ◌<◌, ◌≤◌, ℕ, List, [], ◌∷◌, ◌++◌, ◌⊎◌, inl, inr, Option, Some, None, All, length}
-use Rattle.std.proofs.lemmas.Grind.{common_steps}
+use Rattle.std.proofs.Common.{arith, refl, ap, sym, ◌∙◌, ◌≡◌, ◌≢◌, ◌<◌, ◌≤◌, ℕ, List, [], ◌∷◌, ◌++◌, ◌⊎◌, inl, inr, Option, Some, None, All, length}
 use Rattle.std.proofs.lemmas.List.Elements.{All-from_recursion, All-cons, All-nil}
+use Rattle.mdb_msgs.specs.declared.command.Device.{Device}
 use Rattle.mdb_msgs.specs.declared.need.Need.{Need}
 use Rattle.mdb_msgs.specs.declared.need.Need.TheVariants as need
 use Rattle.mdb_msgs.specs.Commands.{IsByte}
+use Rattle.mdb_msgs.proofs.Addresses.{low}
 use Rattle.mdb_msgs.proofs.CommandBytes.{begun_low}
-use Rattle.mdb_msgs.specs.Needs.{bill_need, changer_need, is_for, need as need_of, needed, reader_need}
+use Rattle.mdb_msgs.specs.Needs.{device_at, need as need_of, need_for, needed}
 use Rattle.mdb_bus.specs.ActLists.{IsAskFront}
 use Rattle.mdb_bus.proofs.Decided.{Decided, less}
 use Rattle.mdb_bus.specs.declared.scope.Scope.{Scope}
 use Rattle.mdb_bus.specs.Scopes.{needed_in}
 use Rattle.mdb_bus.specs.inner.Grammar.{Grammar}
 use Rattle.mdb_bus.proofs.Followed.{needed_followed, still_followed, within}
+use Rattle.mdb_bus.proofs.Needs.{narrows}
 use Rattle.mdb_bus.proofs.Stops.{some_long}
-
--- one byte never needs to be the whole block
-pub need_two : (first n : ℕ) → need_of first None ≡ need.Exactly n → 2 ≤ n
-need_two first n told = grind (arith, common_steps)
-
--- What two bytes tell fits what the first one tells: that stays, and a subcommand is told by the
--- second byte and doesn't end its block.
-record Fits (told : Option ℕ → Need) : Type 0 where
-  stays : (second n : ℕ) → told None ≡ need.Exactly n → told (Some second) ≡ need.Exactly n
-  three : (second n : ℕ) → told None ≡ need.More → told (Some second) ≡ need.Exactly n → 3 ≤ n
-  ends : (second : ℕ) → told (Some second) ≡ need.More → ⊥
-
-changer_fits : (first : ℕ) → Fits (changer_need first)
-changer_fits first = record {
-  stays = λ second n told. grind (arith, common_steps);
-  three = λ second n more told. grind (arith, common_steps);
-  ends = λ second more. grind (arith, common_steps);
-}
-
-bill_fits : (first : ℕ) → Fits (bill_need first)
-bill_fits first = record {
-  stays = λ second n told. grind (arith, common_steps);
-  three = λ second n more told. grind (arith, common_steps);
-  ends = λ second more. grind (arith, common_steps);
-}
-
-reader_fits : (command : ℕ) → Fits (reader_need command)
-reader_fits command = record {
-  stays = λ second n told. grind (arith, common_steps);
-  three = λ second n more told. grind (arith, common_steps);
-  ends = λ second more. grind (arith, common_steps);
-}
-
-foreign_fits : Fits (λ second. need.Foreign)
-foreign_fits = record {
-  stays = λ second n told. told;
-  three = λ second n more told. cc;
-  ends = λ second more. cc;
-}
-
-either_fits : (test : Bool) (one other : Option ℕ → Need) → Fits one → Fits other
-    → Fits (λ second. if test then one second else other second)
-either_fits true one other fits fit = fits
-either_fits false one other fits fit = fit
-
-need_fits : (first : ℕ) → Fits (need_of first)
-need_fits first =
-    either_fits (is_for 0x08 first) (changer_need first) _ (changer_fits first)
-    (either_fits (is_for 0x10 first) (reader_need (first % 8)) _ (reader_fits (first % 8))
-    (either_fits (is_for 0x30 first) (bill_need first) _ (bill_fits first)
-    (either_fits (is_for 0x60 first) (reader_need (first % 8)) _ (reader_fits (first % 8))
-    foreign_fits)))
 
 -- a subcommand doesn't end its block
 pub need_three : (scope : Scope) (first second n : ℕ)
@@ -73,20 +23,26 @@ pub need_three : (scope : Scope) (first second n : ℕ)
     → needed_in scope (first ∷ second ∷ []) ≡ need.Exactly n
     → 3 ≤ n
 need_three scope first second n more told =
-    (need_fits first).three second n
+    let two : 2 < n = (narrows first).left second n
     (within scope (first ∷ []) need.More more (λ same. cc same)).1
-    (within scope (first ∷ second ∷ []) (need.Exactly n) told (λ same. cc same)).1
+    (within scope (first ∷ second ∷ []) (need.Exactly n) told (λ same. cc same)).1 in
+    omega (arith, two)
 
 -- two bytes tell the need
 pub need_ends : (scope : Scope) (first second : ℕ)
     → needed_in scope (first ∷ second ∷ []) ≡ need.More → ⊥
 need_ends scope first second more =
-    (need_fits first).ends second
+    (narrows first).done second
     (within scope (first ∷ second ∷ []) need.More more (λ same. cc same)).1
 
 -- what is no byte is for no device
 pub need_high : (first : ℕ) → 256 ≤ first → need_of first None ≡ need.Foreign
-need_high first high = grind (arith, common_steps)
+need_high first high = by_device (device_at first) refl
+  where
+    by_device : (device : Option Device) → device_at first ≡ device
+        → need_of first None ≡ need.Foreign
+    by_device (Some device) at = let less = low first device at in absurd (omega (arith, less, high))
+    by_device None at = ap (λ device. need_for device first None) at
 
 -- the front of a command's block is of bytes
 pub front_bytes : (scope : Scope) (bytes : List ℕ) → IsAskFront scope bytes → All IsByte bytes
@@ -97,7 +53,7 @@ front_bytes scope bytes front = All-from_recursion IsByte bytes
 plain_stays : (bytes : List ℕ) (byte n : ℕ) → bytes ≢ [] → needed bytes ≡ need.Exactly n
     → needed (bytes ++ byte ∷ []) ≡ need.Exactly n
 plain_stays [] byte n some told = absurd (some refl)
-plain_stays (first ∷ []) byte n some told = (need_fits first).stays byte n told
+plain_stays (first ∷ []) byte n some told = (narrows first).known byte n told
 plain_stays (first ∷ second ∷ bytes) byte n some told = told
 
 pub needed_stays : (scope : Scope) (bytes : List ℕ) (byte n : ℕ) → bytes ≢ []
@@ -138,7 +94,7 @@ first_byte scope grammar byte inside = by_need (needed_in scope (byte ∷ [])) r
         inl (front_of scope grammar (byte ∷ []) (λ none. cc) (low small) (inl (told, refl)))
     by_need (need.Exactly n) told (inl small) =
         let plain = within scope (byte ∷ []) (need.Exactly n) told (λ same. cc same) in
-        let two : 2 ≤ n = need_two byte n plain.1 in
+        let two : 2 ≤ n = (narrows byte).least None n plain.1 in
         inl (front_of scope grammar (byte ∷ []) (λ none. cc) (low small)
         (inr (n, told, omega (arith, two))))
     by_need need.Foreign told size = inr told

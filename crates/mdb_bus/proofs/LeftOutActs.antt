@@ -1,6 +1,6 @@
 -- The acts in which a device has a part, where further devices are left out: those of a device that
 -- stays followed stay, and a device that is left out has a part in breaks alone.
-use Rattle.std.proofs.Common.{ap, refl, sym, ◌∙◌, ◌≡◌, ◌↔◌, Bool, true, false, if◌then◌else◌, Option, Some, None, List, [], ◌∷◌}
+use Rattle.std.proofs.Common.{ap, refl, sym, ◌∙◌, ◌≡◌, Bool, true, false, if◌then◌else◌, Option, Some, None, List, [], ◌∷◌}
 use Rattle.std.proofs.lemmas.Bool.{cond_both}
 use Rattle.mdb_words.specs.declared.event.Event.{Event}
 use Rattle.mdb_msgs.specs.declared.command.Device.{Device}
@@ -8,35 +8,18 @@ use Rattle.mdb_msgs.specs.declared.command.Device.TheVariants as devices
 use Rattle.mdb_msgs.specs.declared.command.ReaderUnit.TheVariants.{First, Second}
 use Rattle.mdb_msgs.specs.declared.device_set.DeviceSet.{DeviceSet}
 use Rattle.mdb_msgs.specs.DeviceSets.{has}
+use Rattle.mdb_msgs.specs.Devices.{same_device}
 use Rattle.mdb_bus.specs.declared.act.Act.{Act}
 use Rattle.mdb_bus.specs.declared.act.Act.TheVariants as acts
 use Rattle.mdb_bus.specs.declared.scope.Scope.{Scope}
 use Rattle.mdb_bus.specs.ActLists.{Piece, Whole, ArePieces, acts_of, piece_events}
-use Rattle.mdb_bus.specs.LeavingOut.{acts_with, are_one, breaks_among, device_in, has_part, is_break, is_left_out, is_one_left_out, is_this, leave_out, with_foreign}
+use Rattle.mdb_bus.specs.LeavingOut.{acts_with, breaks_among, device_in, has_part, is_break, is_left_out, is_one_left_out, is_this, leave_out, with_foreign}
 use Rattle.mdb_bus.specs.Scopes.{IsFollowed, IsLeftOut}
 use Rattle.mdb_bus.proofs.Named.{IsOneFollowed, in_act, the_one}
 
--- two devices are told to be one exactly where they are
-told_one : (one other : Device) → are_one one other ≡ true → one ≡ other
-told_one devices.Changer devices.Changer told = refl
-told_one devices.Bill devices.Bill told = refl
-told_one (devices.Reader First) (devices.Reader First) told = refl
-told_one (devices.Reader Second) (devices.Reader Second) told = refl
-told_one one other told = cc
-
-one_itself : (device : Device) → are_one device device ≡ true
-one_itself devices.Changer = refl
-one_itself devices.Bill = refl
-one_itself (devices.Reader First) = refl
-one_itself (devices.Reader Second) = refl
-
-pub one_told : (one other : Device) → (are_one one other ≡ true) ↔ (one ≡ other)
-one_told one other =
-    (told_one one other, λ same. ap (are_one one) (sym same) ∙ one_itself one)
-
 -- a device that is left out is another than one that isn't
 apart : (set : DeviceSet) (one other : Device) (out : Bool) → has set one ≡ out
-    → has set other ≡ (if out then false else true) → are_one one other ≡ false
+    → has set other ≡ (if out then false else true) → same_device one other ≡ false
 apart set devices.Changer devices.Changer true is isnt = cc
 apart set devices.Changer devices.Changer false is isnt = cc
 apart set devices.Bill devices.Bill true is isnt = cc

@@ -1,6 +1,6 @@
 -- What is said where further devices are left out: the words of a piece that stays, and those of
 -- one that becomes foreign acts.
-use Rattle.std.proofs.Common.{ap, refl, sym, subst, ◌∙◌, ◌≡◌, ◌<◌, ◌-◌, ◌+◌, arith, inl, inr, Bool, true, false, ◌&&◌, nat_le, le-leb, ℕ, List, [], ◌∷◌, Option, Some, All, slice_index, if◌then◌else◌}
+use Rattle.std.proofs.Common.{ap, refl, sym, subst, ◌∙◌, ◌≡◌, ◌<◌, ◌-◌, ◌+◌, arith, inl, inr, Bool, true, false, ◌&&◌, nat_le, le-leb, ℕ, List, [], ◌∷◌, Option, Some, None, All, slice_index, if◌then◌else◌}
 use Rattle.std.specs.List.{AllByRecursion}
 use Rattle.std.proofs.lemmas.Bool.{false_from_ne_true}
 use Rattle.std.proofs.lemmas.List.Elements.{recursion_from_All}
@@ -10,12 +10,10 @@ use Rattle.mdb_words.specs.declared.word.Line.{Line}
 use Rattle.mdb_words.specs.declared.word.Line.TheVariants.{Controller, Peripheral}
 use Rattle.mdb_blocks.specs.Block.{controller_words}
 use Rattle.mdb_msgs.specs.declared.command.Device.{Device}
-use Rattle.mdb_msgs.specs.declared.command.Device.TheVariants as devices
-use Rattle.mdb_msgs.specs.declared.command.ReaderUnit.TheVariants.{First, Second}
 use Rattle.mdb_msgs.specs.declared.need.Need.TheVariants.{Foreign}
 use Rattle.mdb_msgs.specs.Commands.{IsByte}
 use Rattle.mdb_msgs.specs.DeviceSets.{has}
-use Rattle.mdb_msgs.specs.Needs.{is_for, is_to_one_of, needed}
+use Rattle.mdb_msgs.specs.Needs.{device_at, is_to_one_of, needed}
 use Rattle.mdb_bus.specs.declared.scope.Scope.{Scope}
 use Rattle.mdb_words.specs.declared.limits.TheConstants.{WORD_GAP_MIN}
 use Rattle.mdb_bus.specs.ActLists.{Position, InForeign, BlockMayCome, ForeignMayCome, NotBefore}
@@ -36,30 +34,13 @@ also_followed less more wider device followed =
 to_more : (less more : Scope) → LeavesOutMore less more → (first : ℕ)
     → is_to_one_of more.without first ≡ false → is_to_one_of less.without first ≡ false
 to_more less more wider first none =
-    by_address (is_for 0x08 first) (is_for 0x10 first) (is_for 0x30 first) (is_for 0x60 first) none
+    by_device (device_at first) none
   where
-    by_address : (changer one bill other : Bool)
-        → (if changer then has more.without devices.Changer
-        else if one then has more.without (devices.Reader First)
-        else if bill then has more.without devices.Bill
-        else if other then has more.without (devices.Reader Second)
-        else false)
-        ≡ false
-        → (if changer then has less.without devices.Changer
-        else if one then has less.without (devices.Reader First)
-        else if bill then has less.without devices.Bill
-        else if other then has less.without (devices.Reader Second)
-        else false)
-        ≡ false
-    by_address true one bill other followed =
-        also_followed less more wider devices.Changer followed
-    by_address false true bill other followed =
-        also_followed less more wider (devices.Reader First) followed
-    by_address false false true other followed =
-        also_followed less more wider devices.Bill followed
-    by_address false false false true followed =
-        also_followed less more wider (devices.Reader Second) followed
-    by_address false false false false followed = refl
+    by_device : (device : Option Device)
+        → (elim device [ Some device ↦ has more.without device | None ↦ false ]) ≡ false
+        → (elim device [ Some device ↦ has less.without device | None ↦ false ]) ≡ false
+    by_device (Some device) followed = also_followed less more wider device followed
+    by_device None followed = refl
 
 -- bytes to a device that stays followed need what they needed
 same_need : (less more : Scope) → LeavesOutMore less more → (bytes : List ℕ)

@@ -1,9 +1,11 @@
 -- What the needs of one byte, of two and of more bytes have to do with each other.
-use Rattle.std.proofs.Common.{◌≡◌, ◌<◌, ◌≤◌, ◌%◌, ℕ, List, [], ◌∷◌, ◌++◌, length, Bool, true, false, if◌then◌else◌, Option, Some, None, arith, refl}
+use Rattle.std.proofs.Common.{◌≡◌, ◌<◌, ◌≤◌, ◌%◌, ℕ, List, [], ◌∷◌, ◌++◌, length, Option, Some, None, arith, refl}
 use Rattle.std.proofs.lemmas.Grind.{common_steps}
+use Rattle.mdb_msgs.specs.declared.command.Device.{Device}
+use Rattle.mdb_msgs.specs.declared.command.Device.TheVariants.{Changer, Bill, Reader}
 use Rattle.mdb_msgs.specs.declared.need.Need.{Need}
 use Rattle.mdb_msgs.specs.declared.need.Need.TheVariants.{More, Exactly, Foreign}
-use Rattle.mdb_msgs.specs.Needs.{bill_need, changer_need, is_for, need, needed, reader_need}
+use Rattle.mdb_msgs.specs.Needs.{bill_need, changer_need, device_at, need, need_for, needed, reader_need}
 
 -- How the need of a first byte goes with that of two. What the first byte tells stays, and what it
 -- leaves to the second is told then.
@@ -117,20 +119,14 @@ foreign_narrows = record {
   done = λ second told. cc told;
 }
 
-by_device : (first : ℕ) (changer one bill other : Bool)
-    → Narrows (λ second. if changer then changer_need first second else if one then reader_need
-    (first % 8) second else
-    if bill then bill_need first second else if other then reader_need (first % 8) second else
-    Foreign)
-by_device first true one bill other = changer_narrows first
-by_device first false true bill other = reader_narrows (first % 8)
-by_device first false false true other = bill_narrows first
-by_device first false false false true = reader_narrows (first % 8)
-by_device first false false false false = foreign_narrows
+by_device : (first : ℕ) (device : Option Device) → Narrows (need_for device first)
+by_device first (Some Changer) = changer_narrows first
+by_device first (Some Bill) = bill_narrows first
+by_device first (Some (Reader unit)) = reader_narrows (first % 8)
+by_device first None = foreign_narrows
 
 pub narrows : (first : ℕ) → Narrows (need first)
-narrows first = by_device first (is_for 0x08 first) (is_for 0x10 first) (is_for 0x30 first)
-    (is_for 0x60 first)
+narrows first = by_device first (device_at first)
 
 -- a length is 2 to 32
 pub at_least_two : (bytes : List ℕ) (n : ℕ) → 0 < length bytes → needed bytes ≡ Exactly n → 2 ≤ n

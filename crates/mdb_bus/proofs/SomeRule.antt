@@ -11,7 +11,7 @@ use Rattle.mdb_blocks.specs.Answer.{answer_word}
 use Rattle.mdb_blocks.specs.Block.{IsContent, block_of, peripheral_words}
 use Rattle.mdb_blocks.specs.declared.answer.Answer.{Answer}
 use Rattle.mdb_blocks.specs.declared.answer.Answer.TheVariants as answers
-use Rattle.mdb_msgs.specs.declared.answer.AnswerForm.{AnswerForm}
+use Rattle.mdb_msgs.specs.declared.answer.DataForm.{DataForm}
 use Rattle.mdb_msgs.specs.declared.command.Command.{Command}
 use Rattle.mdb_msgs.specs.declared.fault.MsgFault.{MsgFault}
 use Rattle.mdb_msgs.specs.declared.fault.MsgFault.TheVariants as reading
@@ -126,20 +126,20 @@ too_far_apart (InRepeat command reply words) from (Word at line word) =
 too_far_apart position from row = never (λ h. h)
 
 -- a form allows so many bytes
-form_allows : (told : Option AnswerForm) (count : ℕ)
-    → Decided ((form : AnswerForm) × (told ≡ Some form) × IsDataLength form count)
+form_allows : (told : Option DataForm) (count : ℕ)
+    → Decided ((form : DataForm) × (told ≡ Some form) × IsDataLength form count)
 form_allows None count = never (λ h. let is : None ≡ Some h.0 = h.1 in cc)
 form_allows (Some form) count =
     meant to from (both (within (lengths_of form).0 count) (within count (lengths_of form).1))
   where
-    to : IsDataLength form count → (f : AnswerForm) × (Some form ≡ Some f) × IsDataLength f count
+    to : IsDataLength form count → (f : DataForm) × (Some form ≡ Some f) × IsDataLength f count
     to allowed = (form, refl, allowed)
 
-    from : (f : AnswerForm) × (Some form ≡ Some f) × IsDataLength f count → IsDataLength form count
+    from : (f : DataForm) × (Some form ≡ Some f) × IsDataLength f count → IsDataLength form count
     from h =
         let is : Some form ≡ Some h.0 = h.1 in
         let one : form ≡ h.0 = cc in
-        let P : AnswerForm → Type 0 = λ f. IsDataLength f count in
+        let P : DataForm → Type 0 = λ f. IsDataLength f count in
         subst P (sym one) h.2
 
 -- a command has such a data answer or not
@@ -607,14 +607,14 @@ reply_whole scope grammar command bytes from levels at word none high near (inr 
     faulty reading.Length told =
         none rule.Length (inr (high, (λ has. told.2 (form_of_has told.0 told.1 has))))
       where
-        form_of_has : (form : AnswerForm) → form_of command ≡ Some form
+        form_of_has : (form : DataForm) → form_of command ≡ Some form
             → HasDataAnswer command (length bytes)
             → IsDataLength form (length bytes)
         form_of_has form is has =
             let other : form_of command ≡ Some has.0 = has.1 in
             let both_some : Some has.0 ≡ Some form = sym other ∙ is in
             let one : has.0 ≡ form = cc in
-            let P : AnswerForm → Type 0 = λ f. IsDataLength f (length bytes) in
+            let P : DataForm → Type 0 = λ f. IsDataLength f (length bytes) in
             subst P one has.2
     faulty reading.Message told = none rule.Message (high, told)
     faulty reading.Profile told = none rule.Profile (high, inl told)

@@ -19,7 +19,7 @@ use Rattle.mdb_msgs.specs.declared.fault.MsgFault.TheVariants as reading
 use Rattle.mdb_msgs.specs.declared.need.Need.{Need}
 use Rattle.mdb_msgs.specs.declared.need.Need.TheVariants.{More, Exactly, Foreign, Outside}
 use Rattle.mdb_msgs.specs.declared.reply.Reply.{Reply}
-use Rattle.mdb_msgs.specs.declared.answer.AnswerForm.{AnswerForm}
+use Rattle.mdb_msgs.specs.declared.answer.DataForm.{DataForm}
 use Rattle.mdb_msgs.specs.Answers.{HasDataAnswer, IsDataLength}
 use Rattle.mdb_msgs.specs.Commands.{IsByte, Spells, command_bytes}
 use Rattle.mdb_msgs.specs.Laws.{BytesHaveOneFault, FrontIsOpen, OpenIsAFront, ReplyHasNoFault}
@@ -358,7 +358,7 @@ length_read : (command : Command) (bytes : List ℕ) → HasDataAnswer command (
 length_read command bytes has bad =
     let both : Some bad.0 ≡ Some has.0 = sym bad.1 ∙ has.1 in
     let same : has.0 ≡ bad.0 = cc in
-    let P : AnswerForm → Type 0 = λ form. IsDataLength form (length bytes) in
+    let P : DataForm → Type 0 = λ form. IsDataLength form (length bytes) in
     bad.2 (subst P same has.2)
 
 -- a marked word that is no answer's

@@ -1,4 +1,4 @@
--- Leaving out further devices: what becomes of an act list where a recording is taken without them
+-- Leaving out further devices: what becomes of an act list when a recording is read without them
 -- (this profile). Lists of pieces and of acts are written newest first, lists of events oldest
 -- first.
 use Rattle.std.specs.Prelude.{◌≡◌, ◌-◌, Bool, true, false, ◌&&◌, nat_le, if◌then◌else◌}
@@ -8,9 +8,8 @@ use Rattle.mdb_words.specs.declared.event.Event.{Event}
 use Rattle.mdb_words.specs.declared.event.Event.TheVariants.{Word}
 use Rattle.mdb_words.specs.declared.word.Line.TheVariants.{Controller}
 use Rattle.mdb_msgs.specs.declared.command.Device.{Device}
-use Rattle.mdb_msgs.specs.declared.command.Device.TheVariants as devices
-use Rattle.mdb_msgs.specs.declared.command.ReaderUnit.TheVariants.{First, Second}
 use Rattle.mdb_msgs.specs.Commands.{device_of}
+use Rattle.mdb_msgs.specs.Devices.{same_device}
 use Rattle.mdb_msgs.specs.DeviceSets.{has}
 use Rattle.mdb_msgs.specs.Needs.{is_to_one_of}
 use Rattle.mdb_bus.specs.declared.act.Act.{Act}
@@ -20,7 +19,7 @@ use Rattle.mdb_bus.specs.ActLists.{Piece, Whole, AskTail, ReplyTail, RepeatTail,
 use Rattle.mdb_bus.specs.Loss.{Loss, FitsNext}
 use Rattle.mdb_bus.specs.Scopes.{IsLeftOut}
 
--- A recording is taken twice, and once without further devices: it begins alike, the readers were
+-- A recording is read twice, and once without further devices: it begins alike, the readers were
 -- told the same levels before it, and each device that the one scope leaves out the other leaves
 -- out too.
 pub record LeavesOutMore (less more : Scope) : Type 0 where
@@ -81,18 +80,10 @@ position_without scope [] = first_position scope.begins
 position_without scope (piece ∷ pieces) =
     if is_left_out scope piece then InForeign else left_by piece
 
--- whether two devices are one
-abbrev pub are_one : Device → Device → Bool
-are_one devices.Changer devices.Changer = true
-are_one devices.Bill devices.Bill = true
-are_one (devices.Reader First) (devices.Reader First) = true
-are_one (devices.Reader Second) (devices.Reader Second) = true
-are_one _ _ = false
-
 -- whether a device is this one, if there is one
 abbrev pub is_this : Device → Option Device → Bool
 is_this device None = false
-is_this device (Some other) = are_one device other
+is_this device (Some other) = same_device device other
 
 -- whether an act is a break
 abbrev pub is_break : Act → Bool

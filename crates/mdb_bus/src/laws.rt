@@ -1,9 +1,10 @@
 //! Laws of act lists, of loss and of the rules of the link. Each function's contract is the law,
 //! and its body calls the laws that it rests on.
 
-ghost use Rattle.std.specs.Prelude.{◌≡◌, ◌↔◌, true, false, List, [], ◌∷◌, ◌++◌, Option, Some};
+ghost use Rattle.std.specs.Prelude.{◌≡◌, ◌↔◌, true, false, List, [], ◌∷◌, ◌++◌, Some};
 ghost use Rattle.mdb_words.specs.declared.event.Event.{Event};
 ghost use Rattle.mdb_msgs.specs.declared.command.Device.{Device};
+ghost use Rattle.mdb_msgs.specs.Devices.{same_device};
 ghost use Rattle.mdb_bus.specs.declared.act.Act.{Act};
 ghost use Rattle.mdb_bus.specs.declared.fault.Blame.{Blame};
 ghost use Rattle.mdb_bus.specs.declared.fault.Rule.{Rule};
@@ -12,9 +13,9 @@ ghost use Rattle.mdb_bus.specs.Acts.{NamesAReply};
 ghost use Rattle.mdb_bus.specs.ActLists.{ArePieces, GoesOnFrom, HasActList, IsActList, Piece, Whole, acts_of, events_of, position_of};
 ghost use Rattle.mdb_bus.specs.Wish.{Wish, HearsFreeAsWished, HearsAsWished, nothing_told};
 ghost use Rattle.mdb_bus.specs.inner.Grammar.{Grammar};
-ghost use Rattle.mdb_bus.specs.LeavingOut.{CutBlocksTell, LeavesOutMore, acts_with, are_one, breaks_among, device_in, has_part, is_left_out, leave_out, position_without};
+ghost use Rattle.mdb_bus.specs.LeavingOut.{CutBlocksTell, LeavesOutMore, acts_with, breaks_among, device_in, has_part, is_left_out, leave_out, position_without};
 ghost use Rattle.mdb_bus.specs.LinkFaults.{IsFirstBroken, IsLinkFault, RowBreaks, asked_device, blame_on, situation_of};
-ghost use Rattle.mdb_bus.specs.Loss.{IsExplained, Loss, LossFits};
+ghost use Rattle.mdb_bus.specs.Loss.{Loss, LossFits};
 ghost use Rattle.mdb_bus.specs.Scopes.{IsFollowed, IsLeftOut};
 
 use mdb_msgs::laws as messages;
@@ -209,7 +210,7 @@ pub fn devices_left_out_have_a_part_in_breaks_alone()
 
 /// Two devices compare as one exactly if they are one.
 pub fn one_device_is_told_to_be_one()
-    ensures { (one other : Device) → (are_one one other ≡ true) ↔ (one ≡ other) }
+    ensures { (one other : Device) → (same_device one other ≡ true) ↔ (one ≡ other) }
 {}
 
 /// A loss that fits pieces still fits them if further devices are left out, under one condition. It

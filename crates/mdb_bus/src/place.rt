@@ -41,7 +41,7 @@ impl Place {
     ghost use Rattle.mdb_bus.specs.Bus.{ended_act, position_at};
     ghost use Rattle.mdb_bus.specs.inner.Step as step;
     ghost use Rattle.mdb_bus.specs.inner.Step.{EachStep};
-    ghost use Rattle.mdb_bus.specs.inner.Steps.{Belongs, HasAdvanced, IsAt, IsBreak, IsReadAt, IsTaken, MayAsk, MayRepeat, MayReply};
+    ghost use Rattle.mdb_bus.specs.inner.Steps.{Belongs, HasAdvanced, IsAt, IsBreak, IsTaken, MayAsk, MayRepeat, MayReply};
 
     /// Goes a step, and answers whether it ends an act, which it then puts into `act`. What a reply
     /// that has ended says decides of its step, so `end_reply` goes it.

@@ -3,6 +3,7 @@
 ghost use Rattle.std.specs.Prelude.{◌≡◌, ◌<◌, List, [], ◌∷◌};
 ghost use Rattle.mdb_msgs.specs.declared.command.Device.TheVariants as devices;
 ghost use Rattle.mdb_bus.specs.declared.act.Act.{Act};
+ghost use Rattle.mdb_cash.specs.declared.bill.state.TheConstants.{BILL_STATES};
 ghost use Rattle.mdb_cash.specs.Bill as spec;
 ghost use Rattle.mdb_cash.specs.shared.BillCodes as codes;
 ghost use Rattle.mdb_cash.specs.BillFacts.{known_of, tables};
@@ -23,7 +24,7 @@ use mdb_bus::{Act, Beginning};
 use mdb_machine::conduct::{step_settled, steps, unvalued_by};
 use mdb_machine::{Choice, Gains, HasCode, Pair, coded};
 use mdb_msgs::Device;
-pub use state::{BillState, BillType, Escrow};
+pub use state::{BILL_STATES, BillState, BillType, Escrow};
 pub use tables::BillKnown;
 
 /// The bill validator and the controller's dealings with it (MDB/ICP 4.3, bill validator). Its
@@ -39,9 +40,9 @@ impl HasCode for BillState {
 }
 
 impl Pair for Bill {
-    const CODES: usize = 66;
+    const CODES: usize = BILL_STATES;
 
-    ghost CODES = { 66 };
+    ghost CODES = { BILL_STATES };
 
     type Facts = BillKnown;
 

@@ -3,6 +3,7 @@
 ghost use Rattle.std.specs.Prelude.{◌≡◌, ◌<◌, List, [], ◌∷◌};
 ghost use Rattle.mdb_msgs.specs.declared.command.Device.TheVariants as devices;
 ghost use Rattle.mdb_bus.specs.declared.act.Act.{Act};
+ghost use Rattle.mdb_cash.specs.declared.changer.state.TheConstants.{CHANGER_STATES};
 ghost use Rattle.mdb_cash.specs.Changer as spec;
 ghost use Rattle.mdb_cash.specs.shared.ChangerCodes as codes;
 ghost use Rattle.mdb_cash.specs.ChangerFacts.{known_of, tables};
@@ -23,7 +24,7 @@ use mdb_bus::{Act, Beginning};
 use mdb_machine::conduct::{step_settled, steps, unvalued_by};
 use mdb_machine::{Choice, Gains, HasCode, Pair, coded};
 use mdb_msgs::Device;
-pub use state::ChangerState;
+pub use state::{CHANGER_STATES, ChangerState};
 pub use tables::ChangerKnown;
 
 /// The coin changer and the controller's dealings with it (MDB/ICP 4.3, coin changer). Its accounts
@@ -39,9 +40,9 @@ impl HasCode for ChangerState {
 }
 
 impl Pair for Changer {
-    const CODES: usize = 4;
+    const CODES: usize = CHANGER_STATES;
 
-    ghost CODES = { 4 };
+    ghost CODES = { CHANGER_STATES };
 
     type Facts = ChangerKnown;
 

@@ -68,7 +68,7 @@ pub fn the_validators_facts_are_of_its_own_acts()
 {}
 
 /// Where the changer has a part in no acts but breaks, its setup table is that of no act, and no
-/// amount is told of it.
+/// amount of it is reported.
 pub fn breaks_tell_nothing_of_the_changer()
     ensures setup { (begins : Beginning) (acts : List Act)
         → All IsBreak (own_acts devices.Changer acts)
@@ -78,7 +78,7 @@ pub fn breaks_tell_nothing_of_the_changer()
 {}
 
 /// Where the validator has a part in no acts but breaks, its setup table is that of no act, and no
-/// amount is told of it.
+/// amount of it is reported.
 pub fn breaks_tell_nothing_of_the_validator()
     ensures setup { (begins : Beginning) (acts : List Act)
         → All IsBreak (own_acts devices.Bill acts)

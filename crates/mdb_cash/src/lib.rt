@@ -11,5 +11,5 @@ mod changer;
 mod credits;
 pub mod laws;
 
-pub use bill::{Bill, BillActivity, BillKnown, BillState, BillType, Escrow};
-pub use changer::{Changer, ChangerActivity, ChangerKnown, ChangerState};
+pub use bill::{BILL_STATES, Bill, BillActivity, BillKnown, BillState, BillType, Escrow};
+pub use changer::{CHANGER_STATES, Changer, ChangerActivity, ChangerKnown, ChangerState};

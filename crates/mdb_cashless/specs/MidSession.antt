@@ -139,7 +139,7 @@ pub record AckWay (unit : ReaderUnit) (so_far : List Act) (facts : Facts)
   pub to : after ≡ record middle { view = view_heard choice command before.view }
   pub gained : gains ≡ device_gains (in_slots (amounts 0 sold))
 
--- What isn't known is of no matter for an act. An ask is of no transaction command, or the acts so
+-- What isn't known is irrelevant for an act. An ask is of no transaction command, or the acts so
 -- far send one. An ACK or a reply is of another device; `AckWay` and `ReplyWay` are for those of
 -- the reader. Any other act is none of these.
 abbrev pub IsSettled : ReaderUnit → List Act → Act → Type 0

@@ -184,7 +184,7 @@ before_messages facts command reply choice before =
     take_any facts (taken command reply) (read choice before)
 
 -- whether a reset message is owed where a command is taken, if one is: after RESET it is (which is
--- of no matter, since no kept message stands in an answer to RESET)
+-- irrelevant, since no kept message stands in an answer to RESET)
 abbrev pub owes_reset : Facts → Option ReaderCommand → Bool
 owes_reset facts command = resets (effect_of_own command) || facts.past.reset_owed
 

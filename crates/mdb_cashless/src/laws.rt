@@ -97,7 +97,7 @@ pub fn a_readers_facts_are_of_its_own_acts()
 {}
 
 /// Where a reader has a part in no acts but breaks, its config message is that of no act, and no
-/// amount is told of it.
+/// amount of it is reported.
 pub fn breaks_tell_nothing_of_a_reader()
     ensures config { (begins : Beginning) (unit : ReaderUnit) (so_far : List Act)
         → All IsBreak (own_acts (devices.Reader unit) so_far)

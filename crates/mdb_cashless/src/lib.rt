@@ -12,6 +12,6 @@ pub use reader::Reader;
 pub use reader::device::{DeviceState, Home};
 pub use reader::known::ReaderKnown;
 pub use reader::messages::ReaderActivity;
-pub use reader::state::ReaderState;
+pub use reader::state::{READER_STATES, ReaderState};
 pub use reader::transaction::{Ended, Transaction};
 pub use reader::view::View;

@@ -3,6 +3,7 @@
 ghost use Rattle.std.specs.Prelude.{◌≡◌, ◌<◌, List, [], ◌∷◌};
 ghost use Rattle.mdb_msgs.specs.declared.command.Device.TheVariants as devices;
 ghost use Rattle.mdb_bus.specs.declared.act.Act.{Act};
+ghost use Rattle.mdb_cashless.specs.declared.reader.state.TheConstants.{READER_STATES};
 ghost use Rattle.mdb_cashless.specs.Reader as spec;
 ghost use Rattle.mdb_cashless.specs.shared.ReaderCodes as codes;
 ghost use Rattle.mdb_cashless.specs.ReaderFacts.{known_of};
@@ -32,7 +33,7 @@ use known::ReaderKnown;
 use mdb_bus::{Act, Beginning};
 use mdb_machine::{Choice, Gains, HasCode, Pair, coded};
 use mdb_msgs::Device;
-use state::ReaderState;
+use state::{READER_STATES, ReaderState};
 use steps::{concerns, heeds_choice, rests};
 use unit::unit_of;
 use unvalued::unvalued_by;
@@ -51,9 +52,9 @@ impl HasCode for ReaderState {
 }
 
 impl<const UNIT: usize> Pair for Reader<UNIT> {
-    const CODES: usize = 176;
+    const CODES: usize = READER_STATES;
 
-    ghost CODES = { 176 };
+    ghost CODES = { READER_STATES };
 
     type Facts = ReaderKnown;
 

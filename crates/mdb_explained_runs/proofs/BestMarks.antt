@@ -2,9 +2,10 @@
 -- range, and none that comes there has fewer marks of a device.
 use Rattle.std.proofs.Common.{arith, inl, inr, refl, sym, subst, ap, ◌∙◌, ◌≡◌, ◌≤◌, ℕ, ℤ, ◌≤ℤ◌}
 use Rattle.std.proofs.Common.{Bool, true, false, List, length, if◌then◌else◌}
-use Rattle.std.proofs.lemmas.Bool.{eqb-true, eq-eqb}
 use Rattle.std.proofs.lemmas.Int.{ints}
 use Rattle.mdb_msgs.specs.declared.command.Device.{Device}
+use Rattle.mdb_msgs.specs.Devices.{same_device}
+use Rattle.mdb_msgs.specs.shared.SameDevices.{is_one, itself}
 use Rattle.mdb_bus.specs.declared.scope.Beginning.TheVariants.{PowerOn}
 use Rattle.mdb_bus.specs.ActLists.{Piece, acts_of}
 use Rattle.mdb_follow.specs.declared.account_name.AccountName.{AccountName}
@@ -17,23 +18,21 @@ use Rattle.mdb_follow.specs.declared.goal.Goal.{Goal}
 use Rattle.mdb_explained_runs.specs.declared.mark.Mark.{Mark}
 use Rattle.mdb_follow.specs.AccountNames.{account_device, account_slot, sums_of}
 use Rattle.mdb_follow.specs.Choosing.{Choices, Follows}
-use Rattle.mdb_follow.specs.Devices.{device_place, same_device}
 use Rattle.mdb_follow.specs.Ends.{IsAsFar, goal_value, side_value}
 use Rattle.mdb_follow.specs.Machines.{StateOf, machine_of}
 use Rattle.mdb_explained_runs.specs.Marks.{own_marks}
 use Rattle.mdb_follow.specs.Runs.{AllSums}
 use Rattle.mdb_explained_runs.specs.inner.AllPaths.{AreBestMarks, weight_at, weight_for}
 use Rattle.mdb_explained_runs.specs.inner.Weights.{towards, weigh}
-use Rattle.mdb_follow.proofs.ByDevice.{one_place, same_or_not}
+use Rattle.mdb_follow.proofs.ByDevice.{same_or_not}
 
 -- what the sums of the goal's device count is the goal's value, towards its end
 account-weighed : (side : AccountSide) (bound : Bound) (account : AccountName) (sums : AllSums)
     → weigh (weight_at side bound account (account_device account)) (sums (account_device account))
     ≡ towards bound (side_value side (sums_of account sums))
 account-weighed side bound account sums =
-    let place = device_place (account_device account) in
     ap (λ same. weigh (if same then weights.Account (account_slot account) side bound
-    else weights.Nothing) (sums (account_device account))) (eq-eqb place place refl)
+    else weights.Nothing) (sums (account_device account))) (itself (account_device account))
 
 pub goal-weighed : (goal : Goal) (sums : AllSums)
     → weigh (weight_for goal (account_device goal.account)) (sums (account_device goal.account))
@@ -49,8 +48,7 @@ account-apart side bound account device apart =
     by : (same : Bool) → same_device (account_device account) device ≡ same
         → weight_at side bound account device ≡ weights.Nothing
     by true is =
-        absurd (apart (one_place (account_device account) device
-        (eqb-true (device_place (account_device account)) (device_place device) is)))
+        absurd (apart (is_one (account_device account) device is))
     by false is =
         ap (λ same. if same then weights.Account (account_slot account) side bound
         else weights.Nothing) is

@@ -2,12 +2,14 @@
 use Rattle.std.proofs.Common.{ap, arith, refl, subst, sym, ◌≡◌, ◌⊎◌, inl, inr, ℕ, ◌+◌, ◌<◌, ◌≤◌}
 use Rattle.std.proofs.Common.{List, [], ◌∷◌, length, All, Contains}
 use Rattle.std.specs.Prelude.{if◌then◌else◌}
-use Rattle.std.proofs.lemmas.Bool.{eq-eqb, ne_eqb}
+use Rattle.std.proofs.lemmas.Bool.{false_from_ne_true}
 use Rattle.std.proofs.lemmas.List.Elements.{All-contains_itself, All-weaker}
 use Rattle.std.proofs.lemmas.List.Elements.{Contains-append_right}
 use Rattle.mdb_msgs.specs.declared.command.Device.{Device}
-use Rattle.mdb_follow.specs.Devices.{device_place, same_device}
-use Rattle.mdb_follow.proofs.ByDevice.{below, earlier, one_place, same_or_not}
+use Rattle.mdb_msgs.specs.Devices.{same_device}
+use Rattle.mdb_msgs.specs.shared.SameDevices.{is_one, says}
+use Rattle.mdb_follow.specs.Devices.{device_place}
+use Rattle.mdb_follow.proofs.ByDevice.{below, earlier, same_or_not}
 use Rattle.mdb_explained_runs.specs.declared.mark.Mark.{Mark}
 use Rattle.mdb_explained_runs.specs.Marks.{Rise}
 use Rattle.mdb_explained_runs.specs.inner.Merges.{AreApart, IsFront, IsMergeBelow, IsMergeOf}
@@ -174,14 +176,13 @@ with_own next own all device = if same_device device next then own else all devi
 pub its_own : (next device : Device) (own : List (ℕ × Mark)) (all : Device → List (ℕ × Mark))
     → device ≡ next → with_own next own all device ≡ own
 its_own next device own all same =
-    ap (λ is. if is then own else all device)
-    (eq-eqb (device_place device) (device_place next) (ap device_place same))
+    ap (λ is. if is then own else all device) ((says device next).1 same)
 
 pub anothers : (next device : Device) (own : List (ℕ × Mark)) (all : Device → List (ℕ × Mark))
     → (device ≡ next → ⊥) → with_own next own all device ≡ all device
 anothers next device own all apart =
     ap (λ is. if is then own else all device)
-    (ne_eqb (device_place device) (device_place next) (λ same. apart (one_place device next same)))
+    (false_from_ne_true (same_device device next) (λ same. apart (is_one device next same)))
 
 -- a device whose place is below that of another isn't that one
 not_next : (count : ℕ) (next device : Device) → device_place next ≡ count

@@ -9,6 +9,7 @@ use Rattle.std.proofs.lemmas.List.Elements.{Contains-append_right}
 use Rattle.std.proofs.lemmas.Option.{same_Some}
 use Rattle.mdb_words.specs.declared.event.Event.{Event}
 use Rattle.mdb_msgs.specs.Commands.{device_of}
+use Rattle.mdb_msgs.specs.Devices.{same_device}
 use Rattle.mdb_msgs.specs.declared.command.Device.{Device}
 use Rattle.mdb_msgs.specs.declared.command.Device.TheVariants as devices
 use Rattle.mdb_msgs.specs.declared.command.ReaderUnit.TheVariants.{First, Second}
@@ -17,7 +18,7 @@ use Rattle.mdb_bus.specs.declared.act.Act.TheVariants as kinds
 use Rattle.mdb_bus.specs.declared.scope.Scope.{Scope}
 use Rattle.mdb_bus.specs.ActLists.{ArePieces, Piece, Whole, AskTail, ReplyTail, RepeatTail, acts_of}
 use Rattle.mdb_bus.specs.ActLists.{events_of}
-use Rattle.mdb_bus.specs.LeavingOut.{are_one, has_part}
+use Rattle.mdb_bus.specs.LeavingOut.{has_part}
 use Rattle.mdb_machine.specs.declared.choice.Choice.{Choice}
 use Rattle.mdb_machine.specs.declared.choice.Choice.TheVariants.{Plain, Lost, Restart}
 use Rattle.mdb_machine.specs.Choices.{CanStand}
@@ -99,7 +100,7 @@ together_most one other most = omega (
 
 -- what is of one device is counted once
 of_one : (device : Device) (here : List (ℕ × Mark))
-    → length here ≡ together (λ other. kept_if (are_one other device) here)
+    → length here ≡ together (λ other. kept_if (same_device other device) here)
 of_one devices.Changer here = omega arith
 of_one devices.Bill here = omega arith
 of_one (devices.Reader First) here = omega arith

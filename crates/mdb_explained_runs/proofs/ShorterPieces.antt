@@ -9,7 +9,7 @@ use Rattle.mdb_words.specs.declared.event.Event.{Event}
 use Rattle.mdb_words.specs.declared.event.Event.TheVariants.{Break}
 use Rattle.mdb_words.specs.declared.word.Line.TheVariants.{Controller, Peripheral}
 use Rattle.mdb_blocks.specs.Block.{block_of, controller_words}
-use Rattle.mdb_msgs.specs.declared.answer.AnswerForm.{AnswerForm}
+use Rattle.mdb_msgs.specs.declared.answer.DataForm.{DataForm}
 use Rattle.mdb_msgs.specs.declared.command.Command.{Command}
 use Rattle.mdb_msgs.specs.declared.reply.Reply.{Reply}
 use Rattle.mdb_msgs.specs.Commands.{IsByte, command_bytes}
@@ -128,7 +128,7 @@ of_reply scope command reply rest events front row some long right stands =
     as_tail scope rest (Whole (acts.Reply command reply) events) (ReplyTail command bytes front)
     front row some long tt refl (
       record {
-        allowed = subst (λ (form : Option AnswerForm). IsSome form)
+        allowed = subst (λ (form : Option DataForm). IsSome form)
             (sym is_reply.answers.answer.form) refl;
         some = is_reply.content.at_least;
         few = is_reply.content.at_most;

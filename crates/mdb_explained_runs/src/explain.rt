@@ -1,6 +1,6 @@
 //! Explanations: the fewest marks of a run that reaches a bound.
 
-ghost use Rattle.std.specs.Prelude.{◌≡◌, ◌<◌, ◌≤◌, ◌+◌, [], ◌∷◌, ℕ, List, length};
+ghost use Rattle.std.specs.Prelude.{◌<◌, ◌≤◌, ◌+◌, [], ◌∷◌, ℕ, List, length};
 ghost use Rattle.std.specs.Prelude.{IfErr, IfOk, IfSome};
 ghost use Rattle.std.specs.Option.{IfNone};
 ghost use Rattle.mdb_msgs.specs.declared.command.Device.{Device};

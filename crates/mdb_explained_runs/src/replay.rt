@@ -40,7 +40,7 @@ pub struct Replay {
     silences: Silences,
     rows: u64,
     fault: Option<ReplayFault>,
-    /// Room for the act that a row ends. Between rows what is in it is of no matter.
+    /// Room for the act that a row ends. Between rows its content is irrelevant.
     act: Act,
     ghost few: { rows ≤ 100000000 },
     ghost within: { ForNone fault (AreTracksWithin (rows * 2 ^ 32) tracks) },
@@ -82,12 +82,12 @@ impl Replay {
         self.rows
     }
 
-    /// Takes the next row, with a mark that stands on the act that it ends, or with none.
+    /// Accepts the next row, with a mark that stands on the act that it ends, or with none.
     ///
     /// # Errors
     ///
-    /// The fault of the first row that cannot be with these marks, or that ends no act on which
-    /// its mark may stand. From then on each call answers it again, and nothing changes.
+    /// The fault of the first row that is impossible with these marks, or that ends no act on which
+    /// its mark may stand. After that every call returns the same fault, and nothing changes.
     pub fn feed(&mut self, event: Event, mark: Option<Mark>) -> Result<(), ReplayFault>
         requires { rows_of self.old < ROWS_MAX }
         ensures reached { (events : List Event) (marks : List (ℕ × Mark))
@@ -119,11 +119,11 @@ impl Replay {
         }
     }
 
-    /// What the rows so far tell in this run: each range is of one value.
+    /// The report on the rows so far in this run: each range has one value.
     ///
     /// # Errors
     ///
-    /// The fault of a row that cannot be, or that has a mark that may not stand there.
+    /// The fault of an impossible row, or of one whose mark may not stand there.
     pub fn report(&self) -> Result<Report, ReplayFault>
         ensures report { (events : List Event) (marks : List (ℕ × Mark))
             → StandsFor self.now events marks
@@ -221,7 +221,7 @@ impl Replay {
         }
     }
 
-    /// The replay before the first row, of a recording that is taken so.
+    /// The replay before the first row of a recording with this scope.
     fn scoped(scope: &Scope) -> Replay
         requires { scope.now.begins ≡ scopes.power_on.begins }
         ensures stands { StandsFor result [] [] }

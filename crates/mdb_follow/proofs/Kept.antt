@@ -1,17 +1,19 @@
 -- What is kept of silences goes on as the lists of asks do: of one device, and of each.
-use Rattle.std.proofs.Common.{ap, subst, sym, inl, inr, ◌∙◌, ◌≡◌, ◌+◌, ◌≤◌, ℕ, Bool, List, [], ◌∷◌}
+use Rattle.std.proofs.Common.{subst, sym, inl, inr, ◌∙◌, ◌≡◌, ◌+◌, ◌≤◌, ℕ, Bool, List, [], ◌∷◌}
 use Rattle.std.proofs.Common.{arith, length, set, get_or}
 use Rattle.std.specs.List.{AllByRecursion}
 use Rattle.std.specs.Prelude.{if◌then◌else◌}
-use Rattle.std.proofs.lemmas.Bool.{eq-eqb, ne_eqb}
+use Rattle.std.proofs.lemmas.Bool.{false_from_ne_true}
 use Rattle.std.proofs.lemmas.Grind.{get_or-set_at}
 use Rattle.std.proofs.lemmas.List.{get_or-set_other}
 use Rattle.mdb_msgs.specs.declared.command.Device.{Device}
+use Rattle.mdb_msgs.specs.Devices.{same_device}
+use Rattle.mdb_msgs.specs.shared.SameDevices.{is_one, says}
 use Rattle.mdb_follow.specs.declared.silence.AskCounts.{AskCounts}
 use Rattle.mdb_follow.specs.declared.silence.Silence.{Silence}
 use Rattle.mdb_follow.specs.declared.silence.Silences.{Silences}
 use Rattle.mdb_follow.specs.declared.silence.Unanswered.TheVariants.{Nothing}
-use Rattle.mdb_follow.specs.Devices.{device_place, same_device}
+use Rattle.mdb_follow.specs.Devices.{device_place}
 use Rattle.mdb_follow.specs.Silences.{TimedAsk, each_count, no_counts}
 use Rattle.mdb_follow.specs.SilencesKept.{AreAtMost, silence_in}
 use Rattle.mdb_follow.specs.SilenceSteps.{AllGoOn, SilenceGoesOn, OneGoesOn}
@@ -61,12 +63,12 @@ pub all-go-on : (further : Device → List (List TimedAsk) → List (List TimedA
 all-go-on further which old new one device =
     elim (same_or_not device which) [
       | inl same ↦ subst If
-          (sym (eq-eqb (device_place device) (device_place which) (ap device_place same)))
+          (sym ((says device which).1 same))
           (subst (λ d. SilenceGoesOn (further d) (silence_in old d) (silence_in new d)) (sym same)
           one.own)
       | inr apart ↦ subst If
-          (sym (ne_eqb (device_place device) (device_place which)
-          (λ same. apart (one_place device which same))))
+          (sym (false_from_ne_true (same_device device which)
+          (λ same. apart (is_one device which same))))
           (subst (SilenceGoesOn (λ lists. lists) (silence_in old device))
           (sym (one.others device apart)) (stays (silence_in old device)))
     ]

@@ -24,7 +24,7 @@ use Rattle.mdb_follow.specs.Devices.{spec_of}
 use Rattle.mdb_follow.specs.Machines.{machine_of}
 use Rattle.mdb_follow.specs.Offences.{HasNoStep, rule_of}
 use Rattle.mdb_follow.specs.Report.{decimals_of, unvalued_of}
-use Rattle.mdb_follow.specs.Sides.{AreSides, FactsOf, IsSideOf, SideOf, code_of, kept_of}
+use Rattle.mdb_follow.specs.Sides.{AreSides, FactsOf, IsSideOf, SideOf, code_of, side_spec_of}
 use Rattle.mdb_follow.specs.Sides.{side_in, stands_for}
 use Rattle.mdb_follow.specs.inner.SideSteps.{AreStanding, AreWithin, FollowsOf, IsSideWithin}
 use Rattle.mdb_follow.specs.inner.SideSteps.{IsWithin, OneFollows, SidesFollow, SidesStay}
@@ -209,7 +209,7 @@ front-fits count old act mid d limit within front on =
 
 -- the decimal places that the facts of a device have
 abbrev pub decimals_in : (device : Device) → FactsOf device → Option ℕ
-decimals_in device facts = (spec_of device).decimals ((kept_of device).known_in facts)
+decimals_in device facts = (spec_of device).decimals ((side_spec_of device).known_in facts)
 
 pub decimals-are : (begins : Beginning) (device : Device) (facts : FactsOf device) (acts : List Act)
     → stands_for begins device facts acts

@@ -1,14 +1,15 @@
 -- The lists of asks to a device, and its silences, where further devices are left out.
 use Rattle.std.proofs.Common.{ap, arith, cond, refl, subst, sym, ◌∙◌, ◌+◌, ◌≡◌, ℕ, Bool, true, false, not}
 use Rattle.std.proofs.Common.{List, [], ◌∷◌, Some}
-use Rattle.std.proofs.lemmas.Bool.{eqb-true}
 use Rattle.std.proofs.lemmas.List.Sums.{sum_by-cons}
 use Rattle.std.specs.List.{AllByRecursion, count_by}
 use Rattle.mdb_words.specs.declared.event.Event.{Event}
 use Rattle.mdb_msgs.specs.Commands.{device_of}
 use Rattle.mdb_msgs.specs.DeviceSets.{has}
+use Rattle.mdb_msgs.specs.Devices.{same_device}
 use Rattle.mdb_msgs.specs.declared.command.Device.{Device}
 use Rattle.mdb_msgs.specs.declared.device_set.DeviceSet.{DeviceSet}
+use Rattle.mdb_msgs.specs.shared.SameDevices.{is_one}
 use Rattle.mdb_bus.specs.declared.act.Act.{Act}
 use Rattle.mdb_bus.specs.declared.act.Act.TheVariants as acts
 use Rattle.mdb_bus.specs.declared.scope.Beginning.{Beginning}
@@ -17,18 +18,15 @@ use Rattle.mdb_bus.specs.ActLists.{ArePieces, AskTail, Piece, RepeatTail, ReplyT
 use Rattle.mdb_bus.specs.ActLists.{piece_events}
 use Rattle.mdb_bus.specs.LeavingOut.{device_in, is_left_out, leave_out, with_foreign}
 use Rattle.mdb_bus.specs.Scopes.{IsFollowed, IsLeftOut}
-use Rattle.mdb_follow.specs.Devices.{device_place, same_device}
 use Rattle.mdb_follow.specs.declared.silence.AskCounts.{AskCounts}
 use Rattle.mdb_follow.specs.Silences.{TimedAsk, asks, asks_of, counts_of, ends_asking, is_silence}
 use Rattle.mdb_follow.specs.Silences.{last_start, limit_of, no_counts, with_ask}
-use Rattle.mdb_follow.proofs.ByDevice.{one_place}
 
 -- devices of which a set has one and lacks the other are two
 differ : (set : DeviceSet) (one other : Device) → (has set one ≡ has set other → ⊥) → (same : Bool)
     → same_device one other ≡ same → same ≡ false
 differ set one other apart true same =
-    absurd (apart (ap (has set) (one_place one other
-    (eqb-true (device_place one) (device_place other) same))))
+    absurd (apart (ap (has set) (is_one one other same)))
 differ set one other apart false same = refl
 
 pub two_devices : (set : DeviceSet) (one other : Device) (is : Bool) → has set one ≡ is

@@ -15,7 +15,7 @@ use Rattle.mdb_follow.specs.declared.report.DeviceFacts.{DeviceFacts}
 use Rattle.mdb_follow.specs.declared.silence.AskCounts.{AskCounts}
 use Rattle.mdb_follow.specs.declared.silence.Silences.{Silences}
 use Rattle.mdb_follow.specs.Devices.{device_place}
-use Rattle.mdb_follow.specs.Report.{IsReport, device_report, device_report_of, facts_in, device_facts_of}
+use Rattle.mdb_follow.specs.Report.{IsReport, device_report, device_report_of, device_facts_in, device_facts_of}
 use Rattle.mdb_follow.specs.Silences.{asks_of}
 use Rattle.mdb_follow.specs.SilencesKept.{AllStandForAsks, silence_in}
 use Rattle.mdb_follow.proofs.Following.{OneActList}
@@ -45,16 +45,16 @@ pub reports-are : (begins : Beginning) (pieces : List Piece) (facts : List Devic
     → facts ≡ map (λ device. device_facts_of begins device (acts_of pieces)) DEVICES
     → AllStandForAsks silences (λ device. asks_of begins device pieces)
     → map (λ device. record {
-      facts = facts_in facts device;
+      facts = device_facts_in facts device;
       asks = (silence_in silences device).counts;
     }) DEVICES ≡ map (λ device. device_report_of begins device pieces) DEVICES
 reports-are begins pieces facts silences is stand =
     let made : DeviceFacts → AskCounts → DeviceReport = λ facts asks.
     record { facts = facts; asks = asks } in
-    map-alike (λ device. made (facts_in facts device) (silence_in silences device).counts)
+    map-alike (λ device. made (device_facts_in facts device) (silence_in silences device).counts)
     (λ device. device_report_of begins device pieces)
     (λ device. ap₂ made
-    (ap (λ (all : List DeviceFacts). facts_in all device) is
+    (ap (λ (all : List DeviceFacts). device_facts_in all device) is
     ∙ listed (λ d. device_facts_of begins d (acts_of pieces)) _ device)
     (stand device).counts)
     DEVICES

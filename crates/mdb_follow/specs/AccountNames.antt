@@ -12,7 +12,7 @@ use Rattle.mdb_follow.specs.Ranges.{no_account}
 use Rattle.mdb_follow.specs.Runs.{AllSums}
 use Rattle.mdb_follow.specs.Sums.{AccountSums}
 
--- What is told of an account: its word, the device that keeps it and the controller with it, its
+-- What is stated of an account: its word, the device that keeps it and the controller with it, its
 -- slot among that device's accounts, and its place in a report. Both count from 0.
 pub record AccountRow : Type 0 where
   pub word : List ℕ

@@ -1,5 +1,5 @@
 -- The devices that are followed, as a table: what each is to the checker.
-use Rattle.std.specs.Prelude.{◌==◌, ◌*◌, ℕ, Bool, List, Option, Some, None, max, option_map}
+use Rattle.std.specs.Prelude.{◌*◌, ℕ, List, Option, Some, None, max, option_map}
 use Rattle.mdb_msgs.specs.declared.command.Device.{Device}
 use Rattle.mdb_msgs.specs.declared.command.Device.TheVariants as devices
 use Rattle.mdb_msgs.specs.declared.command.ReaderUnit.{ReaderUnit}
@@ -92,7 +92,3 @@ spec_of (devices.Reader unit) =
 -- the place of a device
 abbrev pub device_place : Device → ℕ
 device_place device = (spec_of device).place
-
--- whether two devices are one
-abbrev pub same_device : Device → Device → Bool
-same_device one other = device_place one == device_place other

@@ -23,7 +23,7 @@ abbrev pub offence_of : Follower → Option Offence
 offence_of follower = follower.offence
 
 -- what a follower has in its room for an act: the act that ended last; where the last row ended
--- none, it is of no matter which act this is
+-- none, some act
 abbrev pub act_of : Follower → Act
 act_of follower = follower.act
 
@@ -40,7 +40,7 @@ pub record StandsFor (follower : Follower) (events : List Event) : Type 0 where
       (λ device. asks_of (scope_of follower).begins device pieces)
 
 -- A follower has accepted events: they have an act list, each of its sides stands for their acts,
--- and its silences are those of their asks. A follower has accepted what it stands for, and behind
+-- and its silences are those of their asks. A follower has accepted what it stands for, and after
 -- an offence the rows before it.
 pub record HasAccepted (follower : Follower) (events : List Event) : Type 0 where
   pub pieces : List Piece

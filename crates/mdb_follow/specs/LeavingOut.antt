@@ -1,4 +1,4 @@
--- What runs and reports come to where further devices are left out (this profile).
+-- What becomes of runs and reports if further devices are left out (this profile).
 use Rattle.std.specs.Prelude.{◌≡◌, None}
 use Rattle.mdb_msgs.specs.declared.command.Device.{Device}
 use Rattle.mdb_msgs.specs.declared.command.Device.TheVariants as devices

@@ -52,8 +52,8 @@ abbrev pub no_facts : DeviceFacts
 no_facts = record { decimals = None; unvalued = 0 }
 
 -- the facts of a device, of those of all in the order of a report
-abbrev pub facts_in : List DeviceFacts → Device → DeviceFacts
-facts_in facts device = get_or facts (device_place device) no_facts
+abbrev pub device_facts_in : List DeviceFacts → Device → DeviceFacts
+device_facts_in facts device = get_or facts (device_place device) no_facts
 
 -- what a report has of a device beside its accounts: its decimal places, how many amounts without a
 -- value, and how many silences

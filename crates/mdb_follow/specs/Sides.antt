@@ -5,12 +5,15 @@ use Rattle.mdb_msgs.specs.declared.command.Device.TheVariants as devices
 use Rattle.mdb_msgs.specs.declared.command.ReaderUnit.TheVariants.{First, Second}
 use Rattle.mdb_bus.specs.declared.act.Act.{Act}
 use Rattle.mdb_bus.specs.declared.scope.Beginning.{Beginning}
+use Rattle.mdb_cash.specs.declared.bill.state.TheConstants.{BILL_STATES}
+use Rattle.mdb_cash.specs.declared.changer.state.TheConstants.{CHANGER_STATES}
 use Rattle.mdb_cash.specs.BillValues as bill_values
 use Rattle.mdb_cash.specs.ChangerValues as changer_values
 use Rattle.mdb_machine.specs.Machine.{Machine}
 use Rattle.mdb_cash.specs.shared.BillCodes as bill_codes
 use Rattle.mdb_cash.specs.shared.ChangerCodes as changer_codes
 use Rattle.mdb_cashless.specs.declared.reader.known.ReaderKnown.{ReaderKnown}
+use Rattle.mdb_cashless.specs.declared.reader.state.TheConstants.{READER_STATES}
 use Rattle.mdb_cashless.specs.ReaderValues as reader_values
 use Rattle.mdb_cashless.specs.shared.ReaderCodes as reader_codes
 use Rattle.mdb_follow.specs.declared.side.Side.{Side}
@@ -31,7 +34,7 @@ pub record IsSide {Facts State : Type 0} {N : ℕ} (stands_for : Facts → List 
   pub counted : side.unvalued ≡ unvalued acts
 
 -- How a device is kept.
-pub record DeviceKept (device : Device) : Type 1 where
+pub record SideSpec (device : Device) : Type 1 where
   -- what is kept of the facts, and what is known of the device by it
   pub Facts : Type 0
   pub known_in : Facts → (spec_of device).Known
@@ -40,42 +43,42 @@ pub record DeviceKept (device : Device) : Type 1 where
   pub code_of : StateOf device → ℕ
 
 -- of each device: beside `spec_of` the one list of the devices that sides are kept by
-abbrev pub kept_of : (device : Device) → DeviceKept device
-kept_of devices.Changer =
+abbrev pub side_spec_of : (device : Device) → SideSpec device
+side_spec_of devices.Changer =
     record {
       Facts = changer_values.Value;
       known_in = changer_values.known_in;
-      codes = 4;
+      codes = CHANGER_STATES;
       code_of = changer_codes.code_of;
     }
-kept_of devices.Bill =
+side_spec_of devices.Bill =
     record {
       Facts = bill_values.Value;
       known_in = bill_values.known_in;
-      codes = 66;
+      codes = BILL_STATES;
       code_of = bill_codes.code_of;
     }
-kept_of (devices.Reader unit) =
+side_spec_of (devices.Reader unit) =
     record {
       Facts = ReaderKnown;
       known_in = reader_values.known_in;
-      codes = 176;
+      codes = READER_STATES;
       code_of = reader_codes.code_of;
     }
 
 abbrev pub FactsOf : Device → Type 0
-FactsOf device = (kept_of device).Facts
+FactsOf device = (side_spec_of device).Facts
 
 -- What is kept of the facts is what is known after acts of a recording that begins so.
 abbrev pub stands_for : Beginning → (device : Device) → FactsOf device → List Act → Type 0
 stands_for begins device facts acts =
-    (kept_of device).known_in facts ≡ (spec_of device).known begins acts
+    (side_spec_of device).known_in facts ≡ (spec_of device).known begins acts
 
 abbrev pub codes_of : Device → ℕ
-codes_of device = (kept_of device).codes
+codes_of device = (side_spec_of device).codes
 
 abbrev pub code_of : (device : Device) → StateOf device → ℕ
-code_of device = (kept_of device).code_of
+code_of device = (side_spec_of device).code_of
 
 -- what a follower keeps of a device, and that it stands for acts of a recording that begins so
 abbrev pub SideOf : Device → Type 0

@@ -9,12 +9,13 @@ use Rattle.mdb_words.specs.declared.event.Event.{Event}
 use Rattle.mdb_words.specs.Event.{start_of}
 use Rattle.mdb_msgs.specs.declared.command.Device.{Device}
 use Rattle.mdb_msgs.specs.Commands.{device_of}
+use Rattle.mdb_msgs.specs.Devices.{same_device}
 use Rattle.mdb_bus.specs.declared.act.Act.{Act}
 use Rattle.mdb_bus.specs.declared.act.Act.TheVariants as acts
 use Rattle.mdb_bus.specs.ActLists.{Piece, Whole, acts_of, last_of}
 use Rattle.mdb_bus.specs.declared.scope.Beginning.{Beginning}
 use Rattle.mdb_follow.specs.declared.silence.AskCounts.{AskCounts}
-use Rattle.mdb_follow.specs.Devices.{same_device, spec_of}
+use Rattle.mdb_follow.specs.Devices.{spec_of}
 
 -- how long a device may be silent after these acts, in a recording that begins so, by what it has
 -- told

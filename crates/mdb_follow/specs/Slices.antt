@@ -1,4 +1,4 @@
--- What is told of rows that are fed in slices. A slice may be a single row, or none.
+-- What is answered of rows that are fed in slices. A slice may be a single row, or none.
 use Rattle.std.specs.Prelude.{◌⊎◌, ◌++◌, List, [], ◌∷◌, Result, Ok, Err}
 use Rattle.mdb_words.specs.declared.event.Event.{Event}
 use Rattle.mdb_follow.specs.declared.offence.Offence.{Offence}
@@ -13,12 +13,12 @@ abbrev pub joined : List (List Event) → List Event
 joined [] = []
 joined (slice ∷ slices) = slice ++ joined slices
 
--- What is told of rows after earlier ones: the report on all, or the offence of one of these rows.
+-- What is answered of rows after earlier ones: the report on all, or the offence of one of these rows.
 abbrev pub AnswersRows : Scope → List Event → List Event → Result Report Offence → Type 0
 AnswersRows scope earlier rows (Ok report) = IsReport scope (earlier ++ rows) report
 AnswersRows scope earlier rows (Err offence) = HasOffence scope earlier rows offence
 
--- What is told of slices that are fed one by one after earlier rows, as `feed_all` and `report` say
+-- What is answered of slices that are fed one by one after earlier rows, as `feed_all` and `report` say
 -- of each call: the offence of the first slice that has one, and where none has, the report after
 -- the last. Each slice comes after the earlier rows and all slices before it, which are reached.
 abbrev pub AnswersInSlices : Scope → List Event → List (List Event) → Result Report Offence → Type 0

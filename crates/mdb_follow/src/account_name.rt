@@ -5,6 +5,7 @@ ghost use Rattle.mdb_machine.specs.declared.gains.TheConstants.{SLOTS};
 ghost use Rattle.mdb_follow.specs.AccountNames.{account_device, account_place, account_slot};
 ghost use Rattle.mdb_follow.specs.AccountNames.{account_word};
 ghost use Rattle.mdb_follow.specs.Cells.{account_by, cell_in};
+ghost use Rattle.mdb_follow.specs.declared.account_name.TheConstants.{ACCOUNTS};
 ghost use Rattle.mdb_follow.specs.declared.account_name.TheConstants.AccountName.{ALL};
 
 use crate::devices::device_place;
@@ -12,6 +13,9 @@ use crate::{Account, Cell};
 use mdb_machine::SLOTS;
 use mdb_msgs::{Device, ReaderUnit};
 use std::fmt;
+
+/// How many accounts a report has.
+pub const ACCOUNTS: usize = 7;
 
 /// The name of an account of a report.
 #[derive(Clone, Copy, PartialEq, Eq, Debug)]
@@ -30,7 +34,7 @@ pub enum AccountName {
 
 impl AccountName {
     /// All accounts, in the order of a report.
-    pub const ALL: [AccountName; 7] = [
+    pub const ALL: [AccountName; ACCOUNTS] = [
         AccountName::CoinsIn,
         AccountName::BillsIn,
         AccountName::PaidOut,
@@ -80,7 +84,7 @@ impl AccountName {
     /// Its place in a report, from 0.
     pub fn place(self) -> usize
         ensures place { result ≡ account_place self }
-        ensures below { result < 7 }
+        ensures below { result < ACCOUNTS }
     {
         match self {
             AccountName::CoinsIn => 0,
@@ -95,7 +99,7 @@ impl AccountName {
 }
 
 /// The accounts in the order of `AccountName::ALL`, of the cells of `Report::DEVICES`.
-pub(crate) fn accounts_of(cells: &[Cell; 4]) -> [Account; 7]
+pub(crate) fn accounts_of(cells: &[Cell; 4]) -> [Account; ACCOUNTS]
     ensures { result ≡ map (account_by (cell_in cells.now)) ALL }
 {
     [

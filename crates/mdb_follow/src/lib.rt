@@ -27,7 +27,7 @@ mod silence;
 mod table;
 
 pub use account::Account;
-pub use account_name::AccountName;
+pub use account_name::{ACCOUNTS, AccountName};
 pub use cell::Cell;
 pub use devices::device_place;
 pub use follower::{Follower, ROWS_MAX, sender_of};

@@ -1,10 +1,10 @@
 //! The report on possible rows.
 
 ghost use Rattle.std.specs.Prelude.{◌≡◌};
-ghost use Rattle.mdb_follow.specs.Report.{facts_in};
+ghost use Rattle.mdb_follow.specs.Report.{device_facts_in};
 ghost use Rattle.mdb_follow.specs.SilencesKept.{silence_in};
 
-use crate::account_name::accounts_of;
+use crate::account_name::{ACCOUNTS, accounts_of};
 use crate::devices::device_place;
 use crate::silence::{AskCounts, Silences};
 use crate::{Account, AccountName, Cell};
@@ -39,7 +39,7 @@ pub struct Report {
     /// What is reported of each of `Report::DEVICES`, beside its accounts.
     pub devices: [DeviceReport; 4],
     /// The bounds of each of `AccountName::ALL`, in the smallest unit of money.
-    pub accounts: [Account; 7],
+    pub accounts: [Account; ACCOUNTS],
 }
 
 impl Report {
@@ -52,7 +52,7 @@ impl Report {
     ghost use Rattle.mdb_follow.specs.AccountNames.{account_of};
     ghost use Rattle.mdb_follow.specs.Cells.{account_by, cell_in};
     ghost use Rattle.mdb_follow.specs.Report.{device_decimals, device_report, device_silences};
-    ghost use Rattle.mdb_follow.specs.Report.{device_unvalued, report_of, facts_in, device_facts_of};
+    ghost use Rattle.mdb_follow.specs.Report.{device_unvalued, report_of, device_facts_in, device_facts_of};
     ghost use Rattle.mdb_follow.specs.Silences.{asks_of};
     ghost use Rattle.mdb_follow.specs.SilencesKept.{AllStandForAsks, silence_in};
 
@@ -70,7 +70,7 @@ impl Report {
         ensures has { result ≡ record {
           rows = rows;
           devices = map (λ device. record {
-            facts = facts_in facts.now device;
+            facts = device_facts_in facts.now device;
             asks = (silence_in silences.now device).counts;
           }) DEVICES;
           accounts = map (account_by (cell_in cells.now)) ALL;
@@ -158,7 +158,7 @@ impl Report {
 /// What is reported of a device, by what there is of all.
 fn reported(facts: &[DeviceFacts; 4], silences: &Silences, device: Device) -> DeviceReport
     ensures { result ≡ record {
-      facts = facts_in facts.now device;
+      facts = device_facts_in facts.now device;
       asks = (silence_in silences.now device).counts;
     } }
 {

@@ -10,7 +10,7 @@ ghost use Rattle.mdb_follow.specs.Cells.{cell_in};
 ghost use Rattle.mdb_follow.specs.Limits.{IsCellWithin};
 ghost use Rattle.mdb_follow.specs.Machines.{machine_of};
 ghost use Rattle.mdb_follow.specs.Ranges.{IsCell};
-ghost use Rattle.mdb_follow.specs.Report.{facts_in, device_facts_of};
+ghost use Rattle.mdb_follow.specs.Report.{device_facts_in, device_facts_of};
 ghost use Rattle.mdb_follow.specs.Tables.{ArrivesAnywhere};
 ghost use Rattle.mdb_follow.specs.Sides.{AreSides, side_in};
 ghost use Rattle.mdb_follow.specs.inner.SideSteps.{AreWithin, IsWithin, OneFollows, SidesFollow};
@@ -20,8 +20,8 @@ use crate::owner::{Owner, owner_of};
 use crate::side::{self, Side};
 use crate::{Cell, DeviceFacts, Report};
 use mdb_bus::{Act, Beginning, Rule};
-use mdb_cash::{Bill, BillKnown, Changer, ChangerKnown};
-use mdb_cashless::{Reader, ReaderKnown};
+use mdb_cash::{BILL_STATES, Bill, BillKnown, CHANGER_STATES, Changer, ChangerKnown};
+use mdb_cashless::{READER_STATES, Reader, ReaderKnown};
 use mdb_msgs::{Device, ReaderUnit};
 
 /// The reader at 10H.
@@ -34,10 +34,10 @@ type SecondReader = Reader<1>;
 /// states.
 #[derive(Drop)]
 pub(crate) struct Sides {
-    changer: Side<ChangerKnown, 4>,
-    bill: Side<BillKnown, 66>,
-    pub(crate) first_reader: Side<ReaderKnown, 176>,
-    pub(crate) second_reader: Side<ReaderKnown, 176>,
+    changer: Side<ChangerKnown, CHANGER_STATES>,
+    bill: Side<BillKnown, BILL_STATES>,
+    pub(crate) first_reader: Side<ReaderKnown, READER_STATES>,
+    pub(crate) second_reader: Side<ReaderKnown, READER_STATES>,
 }
 
 impl Sides {
@@ -124,7 +124,7 @@ impl Sides {
         ensures facts { (begins : Beginning) (acts : List Act) → AreSides begins self.now acts
             → result ≡ map (λ device. device_facts_of begins device acts) DEVICES }
         ensures kept { (device : Device)
-            → (facts_in result device).unvalued ≡ (side_in self.now device).unvalued }
+            → (device_facts_in result device).unvalued ≡ (side_in self.now device).unvalued }
     {
         [
             DeviceFacts {

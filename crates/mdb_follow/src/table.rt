@@ -1,6 +1,6 @@
 //! The states that are possible now, with what the sums may be.
 
-ghost use Rattle.std.specs.Prelude.{◌≡◌, ◌<◌, ◌+◌, ◌^◌, ◌↔◌, ◌⊎◌, ℕ, List, [], ◌∷◌, All, None};
+ghost use Rattle.std.specs.Prelude.{◌≡◌, ◌<◌, ◌+◌, ◌^◌, ◌↔◌, ◌⊎◌, ℕ, List, [], ◌∷◌, None};
 ghost use Rattle.std.specs.Prelude.{Contains, Some, IfSome, length, true};
 ghost use Rattle.std.specs.Bool.{OnFalse, OnTrue};
 ghost use Rattle.mdb_bus.specs.declared.act.Act.{Act};
@@ -378,8 +378,7 @@ fn add_starts<P: Pair, const N: usize>(begins: &Beginning, entries: &mut Entries
 }
 
 /// The step that a settled act is by its other choice than the plain one, from the state of a code.
-/// `None` where there is no such step, and it may be where it is of no matter what is chosen of the
-/// act.
+/// `None` where there is no such step, and it may be where the choice is irrelevant for the act.
 // Not inlined, so that the step is made where it is looked at, and not moved there.
 #[inline(never)]
 fn second_step<P: Pair>(facts: &P::Facts, act: &Act, code: usize) -> Option<(usize, Gains)>

@@ -21,7 +21,7 @@ use Rattle.mdb_follow.specs.declared.offence.Offence.{Offence}
 use Rattle.mdb_follow.specs.declared.range.Range.{Range}
 use Rattle.mdb_follow.specs.declared.report.Report.{Report}
 use Rattle.mdb_follow.specs.declared.report.TheConstants.Report.{DEVICES}
-use Rattle.mdb_follow.specs.Devices.{same_device}
+use Rattle.mdb_msgs.specs.Devices.{same_device}
 use Rattle.mdb_follow.specs.Ends.{side_range}
 use Rattle.mdb_follow.specs.Report.{device_decimals, device_silences, device_unvalued}
 use Rattle.mdb_follow.specs.AccountNames.{account_device, account_in, account_word}

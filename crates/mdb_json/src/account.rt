@@ -3,9 +3,10 @@
 ghost use Rattle.std.specs.Prelude.{◌≡◌, IfOk};
 ghost use Rattle.serde_json.specs.View.{view};
 ghost use Rattle.mdb_follow.specs.AccountNames.{account_in};
+ghost use Rattle.mdb_json.specs.Reports as spec;
 ghost use Rattle.mdb_json.specs.Reports.{account_data, accounts_data, range_data};
 
-use mdb_follow::{Account, AccountName, Range, device_place};
+use mdb_follow::{ACCOUNTS, Account, AccountName, Range};
 use mdb_msgs::Device;
 use serde_json::{Map, Value, json, put};
 use std::alloc::{AllocError, Global};
@@ -16,12 +17,16 @@ use std::alloc::{AllocError, Global};
 /// # Errors
 ///
 /// Memory was refused.
-pub fn accounts_of(alloc: Global, all: &[Account; 7], device: Device) -> Result<Value, AllocError>
+pub fn accounts_of(
+    alloc: Global,
+    all: &[Account; ACCOUNTS],
+    device: Device,
+) -> Result<Value, AllocError>
     ensures { IfOk result (λ value. view value ≡ accounts_data all.now device) }
 {
     let mut accounts = Map::new(alloc);
     for name in AccountName::ALL {
-        if device_place(name.device()) == device_place(device) {
+        if keeps(device, name) {
             let value = account(alloc, all, name)?;
             put(&mut accounts, alloc, name.word(), value)?;
         }
@@ -29,8 +34,15 @@ pub fn accounts_of(alloc: Global, all: &[Account; 7], device: Device) -> Result<
     Ok(Value::Object(accounts))
 }
 
-/// What an account comes to on each side.
-fn account(alloc: Global, all: &[Account; 7], name: AccountName) -> Result<Value, AllocError>
+/// Whether a device keeps an account.
+fn keeps(device: Device, name: AccountName) -> bool
+    ensures { result ≡ spec.keeps device name }
+{
+    name.device() == device
+}
+
+/// The sums of an account on each side.
+fn account(alloc: Global, all: &[Account; ACCOUNTS], name: AccountName) -> Result<Value, AllocError>
     ensures { IfOk result (λ value. view value ≡ account_data (account_in name all.now)) }
 {
     let account = all[name.place()];

@@ -65,7 +65,7 @@ pub record TellsHeldFirst {Own Setup Asked M State : Type 0}
   pub news : conduct.TellsNews facts Plain (drop count (kept_of parts)) before after
   pub gained : gains ≡ device_gains (worth conduct facts (drop count (kept_of parts)))
 
--- What isn't known is of no matter for an act. An ask is of what doesn't count once it is asked, or
+-- What isn't known is irrelevant for an act. An ask is of what doesn't count once it is asked, or
 -- the acts so far ask such a thing. A reply is of another device, or of a device that holds nothing
 -- once the reply is read, or the acts so far tell a kept message. Any other act is settled.
 abbrev pub IsSettled : {Own Setup Asked M State : Type 0} → Tables Own Setup Asked M

@@ -18,7 +18,7 @@ use Rattle.mdb_machine.specs.Past.{KnownPast, PastFacts, effect_by, enables, pow
 abbrev pub no_past : {M : Type 0} → PastFacts M
 no_past = record { enabled = λ kind. false; reset_owed = true; last_kept = [] }
 
--- what is known of no act of a device that runs on: its last kept list isn't, and of no matter
+-- what is known of no act of a device that runs on: its last kept list isn't, and is irrelevant
 abbrev pub running_past : {M : Type 0} → PastFacts M
 running_past = record {
   enabled = λ kind. ltb kind 16;

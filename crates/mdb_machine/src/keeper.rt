@@ -106,8 +106,8 @@ impl<K: Keeper> KeeperFacts<K> {
     ghost use Rattle.mdb_machine.specs.shared.Guesses.{guessing};
     ghost use Rattle.mdb_machine.specs.Past.{or_else};
 
-    /// The facts after no act, or what is known of them, where a recording begins so: what isn't
-    /// known is of no matter.
+    /// The facts after no act, or what is known of them, where a recording begins so. Unknown facts
+    /// are irrelevant.
     pub(crate) fn start(begins: &Beginning) -> Self
         ensures setup { result.setup ≡ known_before K.tables.setup_known begins.now }
         ensures asked { result.last_asked ≡ None }
@@ -244,7 +244,7 @@ impl<K: Keeper> KeeperFacts<K> {
 }
 
 /// What is known after the acts so far of a device that keeps messages (this profile): a running
-/// value, which doesn't grow with them. What isn't known of the facts is of no matter.
+/// value, which doesn't grow with them. Unknown facts are irrelevant.
 #[derive(Drop)]
 pub struct KeeperKnown<K: Keeper> {
     /// The facts.

@@ -50,7 +50,7 @@ impl<M: KeptMessage + Drop, const CAP: usize> Past<M, CAP> {
     }
 
     /// What is known of no act of a device that runs on as it did before the recording: all types
-    /// are enabled, and no reset message is owed. Its last kept list isn't known, and of no matter.
+    /// are enabled, and no reset message is owed. Its last kept list is unknown and irrelevant.
     pub fn running() -> Self
         ensures { past_in result ≡ running_past }
     {

@@ -1,34 +1,90 @@
 -- Which device a block is for, told from its first byte.
-use Rattle.std.proofs.Common.{◌≡◌, ℕ, ◌+◌, ◌-◌, ◌/◌, ◌%◌, ◌≤◌, List, [], ◌∷◌, length, slice_get, slice_index, sum, Option, arith, ap, sym, subst, ◌∙◌, length-append}
+use Rattle.std.proofs.Common.{◌≡◌, ℕ, ◌+◌, ◌-◌, ◌/◌, ◌%◌, ◌<◌, ◌≤◌, Bool, true, false, if◌then◌else◌, List, [], ◌∷◌, length, slice_get, slice_index, sum, Option, Some, None, arith, ap, refl, sym, subst, ◌∙◌, length-append}
+use Rattle.std.proofs.lemmas.Bool.Decides.{nat_tests}
+use Rattle.std.proofs.lemmas.Option.{same_Some}
 use Rattle.mdb_blocks.specs.Block.{block_of}
+use Rattle.mdb_msgs.specs.declared.command.Device.{Device}
+use Rattle.mdb_msgs.specs.declared.command.Device.TheVariants.{Changer, Bill, Reader}
 use Rattle.mdb_msgs.specs.declared.command.ReaderUnit.{ReaderUnit}
 use Rattle.mdb_msgs.specs.declared.command.ReaderUnit.TheVariants.{First, Second}
 use Rattle.mdb_msgs.specs.declared.fault.MsgFault.{MsgFault}
 use Rattle.mdb_msgs.specs.declared.need.Need.{Need}
 use Rattle.mdb_msgs.specs.CommandFaults.{IsCommandFault, IsRefused}
 use Rattle.mdb_msgs.specs.Commands.{reader_address}
-use Rattle.mdb_msgs.specs.Needs.{need, needed, reader_need}
+use Rattle.mdb_msgs.specs.Needs.{device_at, is_for, need, need_for, needed, reader_need}
 
--- for the first cashless reader
-pub need_of_reader : (first : ℕ) (second : Option ℕ) → 0x10 ≤ first → first ≤ 0x17
-    → need first second ≡ reader_need (first % 8) second
-need_of_reader first second least most = let address : first / 8 ≡ 2 = omega arith in rw address
+pub at_changer : (first : ℕ) → 0x08 ≤ first → first ≤ 0x0F → device_at first ≡ Some Changer
+at_changer first least most = let address : first / 8 ≡ 1 = omega arith in rw address
 
--- for the second cashless reader
-pub need_of_second_reader : (first : ℕ) (second : Option ℕ) → 0x60 ≤ first → first ≤ 0x67
-    → need first second ≡ reader_need (first % 8) second
-need_of_second_reader first second least most = let address : first / 8 ≡ 12 = omega arith in
-    rw address
+pub at_bill : (first : ℕ) → 0x30 ≤ first → first ≤ 0x37 → device_at first ≡ Some Bill
+at_bill first least most = let address : first / 8 ≡ 6 = omega arith in rw address
 
-need_at : (unit : ReaderUnit) (first : ℕ) (second : Option ℕ) → reader_address unit ≤ first
+pub at_first : (first : ℕ) → 0x10 ≤ first → first ≤ 0x17 → device_at first ≡ Some (Reader First)
+at_first first least most = let address : first / 8 ≡ 2 = omega arith in rw address
+
+pub at_second : (first : ℕ) → 0x60 ≤ first → first ≤ 0x67
+    → device_at first ≡ Some (Reader Second)
+at_second first least most = let address : first / 8 ≡ 12 = omega arith in rw address
+
+-- a first byte has the address of a device
+abbrev address_of : Device → ℕ
+address_of Changer = 0x08
+address_of Bill = 0x30
+address_of (Reader unit) = reader_address unit
+
+abbrev HasAddress : ℕ → Device → Type 0
+HasAddress first device = first ≡ address_of device + first % 8
+
+by_tests : (first : ℕ) (device : Device) (changer one bill other : Bool)
+    → is_for 0x08 first ≡ changer → is_for 0x10 first ≡ one → is_for 0x30 first ≡ bill
+    → is_for 0x60 first ≡ other
+    → (if changer then Some Changer else if one then Some (Reader First) else if bill then Some Bill
+    else if other then Some (Reader Second) else None) ≡ Some device
+    → HasAddress first device
+by_tests first device true one bill other a b c d at =
+    let is : first ≡ 0x08 + first % 8 = grind (arith, nat_tests) in
+    subst (HasAddress first) (same_Some Changer device at) is
+by_tests first device false true bill other a b c d at =
+    let is : first ≡ 0x10 + first % 8 = grind (arith, nat_tests) in
+    subst (HasAddress first) (same_Some (Reader First) device at) is
+by_tests first device false false true other a b c d at =
+    let is : first ≡ 0x30 + first % 8 = grind (arith, nat_tests) in
+    subst (HasAddress first) (same_Some Bill device at) is
+by_tests first device false false false true a b c d at =
+    let is : first ≡ 0x60 + first % 8 = grind (arith, nat_tests) in
+    subst (HasAddress first) (same_Some (Reader Second) device at) is
+by_tests first device false false false false a b c d at = cc
+
+at_address : (first : ℕ) (device : Device) → device_at first ≡ Some device
+    → HasAddress first device
+at_address first device =
+    by_tests first device (is_for 0x08 first) (is_for 0x10 first) (is_for 0x30 first)
+    (is_for 0x60 first) refl refl refl refl
+
+-- a first byte for a reader has its address, and one for any device is a byte
+pub of_reader : (first : ℕ) (unit : ReaderUnit) → device_at first ≡ Some (Reader unit)
+    → first ≡ reader_address unit + first % 8
+of_reader first unit = at_address first (Reader unit)
+
+pub low : (first : ℕ) (device : Device) → device_at first ≡ Some device → first < 256
+low first Changer at = let is = at_address first Changer at in omega (arith, is)
+low first Bill at = let is = at_address first Bill at in omega (arith, is)
+low first (Reader First) at = let is = at_address first (Reader First) at in omega (arith, is)
+low first (Reader Second) at = let is = at_address first (Reader Second) at in omega (arith, is)
+
+pub need_at : (first : ℕ) (second : Option ℕ) {device : Option Device} → device_at first ≡ device
+    → need first second ≡ need_for device first second
+need_at first second at = ap (λ device. need_for device first second) at
+
+need_of_reader : (unit : ReaderUnit) (first : ℕ) (second : Option ℕ) → reader_address unit ≤ first
     → first ≤ reader_address unit + 7 → reader_need (first - reader_address unit) second
     ≡ need first second
-need_at First first second least most =
+need_of_reader First first second least most =
     ap (λ command. reader_need command second) (let e : first - 0x10 ≡ first % 8 = omega arith in e)
-    ∙ sym (need_of_reader first second least most)
-need_at Second first second least most =
+    ∙ sym (need_at first second (at_first first least most))
+need_of_reader Second first second least most =
     ap (λ command. reader_need command second) (let e : first - 0x60 ≡ first % 8 = omega arith in e)
-    ∙ sym (need_of_second_reader first second least most)
+    ∙ sym (need_at first second (at_second first least most))
 
 -- what refuses a block to a reader refuses it as a command
 pub refused_by_reader : (unit : ReaderUnit) (content : List ℕ) (fault : MsgFault)
@@ -43,5 +99,5 @@ refused_by_reader unit (first ∷ rest) fault some least most refused =
     let Q : ℕ → Type 0 = λ count. IsRefused (needed (block_of (first ∷ rest))) count fault in
     let long : length (first ∷ rest) + 1 ≡ length (block_of (first ∷ rest)) =
     sym (length-append (first ∷ rest) ((sum (first ∷ rest) % 256) ∷ [])) in
-    subst Q long (subst P (need_at unit first (slice_get (block_of (first ∷ rest)) 1) least most)
+    subst Q long (subst P (need_of_reader unit first (slice_get (block_of (first ∷ rest)) 1) least most)
     refused)

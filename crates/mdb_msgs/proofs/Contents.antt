@@ -1,7 +1,6 @@
 -- Bytes that are as long as they need to be are those of a command.
-use Rattle.std.proofs.Common.{◌≡◌, ◌<◌, ◌+◌, ◌*◌, ◌%◌, Bool, true, false, ℕ, List, [], ◌∷◌, length, arith, refl, ap, ◌∙◌, All, slice_index, slice_get, drop, if◌then◌else◌, ◌==◌}
+use Rattle.std.proofs.Common.{◌≡◌, ◌<◌, ◌+◌, ◌*◌, ◌%◌, ℕ, List, [], ◌∷◌, length, arith, refl, ap, ◌∙◌, All, slice_index, slice_get, drop, if◌then◌else◌, ◌==◌, Option, Some, None}
 use Rattle.std.proofs.lemmas.Grind.{common_steps}
-use Rattle.std.proofs.lemmas.Bool.Decides.{nat_tests}
 use Rattle.std.proofs.lemmas.List.Elements.{All-drop}
 use Rattle.mdb_blocks.specs.Block.{block_of}
 use Rattle.mdb_msgs.specs.declared.command.Command.{Command}
@@ -12,11 +11,13 @@ use Rattle.mdb_msgs.specs.declared.command.BillCommand.{BillCommand}
 use Rattle.mdb_msgs.specs.declared.command.BillCommand.TheVariants as bill
 use Rattle.mdb_msgs.specs.declared.command.ReaderCommand.{ReaderCommand}
 use Rattle.mdb_msgs.specs.declared.command.ReaderCommand.TheVariants as reader
+use Rattle.mdb_msgs.specs.declared.command.Device.{Device}
+use Rattle.mdb_msgs.specs.declared.command.Device.TheVariants as device
 use Rattle.mdb_msgs.specs.declared.command.ReaderUnit.{ReaderUnit}
-use Rattle.mdb_msgs.specs.declared.command.ReaderUnit.TheVariants.{First, Second}
-use Rattle.mdb_msgs.specs.declared.need.Need.TheVariants.{Exactly, Foreign}
+use Rattle.mdb_msgs.specs.declared.need.Need.TheVariants.{Exactly}
 use Rattle.mdb_msgs.specs.Commands.{IsByte, HasBillFields, HasChangerFields, HasReaderFields, Spells, bill_bytes, changer_bytes, reader_address, reader_bytes}
-use Rattle.mdb_msgs.specs.Needs.{bill_need, changer_need, is_for, needed, reader_need}
+use Rattle.mdb_msgs.specs.Needs.{bill_need, changer_need, device_at, need_for, needed, reader_need}
+use Rattle.mdb_msgs.proofs.Addresses.{of_reader}
 
 -- the two-byte number at an index
 abbrev pub number_at : List ℕ → ℕ → ℕ
@@ -150,33 +151,23 @@ to_reader unit first rest address bytes told =
     )
 
 -- for which device they are
-by_device : (first : ℕ) (rest : List ℕ) (changer reader bill second : Bool)
-    → is_for 0x08 first ≡ changer → is_for 0x10 first ≡ reader → is_for 0x30 first ≡ bill
-    → is_for 0x60 first ≡ second → All IsByte (first ∷ rest)
-    → (if changer then changer_need first (slice_get (first ∷ rest) 1) else if reader then
-    reader_need (first % 8) (slice_get (first ∷ rest) 1) else if bill then bill_need first
-    (slice_get (first ∷ rest) 1) else if second then reader_need (first % 8)
-    (slice_get (first ∷ rest) 1) else Foreign) ≡ Exactly (length (first ∷ rest) + 1)
+by_device : (first : ℕ) (rest : List ℕ) (device : Option Device) → device_at first ≡ device
+    → All IsByte (first ∷ rest)
+    → need_for device first (slice_get (first ∷ rest) 1) ≡ Exactly (length (first ∷ rest) + 1)
     → (command : Command) × Spells command (block_of (first ∷ rest))
-by_device first rest true reader bill second for_changer for_reader for_bill for_second bytes told =
+by_device first rest (Some device.Changer) at bytes told =
     let found = changer_spelled (first ∷ rest) bytes told in
     (Changer (changer_at (first ∷ rest)), record { fields = found.0; bytes = ap block_of found.1 })
-by_device first rest false true bill second for_changer for_reader for_bill for_second bytes told =
-    let address : first ≡ 0x10 + first % 8 = grind (arith, nat_tests) in
-    to_reader First first rest address bytes told
-by_device first rest false false true second for_changer for_reader for_bill for_second bytes told =
+by_device first rest (Some device.Bill) at bytes told =
     let found = bill_spelled (first ∷ rest) bytes told in
     (Bill (bill_at (first ∷ rest)), record { fields = found.0; bytes = ap block_of found.1 })
-by_device first rest false false false true for_changer for_reader for_bill for_second bytes told =
-    let address : first ≡ 0x60 + first % 8 = grind (arith, nat_tests) in
-    to_reader Second first rest address bytes told
-by_device first rest false false false false for_changer for_reader for_bill for_second bytes told =
-    cc
+by_device first rest (Some (device.Reader unit)) at bytes told =
+    to_reader unit first rest (of_reader first unit at) bytes told
+by_device first rest None at bytes told = cc
 
 pub spelled : (content : List ℕ) → All IsByte content
     → needed content ≡ Exactly (length content + 1)
     → (command : Command) × Spells command (block_of content)
 spelled [] bytes told = cc
 spelled (first ∷ rest) bytes told =
-    by_device first rest (is_for 0x08 first) (is_for 0x10 first) (is_for 0x30 first)
-    (is_for 0x60 first) refl refl refl refl bytes told
+    by_device first rest (device_at first) refl bytes told

@@ -1,12 +1,14 @@
 -- The table of what first bytes tell: each entry is what the first byte alone tells.
-use Rattle.std.proofs.Common.{◌≡◌, ◌≢◌, ℕ, zero, suc, ◌+◌, ◌<◌, Bool, true, ◌&&◌, nat_eq, get_or, refl, ap, Option, None, inl, inr, arith}
+use Rattle.std.proofs.Common.{◌≡◌, ◌≢◌, ℕ, zero, suc, ◌+◌, ◌<◌, Bool, true, ◌&&◌, nat_eq, get_or, refl, ap, sym, Option, Some, None, inl, inr, arith}
 use Rattle.std.proofs.lemmas.Bool.{cases_eq}
 use Rattle.std.proofs.lemmas.Bool.Decides.{nat_tests}
 use Rattle.std.proofs.lemmas.Grind.{common_steps}
+use Rattle.mdb_msgs.specs.declared.command.Device.{Device}
+use Rattle.mdb_msgs.specs.declared.command.Device.TheVariants.{Changer, Bill, Reader}
 use Rattle.mdb_msgs.specs.declared.need.Need.{Need}
 use Rattle.mdb_msgs.specs.declared.need.Need.TheVariants.{More, Exactly, Foreign, Outside}
 use Rattle.mdb_msgs.specs.declared.first_needs.TheConstants.{FIRST}
-use Rattle.mdb_msgs.specs.Needs.{need}
+use Rattle.mdb_msgs.specs.Needs.{device_at, need, need_for}
 
 -- a number for each need, by which needs are compared
 code : Need → ℕ
@@ -59,6 +61,13 @@ first_at i c is byte =
     rw is (agree_at (λ k. get_or FIRST k More) (λ k. need k None) 256 refl c byte)
 
 -- what the first byte tells of its own, the second leaves so
+by_device : (device : Option Device) (first : ℕ) (second : Option ℕ) (told : Need)
+    → told ≡ need_for device first None → told ≢ More → need_for device first second ≡ told
+by_device (Some Changer) first second told is other = grind (arith, common_steps)
+by_device (Some Bill) first second told is other = grind (arith, common_steps)
+by_device (Some (Reader unit)) first second told is other = grind (arith, common_steps)
+by_device None first second told is other = sym is
+
 pub stays : (first : ℕ) (second : Option ℕ) (told : Need) → told ≡ need first None → told ≢ More
     → need first second ≡ told
-stays first second told is other = grind (arith, common_steps)
+stays first = by_device (device_at first) first

@@ -1,14 +1,16 @@
 -- Which bytes are fronts of commands.
-use Rattle.std.proofs.Common.{◌≡◌, ◌≢◌, ◌<◌, ◌+◌, ◌-◌, ℕ, List, [], ◌∷◌, ◌++◌, length, sum, ◌%◌, replicate, Bool, true, false, if◌then◌else◌, Option, Some, None, All, arith, refl, ap, subst, ◌∙◌, append_assoc, length-append}
+use Rattle.std.proofs.Common.{◌≡◌, ◌≢◌, ◌<◌, ◌+◌, ◌-◌, ℕ, List, [], ◌∷◌, ◌++◌, length, sum, ◌%◌, replicate, Option, Some, None, All, arith, refl, ap, subst, ◌∙◌, append_assoc, length-append}
 use Rattle.std.proofs.lemmas.Grind.{common_steps}
 use Rattle.std.proofs.lemmas.List.{length-replicate}
 use Rattle.std.proofs.lemmas.List.Elements.{All-append, All-replicate}
 use Rattle.mdb_blocks.specs.Block.{block_of}
 use Rattle.mdb_msgs.specs.declared.command.Command.{Command}
+use Rattle.mdb_msgs.specs.declared.command.Device.{Device}
+use Rattle.mdb_msgs.specs.declared.command.Device.TheVariants.{Changer, Bill, Reader}
 use Rattle.mdb_msgs.specs.declared.need.Need.{Need}
 use Rattle.mdb_msgs.specs.declared.need.Need.TheVariants.{More, Exactly, Foreign, Outside}
 use Rattle.mdb_msgs.specs.Commands.{IsByte, Spells}
-use Rattle.mdb_msgs.specs.Needs.{IsOpen, IsShort, IsTold, bill_need, changer_need, is_for, need, needed, reader_need}
+use Rattle.mdb_msgs.specs.Needs.{IsOpen, IsShort, IsTold, bill_need, changer_need, device_at, need, need_for, needed, reader_need}
 use Rattle.mdb_msgs.proofs.Contents.{spelled}
 use Rattle.mdb_msgs.proofs.Prefixes.{first_bytes}
 
@@ -58,34 +60,26 @@ reader_second : (command : ℕ) → reader_need command None ≡ More
     × (2 < count_of (reader_need command (Some 0)))
 reader_second command left = grind (arith, common_steps)
 
-by_device : (first : ℕ) (changer one bill other : Bool)
-    → Widens (λ second. if changer then changer_need first second else if one then reader_need
-    (first % 8) second else if bill then bill_need first second else if other then reader_need
-    (first % 8) second else Foreign)
-by_device first true one bill other = record {
+by_device : (first : ℕ) (device : Option Device) → Widens (need_for device first)
+by_device first (Some Changer) = record {
   by_first = changer_first first;
   by_second = changer_second first;
 }
-by_device first false true bill other = record {
-  by_first = reader_first (first % 8);
-  by_second = reader_second (first % 8);
-}
-by_device first false false true other = record {
+by_device first (Some Bill) = record {
   by_first = bill_first first;
   by_second = bill_second first;
 }
-by_device first false false false true = record {
+by_device first (Some (Reader unit)) = record {
   by_first = reader_first (first % 8);
   by_second = reader_second (first % 8);
 }
-by_device first false false false false = record {
+by_device first None = record {
   by_first = λ second n told. cc told;
   by_second = λ left. cc left;
 }
 
 widens : (first : ℕ) → Widens (need first)
-widens first = by_device first (is_for 0x08 first) (is_for 0x10 first) (is_for 0x30 first)
-    (is_for 0x60 first)
+widens first = by_device first (device_at first)
 
 -- nor do bytes after
 told_after : (bytes more : List ℕ) (n : ℕ) → needed bytes ≡ Exactly n

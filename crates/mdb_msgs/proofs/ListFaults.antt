@@ -1,7 +1,7 @@
 -- The faults of a reader's list, and those of writing it as a reply.
 use Rattle.std.proofs.Common.{◌≡◌, ◌⊎◌, inl, inr, Some, length, refl, sym, subst}
-use Rattle.mdb_msgs.specs.declared.answer.AnswerForm.{AnswerForm}
-use Rattle.mdb_msgs.specs.declared.answer.AnswerForm.TheVariants as form
+use Rattle.mdb_msgs.specs.declared.answer.DataForm.{DataForm}
+use Rattle.mdb_msgs.specs.declared.answer.DataForm.TheVariants as form
 use Rattle.mdb_msgs.specs.declared.command.Command.TheVariants as command
 use Rattle.mdb_msgs.specs.declared.command.ReaderCommand.{ReaderCommand}
 use Rattle.mdb_msgs.specs.declared.command.ReaderUnit.{ReaderUnit}
@@ -12,7 +12,7 @@ use Rattle.mdb_msgs.specs.Answers.{IsDataLength}
 use Rattle.mdb_msgs.specs.Reader.{ReaderMessages, reader_list_bytes, IsListFault}
 use Rattle.mdb_msgs.specs.Replies.{IsWriteFault}
 
-same_form : {a b : AnswerForm} → Some a ≡ Some b → a ≡ b
+same_form : {a b : DataForm} → Some a ≡ Some b → a ≡ b
 same_form e = cc
 
 -- a list that is refused has that fault in writing

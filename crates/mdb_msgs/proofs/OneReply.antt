@@ -1,8 +1,8 @@
 -- For a command, bytes have one reply or one fault.
 use Rattle.std.proofs.Common.{◌≡◌, ◌≢◌, ℕ, ◌+◌, ◌/◌, ◌%◌, ◌<◌, inl, inr, if◌then◌else◌, Bool, true, false, Some, Result, Ok, Err, IfOk, IfErr, List, [], ◌∷◌, ◌++◌, length, refl, sym, ap, ◌∙◌, arith, length-append, subst, sum}
-use Rattle.mdb_blocks.specs.Block.{block_of, IsBlock, IsContent}
-use Rattle.mdb_msgs.specs.declared.answer.AnswerForm.{AnswerForm}
-use Rattle.mdb_msgs.specs.declared.answer.AnswerForm.TheVariants as form
+use Rattle.mdb_blocks.specs.Block.{block_of}
+use Rattle.mdb_msgs.specs.declared.answer.DataForm.{DataForm}
+use Rattle.mdb_msgs.specs.declared.answer.DataForm.TheVariants as form
 use Rattle.mdb_msgs.specs.declared.command.Command.{Command}
 use Rattle.mdb_msgs.specs.declared.fault.MsgFault.{MsgFault}
 use Rattle.mdb_msgs.specs.declared.fault.MsgFault.TheVariants as faults
@@ -198,7 +198,7 @@ reply_has_no_fault command a faults.Answer h (inr kept) =
     cc (told, none)
 
 -- of one form, bytes have one fault
-one_form_fault : (f : AnswerForm) (bytes : List ℕ) (a b : MsgFault) → NoReply f bytes a
+one_form_fault : (f : DataForm) (bytes : List ℕ) (a b : MsgFault) → NoReply f bytes a
     → NoReply f bytes b → a ≡ b
 one_form_fault form.ChangerPoll bytes a b h k = one_changer_stop bytes a b h k
 one_form_fault form.BillPoll bytes a b h k = one_bill_stop bytes a b h k
@@ -269,12 +269,6 @@ pub one_reply : (command : Command) (block : List ℕ) (a b : Reply) → SpellsR
     → SpellsReply command b block → a ≡ b
 one_reply command block a b h k = one_answer command a b h.answers.answer k.answers.answer
     (one_content _ _ (sym h.bytes ∙ k.bytes))
-
--- the bytes of a reply that a block spells are its content
-pub spelled_content : (command : Command) (a : Reply) (block : List ℕ) → SpellsReply command a block
-    → IsBlock block → IsContent (reply_bytes a)
-spelled_content command a block h is =
-    subst IsContent (one_content is.content (reply_bytes a) (sym is.summed ∙ h.bytes)) is.is_content
 
 -- what reading a block found, it spells
 pub found_reply : (command : Command) (block content : List ℕ) (result : Result Reply MsgFault)

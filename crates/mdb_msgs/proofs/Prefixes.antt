@@ -1,14 +1,16 @@
 -- What the first bytes of a block tell of its length.
-use Rattle.std.proofs.Common.{◌≡◌, ◌<◌, ℕ, List, [], ◌∷◌, ◌++◌, rules, length, Some, None, arith, refl, subst, sym}
+use Rattle.std.proofs.Common.{◌≡◌, ◌<◌, ℕ, List, [], ◌∷◌, ◌++◌, rules, length, Option, Some, None, arith, refl, subst, sym}
 use Rattle.std.proofs.lemmas.Grind.{common_steps}
 use Rattle.mdb_msgs.specs.declared.command.Command.{Command}
 use Rattle.mdb_msgs.specs.declared.command.Command.TheVariants.{Changer, Bill, Reader}
 use Rattle.mdb_msgs.specs.declared.command.BillCommand.TheVariants as bill
+use Rattle.mdb_msgs.specs.declared.command.Device.{Device}
+use Rattle.mdb_msgs.specs.declared.command.Device.TheVariants as device
 use Rattle.mdb_msgs.specs.declared.command.ReaderCommand.TheVariants as reader
 use Rattle.mdb_msgs.specs.declared.command.ReaderUnit.TheVariants.{First, Second}
 use Rattle.mdb_msgs.specs.declared.need.Need.TheVariants.{Exactly}
 use Rattle.mdb_msgs.specs.Commands.{Spells}
-use Rattle.mdb_msgs.specs.Needs.{IsTold, TellsLength, need, needed}
+use Rattle.mdb_msgs.specs.Needs.{IsTold, TellsLength, device_at, need_for, needed}
 
 -- the first two bytes of a command's block tell its length
 pub whole : (block : List ℕ) (command : Command) → Spells command block
@@ -24,21 +26,27 @@ whole block (Reader First command) spelled = search rules
 whole block (Reader Second command) spelled = search rules
 
 -- what two bytes tell, the first tells or leaves to the second
-first_byte : (first second n : ℕ) → need first (Some second) ≡ Exactly n
-    → IsTold (need first None) 1 n
-first_byte first second n told = grind (arith, common_steps)
+first_byte : (device : Option Device) (first second n : ℕ)
+    → need_for device first (Some second) ≡ Exactly n → IsTold (need_for device first None) 1 n
+first_byte (Some device.Changer) first second n told = grind (arith, common_steps)
+first_byte (Some device.Bill) first second n told = grind (arith, common_steps)
+first_byte (Some (device.Reader unit)) first second n told = grind (arith, common_steps)
+first_byte None first second n told = cc
 
 -- no block has one byte
-none_alone : (first : ℕ) → need first None ≡ Exactly 1 → ⊥
-none_alone first told = grind (arith, common_steps)
+none_alone : (device : Option Device) (first : ℕ) → need_for device first None ≡ Exactly 1 → ⊥
+none_alone (Some device.Changer) first told = grind (arith, common_steps)
+none_alone (Some device.Bill) first told = grind (arith, common_steps)
+none_alone (Some (device.Reader unit)) first told = grind (arith, common_steps)
+none_alone None first told = cc
 
 pub first_bytes : (prefix rest : List ℕ) (command : Command) → 0 < length prefix
     → Spells command (prefix ++ rest) → TellsLength prefix (length (prefix ++ rest))
 first_bytes [] rest command some spelled = absurd (omega arith)
 first_bytes (first ∷ []) [] command some spelled =
-    absurd (none_alone first (whole (first ∷ []) command spelled))
+    absurd (none_alone (device_at first) first (whole (first ∷ []) command spelled))
 first_bytes (first ∷ []) (second ∷ rest) command some spelled =
-    first_byte first second (length (first ∷ second ∷ rest))
+    first_byte (device_at first) first second (length (first ∷ second ∷ rest))
     (whole (first ∷ second ∷ rest) command spelled)
 first_bytes (first ∷ second ∷ bytes) rest command some spelled =
     let e : needed (first ∷ second ∷ (bytes ++ rest))

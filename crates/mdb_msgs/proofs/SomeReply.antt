@@ -1,8 +1,8 @@
 -- Data bytes are a reply to a command, or have a fault.
 use Rattle.std.proofs.Common.{◌≡◌, ◌≢◌, ℕ, suc, ◌+◌, ◌-◌, ◌*◌, ◌<◌, ◌≤◌, ◌⊎◌, inl, inr, Bool, true, false, Option, Some, None, List, [], ◌∷◌, ◌++◌, length, slice_index, All, refl, sym, ap, subst, ◌∙◌, arith}
 use Rattle.mdb_blocks.specs.Block.{IsContent}
-use Rattle.mdb_msgs.specs.declared.answer.AnswerForm.{AnswerForm}
-use Rattle.mdb_msgs.specs.declared.answer.AnswerForm.TheVariants as form
+use Rattle.mdb_msgs.specs.declared.answer.DataForm.{DataForm}
+use Rattle.mdb_msgs.specs.declared.answer.DataForm.TheVariants as form
 use Rattle.mdb_msgs.specs.declared.command.Command.{Command}
 use Rattle.mdb_msgs.specs.declared.fault.MsgFault.{MsgFault}
 use Rattle.mdb_msgs.specs.declared.fault.MsgFault.TheVariants.{Length, Message, Profile, Answer}
@@ -22,13 +22,13 @@ use Rattle.mdb_msgs.specs.TwoBytes.{two_bytes}
 use Rattle.mdb_msgs.proofs.SomeReading.{split, same_or_not, pair_bytes, Reads, ReadsList, Stops, ReaderStops, changer_reads, bill_reads, reader_reads}
 
 -- bytes are a reply of a form
-record ReadsForm (f : AnswerForm) (bytes : List ℕ) : Type 0 where
+record ReadsForm (f : DataForm) (bytes : List ℕ) : Type 0 where
   reply : Reply
   form : form_of_reply reply ≡ f
   fields : HasFields reply
   spelled : bytes ≡ reply_bytes reply
 
-abbrev NoReading : AnswerForm → List ℕ → Type 0
+abbrev NoReading : DataForm → List ℕ → Type 0
 NoReading f bytes = NoReply f bytes Message ⊎ NoReply f bytes Profile
 
 setup_of_changer : (bytes : List ℕ) → All IsByte bytes → 7 ≤ length bytes → (setup : ChangerSetup)
@@ -156,7 +156,7 @@ stacker_of (a ∷ b ∷ []) low two = by (split 128 a)
     )
 stacker_of bytes low two = absurd (omega arith)
 
-reads_form : (f : AnswerForm) (bytes : List ℕ) → All IsByte bytes → IsDataLength f (length bytes)
+reads_form : (f : DataForm) (bytes : List ℕ) → All IsByte bytes → IsDataLength f (length bytes)
     → ReadsForm f bytes ⊎ NoReading f bytes
 reads_form form.ChangerSetup bytes low count =
     let found = setup_of_changer bytes low count.0 in
@@ -239,7 +239,7 @@ reads_form form.Reader bytes low count = by (reader_reads bytes count.1 low)
     by (inr stops) = inr stops
 
 -- whether a form allows a number
-allowed_or_not : (f : AnswerForm) (count : ℕ) → IsDataLength f count ⊎ (IsDataLength f count → ⊥)
+allowed_or_not : (f : DataForm) (count : ℕ) → IsDataLength f count ⊎ (IsDataLength f count → ⊥)
 allowed_or_not f count = by (split (lengths_of f).0 count) (split (suc (lengths_of f).1) count)
   where
     by : (count < (lengths_of f).0) ⊎ ((lengths_of f).0 ≤ count) → (count < suc (lengths_of f).1)
@@ -266,10 +266,10 @@ by_keeping command bytes found answer spelled (inl kept) =
 by_keeping command bytes found answer spelled (inr free) =
     inl (found, record { answer = answer; kept = free }, spelled)
 
-by_reading : (command : Command) (bytes : List ℕ) (f : AnswerForm) → form_of command ≡ Some f
+by_reading : (command : Command) (bytes : List ℕ) (f : DataForm) → form_of command ≡ Some f
     → IsDataLength f (length bytes) → ReadsForm f bytes ⊎ NoReading f bytes → Decided command bytes
 by_reading command bytes f e count (inl read) =
-    let P : AnswerForm → Type 0 = λ g. IsDataLength g (length bytes) in
+    let P : DataForm → Type 0 = λ g. IsDataLength g (length bytes) in
     let Q : List ℕ → Type 0 = λ x. IsDataLength (form_of_reply read.reply) (length x) in
     let answer : IsAnswerTo command read.reply = record {
       form = e ∙ ap Some (sym read.form);
@@ -281,14 +281,14 @@ by_reading command bytes f e count (inl read) =
 by_reading command bytes f e count (inr (inl none)) = inr (Message, (f, e, count, none))
 by_reading command bytes f e count (inr (inr none)) = inr (Profile, (f, e, count, none))
 
-by_length : (command : Command) (bytes : List ℕ) → All IsByte bytes → (f : AnswerForm)
+by_length : (command : Command) (bytes : List ℕ) → All IsByte bytes → (f : DataForm)
     → form_of command ≡ Some f → IsDataLength f (length bytes) ⊎ (IsDataLength f (length bytes) → ⊥)
     → Decided command bytes
 by_length command bytes low f e (inl count) = by_reading command bytes f e count
     (reads_form f bytes low count)
 by_length command bytes low f e (inr wrong) = inr (Length, (f, e, wrong))
 
-by_form : (command : Command) (bytes : List ℕ) → All IsByte bytes → (asked : Option AnswerForm)
+by_form : (command : Command) (bytes : List ℕ) → All IsByte bytes → (asked : Option DataForm)
     → form_of command ≡ asked → Decided command bytes
 by_form command bytes low None e = inr (Answer, inl e)
 by_form command bytes low (Some f) e = by_length command bytes low f e
@@ -298,7 +298,7 @@ pub decided : (command : Command) (bytes : List ℕ) → IsContent bytes → Dec
 decided command bytes content = by_form command bytes content.in_range (form_of command) refl
 
 -- no form allows less than one byte or more than 35
-pub one_to_35 : (f : AnswerForm) (count : ℕ) → IsDataLength f count → (1 ≤ count) × (count ≤ 35)
+pub one_to_35 : (f : DataForm) (count : ℕ) → IsDataLength f count → (1 ≤ count) × (count ≤ 35)
 one_to_35 form.ChangerSetup count h = (omega (arith, h.0), omega (arith, h.1))
 one_to_35 form.TubeStatus count h = (omega (arith, h.0), omega (arith, h.1))
 one_to_35 form.ChangerPoll count h = (omega (arith, h.0), omega (arith, h.1))

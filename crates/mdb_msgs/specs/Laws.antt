@@ -1,6 +1,6 @@
 -- Laws about commands and replies.
 use Rattle.std.specs.Prelude.{◌≡◌, ◌≢◌, ◌<◌, ◌≤◌, ◌⊎◌, ◌++◌, List, [], ℕ, length, All}
-use Rattle.mdb_blocks.specs.Block.{IsBlock, IsContent}
+use Rattle.mdb_blocks.specs.Block.{IsContent}
 use Rattle.mdb_msgs.specs.declared.command.Command.{Command}
 use Rattle.mdb_msgs.specs.declared.command.Command.TheVariants as command
 use Rattle.mdb_msgs.specs.declared.command.ReaderCommand.{ReaderCommand}
@@ -13,8 +13,7 @@ use Rattle.mdb_msgs.specs.declared.reply.Reply.TheVariants as reply
 use Rattle.mdb_msgs.specs.Answers.{HasDataAnswer}
 use Rattle.mdb_msgs.specs.Commands.{IsByte, Spells}
 use Rattle.mdb_msgs.specs.Needs.{IsOpen}
-use Rattle.mdb_msgs.specs.Reader.{ReaderMessages, reader_list_bytes, IsListFault, IsReaderList}
-use Rattle.mdb_msgs.specs.ReaderBytes.{messages_of}
+use Rattle.mdb_msgs.specs.Reader.{ReaderMessages, IsListFault}
 use Rattle.mdb_msgs.specs.declared.setups.Setups.{Setups}
 use Rattle.mdb_msgs.specs.SetupData.{IsSetupOf}
 use Rattle.mdb_msgs.specs.Replies.{reply_bytes, IsReplyTo, IsReadFault, IsWriteFault, SpellsReply}
@@ -49,12 +48,6 @@ abbrev pub DataFitsABlock : Type 0
 DataFitsABlock =
     (command : Command) (count : ℕ) → HasDataAnswer command count → (1 ≤ count) × (count ≤ 35)
 
--- the data bytes of a reply that a block spells are those that the block carries
-abbrev pub SpelledReplyIsContent : Type 0
-SpelledReplyIsContent =
-    (command : Command) (reply : Reply) (block : List ℕ)
-    → SpellsReply command reply block → IsBlock block → IsContent (reply_bytes reply)
-
 -- data bytes are a reply to a command, or have a fault
 abbrev pub DataIsAReplyOrHasAFault : Type 0
 DataIsAReplyOrHasAFault =
@@ -75,18 +68,6 @@ BytesHaveOneFault =
     (command : Command) (bytes : List ℕ) (one other : MsgFault)
     → IsReadFault command bytes one → IsReadFault command bytes other → one ≡ other
 
--- a reply has at most one fault in writing
-abbrev pub ReplyHasOneWriteFault : Type 0
-ReplyHasOneWriteFault =
-    (command : Command) (reply : Reply) (one other : MsgFault)
-    → IsWriteFault command reply one → IsWriteFault command reply other → one ≡ other
-
--- a reply that may answer the command has none
-abbrev pub WrittenHasNoFault : Type 0
-WrittenHasNoFault =
-    (command : Command) (reply : Reply) (fault : MsgFault)
-    → IsReplyTo command reply → IsWriteFault command reply fault → ⊥
-
 -- why messages and texts are no list is the fault in writing them as a reply to a reader's command
 abbrev pub ListFaultIsAWriteFault : Type 0
 ListFaultIsAWriteFault =
@@ -99,11 +80,6 @@ WriteFaultIsAListFault =
     (unit : ReaderUnit) (asked : ReaderCommand) (list : ReaderMessages) (fault : MsgFault)
     → IsWriteFault (command.Reader unit asked) (reply.Reader list) fault
     → (fault ≡ Answer) ⊎ IsListFault list fault
-
--- a reader's answer is what its bytes are read as
-abbrev pub AnswerIsReadFromItsBytes : Type 0
-AnswerIsReadFromItsBytes =
-    (list : ReaderMessages) → IsReaderList list → messages_of (reader_list_bytes list) ≡ list
 
 -- with a device's answer to SETUP, one thing is known
 abbrev pub AnswerTellsOneSetup : Type 0

@@ -16,3 +16,4 @@ pub mod SetupData
 pub mod Setups
 pub mod TwoBytes
 pub mod inner
+pub mod shared

@@ -1,6 +1,7 @@
 -- What the first bytes of a block of the controller tell (MDB/ICP 4.3, commands of the four
 -- devices; what is outside and what is foreign, this profile).
 use Rattle.std.specs.Prelude.{◌≡◌, ◌<◌, ℕ, length, ◌/◌, ◌%◌, ◌==◌, Bool, false, List, Option, Some, None, slice_index, slice_get, if◌then◌else◌}
+use Rattle.mdb_msgs.specs.declared.command.Device.{Device}
 use Rattle.mdb_msgs.specs.declared.command.Device.TheVariants as device
 use Rattle.mdb_msgs.specs.declared.command.ReaderUnit.TheVariants.{First, Second}
 use Rattle.mdb_msgs.specs.declared.device_set.DeviceSet.{DeviceSet}
@@ -106,14 +107,25 @@ reader_need command second =
 abbrev pub is_for : ℕ → ℕ → Bool
 is_for address first = first / 8 == address / 8
 
--- blocks of the controller, by their first byte and their second, where there is one
+-- the device that a block is for, by its first byte
+abbrev pub device_at : ℕ → Option Device
+device_at first =
+    if is_for 0x08 first then Some device.Changer
+    else if is_for 0x10 first then Some (device.Reader First)
+    else if is_for 0x30 first then Some device.Bill
+    else if is_for 0x60 first then Some (device.Reader Second)
+    else None
+
+-- blocks for a device, by their first byte and their second, where there is one
+abbrev pub need_for : Option Device → ℕ → Option ℕ → Need
+need_for (Some device.Changer) first second = changer_need first second
+need_for (Some device.Bill) first second = bill_need first second
+need_for (Some (device.Reader unit)) first second = reader_need (first % 8) second
+need_for None first second = Foreign
+
+-- blocks of the controller, likewise
 abbrev pub need : ℕ → Option ℕ → Need
-need first second =
-    if is_for 0x08 first then changer_need first second
-    else if is_for 0x10 first then reader_need (first % 8) second
-    else if is_for 0x30 first then bill_need first second
-    else if is_for 0x60 first then reader_need (first % 8) second
-    else Foreign
+need first second = need_for (device_at first) first second
 
 -- what a block that begins with these bytes needs
 abbrev pub needed : List ℕ → Need
@@ -122,11 +134,7 @@ needed prefix = need (slice_index prefix 0) (slice_get prefix 1)
 -- whether a block that begins with this byte is to a device of a set
 abbrev pub is_to_one_of : DeviceSet → ℕ → Bool
 is_to_one_of set first =
-    if is_for 0x08 first then has set device.Changer
-    else if is_for 0x10 first then has set (device.Reader First)
-    else if is_for 0x30 first then has set device.Bill
-    else if is_for 0x60 first then has set (device.Reader Second)
-    else false
+    elim (device_at first) [ Some device ↦ has set device | None ↦ false ]
 
 -- The same where devices are left out: whatever is said to one of them is foreign, by its first
 -- byte.

@@ -2,8 +2,8 @@
 use Rattle.std.specs.Prelude.{◌≡◌, ◌≢◌, ℕ, ◌⊎◌, Bool, true, false, List, length, Some, None, slice_index}
 use Rattle.std.specs.List.{flat_map, list_any, AllByRecursion}
 use Rattle.mdb_blocks.specs.Block.{block_of}
-use Rattle.mdb_msgs.specs.declared.answer.AnswerForm.{AnswerForm}
-use Rattle.mdb_msgs.specs.declared.answer.AnswerForm.TheVariants as form
+use Rattle.mdb_msgs.specs.declared.answer.DataForm.{DataForm}
+use Rattle.mdb_msgs.specs.declared.answer.DataForm.TheVariants as form
 use Rattle.mdb_msgs.specs.declared.command.Command.{Command}
 use Rattle.mdb_msgs.specs.declared.fault.MsgFault.{MsgFault}
 use Rattle.mdb_msgs.specs.declared.fault.MsgFault.TheVariants as faults
@@ -17,7 +17,7 @@ use Rattle.mdb_msgs.specs.Reader.{is_kept, reader_list_bytes, IsReaderList, Read
 use Rattle.mdb_msgs.specs.Setup.{changer_setup_bytes, tube_status_bytes, bill_setup_bytes, stacker_bytes, IsStacker}
 
 -- the form of a reply
-abbrev pub form_of_reply : Reply → AnswerForm
+abbrev pub form_of_reply : Reply → DataForm
 form_of_reply (reply.ChangerSetup setup) = form.ChangerSetup
 form_of_reply (reply.TubeStatus status) = form.TubeStatus
 form_of_reply (reply.ChangerPoll list) = form.ChangerPoll
@@ -73,7 +73,7 @@ pub record SpellsReply (command : Command) (reply : Reply) (block : List ℕ) : 
 
 -- why bytes of an allowed number are no reply of this form: the leftmost message that can't be
 -- taken, or a byte for the escrow that is neither FF nor 00
-abbrev pub NoReply : AnswerForm → List ℕ → MsgFault → Type 0
+abbrev pub NoReply : DataForm → List ℕ → MsgFault → Type 0
 NoReply form.ChangerPoll bytes fault =
     StopsAt changer_msg_bytes IsChangerMsg NoChangerMsg bytes fault
 NoReply form.BillPoll bytes fault = StopsAt bill_msg_bytes IsBillMsg NoBillMsg bytes fault
@@ -85,7 +85,7 @@ NoReply _ bytes fault = ⊥
 -- no reply of the command's form has these bytes, though their number is allowed
 abbrev pub IsNoReplyTo : Command → List ℕ → MsgFault → Type 0
 IsNoReplyTo command bytes fault =
-    (form : AnswerForm) × (form_of command ≡ Some form) × IsDataLength form (length bytes)
+    (form : DataForm) × (form_of command ≡ Some form) × IsDataLength form (length bytes)
     × NoReply form bytes fault
 
 -- they are a reply of the command's form, which tells of sessions and sales though the command may
@@ -98,7 +98,7 @@ IsKeptFault command bytes =
 -- why data bytes are no reply to a command, in the order in which the checks are made
 abbrev pub IsReadFault : Command → List ℕ → MsgFault → Type 0
 IsReadFault command bytes faults.Length =
-    (form : AnswerForm) × (form_of command ≡ Some form) × (IsDataLength form (length bytes) → ⊥)
+    (form : DataForm) × (form_of command ≡ Some form) × (IsDataLength form (length bytes) → ⊥)
 IsReadFault command bytes faults.Message = IsNoReplyTo command bytes faults.Message
 IsReadFault command bytes faults.Profile = IsNoReplyTo command bytes faults.Profile
 IsReadFault command bytes faults.Answer =
@@ -107,10 +107,10 @@ IsReadFault command bytes faults.Answer =
 -- why a reply to a command has no block, in the order in which the checks are made
 abbrev pub IsWriteFault : Command → Reply → MsgFault → Type 0
 IsWriteFault command reply faults.Length =
-    (form : AnswerForm) × (form_of command ≡ Some form)
+    (form : DataForm) × (form_of command ≡ Some form)
     × (IsDataLength form (length (reply_bytes reply)) → ⊥)
 IsWriteFault command reply faults.Message =
-    (form : AnswerForm) × (form_of command ≡ Some form)
+    (form : DataForm) × (form_of command ≡ Some form)
     × IsDataLength form (length (reply_bytes reply))
     × ((form_of_reply reply ≢ form) ⊎ (HasFields reply → ⊥))
 IsWriteFault command reply faults.Profile = ⊥

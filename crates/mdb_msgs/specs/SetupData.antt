@@ -1,6 +1,6 @@
 -- What a device's answer to SETUP tells of how it is set up (MDB/ICP 4.3, coin changer, bill
 -- validator and cashless device; that it may be known from an earlier recording, this profile).
-use Rattle.std.specs.Prelude.{◌≡◌, ℕ, List, [], ◌∷◌, Option, Some, None, is_some, option_map}
+use Rattle.std.specs.Prelude.{◌≡◌, ℕ, List, [], ◌∷◌, Option, Some, None, option_map}
 use Rattle.mdb_blocks.specs.Block.{IsBlock}
 use Rattle.mdb_msgs.specs.declared.command.BillCommand.TheVariants as bill
 use Rattle.mdb_msgs.specs.declared.command.ChangerCommand.TheVariants as changer

@@ -7,7 +7,7 @@ use crate::command::{BillCommand, ChangerCommand, Command, ReaderCommand};
 
 /// The form of a data answer, by the command that it answers.
 #[derive(Clone, Copy, PartialEq, Eq, Debug)]
-pub enum AnswerForm {
+pub enum DataForm {
     /// To the changer's SETUP.
     ChangerSetup,
     /// To TUBE STATUS.
@@ -31,15 +31,15 @@ pub enum AnswerForm {
     Reader,
 }
 
-impl AnswerForm {
+impl DataForm {
     /// The form of the data answers to a command. `None` if it can't have any.
     pub fn of(command: &Command) -> Option<Self>
         ensures { result ≡ form_of command.now }
     {
         match command {
-            Command::Changer(command) => AnswerForm::of_changer(command),
-            Command::Bill(command) => AnswerForm::of_bill(command),
-            Command::Reader(_, _) => Some(AnswerForm::Reader),
+            Command::Changer(command) => DataForm::of_changer(command),
+            Command::Bill(command) => DataForm::of_bill(command),
+            Command::Reader(_, _) => Some(DataForm::Reader),
         }
     }
 
@@ -47,10 +47,10 @@ impl AnswerForm {
         ensures { result ≡ changer_form_of command.now }
     {
         match command {
-            ChangerCommand::Setup => Some(AnswerForm::ChangerSetup),
-            ChangerCommand::TubeStatus => Some(AnswerForm::TubeStatus),
-            ChangerCommand::Poll => Some(AnswerForm::ChangerPoll),
-            ChangerCommand::Identification => Some(AnswerForm::ChangerIdentification),
+            ChangerCommand::Setup => Some(DataForm::ChangerSetup),
+            ChangerCommand::TubeStatus => Some(DataForm::TubeStatus),
+            ChangerCommand::Poll => Some(DataForm::ChangerPoll),
+            ChangerCommand::Identification => Some(DataForm::ChangerIdentification),
             _ => None,
         }
     }
@@ -59,12 +59,12 @@ impl AnswerForm {
         ensures { result ≡ bill_form_of command.now }
     {
         match command {
-            BillCommand::Setup => Some(AnswerForm::BillSetup),
-            BillCommand::Poll => Some(AnswerForm::BillPoll),
-            BillCommand::Stacker => Some(AnswerForm::Stacker),
-            BillCommand::Identification => Some(AnswerForm::BillIdentification),
+            BillCommand::Setup => Some(DataForm::BillSetup),
+            BillCommand::Poll => Some(DataForm::BillPoll),
+            BillCommand::Stacker => Some(DataForm::Stacker),
+            BillCommand::Identification => Some(DataForm::BillIdentification),
             BillCommand::IdentificationWithOptions => {
-                Some(AnswerForm::BillIdentificationWithOptions)
+                Some(DataForm::BillIdentificationWithOptions)
             }
             _ => None,
         }
@@ -79,16 +79,14 @@ impl AnswerForm {
         ensures { result ≡ lengths_of self }
     {
         match self {
-            AnswerForm::ChangerSetup => (7, 23),
-            AnswerForm::TubeStatus => (2, 18),
-            AnswerForm::ChangerPoll | AnswerForm::BillPoll => (1, 16),
-            AnswerForm::ChangerIdentification | AnswerForm::BillIdentificationWithOptions => (
-                33, 33,
-            ),
-            AnswerForm::BillSetup => (11, 27),
-            AnswerForm::Stacker => (2, 2),
-            AnswerForm::BillIdentification => (29, 29),
-            AnswerForm::Reader => (1, 35),
+            DataForm::ChangerSetup => (7, 23),
+            DataForm::TubeStatus => (2, 18),
+            DataForm::ChangerPoll | DataForm::BillPoll => (1, 16),
+            DataForm::ChangerIdentification | DataForm::BillIdentificationWithOptions => (33, 33),
+            DataForm::BillSetup => (11, 27),
+            DataForm::Stacker => (2, 2),
+            DataForm::BillIdentification => (29, 29),
+            DataForm::Reader => (1, 35),
         }
     }
 
@@ -106,14 +104,14 @@ impl Command {
     pub fn may_have_data(&self) -> bool
         ensures { IsTrue result ↔ MayHaveData self.now }
     {
-        AnswerForm::of(self).is_some()
+        DataForm::of(self).is_some()
     }
 
     /// Whether so many data bytes, without their sum, may answer the command.
     pub fn has_data_answer(&self, count: usize) -> bool
         ensures { IsTrue result ↔ HasDataAnswer self.now count }
     {
-        match AnswerForm::of(self) {
+        match DataForm::of(self) {
             Some(form) => form.allows(count),
             None => false,
         }

@@ -8,7 +8,7 @@ ghost use Rattle.mdb_msgs.specs.declared.device_set.DeviceSet.{DeviceSet};
 ghost use Rattle.mdb_msgs.specs.Commands.{IsByte, Spells, device_of};
 ghost use Rattle.mdb_msgs.specs.DeviceSets.{has};
 ghost use Rattle.mdb_msgs.specs.Needs.{TellsLength, is_to_one_of, needed};
-ghost use Rattle.mdb_msgs.specs.Laws.{OpenIsAFront, FrontIsOpen, BlockHasOneReply, ReplyHasItsLength, DataFitsABlock, SpelledReplyIsContent, DataIsAReplyOrHasAFault, ReplyHasNoFault, BytesHaveOneFault, ReplyHasOneWriteFault, WrittenHasNoFault, ListFaultIsAWriteFault, WriteFaultIsAListFault, AnswerIsReadFromItsBytes, AnswerTellsOneSetup};
+ghost use Rattle.mdb_msgs.specs.Laws.{OpenIsAFront, FrontIsOpen, BlockHasOneReply, ReplyHasItsLength, DataFitsABlock, DataIsAReplyOrHasAFault, ReplyHasNoFault, BytesHaveOneFault, ListFaultIsAWriteFault, WriteFaultIsAListFault, AnswerTellsOneSetup};
 
 /// A block has at most one command.
 pub fn block_has_one_command()
@@ -65,11 +65,6 @@ pub fn reply_has_its_length()
     ensures fits { DataFitsABlock }
 {}
 
-/// The data bytes of a reply that a block spells are bytes.
-pub fn spelled_reply_is_content()
-    ensures { SpelledReplyIsContent }
-{}
-
 /// Data bytes are a reply to a command, or have a fault.
 pub fn data_is_a_reply_or_has_a_fault()
     ensures { DataIsAReplyOrHasAFault }
@@ -85,27 +80,12 @@ pub fn bytes_have_one_fault()
     ensures { BytesHaveOneFault }
 {}
 
-/// For a command, a reply has at most one fault in writing.
-pub fn reply_has_one_write_fault()
-    ensures { ReplyHasOneWriteFault }
-{}
-
-/// A reply that may answer a command has no fault in writing.
-pub fn written_has_no_fault()
-    ensures { WrittenHasNoFault }
-{}
-
 /// The fault of a refused reader's list is the fault that these messages have in writing, as a
 /// reply to any command of a reader. They have no other there, except `Answer`, which depends on
 /// the command alone.
 pub fn list_fault_is_a_write_fault()
     ensures same { ListFaultIsAWriteFault }
     ensures only { WriteFaultIsAListFault }
-{}
-
-/// The bytes of a reader's answer are read as that answer.
-pub fn answer_is_read_from_its_bytes()
-    ensures { AnswerIsReadFromItsBytes }
 {}
 
 /// A device's answer to SETUP reports one setup of it.

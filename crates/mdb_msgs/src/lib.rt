@@ -24,7 +24,7 @@ mod setup_data;
 mod setups;
 mod two_bytes;
 
-pub use answer::AnswerForm;
+pub use answer::DataForm;
 pub use command::{BillCommand, ChangerCommand, Command, Device, ReaderCommand, ReaderUnit};
 pub use command_reading::{command_of, polled, read_command};
 pub use command_writing::write_command;

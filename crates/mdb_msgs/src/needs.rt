@@ -1,6 +1,6 @@
 //! The length of a controller's block, from its first bytes.
 
-ghost use Rattle.std.specs.Prelude.{◌≡◌, ◌<◌, ◌≤◌, length};
+ghost use Rattle.std.specs.Prelude.{◌≡◌, ◌<◌, length};
 ghost use Rattle.mdb_msgs.specs.Needs.{bill_need, changer_need, needed, needed_without, reader_need};
 
 use crate::device_set::DeviceSet;

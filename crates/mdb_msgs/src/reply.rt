@@ -13,7 +13,7 @@ mod list;
 pub mod reader;
 pub mod setup;
 
-use crate::answer::{AnswerForm, may_tell_of_sales};
+use crate::answer::{DataForm, may_tell_of_sales};
 use crate::command::Command;
 use crate::fault::MsgFault;
 use arrayvec::ArrayVec;
@@ -73,20 +73,20 @@ impl Reply {
     }
 
     /// The form of answer that it is.
-    fn form(&self) -> AnswerForm
+    fn form(&self) -> DataForm
         ensures { result ≡ form_of_reply self.now }
     {
         match self {
-            Reply::ChangerSetup(_) => AnswerForm::ChangerSetup,
-            Reply::TubeStatus(_) => AnswerForm::TubeStatus,
-            Reply::ChangerPoll(_) => AnswerForm::ChangerPoll,
-            Reply::ChangerIdentification(_) => AnswerForm::ChangerIdentification,
-            Reply::BillSetup(_) => AnswerForm::BillSetup,
-            Reply::BillPoll(_) => AnswerForm::BillPoll,
-            Reply::Stacker(_) => AnswerForm::Stacker,
-            Reply::BillIdentification(_) => AnswerForm::BillIdentification,
-            Reply::BillIdentificationWithOptions(_) => AnswerForm::BillIdentificationWithOptions,
-            Reply::Reader(_) => AnswerForm::Reader,
+            Reply::ChangerSetup(_) => DataForm::ChangerSetup,
+            Reply::TubeStatus(_) => DataForm::TubeStatus,
+            Reply::ChangerPoll(_) => DataForm::ChangerPoll,
+            Reply::ChangerIdentification(_) => DataForm::ChangerIdentification,
+            Reply::BillSetup(_) => DataForm::BillSetup,
+            Reply::BillPoll(_) => DataForm::BillPoll,
+            Reply::Stacker(_) => DataForm::Stacker,
+            Reply::BillIdentification(_) => DataForm::BillIdentification,
+            Reply::BillIdentificationWithOptions(_) => DataForm::BillIdentificationWithOptions,
+            Reply::Reader(_) => DataForm::Reader,
         }
     }
 
@@ -164,7 +164,7 @@ fn array_of<const N: usize>(bytes: &[u8]) -> [u8; N]
 
 /// The reply of this form that these bytes are.
 #[inline(always)]
-fn read_form(form: AnswerForm, bytes: &[u8]) -> Result<Reply, MsgFault>
+fn read_form(form: DataForm, bytes: &[u8]) -> Result<Reply, MsgFault>
     requires { IsDataLength form (length bytes.now) }
     ensures form { IfOk result (λ reply. form_of_reply reply ≡ form) }
     ensures fields { IfOk result HasFields }
@@ -172,18 +172,18 @@ fn read_form(form: AnswerForm, bytes: &[u8]) -> Result<Reply, MsgFault>
     ensures err { IfErr result (NoReply form bytes.now) }
 {
     Ok(match form {
-        AnswerForm::ChangerSetup => Reply::ChangerSetup(setup::read_changer_setup(bytes)),
-        AnswerForm::TubeStatus => Reply::TubeStatus(setup::read_tube_status(bytes)),
-        AnswerForm::ChangerPoll => Reply::ChangerPoll(changer::read_messages(bytes)?),
-        AnswerForm::ChangerIdentification => Reply::ChangerIdentification(array_of(bytes)),
-        AnswerForm::BillSetup => Reply::BillSetup(setup::read_bill_setup(bytes)?),
-        AnswerForm::BillPoll => Reply::BillPoll(bill::read_messages(bytes)?),
-        AnswerForm::Stacker => Reply::Stacker(setup::read_stacker(bytes)),
-        AnswerForm::BillIdentification => Reply::BillIdentification(array_of(bytes)),
-        AnswerForm::BillIdentificationWithOptions => {
+        DataForm::ChangerSetup => Reply::ChangerSetup(setup::read_changer_setup(bytes)),
+        DataForm::TubeStatus => Reply::TubeStatus(setup::read_tube_status(bytes)),
+        DataForm::ChangerPoll => Reply::ChangerPoll(changer::read_messages(bytes)?),
+        DataForm::ChangerIdentification => Reply::ChangerIdentification(array_of(bytes)),
+        DataForm::BillSetup => Reply::BillSetup(setup::read_bill_setup(bytes)?),
+        DataForm::BillPoll => Reply::BillPoll(bill::read_messages(bytes)?),
+        DataForm::Stacker => Reply::Stacker(setup::read_stacker(bytes)),
+        DataForm::BillIdentification => Reply::BillIdentification(array_of(bytes)),
+        DataForm::BillIdentificationWithOptions => {
             Reply::BillIdentificationWithOptions(array_of(bytes))
         }
-        AnswerForm::Reader => Reply::Reader(reader::read_messages(bytes)?),
+        DataForm::Reader => Reply::Reader(reader::read_messages(bytes)?),
     })
 }
 
@@ -210,7 +210,7 @@ fn read_content(command: &Command, content: &[u8]) -> Result<Reply, MsgFault>
     ensures spelled { IfOk result (λ reply. content.now ≡ reply_bytes reply) }
     ensures fault { IfErr result (IsReadFault command.now content.now) }
 {
-    let form = AnswerForm::of(command).ok_or(MsgFault::Answer)?;
+    let form = DataForm::of(command).ok_or(MsgFault::Answer)?;
     if !form.allows(content.len()) {
         return Err(MsgFault::Length);
     }
@@ -286,7 +286,7 @@ fn written_bytes(command: &Command, reply: &Reply) -> Result<Bytes, MsgFault>
     ensures bytes { IfOk result (λ bytes. bytes.items ≡ reply_bytes reply.now) }
     ensures fault { IfErr result (IsWriteFault command.now reply.now) }
 {
-    let form = AnswerForm::of(command).ok_or(MsgFault::Answer)?;
+    let form = DataForm::of(command).ok_or(MsgFault::Answer)?;
     if !form.allows(reply.count()) {
         return Err(MsgFault::Length);
     }

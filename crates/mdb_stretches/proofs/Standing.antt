@@ -21,7 +21,7 @@ use Rattle.mdb_stretches.specs.declared.summary.Summary.{Summary}
 use Rattle.mdb_stretches.specs.declared.surveyor.Surveyor.{Surveyor}
 use Rattle.mdb_stretches.specs.declared.told.Told.{Told}
 use Rattle.mdb_stretches.specs.declared.totals.Totals.{Totals}
-use Rattle.mdb_stretches.specs.Counts.{counts_of, counts_of_faults}
+use Rattle.mdb_stretches.specs.Counts.{counts_of_ended, counts_of_faults}
 use Rattle.mdb_stretches.specs.Stretches.{IsSurvey, LeadFrom, StretchStart, first_place, place_after, scope_after, stretch_at}
 use Rattle.mdb_stretches.specs.Surveyor.{StandsFor}
 use Rattle.mdb_stretches.specs.Told.{learnt_if, told_after}
@@ -134,7 +134,7 @@ same_stretch n m f g l k s t report number first last so =
     ∙ ap (λ x. made m g x s report) last ∙ ap (λ x. made m g k x report) so
 
 -- as many faults were counted as there are
-counted : (counts : FaultCounts) (ended : List Ended) → counts ≡ counts_of ended
+counted : (counts : FaultCounts) (ended : List Ended) → counts ≡ counts_of_ended ended
     → counts.all ≡ length ended
 counted counts ended is =
     ap (λ (c : FaultCounts). c.all) is ∙ length-map ended (λ (it : Ended). it.fault)
@@ -142,7 +142,7 @@ counted counts ended is =
 -- a stretch as the surveyor tells it is that of where it begins
 pub stretch_told : (scope : Scope) (rows : List Event) (ended : List Ended) (running : List Event)
     (place : StretchStart) (counts : FaultCounts) (before : ℕ) (taken : Scope) (report : Report)
-    → LeadFrom (first_place scope) rows ended running place → counts ≡ counts_of ended
+    → LeadFrom (first_place scope) rows ended running place → counts ≡ counts_of_ended ended
     → before ≡ place.rows → taken ≡ place.scope
     → made (counts.all + 1) (before + 1) (before + report.rows) taken report
     ≡ stretch_at place report

@@ -44,8 +44,8 @@ counts_of_faults faults = record {
 }
 
 -- those of a survey
-abbrev pub counts_of : List Ended → FaultCounts
-counts_of ended = counts_of_faults (map (λ it. it.fault) ended)
+abbrev pub counts_of_ended : List Ended → FaultCounts
+counts_of_ended ended = counts_of_faults (map (λ it. it.fault) ended)
 
 -- No count is greater. This serves private functions.
 pub record AreFew (most : ℕ) (counts : FaultCounts) : Type 0 where

@@ -130,7 +130,7 @@ LeadFrom start rows (ended ∷ earlier) running place =
     GoesOnAfter (λ front before from. LeadFrom start front earlier before from) rows ended running
     place
 
--- A survey of the rows of a recording that is taken so: its faults, each with the stretch that it
+-- A survey of the rows of a recording with this scope: its faults, each with the stretch that it
 -- ended, and the stretch that runs at the end.
 pub record IsSurvey (scope : Scope) (rows : List Event) (ended : List Ended) (last : Stretch)
     : Type 0 where

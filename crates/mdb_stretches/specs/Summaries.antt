@@ -1,9 +1,9 @@
--- What a survey comes to (this profile).
+-- The result of a survey (this profile).
 use Rattle.std.specs.Prelude.{List}
 use Rattle.mdb_stretches.specs.declared.stretch.Ended.{Ended}
 use Rattle.mdb_stretches.specs.declared.stretch.Stretch.{Stretch}
 use Rattle.mdb_stretches.specs.declared.summary.Summary.{Summary}
-use Rattle.mdb_stretches.specs.Counts.{counts_of}
+use Rattle.mdb_stretches.specs.Counts.{counts_of_ended}
 use Rattle.mdb_stretches.specs.Totals.{totals_of, with_report}
 
 -- the totals of all stretches, the devices that are left out at the end, and how many faults there
@@ -12,5 +12,5 @@ abbrev pub summary_of : List Ended → Stretch → Summary
 summary_of ended last = record {
   totals = with_report (totals_of ended) last.report;
   without = last.scope.without;
-  faults = counts_of ended;
+  faults = counts_of_ended ended;
 }

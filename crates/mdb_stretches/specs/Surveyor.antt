@@ -6,7 +6,7 @@ use Rattle.mdb_bus.specs.ActLists.{IsActList, Piece, acts_of}
 use Rattle.mdb_follow.specs.Follower as follow
 use Rattle.mdb_stretches.specs.declared.stretch.Ended.{Ended}
 use Rattle.mdb_stretches.specs.declared.surveyor.Surveyor.{Surveyor}
-use Rattle.mdb_stretches.specs.Counts.{counts_of}
+use Rattle.mdb_stretches.specs.Counts.{counts_of_ended}
 use Rattle.mdb_stretches.specs.Stretches.{LeadFrom, StretchStart, first_place}
 use Rattle.mdb_stretches.specs.Told.{told_after}
 use Rattle.mdb_stretches.specs.Totals.{totals_of}
@@ -15,7 +15,7 @@ use Rattle.mdb_stretches.specs.Totals.{totals_of}
 abbrev pub rows_of : Surveyor → ℕ
 rows_of surveyor = surveyor.before + follow.rows_of surveyor.follower
 
--- A surveyor stands for the rows of a recording that is taken so, and for faults, each with the
+-- A surveyor stands for the rows of a recording with this scope, and for faults, each with the
 -- stretch that it ended: the rows lead over these to the stretch that runs, and its follower stands
 -- for the rows of that.
 pub record StandsFor (surveyor : Surveyor) (scope : Scope) (rows : List Event)
@@ -29,7 +29,7 @@ pub record StandsFor (surveyor : Surveyor) (scope : Scope) (rows : List Event)
   pub told : (pieces : List Piece) → IsActList place.scope pieces running
       → surveyor.told ≡ told_after place.told (acts_of pieces)
   pub before : surveyor.before ≡ place.rows
-  pub faults : surveyor.faults ≡ counts_of ended
+  pub faults : surveyor.faults ≡ counts_of_ended ended
   pub totals : surveyor.totals ≡ totals_of ended
 
 -- One of these rows, which a surveyor was fed, ended the stretch that ran, and with the next row a

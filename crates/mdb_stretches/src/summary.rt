@@ -1,10 +1,10 @@
-//! What a survey comes to.
+//! The result of a survey.
 
 use crate::counts::FaultCounts;
 use crate::totals::Totals;
 use mdb_msgs::DeviceSet;
 
-/// What the survey of a recording comes to.
+/// The result of the survey of a recording.
 #[derive(Clone, Copy, PartialEq, Eq, Debug)]
 pub struct Summary {
     /// The sums of the stretches' ranges, and of their counts.

@@ -54,7 +54,7 @@ impl Surveyor {
     ghost use Rattle.mdb_stretches.specs.Totals.{CanBeAdded};
     ghost use Rattle.mdb_stretches.specs.inner.Halts.{HasHalted};
 
-    /// The surveyor before the first row of a recording that is taken so.
+    /// The surveyor before the first row of a recording with this scope.
     pub fn scoped(scope: &Scope) -> Surveyor
         ensures stands { StandsFor result scope.now [] [] }
         ensures empty { rows_of result ≡ 0 }

@@ -23,7 +23,7 @@ pub struct Told {
 }
 
 impl Told {
-    /// What is told before the first row of a recording that is taken so.
+    /// What is reported before the first row of a recording with this scope.
     pub fn before(scope: &Scope) -> Told
         ensures { result ≡ told_before scope.now }
     {

@@ -7,7 +7,7 @@ ghost use Rattle.mdb_follow.specs.AccountNames.{account_of};
 ghost use Rattle.mdb_stretches.specs.Totals as spec;
 ghost use Rattle.mdb_stretches.specs.Totals.{CanBeAdded, added_account, total_of, total_silences, total_unvalued, with_report};
 
-use mdb_follow::{Account, AccountName, Range, Report, device_place};
+use mdb_follow::{ACCOUNTS, Account, AccountName, Range, Report, device_place};
 use mdb_msgs::{Device, ReaderUnit};
 
 /// The sums of the ranges that the stretches of a recording have of each account, and of their
@@ -20,7 +20,7 @@ pub struct Totals {
     /// How many rows the stretches have.
     pub rows: u64,
     /// The sums of each of `AccountName::ALL`, in the smallest unit of money.
-    pub accounts: [Account; 7],
+    pub accounts: [Account; ACCOUNTS],
     /// How often each of `Report::DEVICES` left the controller's commands unanswered for too long.
     pub silences: [u64; 4],
     /// How many amounts without a value each of `Report::DEVICES` reported, or was asked for.
@@ -31,7 +31,7 @@ impl Totals {
     /// Those of no stretch.
     pub const NONE: Totals = Totals {
         rows: 0,
-        accounts: [Account::NOTHING; 7],
+        accounts: [Account::NOTHING; ACCOUNTS],
         silences: [0; 4],
         unvalued: [0; 4],
     };

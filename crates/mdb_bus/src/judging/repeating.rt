@@ -1,6 +1,6 @@
 //! Words of a peripheral that sends its reply again.
 
-ghost use Rattle.std.specs.Prelude.{◌≡◌, ◌<◌, ℕ, List, IfOk, take};
+ghost use Rattle.std.specs.Prelude.{◌<◌, ℕ, List, IfOk, take};
 ghost use Rattle.mdb_words.specs.declared.event.Event.{Event};
 ghost use Rattle.mdb_msgs.specs.declared.command.Command.{Command};
 ghost use Rattle.mdb_bus.specs.declared.levels.Levels.{Levels};

@@ -1,5 +1,5 @@
 -- The codes of the validator's states, and that states and codes are one to one. Which state has
--- which code is of no matter.
+-- which code is irrelevant.
 use Rattle.std.specs.Prelude.{◌≡◌, ℕ, zero, suc, ◌+◌, ◌<◌, Bool, true, false, if◌then◌else◌, refl}
 use Rattle.std.proofs.Common.{arith, ap, inl, inr, subst, ◌-◌}
 use Rattle.std.proofs.Math.Bridge.{le_prop}

@@ -1,5 +1,5 @@
 -- The codes of the changer's states, and that states and codes are one to one. Which state has
--- which code is of no matter.
+-- which code is irrelevant.
 use Rattle.std.specs.Prelude.{◌≡◌, ℕ, zero, suc, ◌+◌, ◌<◌, Bool, true, false, if◌then◌else◌, refl}
 use Rattle.std.proofs.Common.{arith}
 use Rattle.mdb_cash.specs.declared.changer.state.ChangerState.{ChangerState}

@@ -132,6 +132,9 @@ impl Escrow {
     }
 }
 
+/// How many states there are of the validator and the controller.
+pub const BILL_STATES: usize = 66;
+
 /// A state of the validator and of the controller's dealings with it (this profile).
 #[derive(Clone, Copy, PartialEq, Eq, Debug)]
 pub struct BillState {
@@ -149,6 +152,7 @@ impl Default for BillState {
 }
 
 impl BillState {
+    ghost use Rattle.mdb_cash.specs.declared.bill.state.TheConstants.{BILL_STATES};
     ghost use Rattle.mdb_cash.specs.Bill as spec;
     ghost use Rattle.mdb_cash.specs.shared.BillCodes.{code_of};
 
@@ -165,14 +169,14 @@ impl BillState {
     /// Its code.
     pub(crate) fn code(self) -> usize
         ensures code { result ≡ code_of self }
-        ensures below { result < 66 }
+        ensures below { result < BILL_STATES }
     {
         self.escrow.code() + if self.holds { 33 } else { 0 }
     }
 
     /// The state of a code.
     pub(crate) fn at(code: usize) -> BillState
-        requires { code < 66 }
+        requires { code < BILL_STATES }
         ensures { code_of result ≡ code }
     {
         let holds = code >= 33;

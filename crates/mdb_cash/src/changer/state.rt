@@ -1,6 +1,10 @@
 //! The states of the changer and the controller.
 
 ghost use Rattle.std.specs.Prelude.{◌≡◌, ◌<◌};
+ghost use Rattle.mdb_cash.specs.declared.changer.state.TheConstants.{CHANGER_STATES};
+
+/// How many states there are of the changer and the controller.
+pub const CHANGER_STATES: usize = 4;
 
 /// A state of the changer and of the controller's dealings with it (this profile).
 #[derive(Clone, Copy, PartialEq, Eq, Debug)]
@@ -35,14 +39,14 @@ impl ChangerState {
     /// Its code.
     pub(crate) fn code(self) -> usize
         ensures code { result ≡ code_of self }
-        ensures below { result < 4 }
+        ensures below { result < CHANGER_STATES }
     {
         usize::from(self.holds) + 2 * usize::from(self.dispense_owed)
     }
 
     /// The state of a code.
     pub(crate) fn at(code: usize) -> ChangerState
-        requires { code < 4 }
+        requires { code < CHANGER_STATES }
         ensures { code_of result ≡ code }
     {
         ChangerState {

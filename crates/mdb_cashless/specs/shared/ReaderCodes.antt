@@ -1,5 +1,5 @@
 -- The codes of a reader's states, and that states and codes are one to one. Which state has which
--- code is of no matter.
+-- code is irrelevant.
 use Rattle.std.specs.Prelude.{◌≡◌, ℕ, zero, suc, ◌+◌, ◌*◌, ◌/◌, ◌%◌, ◌<◌, Bool, true, false, if◌then◌else◌, refl}
 use Rattle.std.proofs.Common.{arith, sym, ap, ◌∙◌}
 use Rattle.mdb_cashless.specs.declared.reader.device.DeviceState.{DeviceState}

@@ -1,6 +1,6 @@
 //! The steps of a reader and the controller by the reader's replies.
 
-ghost use Rattle.std.specs.Prelude.{◌≡◌, ◌≤◌, ◌<◌, ◌^◌, ◌||◌, IfSome, IfNone, List, length, map};
+ghost use Rattle.std.specs.Prelude.{◌≡◌, ◌≤◌, ◌<◌, ◌^◌, IfSome, List, length, map};
 ghost use Rattle.std.specs.Bool.{OnFalse};
 ghost use Rattle.mdb_machine.specs.Gains.{AreSmall, IsSmall};
 ghost use Rattle.std.specs.List.{list_any};

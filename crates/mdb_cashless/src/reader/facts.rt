@@ -42,8 +42,8 @@ impl ReaderFacts {
     ghost use Rattle.mdb_cashless.specs.inner.Guesses.{keeping};
     ghost use Rattle.mdb_cashless.specs.Transactions.{transaction_of as transaction};
 
-    /// The facts after no act, or what is known of them, where a recording begins so: what isn't
-    /// known is of no matter.
+    /// The facts after no act, or what is known of them, where a recording begins so. Unknown facts
+    /// are irrelevant.
     pub(crate) fn start(begins: &Beginning, unit: ReaderUnit) -> ReaderFacts
         ensures config { result.config
             ≡ known_before (λ setups. config_known setups unit) begins.now }

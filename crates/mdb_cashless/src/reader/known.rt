@@ -22,7 +22,7 @@ use mdb_msgs::{Command, ReaderCommand, ReaderUnit, Reply};
 /// grow with them. In a recording that begins in mid-session it may be less than all.
 #[derive(Drop)]
 pub struct ReaderKnown {
-    /// The facts. What isn't known of them is of no matter.
+    /// The facts. Unknown facts are irrelevant.
     pub(crate) facts: ReaderFacts,
     /// Whether the last transaction command that the controller sent is known.
     pub(crate) knows_asked: bool,

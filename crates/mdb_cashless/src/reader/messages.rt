@@ -1,6 +1,6 @@
 //! The meaning of a reader's messages.
 
-ghost use Rattle.std.specs.Prelude.{◌≡◌, ◌≤◌, length, map};
+ghost use Rattle.std.specs.Prelude.{◌≡◌, ◌≤◌, length};
 ghost use Rattle.std.specs.List.{list_any};
 ghost use Rattle.mdb_msgs.specs.Reader.{is_kept};
 ghost use Rattle.mdb_machine.specs.Kept.{IsSummary, is_reset};

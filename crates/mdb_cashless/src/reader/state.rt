@@ -1,9 +1,13 @@
 //! The states of a reader and the controller.
 
 ghost use Rattle.std.specs.Prelude.{◌≡◌, ◌<◌};
+ghost use Rattle.mdb_cashless.specs.declared.reader.state.TheConstants.{READER_STATES};
 
 use super::device::DeviceState;
 use super::view::View;
+
+/// How many states there are of a reader and the controller.
+pub const READER_STATES: usize = 176;
 
 /// A state of a cashless reader and of the controller's dealings with it (this profile).
 #[derive(Clone, Copy, PartialEq, Eq, Debug)]
@@ -41,14 +45,14 @@ impl ReaderState {
     /// Its code.
     pub(crate) fn code(self) -> usize
         ensures code { result ≡ code_of self }
-        ensures below { result < 176 }
+        ensures below { result < READER_STATES }
     {
         16 * self.device.number() + 2 * self.view.number() + usize::from(self.holds)
     }
 
     /// The state of a code.
     pub(crate) fn at(code: usize) -> ReaderState
-        requires { code < 176 }
+        requires { code < READER_STATES }
         ensures { code_of result ≡ code }
     {
         ReaderState {

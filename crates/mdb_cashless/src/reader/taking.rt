@@ -1,6 +1,6 @@
 //! What taking a command does to a reader and to the controller's view of it.
 
-ghost use Rattle.std.specs.Prelude.{◌≡◌, ◌≤◌};
+ghost use Rattle.std.specs.Prelude.{◌≡◌};
 ghost use Rattle.std.specs.Bool.{OnFalse};
 ghost use Rattle.mdb_machine.specs.Gains.{AreSmall};
 ghost use Rattle.mdb_cashless.specs.Reader as spec;

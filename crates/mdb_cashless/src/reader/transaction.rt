@@ -1,6 +1,6 @@
 //! The commands of a session.
 
-ghost use Rattle.std.specs.Prelude.{◌≡◌, ◌≤◌, ◌<◌, ◌^◌};
+ghost use Rattle.std.specs.Prelude.{◌≡◌, ◌<◌, ◌^◌};
 ghost use Rattle.mdb_machine.specs.Gains.{AreSmall};
 ghost use Rattle.mdb_cashless.specs.Transactions as spec;
 

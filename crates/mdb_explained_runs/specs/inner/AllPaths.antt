@@ -17,7 +17,7 @@ use Rattle.mdb_follow.specs.declared.goal.Bound.{Bound}
 use Rattle.mdb_follow.specs.declared.goal.Goal.{Goal}
 use Rattle.mdb_follow.specs.AccountNames.{account_device, account_slot}
 use Rattle.mdb_follow.specs.Choosing.{Choices, Follows}
-use Rattle.mdb_follow.specs.Devices.{same_device}
+use Rattle.mdb_msgs.specs.Devices.{same_device}
 use Rattle.mdb_explained_runs.specs.declared.mark.Mark.{Mark}
 use Rattle.mdb_explained_runs.specs.Marks.{own_marks}
 use Rattle.mdb_follow.specs.Devices.{device_place}

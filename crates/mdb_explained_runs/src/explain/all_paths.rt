@@ -21,9 +21,9 @@ use super::chains::Chains;
 use super::paths::{self, Paths};
 use crate::Mark;
 use mdb_bus::Act;
-use mdb_cash::{Bill, BillKnown, Changer, ChangerKnown};
-use mdb_cashless::{Reader, ReaderKnown};
-use mdb_follow::{Goal, Owner, Report, device_place, owner_of};
+use mdb_cash::{BILL_STATES, Bill, BillKnown, CHANGER_STATES, Changer, ChangerKnown};
+use mdb_cashless::{READER_STATES, Reader, ReaderKnown};
+use mdb_follow::{Goal, Owner, Report, owner_of};
 use mdb_msgs::{Device, ReaderUnit};
 use std::alloc::{AllocError, Global};
 
@@ -38,17 +38,17 @@ type SecondReader = Reader<1>;
 #[derive(Drop)]
 pub(crate) struct AllPaths {
     chains: Chains,
-    changer: Paths<ChangerKnown, 4>,
-    bill: Paths<BillKnown, 66>,
-    first_reader: Paths<ReaderKnown, 176>,
-    second_reader: Paths<ReaderKnown, 176>,
+    changer: Paths<ChangerKnown, CHANGER_STATES>,
+    bill: Paths<BillKnown, BILL_STATES>,
+    first_reader: Paths<ReaderKnown, READER_STATES>,
+    second_reader: Paths<ReaderKnown, READER_STATES>,
 }
 
 /// What the gains of a device count for a goal: nothing, where the goal is of another device.
 fn weight_of(goal: &Goal, device: Device) -> Weight
     ensures { result ≡ weight_for goal.now device }
 {
-    if device_place(goal.account.device()) == device_place(device) {
+    if goal.account.device() == device {
         Weight::Account(goal.account.slot(), goal.side, goal.bound)
     } else {
         Weight::Nothing

@@ -1,6 +1,6 @@
 //! The best ways of one device and the controller to each state that is possible now.
 
-ghost use Rattle.std.specs.Prelude.{◌≡◌, ◌<◌, ◌≤◌, ◌+◌, ◌^◌, ℕ, ℤ, List, [], ◌∷◌, ◌++◌, true};
+ghost use Rattle.std.specs.Prelude.{◌≡◌, ◌<◌, ◌+◌, ◌^◌, ℕ, List, [], ◌∷◌, ◌++◌, true};
 ghost use Rattle.std.specs.Prelude.{Contains, IfOk, IfSome, length};
 ghost use Rattle.std.specs.Bool.{OnFalse, OnTrue};
 ghost use Rattle.mdb_bus.specs.declared.act.Act.{Act};
@@ -249,7 +249,7 @@ fn take_steps<P: Pair, const N: usize>(
     ensures kept { KeepChains chains.old.links.items chains.new.links.items }
 {
     take_step::<P, N>(facts, act, row, weight, Choice::Plain, entry, room, chains)?;
-    // Where it is of no matter what is chosen, another choice leads nowhere else, by a mark more.
+    // Where the choice is irrelevant, another choice leads nowhere else, by a mark more.
     if !P::heeds_choice(act, P::state(entry.0)) {
         return Ok(());
     }

@@ -21,7 +21,7 @@ pub(crate) struct Seeker {
     bus: Bus,
     pub(crate) all: AllPaths,
     rows: u64,
-    /// Room for the act that a row ends. Between rows what is in it is of no matter.
+    /// Room for the act that a row ends. Between rows its content is irrelevant.
     act: Act,
 }
 

@@ -7,33 +7,19 @@ use Rattle.std.proofs.lemmas.Bool.{cond-false, cond-true, false_from_ne_true, if
 use Rattle.std.proofs.lemmas.List.Elements.{recursion_from_All}
 use Rattle.std.proofs.lemmas.Option.{same_Some}
 use Rattle.mdb_msgs.specs.declared.command.Device.{Device}
-use Rattle.mdb_msgs.specs.declared.command.Device.TheVariants as devices
-use Rattle.mdb_msgs.specs.declared.command.ReaderUnit.TheVariants.{First, Second}
+use Rattle.mdb_msgs.specs.Devices.{same_device}
+use Rattle.mdb_msgs.specs.shared.SameDevices.{is_one, itself}
 use Rattle.mdb_bus.specs.declared.act.Act.{Act}
 use Rattle.mdb_bus.specs.declared.act.Act.TheVariants as acts
-use Rattle.mdb_bus.specs.LeavingOut.{are_one, device_in, has_part, is_this}
+use Rattle.mdb_bus.specs.LeavingOut.{device_in, has_part, is_this}
 use Rattle.mdb_machine.specs.Pair.{IsActOf, IsBreak, own_acts}
-
--- the test of two devices says whether they are one
-itself : (device : Device) → are_one device device ≡ true
-itself devices.Changer = refl
-itself devices.Bill = refl
-itself (devices.Reader First) = refl
-itself (devices.Reader Second) = refl
-
-is_one : (device one : Device) → are_one device one ≡ true → one ≡ device
-is_one devices.Changer devices.Changer same = refl
-is_one devices.Bill devices.Bill same = refl
-is_one (devices.Reader First) (devices.Reader First) same = refl
-is_one (devices.Reader Second) (devices.Reader Second) same = refl
-is_one device one same = absurd cc
 
 by_name : (device : Device) (named : Option Device)
     → (is_this device named ≡ true) ↔ (named ≡ Some device)
 by_name device None = (λ same. absurd cc, λ same. absurd cc)
 by_name device (Some one) = (
-  λ same. ap (λ (d : Device). Some d) (is_one device one same),
-  λ same. ap (are_one device) (same_Some one device same) ∙ itself device,
+  λ same. ap (λ (d : Device). Some d) (sym (is_one device one same)),
+  λ same. ap (same_device device) (same_Some one device same) ∙ itself device,
 )
 
 -- the test of an act says whether the device has a part in it

@@ -8,7 +8,7 @@ use Rattle.mdb_msgs.specs.declared.command.Device.{Device}
 use Rattle.mdb_msgs.specs.declared.command.Device.TheVariants.{Changer, Bill, Reader}
 use Rattle.mdb_msgs.specs.declared.command.ReaderCommand.TheVariants as reader
 
--- a command that asks the device how it is set up: what a reader is told with it is of no matter
+-- a command that asks the device how it is set up: what a reader is told with it is irrelevant
 abbrev pub setup_of : Device → Command
 setup_of Changer = command.Changer changer.Setup
 setup_of Bill = command.Bill bill.Setup

@@ -9,7 +9,7 @@ use Rattle.mdb_follow.specs.Follower as follow
 use Rattle.mdb_follow.specs.Offences.{IsOffence}
 use Rattle.mdb_stretches.specs.declared.stretch.Ended.{Ended}
 use Rattle.mdb_stretches.specs.declared.surveyor.Surveyor.{Surveyor}
-use Rattle.mdb_stretches.specs.Counts.{counts_of}
+use Rattle.mdb_stretches.specs.Counts.{counts_of_ended}
 use Rattle.mdb_stretches.specs.Stretches.{LeadFrom, StretchStart, first_place}
 use Rattle.mdb_stretches.specs.Told.{told_after}
 use Rattle.mdb_stretches.specs.Totals.{totals_of}
@@ -29,5 +29,5 @@ pub record HasHalted (surveyor : Surveyor) (scope : Scope) (rows : List Event) (
   pub told : (pieces : List Piece) → IsActList place.scope pieces running
       → surveyor.told ≡ told_after place.told (acts_of pieces)
   pub before : surveyor.before ≡ place.rows
-  pub faults : surveyor.faults ≡ counts_of ended
+  pub faults : surveyor.faults ≡ counts_of_ended ended
   pub totals : surveyor.totals ≡ totals_of ended

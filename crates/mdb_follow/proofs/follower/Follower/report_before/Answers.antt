@@ -4,7 +4,7 @@ use Rattle.mdb_bus.specs.ActLists.{acts_of}
 use Rattle.mdb_follow.specs.declared.report.DeviceReport.{DeviceReport}
 use Rattle.mdb_follow.specs.Cells.{cell_in}
 use Rattle.mdb_follow.specs.Follower.{scope_of}
-use Rattle.mdb_follow.specs.Report.{device_report, facts_in}
+use Rattle.mdb_follow.specs.Report.{device_report, device_facts_in}
 use Rattle.mdb_follow.specs.SilencesKept.{AreAtMost, silence_in}
 use Rattle.mdb_follow.proofs.Following.{accepted, accounts-within, reported}
 use Rattle.mdb_follow.proofs.Kept.{at-most-weaker}
@@ -30,7 +30,7 @@ returns-clause-within c =
     let limit : ℕ = c.args.self.now.rows * 2 ^ 32 in
     let within = c.args.self.now.within in
     let of : Device → DeviceReport = λ device. record {
-      facts = facts_in c.facts-facts.result device;
+      facts = device_facts_in c.facts-facts.result device;
       asks = (silence_in c.args.self.now.silences device).counts;
     } in
     let has : (device : Device) → device_report device c.of.result ≡ of device = λ device.

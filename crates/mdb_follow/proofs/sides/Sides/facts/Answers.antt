@@ -3,7 +3,7 @@ use Rattle.mdb_msgs.specs.declared.command.Device.{Device}
 use Rattle.mdb_msgs.specs.declared.command.Device.TheVariants as devices
 use Rattle.mdb_msgs.specs.declared.command.ReaderUnit.TheVariants.{First, Second}
 use Rattle.mdb_follow.specs.declared.report.DeviceFacts.{DeviceFacts}
-use Rattle.mdb_follow.specs.Report.{facts_in}
+use Rattle.mdb_follow.specs.Report.{device_facts_in}
 use Rattle.mdb_follow.specs.Sides.{side_in}
 use Rattle.mdb_follow.proofs.ByDevice.{each}
 use Rattle.mdb_follow.proofs.Sided.{decimals-are}
@@ -33,5 +33,5 @@ returns-clause-kept c =
     ∷ of c.decimals-2.result sides.bill.unvalued
     ∷ of c.decimals-3.result sides.first_reader.unvalued
     ∷ of c.decimals-4.result sides.second_reader.unvalued ∷ [] in
-    each (λ device. (facts_in facts device).unvalued ≡ (side_in sides device).unvalued)
+    each (λ device. (device_facts_in facts device).unvalued ≡ (side_in sides device).unvalued)
     refl refl refl refl

@@ -1,8 +1,8 @@
 use Rattle.std.proofs.Common.{inl, inr, subst, sym}
 use Rattle.std.specs.Prelude.{if◌then◌else◌}
 use Rattle.mdb_msgs.specs.Commands.{device_of}
+use Rattle.mdb_msgs.specs.Devices.{same_device}
 use Rattle.mdb_bus.specs.declared.act.Act.{Act}
-use Rattle.mdb_follow.specs.Devices.{same_device}
 use Rattle.mdb_follow.specs.SilenceSteps.{AllGoOn, SilencesFollow, ended}
 use Rattle.mdb_follow.proofs.Kept.{all-go-on}
 use Rattle.mdb_follow.proofs.silence.Silences.follow.Goals as goal
