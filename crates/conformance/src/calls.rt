@@ -2,18 +2,21 @@
 //! recordings that are taken with a device left out, or that begin in mid-session, and
 //! explanations.
 
+use super::cuts::told_twice;
 use arrayvec::ArrayVec;
 use mdb_blocks::{Answer, Block, BlockFault, seal, unseal};
-use mdb_check::{
-    AccountName, AccountSide, BYTES_MAX, Bound, DeviceSet, Goal, Outcome, ROWS_MAX, RunFault,
-    Scope, Setups, check_joined, check_scoped, check_scoped_within, check_within, explain,
-    explain_scoped, replay, replay_scoped, show_scoped, text_scoped,
-};
+use mdb_bus::Scope;
+use mdb_explain::{explain, explain_scoped, replay, replay_scoped};
+use mdb_explained_runs::{Mark, Replay, explain_run};
+use mdb_follow::{AccountName, AccountSide, Bound, Goal, ROWS_MAX};
 use mdb_msgs::{
-    BillCommand, BillMsg, ChangerCommand, ChangerMsg, ChangerSetup, Command, Device, MsgFault,
-    Need, ReaderCommand, ReaderList, ReaderMsg, ReaderUnit, Reply, need_of, read_command,
-    read_reply, write_command, write_reply,
+    BillCommand, BillMsg, ChangerCommand, ChangerMsg, ChangerSetup, Command, Device, DeviceSet,
+    MsgFault, Need, ReaderCommand, ReaderList, ReaderMsg, ReaderUnit, Reply, Setups, need_of,
+    read_command, read_reply, write_command, write_reply,
 };
+use mdb_show::show_scoped;
+use mdb_text::Outcome;
+use mdb_verdict::{BYTES_MAX, RunFault, check_joined, check_scoped, check_within, text_scoped};
 use mdb_words::Line;
 use std::alloc::Global;
 use std::io;
@@ -416,8 +419,8 @@ fn is_text<F>(alloc: Global, scope: &Scope, answer: &Result<Outcome, F>, out: &[
     }
 }
 
-/// With a device left out a check answers yes, and tells it in its last line; so does one within
-/// limits that the text just meets, and `show` has a line for each foreign row.
+/// With a device left out a check answers yes, and tells it in its last line, and `show` has a line
+/// for each foreign row.
 fn without_changer(rt: &HostRuntime, calls: &mut Calls) -> io::Result<()> {
     let alloc = rt.alloc();
     let scope = Scope::leaving_out(DeviceSet::NONE.with(Device::Changer));
@@ -430,10 +433,6 @@ fn without_changer(rt: &HostRuntime, calls: &mut Calls) -> io::Result<()> {
         "text_scoped",
         is_written && out.as_slice().ends_with(WITHOUT_CHANGER),
     )?;
-    let mut within = Vec::new(alloc);
-    let limited = check_scoped_within(alloc, &scope, RESET_AND_POLL, &mut within, 8, 93);
-    let is_same = is_yes_of(&limited, 8) && within.as_slice() == out.as_slice();
-    calls.count(rt, "check_scoped_within", is_same)?;
     let mut shown = Vec::new(alloc);
     let fault = show_scoped(alloc, &scope, RESET_AND_POLL, &mut shown);
     let is_shown = fault == Ok(None) && shown.as_slice() == FOREIGN_ACTS;
@@ -524,6 +523,41 @@ fn explanations(rt: &HostRuntime, calls: &mut Calls) -> io::Result<()> {
     calls.count(rt, "replay_scoped", is_other)
 }
 
+/// The mark with which a coin that is reported twice is one coin: row 35 is an ACK that was lost.
+const LOST_ACK: [(u64, Mark); 1] = [(35, Mark::Lost)];
+
+/// Of a coin that is reported twice the least is one coin, and the replay with the mark that leads
+/// there has that coin, of 25, alone.
+fn explained_run(rt: &HostRuntime, calls: &mut Calls) -> io::Result<()> {
+    let events = told_twice(rt.alloc())?;
+    if events.len() != 41 {
+        return calls.count(rt, "told_twice", false);
+    }
+    let answer = explain_run(rt.alloc(), DeviceSet::NONE, events.as_slice(), &LEAST_COINS);
+    let is_explained = matches!(&answer, Ok(marks) if marks.as_slice() == LOST_ACK.as_slice());
+    calls.count(rt, "explain_run", is_explained)?;
+    let mut run = Replay::new();
+    for event in events.as_slice() {
+        if run.rows() >= ROWS_MAX {
+            break;
+        }
+        let mark = if run.rows() == 34 {
+            Some(Mark::Lost)
+        } else {
+            None
+        };
+        let _ = run.feed(*event, mark);
+    }
+    let is_replayed = match run.report() {
+        Ok(report) => {
+            let coins = report.account(AccountName::CoinsIn).device;
+            report.rows == 41 && coins.least == 25 && coins.greatest == 25
+        }
+        Err(_) => false,
+    };
+    calls.count(rt, "Replay::new", is_replayed)
+}
+
 /// Makes the calls, prints each that answers otherwise than wanted, and at the end how many there
 /// are.
 pub fn run(rt: &HostRuntime) -> io::Result<()> {
@@ -543,6 +577,7 @@ pub fn run(rt: &HostRuntime) -> io::Result<()> {
     without_changer(rt, &mut calls)?;
     joined(rt, &mut calls)?;
     explanations(rt, &mut calls)?;
+    explained_run(rt, &mut calls)?;
     let tried = calls.tried;
     match calls.differing {
         0 => println!(rt; "{tried} calls, each answered as wanted"),

@@ -1,7 +1,7 @@
 //! A recording that the follower takes in two pieces, cut after each of its rows.
 
-use mdb_check::{Blame, Offence, Rule};
-use mdb_follow::Follower;
+use mdb_bus::{Blame, Rule};
+use mdb_follow::{Follower, Offence};
 use mdb_words::Event;
 use std::alloc::{AllocError, Global};
 use std::io;
@@ -26,6 +26,15 @@ static ACTS: [&str; 16] = [
     "123400,M,0FF",
     "143400,M,10B 144600,M,00B",
     "146600,S,100",
+];
+
+/// The acts after the first thirteen where the controller acknowledges the coin, and the changer
+/// reports one again: 41 rows in all.
+static TWICE: [&str; 4] = [
+    "123400,M,000",
+    "143400,M,10B 144600,M,00B",
+    "146600,S,052 147800,S,009 149000,S,15B",
+    "151000,M,000",
 ];
 
 /// What the follower has to answer, however the recording is cut.
@@ -59,6 +68,15 @@ fn add_events(events: &mut Vec<Event>, act: &str) -> Result<(), AllocError> {
 fn events(alloc: Global) -> Result<Vec<Event>, AllocError> {
     let mut events = Vec::new(alloc);
     for act in &ACTS {
+        add_events(&mut events, *act)?;
+    }
+    Ok(events)
+}
+
+/// The events of a recording with a coin that is reported twice.
+pub fn told_twice(alloc: Global) -> Result<Vec<Event>, AllocError> {
+    let mut events = Vec::new(alloc);
+    for act in ACTS.iter().take(13).chain(&TWICE) {
         add_events(&mut events, *act)?;
     }
     Ok(events)

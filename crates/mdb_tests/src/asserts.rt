@@ -4,7 +4,10 @@
 //! test.
 
 use super::streams::{Pieces, words_of};
-use mdb_check::{LinkFault, Outcome, RunFault, check, show};
+use mdb_bus::LinkFault;
+use mdb_show::show;
+use mdb_text::Outcome;
+use mdb_verdict::{RunFault, check};
 use mdbcheck_run::run;
 use std::alloc::Global;
 use std::fmt::Debug;

@@ -2,10 +2,11 @@
 
 use super::asserts::{check_gives, same, same_at};
 use super::streams::{ENDED, POLLS, Pieces, ROWS, Sheet, WRONG_SUM, polls};
-use mdb_check::{
-    Account, AskCounts, Blame, Device, DeviceFacts, DeviceReport, DeviceSet, Offence, Outcome,
-    Range, ReaderConfig, Report, Rule, RunFault, Scope, Setups, check, text_of, text_scoped,
-};
+use mdb_bus::{Blame, Rule, Scope};
+use mdb_follow::{Account, AskCounts, DeviceFacts, DeviceReport, Offence, Range, Report};
+use mdb_msgs::{Device, DeviceSet, ReaderConfig, Setups};
+use mdb_text::Outcome;
+use mdb_verdict::{RunFault, check, text_of, text_scoped};
 use mdb_words::RowFault;
 use std::io::ErrorKind;
 

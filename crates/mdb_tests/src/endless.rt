@@ -4,10 +4,12 @@ use super::asserts::{check_gives, same, same_at};
 use super::recordings::{Recording, coin_not_told_again};
 use super::records::count_rows;
 use super::streams::{Pieces, Polling};
-use mdb_check::{
-    BYTES_MAX, Blame, LinkFault, Offence, Outcome, ROWS_MAX, Rule, RunFault, check_within, show,
-};
+use mdb_bus::{Blame, LinkFault, Rule};
+use mdb_follow::{Offence, ROWS_MAX};
 use mdb_records::{ReadFault, Records};
+use mdb_show::show;
+use mdb_text::Outcome;
+use mdb_verdict::{BYTES_MAX, RunFault, check_within};
 use std::alloc::Global;
 use std::io::Read;
 use std::process::Abort;

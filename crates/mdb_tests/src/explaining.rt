@@ -3,7 +3,9 @@
 use super::asserts::{same, same_at};
 use super::checking::counted;
 use super::streams::polls;
-use mdb_check::{AccountName, AccountSide, Bound, Goal, MarkedFault, RunFault, explain, replay};
+use mdb_explain::{MarkedFault, explain, replay};
+use mdb_follow::{AccountName, AccountSide, Bound, Goal};
+use mdb_verdict::RunFault;
 use std::alloc::Global;
 use std::process::Abort;
 

@@ -3,7 +3,9 @@
 use super::asserts::same_at;
 use super::recordings::{Recording, coin_told_twice, recordings, reset_and_poll};
 use super::streams::{CALLS, Pieces, Sheet};
-use mdb_check::{Outcome, RunFault, check, show};
+use mdb_show::show;
+use mdb_text::Outcome;
+use mdb_verdict::{RunFault, check};
 use std::alloc::Global;
 use std::io::ErrorKind;
 use std::process::Abort;

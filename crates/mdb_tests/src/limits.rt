@@ -3,9 +3,10 @@
 use super::asserts::{same, same_at};
 use super::checking::{Counted, counted, ended};
 use super::streams::{ROWS, WRONG_SUM, polls};
-use mdb_check::{
-    BYTES_MAX, Blame, Offence, Outcome, ROWS_MAX, Rule, RunFault, check, check_within,
-};
+use mdb_bus::{Blame, Rule};
+use mdb_follow::{Offence, ROWS_MAX};
+use mdb_text::Outcome;
+use mdb_verdict::{BYTES_MAX, RunFault, check, check_within};
 use mdb_words::RowFault;
 use std::alloc::Global;
 

@@ -2,7 +2,9 @@
 
 use super::asserts::{same, same_at, show_gives};
 use super::streams::{ENDED, POLLS, Pieces, ROWS, Sheet, WRONG_SUM, polls};
-use mdb_check::{Blame, LinkFault, Rule, RunFault, show};
+use mdb_bus::{Blame, LinkFault, Rule};
+use mdb_show::show;
+use mdb_verdict::RunFault;
 use mdb_words::RowFault;
 use std::alloc::Global;
 use std::io;
