@@ -1,5 +1,5 @@
 -- What is answered and written of rows that are kept, and the lines that are written.
-use Rattle.std.proofs.Common.{refl, ap, sym, subst, ◌∙◌, ◌≡◌, ◌≢◌, ℕ, List, [], ◌∷◌, ◌++◌, Option, Result, Ok, Err, IfErr, IfOk, map, append_assoc}
+use Rattle.std.proofs.Common.{refl, ap, sym, subst, ◌∙◌, ◌≡◌, ◌≢◌, ℕ, List, [], ◌∷◌, ◌++◌, Option, Result, Ok, Err, IfErr, map, append_assoc}
 use Rattle.std.proofs.lemmas.List.{append-nil}
 use Rattle.std.specs.List.{flat_map}
 use Rattle.std.specs.Prelude.{IsErrAnd}
@@ -19,8 +19,8 @@ use Rattle.mdb_text.specs.declared.outcome.Outcome.{Outcome}
 use Rattle.mdb_text.specs.declared.outcome.Outcome.TheVariants.{Yes, No}
 use Rattle.mdb_verdict.specs.declared.fault.RunFault.{RunFault}
 use Rattle.mdb_verdict.specs.declared.fault.RunFault.TheVariants.{BadRow, TooLong, Read, Write, Memory}
-use Rattle.mdb_explain.specs.Explain.{IsCutExplanation, IsExplainText, IsExplainedIn, explanation_text, record_line}
-use Rattle.mdb_verdict.specs.Headline.{IfNo, IfYes}
+use Rattle.mdb_explain.specs.Explain.{IsExplainText, IsExplained, LeavesNo, explanation_text, record_line}
+use Rattle.mdb_verdict.specs.Headline.{IfYes}
 use Rattle.mdb_text.specs.Text.{report_text}
 use Rattle.mdb_verdict.specs.Verdict.{IsAnswer, IsImpossible, IsNoYes}
 use Rattle.mdb_verdict.specs.Rows.{AreRows}
@@ -105,75 +105,72 @@ refused scope reaches limit all keeping fault ended answer handed =
 
 -- What is told of an outcome.
 
--- it is the answer
-pub answer_told : {W : Type 0} (contents : W → Option (List ℕ)) (before after : W)
-    (IsText : Outcome → List ℕ → Type 0) (scope : Scope) (limit : ℕ) (all : List (List (List ℕ)))
-    → ((outcome : Outcome) (text : List ℕ) → IsText outcome text
-    → IsAnswer scope limit all (Ok outcome))
-    → (answer : Result Outcome RunFault) → IsTold contents before after IsText answer
-    → IsAnswer scope limit all answer
-answer_told contents before after IsText scope limit all are (Ok outcome) told =
-    are outcome told.0 told.1
-answer_told contents before after IsText scope limit all are (Err (BadRow row fault)) told =
-    absurd told
-answer_told contents before after IsText scope limit all are (Err TooLong) told = absurd told
-answer_told contents before after IsText scope limit all are (Err Read) told = tt
-answer_told contents before after IsText scope limit all are (Err Write) told = tt
-answer_told contents before after IsText scope limit all are (Err Memory) told = tt
-
--- its text was written
-pub written_told : {W : Type 0} (contents : W → Option (List ℕ)) (before after : W)
+-- it is an explanation, or a front of one
+pub explained_told : {W : Type 0} (contents : W → Option (List ℕ)) (before after : W)
     (IsText : Outcome → List ℕ → Type 0) (scope : Scope) (goal : Goal) (all : List (List (List ℕ)))
+    → ((outcome : Outcome) (text : List ℕ) → IsText outcome text
+    → IsAnswer scope ROWS_MAX all (Ok outcome))
     → ((outcome : Outcome) (text : List ℕ) → IsText outcome text
     → IsExplainText scope goal all outcome text)
     → (answer : Result Outcome RunFault) → IsTold contents before after IsText answer
-    → IfOk answer (IsExplainedIn scope goal all (contents before) (contents after))
-written_told contents before after IsText scope goal all are (Ok outcome) told =
-    (told.0, are outcome told.0 told.1, told.2)
-written_told contents before after IsText scope goal all are (Err fault) told = tt
+    → IsExplained scope goal all (contents before) (contents after) answer
+explained_told contents before after IsText scope goal all are texts (Ok outcome) told = record {
+  answer = are outcome told.0 told.1;
+  written = (told.0, texts outcome told.0 told.1, told.2);
+  cut = λ is. absurd (cc is);
+}
+explained_told contents before after IsText scope goal all are texts (Err Write) told = record {
+  answer = tt;
+  written = tt;
+  cut = λ is.
+      record {
+        outcome = told.0;
+        is = are told.0 told.1 told.2;
+        text = told.1;
+        explains = texts told.0 told.1 told.2;
+        taken = told.3;
+      };
+}
+explained_told contents before after IsText scope goal all are texts (Err Memory) told = record {
+  answer = tt;
+  written = tt;
+  cut = λ is. absurd (cc is);
+}
+explained_told contents before after IsText scope goal all are texts (Err (BadRow row fault)) told =
+    absurd told
+explained_told contents before after IsText scope goal all are texts (Err TooLong) told =
+    absurd told
+explained_told contents before after IsText scope goal all are texts (Err Read) told = absurd told
 
--- of a no, the report of `check` was written
-pub no_told : {W : Type 0} (contents : W → Option (List ℕ)) (before after : W)
+-- of a no, the report of `check` was written, and nothing with another fault
+pub leaves_told : {W : Type 0} (contents : W → Option (List ℕ)) (before after : W)
     (IsText : Outcome → List ℕ → Type 0) (scope : Scope)
     → ((offence : Offence) (text : List ℕ) → IsText (No offence) text
     → text ≡ report_text scope (No offence))
     → (answer : Result Outcome RunFault) → IsTold contents before after IsText answer
-    → IfOk answer (λ outcome. IfNo outcome
-    (λ offence. Appends (contents before) (contents after) (report_text scope (No offence))))
-no_told contents before after IsText scope are (Ok (Yes report)) told = tt
-no_told contents before after IsText scope are (Ok (No offence)) told =
-    subst (λ (t : List ℕ). Appends (contents before) (contents after) t) (are offence told.0 told.1)
-    told.2
-no_told contents before after IsText scope are (Err fault) told = tt
-
--- the writer failed with a front of its text
-pub cut_told : {W : Type 0} (contents : W → Option (List ℕ)) (before after : W)
-    (IsText : Outcome → List ℕ → Type 0) (scope : Scope) (limit : ℕ) (goal : Goal)
-    (all : List (List (List ℕ)))
-    → ((outcome : Outcome) (text : List ℕ) → IsText outcome text
-    → IsAnswer scope limit all (Ok outcome))
-    → ((outcome : Outcome) (text : List ℕ) → IsText outcome text
-    → IsExplainText scope goal all outcome text)
-    → (answer : Result Outcome RunFault) → IsTold contents before after IsText answer
-    → answer ≡ Err Write → IsCutExplanation scope limit goal all (contents before) (contents after)
-cut_told contents before after IsText scope limit goal all answers texts answer told is =
-    let P : Result Outcome RunFault → Type 0 = λ a. IsTold contents before after IsText a in
-    let told_so : P (Err Write) = subst P is told in
-    record {
-      outcome = told_so.0;
-      is = answers told_so.0 told_so.1 told_so.2;
-      text = told_so.1;
-      explains = texts told_so.0 told_so.1 told_so.2;
-      taken = told_so.3;
-    }
+    → LeavesNo contents scope before after answer
+leaves_told contents before after IsText scope are (Ok (Yes report)) told =
+    record { written_no = tt; nothing_written = tt }
+leaves_told contents before after IsText scope are (Ok (No offence)) told = record {
+  written_no = subst (λ (t : List ℕ). Appends (contents before) (contents after) t)
+      (are offence told.0 told.1) told.2;
+  nothing_written = tt;
+}
+leaves_told contents before after IsText scope are (Err Write) told =
+    record { written_no = tt; nothing_written = λ not. absurd (not refl) }
+leaves_told contents before after IsText scope are (Err Memory) told =
+    record { written_no = tt; nothing_written = λ not. told }
+leaves_told contents before after IsText scope are (Err (BadRow row fault)) told = absurd told
+leaves_told contents before after IsText scope are (Err TooLong) told = absurd told
+leaves_told contents before after IsText scope are (Err Read) told = absurd told
 
 -- A no.
 
-pub no_answers : (scope : Scope) (limit : ℕ) (all : List (List (List ℕ))) (offence : Offence)
-    → IsImpossible scope limit all offence → (outcome : Outcome) (text : List ℕ)
-    → IsNoText scope offence outcome text → IsAnswer scope limit all (Ok outcome)
-no_answers scope limit all offence impossible outcome text is =
-    let P : Outcome → Type 0 = λ o. IsAnswer scope limit all (Ok o) in
+pub no_answers : (scope : Scope) (all : List (List (List ℕ))) (offence : Offence)
+    → IsImpossible scope ROWS_MAX all offence → (outcome : Outcome) (text : List ℕ)
+    → IsNoText scope offence outcome text → IsAnswer scope ROWS_MAX all (Ok outcome)
+no_answers scope all offence impossible outcome text is =
+    let P : Outcome → Type 0 = λ o. IsAnswer scope ROWS_MAX all (Ok o) in
     subst P (sym is.0) impossible
 
 pub no_written : (scope : Scope) (offence other : Offence) (text : List ℕ)
@@ -189,12 +186,12 @@ no_texts scope goal all offence outcome text is =
 
 -- Rows that were to be explained.
 
-pub rows_answers : (scope : Scope) (limit : ℕ) (all : List (List (List ℕ))) (rows : List Event)
-    (goal : Goal) (report : Report) → IsAnswer scope limit all (Ok (Yes report))
+pub rows_answers : (scope : Scope) (all : List (List (List ℕ))) (rows : List Event)
+    (goal : Goal) (report : Report) → IsAnswer scope ROWS_MAX all (Ok (Yes report))
     → (outcome : Outcome) (text : List ℕ) → IsRowsText scope rows goal report outcome text
-    → IsAnswer scope limit all (Ok outcome)
-rows_answers scope limit all rows goal report possible outcome text is =
-    subst (λ o. IsAnswer scope limit all (Ok o)) (sym is.0) possible
+    → IsAnswer scope ROWS_MAX all (Ok outcome)
+rows_answers scope all rows goal report possible outcome text is =
+    subst (λ o. IsAnswer scope ROWS_MAX all (Ok o)) (sym is.0) possible
 
 pub rows_texts : (scope : Scope) (all : List (List (List ℕ))) (rows : List Event) (goal : Goal)
     (report : Report) → AreRows all rows → (outcome : Outcome) (text : List ℕ)
@@ -322,32 +319,27 @@ broken_at_rows before empty between later marks rows none first broken =
     (put_both (begun before) empty between [] (marks_text marks) none first) broken)
 
 -- a fault of the verdict is handed on
-pub handed_on : (scope : Scope) (limit : ℕ) (all : List (List (List ℕ)))
-    (verdict : Result Outcome RunFault) (fault : RunFault) (answer : Result Outcome RunFault)
-    → verdict ≡ Err fault → IsErrAnd answer (λ other. other ≡ fault)
-    → IsAnswer scope limit all verdict
-    → IsAnswer scope limit all answer
-handed_on scope limit all verdict fault (Ok outcome) is handed answers = absurd handed
-handed_on scope limit all verdict fault (Err other) is handed answers =
-    let P : Result Outcome RunFault → Type 0 = λ a. IsAnswer scope limit all a in
-    subst P (is ∙ ap Err (sym handed)) answers
+pub handed_on : (first scope : Scope) (goal : Goal) (all : List (List (List ℕ)))
+    (before after : Option (List ℕ)) (verdict : Result Outcome RunFault) (fault : RunFault)
+    (answer : Result Outcome RunFault) → first ≡ scope → verdict ≡ Err fault
+    → IsErrAnd answer (λ other. other ≡ fault) → IsAnswer first ROWS_MAX all verdict
+    → IfErr verdict (λ other. other ≢ Write) → IsExplained scope goal all before after answer
+handed_on first scope goal all before after verdict fault (Ok outcome) same is handed answers not =
+    absurd handed
+handed_on first scope goal all before after verdict fault (Err other) same is handed answers not =
+    let Answer : Result Outcome RunFault → Type 0 = λ a. IsAnswer scope ROWS_MAX all a in
+    let NotWrite : Result Outcome RunFault → Type 0 = λ a. IfErr a (λ other. other ≢ Write) in
+    let given : verdict ≡ Err other = is ∙ ap Err (sym handed) in
+    record {
+      answer = subst Answer given (subst (λ s. IsAnswer s ROWS_MAX all verdict) same answers);
+      written = tt;
+      cut = λ refused. absurd (subst NotWrite given not (cc refused));
+    }
 
 -- what holds where the verdict is yes
 pub if_yes : (outcome : Outcome) (P : Type 0) → P → IfYes outcome (λ report. P)
 if_yes (Yes report) P holds = holds
 if_yes (No offence) P holds = tt
-
--- nothing is written where the answer is a fault, but where the writer failed
-pub nothing_told : {W : Type 0} (contents : W → Option (List ℕ)) (before after : W)
-    (IsText : Outcome → List ℕ → Type 0) (answer : Result Outcome RunFault)
-    → IsTold contents before after IsText answer
-    → IfErr answer (λ fault. fault ≢ Write → after ≡ before)
-nothing_told contents before after IsText (Ok outcome) told = tt
-nothing_told contents before after IsText (Err (BadRow row fault)) told = absurd told
-nothing_told contents before after IsText (Err TooLong) told = absurd told
-nothing_told contents before after IsText (Err Read) told = absurd told
-nothing_told contents before after IsText (Err Write) told = λ not. absurd (not refl)
-nothing_told contents before after IsText (Err Memory) told = λ not. told
 
 -- a no is no yes
 pub no_yes_told : {W : Type 0} (contents : W → Option (List ℕ)) (before after : W) (scope : Scope)

@@ -1,12 +1,15 @@
 -- What `explain` writes: the marks of a run that comes to an end of a range, and then the rows of
 -- the transcript, as `replay` reads them (this profile).
-use Rattle.std.specs.Prelude.{◌≡◌, ℕ, List, [], ◌∷◌, ◌++◌, map, codes, Option, Result, Ok, Err}
+use Rattle.std.specs.Prelude.{◌≡◌, ◌≢◌, ◌<◌, ℕ, List, [], ◌∷◌, ◌++◌, map, codes, Option, Result, Ok, Err}
+use Rattle.std.specs.Prelude.{IfErr, IfOk, IfSome, length}
 use Rattle.std.specs.Fmt.{decimal}
 use Rattle.std.specs.Io.KnownBytes.{Appends}
 use Rattle.std.specs.List.{flat_map}
+use Rattle.csv.specs.Reading.{default_config, records, strip_bom}
 use Rattle.mdb_words.specs.declared.event.Event.{Event}
 use Rattle.mdb_words.specs.Row.{joined_by_commas, row_fields}
 use Rattle.mdb_bus.specs.declared.scope.Scope.{Scope}
+use Rattle.mdb_follow.specs.declared.follower.TheConstants.{ROWS_MAX}
 use Rattle.mdb_follow.specs.declared.goal.Bound.{Bound}
 use Rattle.mdb_follow.specs.declared.goal.Bound.TheVariants.{Least, Greatest}
 use Rattle.mdb_follow.specs.declared.goal.Goal.{Goal}
@@ -22,7 +25,11 @@ use Rattle.mdb_explain.specs.declared.fault.MarkedFault.{MarkedFault}
 use Rattle.mdb_text.specs.Accounts.{side_word}
 use Rattle.mdb_explain.specs.Replay.{dash, mark_letter}
 use Rattle.mdb_text.specs.Text.{line, report_text}
-use Rattle.mdb_verdict.specs.Verdict.{IsAnswer}
+use Rattle.mdb_verdict.specs.declared.fault.RunFault.{RunFault}
+use Rattle.mdb_verdict.specs.declared.fault.RunFault.TheVariants.{Write}
+use Rattle.mdb_verdict.specs.declared.verdict.TheConstants.{BYTES_MAX}
+use Rattle.mdb_verdict.specs.Headline.{IfNo}
+use Rattle.mdb_verdict.specs.Verdict.{IsAnswer, IsNoYes}
 use Rattle.mdb_verdict.specs.Rows.{AreRows}
 use Rattle.mdb_writing.specs.Written.{HasTaken}
 
@@ -80,6 +87,29 @@ pub record IsCutExplanation (scope : Scope) (limit : ℕ) (goal : Goal)
   pub text : List ℕ
   pub explains : IsExplainText scope goal records outcome text
   pub taken : HasTaken before after text
+
+-- What `explain` answers the records with, and what it writes.
+pub record IsExplained (scope : Scope) (goal : Goal) (records : List (List (List ℕ)))
+    (before after : Option (List ℕ)) (result : Result Outcome RunFault) : Type 0 where
+  pub answer : IsAnswer scope ROWS_MAX records result
+  pub written : IfOk result (IsExplainedIn scope goal records before after)
+  pub cut : result ≡ Err Write → IsCutExplanation scope ROWS_MAX goal records before after
+
+-- What the writer has of any records: of a no what `check` writes, and nothing with another fault.
+pub record LeavesNo {W : Type 0} (contents : W → Option (List ℕ)) (scope : Scope) (old new : W)
+    (result : Result Outcome RunFault) : Type 0 where
+  pub written_no : IfOk result (λ outcome. IfNo outcome (λ offence.
+      Appends (contents old) (contents new) (report_text scope (No offence))))
+  pub nothing_written : IfErr result (λ fault. fault ≢ Write → new ≡ old)
+
+-- Both, of the records of what a reader still gives, if that is known. With more bytes than a text
+-- may have there is no yes.
+pub record ExplainsText {W : Type 0} (contents : W → Option (List ℕ)) (scope : Scope) (goal : Goal)
+    (remaining : Option (List ℕ)) (old new : W) (result : Result Outcome RunFault) : Type 0 where
+  pub explained : IfSome remaining (λ bytes. IsExplained scope goal
+      (records default_config (strip_bom bytes)) (contents old) (contents new) result)
+  pub whole : IfSome remaining (λ bytes. BYTES_MAX < length bytes → IsNoYes result)
+  pub leaves : LeavesNo contents scope old new result
 
 -- what a report has of the account and side of a goal
 abbrev pub goal_range : Goal → Report → Range

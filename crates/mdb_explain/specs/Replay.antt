@@ -20,10 +20,8 @@ use Rattle.mdb_text.specs.declared.outcome.Outcome.TheVariants.{Yes, No}
 use Rattle.mdb_explain.specs.declared.fault.MarkedFault.{MarkedFault}
 use Rattle.mdb_explain.specs.declared.fault.MarkedFault.TheVariants as marked
 use Rattle.mdb_verdict.specs.declared.fault.RunFault.TheVariants as run
-use Rattle.mdb_text.specs.Text.{report_text}
 use Rattle.mdb_verdict.specs.Verdict.{IsOwnAnswer}
 use Rattle.mdb_verdict.specs.Rows.{AreRows}
-use Rattle.mdb_writing.specs.Written.{HasTaken}
 
 -- the letter of a mark: `L` where something was lost, `R` for a restart
 abbrev pub mark_letter : Mark → ℕ
@@ -220,15 +218,3 @@ IsOwnReplay (Err (marked.Mark row)) = ⊤
 -- an input is answered that it can't be read only where the reading of its records met that
 abbrev pub HasMarkedCause : Option ReadFault → MarkedFault → Type 0
 HasMarkedCause met fault = fault ≡ marked.Run run.Read → met ≡ Some reading.Read
-
--- The records have a replay, and a writer took a front of what is written of it.
-pub record IsCutReplayIn (text : Scope → Outcome → List ℕ) (scope : Scope) (limit : ℕ)
-    (records : List (List (List ℕ))) (before after : Option (List ℕ)) : Type 0 where
-  pub outcome : Outcome
-  pub is : IsReplayAnswer scope limit records (Ok outcome)
-  pub taken : HasTaken before after (text scope outcome)
-
--- the same of its text
-abbrev pub IsCutReplay : Scope → ℕ → List (List (List ℕ)) → Option (List ℕ) → Option (List ℕ)
-    → Type 0
-IsCutReplay = IsCutReplayIn report_text

@@ -1,17 +1,14 @@
 //! The explanation of an end of a range: marks of a run that comes to it, and the rows.
 
-ghost use Rattle.std.specs.Prelude.{◌≡◌, ◌≢◌, ◌<◌, ◌≤◌, List, [], ℕ, OnErr, OnOk, IfOk, IfErr, IfSome, IsSome, None, Err, length};
+ghost use Rattle.std.specs.Prelude.{◌≡◌, ◌≢◌, ◌≤◌, List, [], ℕ, OnErr, OnOk, IfOk, IfErr, IsSome, None, length};
 ghost use Rattle.std.specs.Io.KnownBytes.{Appends};
-ghost use Rattle.csv.specs.Reading.{default_config, records, strip_bom};
 ghost use Rattle.mdb_records.specs.ToCome.{IsOverLimit, ToCome, fault_of};
 ghost use Rattle.mdb_bus.specs.Scopes.{leaving_out, power_on};
-ghost use Rattle.mdb_explain.specs.Explain.{IsCutExplanation, IsExplainedIn, explanation_text};
-ghost use Rattle.mdb_verdict.specs.Headline.{IfNo, IfYes};
-ghost use Rattle.mdb_text.specs.Text.{report_text};
+ghost use Rattle.mdb_explain.specs.Explain.{ExplainsText, IsExplained, LeavesNo, explanation_text};
+ghost use Rattle.mdb_verdict.specs.Headline.{IfYes};
 ghost use Rattle.mdb_verdict.specs.Verdict.{HasCause, IsAnswer, IsNoYes};
 ghost use Rattle.mdb_verdict.specs.Rows.{AreRows};
 ghost use Rattle.mdb_writing.specs.Written.{HasTaken};
-ghost use Rattle.mdb_verdict.specs.declared.verdict.TheConstants.{BYTES_MAX};
 ghost use Rattle.mdb_explain.specs.inner.Explaining.{HasKept, IsNoText, IsRowsText, IsTold, marks_text, rows_text};
 ghost use Rattle.mdb_writing.specs.Output.{Breaks, Puts, output};
 ghost use Rattle.mdb_follow.specs.Follower.{scope_of};
@@ -58,20 +55,8 @@ pub fn explain<R: Read + Drop, W: Write>(
     writer: &mut W,
     goal: &Goal,
 ) -> Result<Outcome, RunFault>
-    ensures answer { IfSome (R.remaining reader)
-        (λ text. IsAnswer power_on ROWS_MAX (records default_config (strip_bom text)) result) }
-    ensures whole { IfSome (R.remaining reader) (λ text. BYTES_MAX < length text → IsNoYes result) }
-    ensures written { IfSome (R.remaining reader) (λ text. IfOk result
-        (IsExplainedIn power_on goal.now (records default_config (strip_bom text))
-        (W.contents writer.old) (W.contents writer.new))) }
-    ensures written_no { IfOk result (λ outcome. IfNo outcome (λ offence.
-        Appends (W.contents writer.old) (W.contents writer.new)
-        (report_text power_on (Outcome.No offence)))) }
-    ensures nothing_written { IfErr result (λ fault. fault ≢ RunFault.Write
-        → writer.new ≡ writer.old) }
-    ensures cut { IfSome (R.remaining reader) (λ text. result ≡ Err RunFault.Write
-        → IsCutExplanation power_on ROWS_MAX goal.now (records default_config (strip_bom text))
-        (W.contents writer.old) (W.contents writer.new)) }
+    ensures explains { ExplainsText W.contents power_on goal.now (R.remaining reader) writer.old
+        writer.new result }
 {
     explain_scoped(alloc, DeviceSet::NONE, reader, writer, goal)
 }
@@ -85,21 +70,8 @@ pub fn explain_scoped<R: Read + Drop, W: Write>(
     writer: &mut W,
     goal: &Goal,
 ) -> Result<Outcome, RunFault>
-    ensures answer { IfSome (R.remaining reader) (λ text. IsAnswer (leaving_out without) ROWS_MAX
-        (records default_config (strip_bom text)) result) }
-    ensures whole { IfSome (R.remaining reader) (λ text. BYTES_MAX < length text → IsNoYes result) }
-    ensures written { IfSome (R.remaining reader) (λ text. IfOk result
-        (IsExplainedIn (leaving_out without) goal.now (records default_config (strip_bom text))
-        (W.contents writer.old) (W.contents writer.new))) }
-    ensures written_no { IfOk result (λ outcome. IfNo outcome (λ offence.
-        Appends (W.contents writer.old) (W.contents writer.new)
-        (report_text (leaving_out without) (Outcome.No offence)))) }
-    ensures nothing_written { IfErr result (λ fault. fault ≢ RunFault.Write
-        → writer.new ≡ writer.old) }
-    ensures cut { IfSome (R.remaining reader) (λ text. result ≡ Err RunFault.Write
-        → IsCutExplanation (leaving_out without) ROWS_MAX goal.now
-        (records default_config (strip_bom text)) (W.contents writer.old)
-        (W.contents writer.new)) }
+    ensures explains { ExplainsText W.contents (leaving_out without) goal.now
+        (R.remaining reader) writer.old writer.new result }
 {
     let mut records = records_of(alloc, reader, BYTES_MAX);
     explain_records(alloc, without, &mut records, writer, goal)
@@ -114,22 +86,13 @@ pub fn explain_records<R: Read + Drop, W: Write>(
     writer: &mut W,
     goal: &Goal,
 ) -> Result<Outcome, RunFault>
-    ensures answer { (all : List (List (List ℕ))) → ToCome R.remaining records.old all
-        → IsAnswer (leaving_out without) ROWS_MAX all result }
+    ensures explained { (all : List (List (List ℕ))) → ToCome R.remaining records.old all
+        → IsExplained (leaving_out without) goal.now all (W.contents writer.old)
+        (W.contents writer.new) result }
+    ensures leaves { LeavesNo W.contents (leaving_out without) writer.old writer.new result }
     ensures whole { IsOverLimit R.remaining records.old → IsNoYes result }
     ensures heard { IfErr result (HasCause (fault_of records.new)) }
     ensures met { fault_of records.old ≡ None → IsSome (fault_of records.new) → IsNoYes result }
-    ensures written { (all : List (List (List ℕ))) → ToCome R.remaining records.old all
-        → IfOk result (IsExplainedIn (leaving_out without) goal.now all (W.contents writer.old)
-        (W.contents writer.new)) }
-    ensures written_no { IfOk result (λ outcome. IfNo outcome (λ offence.
-        Appends (W.contents writer.old) (W.contents writer.new)
-        (report_text (leaving_out without) (Outcome.No offence)))) }
-    ensures nothing_written { IfErr result (λ fault. fault ≢ RunFault.Write
-        → writer.new ≡ writer.old) }
-    ensures cut { (all : List (List (List ℕ))) → ToCome R.remaining records.old all
-        → result ≡ Err RunFault.Write → IsCutExplanation (leaving_out without) ROWS_MAX goal.now
-        all (W.contents writer.old) (W.contents writer.new) }
 {
     let mut keeping = Keeping::new(alloc, without);
     match kept_outcome(records, &mut keeping)? {

@@ -1,12 +1,12 @@
 //! The replay of a transcript with given marks.
 
-ghost use Rattle.std.specs.Prelude.{◌≡◌, ◌≢◌, ◌<◌, List, ℕ, IfOk, IfErr, IfSome, IsSome, None, Err, Ok, length};
-ghost use Rattle.std.specs.Io.KnownBytes.{Appends};
-ghost use Rattle.csv.specs.Reading.{default_config, records, strip_bom};
+ghost use Rattle.std.specs.Prelude.{◌≡◌, ◌≢◌, List, ℕ, IfErr, IsSome, None};
 ghost use Rattle.mdb_records.specs.ToCome.{IsOverLimit, ToCome, fault_of};
 ghost use Rattle.mdb_bus.specs.Scopes.{leaving_out, power_on};
-ghost use Rattle.mdb_explain.specs.Replay.{HasMarkedCause, IsCutReplay, IsCutReplayIn, IsReplayAnswer};
+ghost use Rattle.mdb_explain.specs.Replay.{HasMarkedCause, IsReplayAnswer};
 ghost use Rattle.mdb_text.specs.Text.{report_text};
+ghost use Rattle.mdb_verdict.specs.Answers.{Answers, AnswersText, Leaves};
+ghost use Rattle.mdb_verdict.specs.Forms.{answer_text};
 ghost use Rattle.mdb_verdict.specs.Verdict.{IsNoYes};
 ghost use Rattle.mdb_verdict.specs.declared.verdict.TheConstants.{BYTES_MAX};
 ghost use Rattle.mdb_follow.specs.declared.follower.TheConstants.{ROWS_MAX};
@@ -16,8 +16,8 @@ use super::replaying::{ENTRIES_MAX, Replaying};
 use mdb_bus::Scope;
 use mdb_msgs::DeviceSet;
 use mdb_records::Records;
-use mdb_text::Outcome;
-use mdb_verdict::{AnswerForm, BYTES_MAX, Batch, ReportText, RunFault, read_rows, records_of};
+use mdb_text::{Form, Outcome};
+use mdb_verdict::{BYTES_MAX, Batch, RunFault, answer_in, read_rows, records_of};
 use mdb_writing::write_text;
 use std::alloc::Global;
 use std::io::{Read, Write};
@@ -51,17 +51,9 @@ pub fn replay<R: Read + Drop, W: Write>(
     reader: R,
     writer: &mut W,
 ) -> Result<Outcome, MarkedFault>
-    ensures answer { IfSome (R.remaining reader) (λ text.
-        IsReplayAnswer power_on ROWS_MAX (records default_config (strip_bom text)) result) }
-    ensures whole { IfSome (R.remaining reader) (λ text. BYTES_MAX < length text → IsNoYes result) }
-    ensures written { IfOk result (λ outcome. Appends (W.contents writer.old)
-        (W.contents writer.new) (report_text power_on outcome)) }
-    ensures nothing_written { IfErr result (λ fault. fault ≢ MarkedFault.Run RunFault.Write
-        → writer.new ≡ writer.old) }
-    ensures cut { IfSome (R.remaining reader) (λ text.
-        result ≡ Err (MarkedFault.Run RunFault.Write)
-        → IsCutReplay power_on ROWS_MAX (records default_config (strip_bom text))
-        (W.contents writer.old) (W.contents writer.new)) }
+    ensures answers { AnswersText W.contents (IsReplayAnswer power_on ROWS_MAX)
+        (report_text power_on) (MarkedFault.Run RunFault.Write) BYTES_MAX
+        (R.remaining reader) writer.old writer.new result }
 {
     replay_scoped(alloc, DeviceSet::NONE, reader, writer)
 }
@@ -77,20 +69,12 @@ pub fn replay_scoped<R: Read + Drop, W: Write>(
     reader: R,
     writer: &mut W,
 ) -> Result<Outcome, MarkedFault>
-    ensures answer { IfSome (R.remaining reader) (λ text. IsReplayAnswer (leaving_out without)
-        ROWS_MAX (records default_config (strip_bom text)) result) }
-    ensures whole { IfSome (R.remaining reader) (λ text. BYTES_MAX < length text → IsNoYes result) }
-    ensures written { IfOk result (λ outcome. Appends (W.contents writer.old)
-        (W.contents writer.new) (report_text (leaving_out without) outcome)) }
-    ensures nothing_written { IfErr result (λ fault. fault ≢ MarkedFault.Run RunFault.Write
-        → writer.new ≡ writer.old) }
-    ensures cut { IfSome (R.remaining reader) (λ text.
-        result ≡ Err (MarkedFault.Run RunFault.Write)
-        → IsCutReplay (leaving_out without) ROWS_MAX (records default_config (strip_bom text))
-        (W.contents writer.old) (W.contents writer.new)) }
+    ensures answers { AnswersText W.contents (IsReplayAnswer (leaving_out without) ROWS_MAX)
+        (report_text (leaving_out without)) (MarkedFault.Run RunFault.Write) BYTES_MAX
+        (R.remaining reader) writer.old writer.new result }
 {
     let mut records = records_of(alloc, reader, BYTES_MAX);
-    replay_records(alloc, &ReportText, without, &mut records, writer)
+    replay_records(alloc, Form::Text, without, &mut records, writer)
 }
 
 /// Replays the records that are still to come, and writes what that tells in this form. What the
@@ -99,29 +83,25 @@ pub fn replay_scoped<R: Read + Drop, W: Write>(
 /// # Errors
 ///
 /// Those of [`replay`], where the records have their own limit of bytes.
-pub fn replay_records<F: AnswerForm, R: Read + Drop, W: Write>(
+pub fn replay_records<R: Read + Drop, W: Write>(
     alloc: Global,
-    form: &F,
+    form: Form,
     without: DeviceSet,
     records: &mut Records<R>,
     writer: &mut W,
 ) -> Result<Outcome, MarkedFault>
-    ensures answer { (all : List (List (List ℕ))) → ToCome R.remaining records.old all
-        → IsReplayAnswer (leaving_out without) ROWS_MAX all result }
+    ensures answers { (all : List (List (List ℕ))) → ToCome R.remaining records.old all
+        → Answers (IsReplayAnswer (leaving_out without) ROWS_MAX all)
+        (answer_text form (leaving_out without)) (MarkedFault.Run RunFault.Write)
+        (W.contents writer.old) (W.contents writer.new) result }
+    ensures leaves { Leaves W.contents (answer_text form (leaving_out without))
+        (MarkedFault.Run RunFault.Write) writer.old writer.new result }
     ensures whole { IsOverLimit R.remaining records.old → IsNoYes result }
     ensures heard { IfErr result (HasMarkedCause (fault_of records.new)) }
     ensures met { fault_of records.old ≡ None → IsSome (fault_of records.new) → IsNoYes result }
-    ensures written { IfOk result (λ outcome. Appends (W.contents writer.old)
-        (W.contents writer.new) (F.text form.now (leaving_out without) outcome)) }
-    ensures nothing_written { IfErr result (λ fault. fault ≢ MarkedFault.Run RunFault.Write
-        → writer.new ≡ writer.old) }
-    ensures cut { (all : List (List (List ℕ))) → ToCome R.remaining records.old all
-        → result ≡ Err (MarkedFault.Run RunFault.Write)
-        → IsCutReplayIn (F.text form.now) (leaving_out without) ROWS_MAX all
-        (W.contents writer.old) (W.contents writer.new) }
 {
     let outcome = replay_outcome(alloc, without, records)?;
-    let Some(text) = form.text_of(alloc, &Scope::leaving_out(without), &outcome) else {
+    let Some(text) = answer_in(alloc, form, &Scope::leaving_out(without), &outcome) else {
         return Err(MarkedFault::Run(RunFault::Memory));
     };
     write_text(writer, text.as_slice())?;

@@ -1,10 +1,10 @@
 //! The verdict, and whether its no is judged.
 
-ghost use Rattle.std.specs.Prelude.{◌≡◌, ◌≢◌, ◌≤◌, ◌⊎◌, List, ℕ, Err, IfErr, IfOk, IfSome, IsSome, None, Ok};
-ghost use Rattle.std.specs.Io.KnownBytes.{Appends};
+ghost use Rattle.std.specs.Prelude.{◌≡◌, ◌≢◌, ◌≤◌, ◌⊎◌, List, ℕ, Err, IfErr, IfSome, IsSome, None, Ok};
 ghost use Rattle.mdb_records.specs.ToCome.{IsOverLimit, ToCome, fault_of};
 ghost use Rattle.mdb_follow.specs.declared.follower.TheConstants.{ROWS_MAX};
-ghost use Rattle.mdb_verdict.specs.CutReport.{IsCutIn};
+ghost use Rattle.mdb_verdict.specs.Answers.{Answers, Leaves};
+ghost use Rattle.mdb_verdict.specs.Forms.{answer_text};
 ghost use Rattle.mdb_verdict.specs.Verdict.{HasCause, HasMet, IsAnswer, IsNoYes, IsToldAs};
 ghost use Rattle.mdb_unjudged.specs.Verdict.{IsJudgedAnswer, IsNo};
 
@@ -13,8 +13,8 @@ use mdb_bus::{Beginning, Levels, Scope};
 use mdb_follow::laws;
 use mdb_msgs::ReaderUnit;
 use mdb_records::Records;
-use mdb_text::Outcome;
-use mdb_verdict::{AnswerForm, Batch, RunFault, check_records, outcome_of, read_rows};
+use mdb_text::{Form, Outcome};
+use mdb_verdict::{Batch, RunFault, answer_in, check_records, outcome_of, read_rows};
 use mdb_writing::write_text;
 use std::alloc::Global;
 use std::io::{Read, Write};
@@ -32,9 +32,9 @@ pub struct Judged {
 /// Does what [`check_records`] does, and also returns the reader of a no that isn't judged. The
 /// levels of the readers are those that are known from elsewhere: Z2 of a config message of an
 /// earlier recording.
-pub fn judge_records<F: AnswerForm, R: Read + Drop, W: Write>(
+pub fn judge_records<R: Read + Drop, W: Write>(
     alloc: Global,
-    form: &F,
+    form: Form,
     scope: &Scope,
     readers: Levels,
     records: &mut Records<R>,
@@ -42,66 +42,29 @@ pub fn judge_records<F: AnswerForm, R: Read + Drop, W: Write>(
     rows_max: u64,
 ) -> Judged
     requires { rows_max ≤ ROWS_MAX }
-    ensures answer { (all : List (List (List ℕ))) → ToCome R.remaining records.old all
-        → IsAnswer scope.now rows_max all result.answer }
+    ensures answers { (all : List (List (List ℕ))) → ToCome R.remaining records.old all
+        → Answers (IsAnswer scope.now rows_max all) (answer_text form scope.now) RunFault.Write
+        (W.contents writer.old) (W.contents writer.new) result.answer }
     ensures judged { (all : List (List (List ℕ))) → ToCome R.remaining records.old all
         → IsJudgedAnswer scope.now readers rows_max all result.answer result.unjudged }
     ensures no_other { IsNo result.answer ⊎ (result.unjudged ≡ None) }
     ensures whole { IsOverLimit R.remaining records.old → IsNoYes result.answer }
     ensures heard { IfErr result.answer (HasCause (fault_of records.new)) }
-    ensures written { IfOk result.answer (λ outcome. Appends (W.contents writer.old)
-        (W.contents writer.new) (F.text form.now scope.now outcome)) }
-    ensures nothing_written { IfErr result.answer (λ fault. fault ≢ RunFault.Write
-        → writer.new ≡ writer.old) }
-    ensures cut { (all : List (List (List ℕ))) → ToCome R.remaining records.old all
-        → result.answer ≡ Err RunFault.Write
-        → IsCutIn (F.text form.now) scope.now rows_max all (W.contents writer.old)
-        (W.contents writer.new) }
+    ensures leaves { Leaves W.contents (answer_text form scope.now) RunFault.Write writer.old
+        writer.new result.answer }
 {
-    match scope.begins {
-        Beginning::PowerOn => Judged {
+    if let Beginning::PowerOn = scope.begins {
+        return Judged {
             answer: check_records(alloc, form, scope, records, writer, rows_max),
             unjudged: None,
-        },
-        Beginning::Joined(_) => judge_joined(
-            alloc, form, scope, readers, records, writer, rows_max,
-        ),
+        };
     }
-}
-
-/// Does so for a recording that begins while the machine was running.
-fn judge_joined<F: AnswerForm, R: Read + Drop, W: Write>(
-    alloc: Global,
-    form: &F,
-    scope: &Scope,
-    readers: Levels,
-    records: &mut Records<R>,
-    writer: &mut W,
-    rows_max: u64,
-) -> Judged
-    requires { rows_max ≤ ROWS_MAX }
-    ensures answer { (all : List (List (List ℕ))) → ToCome R.remaining records.old all
-        → IsAnswer scope.now rows_max all result.answer }
-    ensures judged { (all : List (List (List ℕ))) → ToCome R.remaining records.old all
-        → IsJudgedAnswer scope.now readers rows_max all result.answer result.unjudged }
-    ensures no_other { IsNo result.answer ⊎ (result.unjudged ≡ None) }
-    ensures whole { IsOverLimit R.remaining records.old → IsNoYes result.answer }
-    ensures heard { IfErr result.answer (HasCause (fault_of records.new)) }
-    ensures written { IfOk result.answer (λ outcome. Appends (W.contents writer.old)
-        (W.contents writer.new) (F.text form.now scope.now outcome)) }
-    ensures nothing_written { IfErr result.answer (λ fault. fault ≢ RunFault.Write
-        → writer.new ≡ writer.old) }
-    ensures cut { (all : List (List (List ℕ))) → ToCome R.remaining records.old all
-        → result.answer ≡ Err RunFault.Write
-        → IsCutIn (F.text form.now) scope.now rows_max all (W.contents writer.old)
-        (W.contents writer.new) }
-{
     let judged = judge_on(scope, readers, records, rows_max);
     let outcome = match judged.answer {
         Ok(outcome) => outcome,
         Err(fault) => return Judged::without(fault),
     };
-    let Some(text) = form.text_of(alloc, scope, &outcome) else {
+    let Some(text) = answer_in(alloc, form, scope, &outcome) else {
         return Judged::without(RunFault::Memory);
     };
     match write_text(writer, text.as_slice()) {

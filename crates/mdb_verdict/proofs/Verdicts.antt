@@ -156,3 +156,9 @@ refused scope reaches limit all follower Stops fault ended (Ok outcome) handed =
 refused scope reaches limit all follower Stops fault ended (Err other) handed =
     let P : RunFault → Type 0 = λ f. IsAnswer scope limit all (Err f) in
     subst P (sym handed) (refused_by scope reaches limit all follower Stops fault ended)
+
+-- what holds of a fault holds of an answer that is this fault
+pub handed : {A Fault : Type 0} (P : Result A Fault → Type 0) (fault : Fault)
+    (answer : Result A Fault) → IsErrAnd answer (λ other. other ≡ fault) → P (Err fault) → P answer
+handed P fault (Ok value) is holds = absurd is
+handed P fault (Err other) is holds = subst (λ f. P (Err f)) (sym is) holds

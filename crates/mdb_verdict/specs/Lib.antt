@@ -1,6 +1,7 @@
+pub mod Answers
 pub mod Batch
-pub mod CutReport
 pub mod Ending
+pub mod Forms
 pub mod Headline
 pub mod Rows
 pub mod Telling

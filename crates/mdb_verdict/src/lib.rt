@@ -21,13 +21,13 @@ mod verdict;
 
 pub use batch::{Batch, Next};
 pub use fault::RunFault;
-pub use form::{AnswerForm, ReportText};
+pub use form::answer_in;
 pub use mdb_text::Outcome;
 pub use printer::Printer;
 pub use reading::{TakeRows, read_rows};
 pub use row::{FromRecord, field};
 pub use text::{text_of, text_scoped};
 pub use verdict::{
-    BYTES_MAX, check, check_joined, check_records, check_scoped, check_scoped_within, check_within,
-    outcome_of, records_of, verdict_on,
+    BYTES_MAX, check, check_joined, check_records, check_scoped, check_within, outcome_of,
+    records_of, verdict_on,
 };

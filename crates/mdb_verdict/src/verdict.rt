@@ -1,12 +1,12 @@
 //! The verdict on a recording.
 
 ghost use Rattle.std.specs.Prelude.{◌≡◌, ◌≢◌, ◌<◌, ◌≤◌, List, ℕ, IfOk, IfErr, IfSome, IsSome, None, Ok, Err, length};
-ghost use Rattle.std.specs.Io.KnownBytes.{Appends};
 ghost use Rattle.csv.specs.Reading.{default_config, records, strip_bom};
 ghost use Rattle.mdb_records.specs.ToCome.{IsOverLimit, IsUncut, ToCome, fault_of, limit_of};
+ghost use Rattle.mdb_verdict.specs.Answers.{Answers, AnswersText, Leaves};
+ghost use Rattle.mdb_verdict.specs.Forms.{answer_text};
 ghost use Rattle.mdb_verdict.specs.Headline.{Headline};
 ghost use Rattle.mdb_text.specs.Text.{report_text};
-ghost use Rattle.mdb_verdict.specs.CutReport.{IsCutIn, IsCutReport};
 ghost use Rattle.mdb_verdict.specs.Verdict.{HasCause, HasNoRoom, IsAnswer, IsYes, HasMet, IsNoYes, IsToldAs};
 ghost use Rattle.mdb_verdict.specs.Ending.{HasFollowedRows};
 ghost use Rattle.mdb_follow.specs.Follower.{StandsFor, rows_of, scope_of};
@@ -17,14 +17,14 @@ ghost use Rattle.mdb_words.specs.declared.event.Event.{Event};
 
 use super::batch::Batch;
 use super::fault::RunFault;
-use super::form::{AnswerForm, ReportText};
+use super::form::answer_in;
 use super::laws::verdicts_say_the_headline;
 use super::reading::{TakeRows, read_rows};
 use mdb_bus::Scope;
 use mdb_follow::{Follower, Offence, ROWS_MAX, laws};
 use mdb_msgs::{DeviceSet, Setups};
 use mdb_records::Records;
-use mdb_text::Outcome;
+use mdb_text::{Form, Outcome};
 use mdb_words::Event;
 use mdb_writing::write_text;
 use std::alloc::Global;
@@ -55,18 +55,10 @@ pub fn check<R: Read + Drop, W: Write>(
     reader: R,
     writer: &mut W,
 ) -> Result<Outcome, RunFault>
-    ensures answer { IfSome (R.remaining reader)
-        (λ text. IsAnswer power_on ROWS_MAX (records default_config (strip_bom text)) result) }
     ensures headline { IfSome (R.remaining reader) (λ text.
         IfOk result (Headline power_on ROWS_MAX (records default_config (strip_bom text)))) }
-    ensures whole { IfSome (R.remaining reader) (λ text. BYTES_MAX < length text → IsNoYes result) }
-    ensures written { IfOk result (λ outcome. Appends (W.contents writer.old)
-        (W.contents writer.new) (report_text power_on outcome)) }
-    ensures nothing_written { IfErr result (λ fault. fault ≢ RunFault.Write
-        → writer.new ≡ writer.old) }
-    ensures cut { IfSome (R.remaining reader) (λ text. result ≡ Err RunFault.Write
-        → IsCutReport power_on ROWS_MAX (records default_config (strip_bom text))
-        (W.contents writer.old) (W.contents writer.new)) }
+    ensures answers { AnswersText W.contents (IsAnswer power_on ROWS_MAX) (report_text power_on)
+        RunFault.Write BYTES_MAX (R.remaining reader) writer.old writer.new result }
 {
     check_scoped(alloc, &Scope::POWER_ON, reader, writer)
 }
@@ -86,18 +78,10 @@ pub fn check_joined<R: Read + Drop, W: Write>(
     reader: R,
     writer: &mut W,
 ) -> Result<Outcome, RunFault>
-    ensures answer { IfSome (R.remaining reader)
-        (λ text. IsAnswer all_joined ROWS_MAX (records default_config (strip_bom text)) result) }
     ensures headline { IfSome (R.remaining reader) (λ text.
         IfOk result (Headline all_joined ROWS_MAX (records default_config (strip_bom text)))) }
-    ensures whole { IfSome (R.remaining reader) (λ text. BYTES_MAX < length text → IsNoYes result) }
-    ensures written { IfOk result (λ outcome. Appends (W.contents writer.old)
-        (W.contents writer.new) (report_text all_joined outcome)) }
-    ensures nothing_written { IfErr result (λ fault. fault ≢ RunFault.Write
-        → writer.new ≡ writer.old) }
-    ensures cut { IfSome (R.remaining reader) (λ text. result ≡ Err RunFault.Write
-        → IsCutReport all_joined ROWS_MAX (records default_config (strip_bom text))
-        (W.contents writer.old) (W.contents writer.new)) }
+    ensures answers { AnswersText W.contents (IsAnswer all_joined ROWS_MAX) (report_text all_joined)
+        RunFault.Write BYTES_MAX (R.remaining reader) writer.old writer.new result }
 {
     let scope = Scope::joined(Setups::NONE, DeviceSet::NONE);
     check_scoped(alloc, &scope, reader, writer)
@@ -120,20 +104,12 @@ pub fn check_within<R: Read + Drop, W: Write>(
 ) -> Result<Outcome, RunFault>
     requires rows { rows_max ≤ ROWS_MAX }
     requires bytes { bytes_max ≤ BYTES_MAX }
-    ensures answer { IfSome (R.remaining reader)
-        (λ text. IsAnswer power_on rows_max (records default_config (strip_bom text)) result) }
     ensures headline { IfSome (R.remaining reader) (λ text.
         IfOk result (Headline power_on rows_max (records default_config (strip_bom text)))) }
-    ensures whole { IfSome (R.remaining reader) (λ text. bytes_max < length text → IsNoYes result) }
-    ensures written { IfOk result (λ outcome. Appends (W.contents writer.old)
-        (W.contents writer.new) (report_text power_on outcome)) }
-    ensures nothing_written { IfErr result (λ fault. fault ≢ RunFault.Write
-        → writer.new ≡ writer.old) }
-    ensures cut { IfSome (R.remaining reader) (λ text. result ≡ Err RunFault.Write
-        → IsCutReport power_on rows_max (records default_config (strip_bom text))
-        (W.contents writer.old) (W.contents writer.new)) }
+    ensures answers { AnswersText W.contents (IsAnswer power_on rows_max) (report_text power_on)
+        RunFault.Write bytes_max (R.remaining reader) writer.old writer.new result }
 {
-    check_scoped_within(alloc, &Scope::POWER_ON, reader, writer, rows_max, bytes_max)
+    check_text(alloc, &Scope::POWER_ON, reader, writer, rows_max, bytes_max)
 }
 
 /// Does what [`check`] does, for a recording with this scope. All words to and from a device that
@@ -153,24 +129,16 @@ pub fn check_scoped<R: Read + Drop, W: Write>(
     reader: R,
     writer: &mut W,
 ) -> Result<Outcome, RunFault>
-    ensures answer { IfSome (R.remaining reader)
-        (λ text. IsAnswer scope.now ROWS_MAX (records default_config (strip_bom text)) result) }
     ensures headline { IfSome (R.remaining reader) (λ text.
         IfOk result (Headline scope.now ROWS_MAX (records default_config (strip_bom text)))) }
-    ensures whole { IfSome (R.remaining reader) (λ text. BYTES_MAX < length text → IsNoYes result) }
-    ensures written { IfOk result (λ outcome. Appends (W.contents writer.old)
-        (W.contents writer.new) (report_text scope.now outcome)) }
-    ensures nothing_written { IfErr result (λ fault. fault ≢ RunFault.Write
-        → writer.new ≡ writer.old) }
-    ensures cut { IfSome (R.remaining reader) (λ text. result ≡ Err RunFault.Write
-        → IsCutReport scope.now ROWS_MAX (records default_config (strip_bom text))
-        (W.contents writer.old) (W.contents writer.new)) }
+    ensures answers { AnswersText W.contents (IsAnswer scope.now ROWS_MAX) (report_text scope.now)
+        RunFault.Write BYTES_MAX (R.remaining reader) writer.old writer.new result }
 {
-    check_scoped_within(alloc, scope, reader, writer, ROWS_MAX, BYTES_MAX)
+    check_text(alloc, scope, reader, writer, ROWS_MAX, BYTES_MAX)
 }
 
-/// Does what [`check_scoped`] does, with the other limits of [`check_within`].
-pub fn check_scoped_within<R: Read + Drop, W: Write>(
+/// Does what [`check_scoped`] does, with these limits.
+fn check_text<R: Read + Drop, W: Write>(
     alloc: Global,
     scope: &Scope,
     reader: R,
@@ -180,56 +148,43 @@ pub fn check_scoped_within<R: Read + Drop, W: Write>(
 ) -> Result<Outcome, RunFault>
     requires rows { rows_max ≤ ROWS_MAX }
     requires bytes { bytes_max ≤ BYTES_MAX }
-    ensures answer { IfSome (R.remaining reader)
-        (λ text. IsAnswer scope.now rows_max (records default_config (strip_bom text)) result) }
     ensures headline { IfSome (R.remaining reader) (λ text.
         IfOk result (Headline scope.now rows_max (records default_config (strip_bom text)))) }
-    ensures whole { IfSome (R.remaining reader) (λ text. bytes_max < length text → IsNoYes result) }
-    ensures written { IfOk result (λ outcome. Appends (W.contents writer.old)
-        (W.contents writer.new) (report_text scope.now outcome)) }
-    ensures nothing_written { IfErr result (λ fault. fault ≢ RunFault.Write
-        → writer.new ≡ writer.old) }
-    ensures cut { IfSome (R.remaining reader) (λ text. result ≡ Err RunFault.Write
-        → IsCutReport scope.now rows_max (records default_config (strip_bom text))
-        (W.contents writer.old) (W.contents writer.new)) }
+    ensures answers { AnswersText W.contents (IsAnswer scope.now rows_max) (report_text scope.now)
+        RunFault.Write bytes_max (R.remaining reader) writer.old writer.new result }
 {
     let mut records = records_of(alloc, reader, bytes_max);
-    check_records(alloc, &ReportText, scope, &mut records, writer, rows_max)
+    check_records(alloc, Form::Text, scope, &mut records, writer, rows_max)
 }
 
 /// Checks the records that are still to come, at most `rows_max`, and writes the verdict in this
 /// form. Afterwards `records` can still be asked where reading ended.
-pub fn check_records<F: AnswerForm, R: Read + Drop, W: Write>(
+pub fn check_records<R: Read + Drop, W: Write>(
     alloc: Global,
-    form: &F,
+    form: Form,
     scope: &Scope,
     records: &mut Records<R>,
     writer: &mut W,
     rows_max: u64,
 ) -> Result<Outcome, RunFault>
     requires { rows_max ≤ ROWS_MAX }
-    ensures answer { (all : List (List (List ℕ))) → ToCome R.remaining records.old all
-        → IsAnswer scope.now rows_max all result }
     ensures headline { (all : List (List (List ℕ))) → ToCome R.remaining records.old all
         → IfOk result (Headline scope.now rows_max all) }
+    ensures answers { (all : List (List (List ℕ))) → ToCome R.remaining records.old all
+        → Answers (IsAnswer scope.now rows_max all) (answer_text form scope.now) RunFault.Write
+        (W.contents writer.old) (W.contents writer.new) result }
+    ensures leaves { Leaves W.contents (answer_text form scope.now) RunFault.Write writer.old
+        writer.new result }
     ensures whole { IsOverLimit R.remaining records.old → IsNoYes result }
     ensures heard { IfErr result (HasCause (fault_of records.new)) }
     ensures met { fault_of records.old ≡ None → IsSome (fault_of records.new) → IsNoYes result }
     ensures room { (all : List (List (List ℕ))) → ToCome R.remaining records.old all
         → result ≡ Err RunFault.Memory
         → HasNoRoom scope.now rows_max all (fault_of records.new) }
-    ensures written { IfOk result (λ outcome. Appends (W.contents writer.old)
-        (W.contents writer.new) (F.text form.now scope.now outcome)) }
-    ensures nothing_written { IfErr result (λ fault. fault ≢ RunFault.Write
-        → writer.new ≡ writer.old) }
-    ensures cut { (all : List (List (List ℕ))) → ToCome R.remaining records.old all
-        → result ≡ Err RunFault.Write
-        → IsCutIn (F.text form.now) scope.now rows_max all (W.contents writer.old)
-        (W.contents writer.new) }
 {
     verdicts_say_the_headline();
     let outcome = verdict_on(scope, records, rows_max)?;
-    let Some(text) = form.text_of(alloc, scope, &outcome) else {
+    let Some(text) = answer_in(alloc, form, scope, &outcome) else {
         return Err(RunFault::Memory);
     };
     write_text(writer, text.as_slice())?;

@@ -29,7 +29,7 @@ use Rattle.mdbcheck_run.specs.inner.CommandLine.{commands}
 use Rattle.mdbcheck_run.specs.declared.command_line.Task.{Task}
 use Rattle.mdbcheck_run.specs.declared.command_line.Task.TheVariants.{Check, Show, Explain, Replay}
 use Rattle.mdbcheck_run.specs.declared.command_line.Task.TheVariants.{Manual, Survey}
-use Rattle.mdbcheck_run.specs.declared.form.Form.{Form}
+use Rattle.mdb_text.specs.declared.form.Form.{Form}
 use Rattle.mdbcheck_run.specs.declared.refusal.Refusal.{Refusal}
 use Rattle.mdbcheck_run.specs.declared.refusal.Refusal.TheVariants.{Words, Setup}
 use Rattle.mdbcheck_run.proofs.Devices.{one_set}

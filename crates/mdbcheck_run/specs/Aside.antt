@@ -14,7 +14,7 @@ use Rattle.mdb_follow.specs.declared.offence.Offence.{Offence}
 use Rattle.mdb_text.specs.Text.{line}
 use Rattle.mdb_unjudged.specs.Verdict.{IsJudgedNo}
 use Rattle.mdb_writing.specs.Written.{HasTaken}
-use Rattle.mdbcheck_run.specs.declared.form.Form.{Form}
+use Rattle.mdb_text.specs.declared.form.Form.{Form}
 use Rattle.mdbcheck_run.specs.Program.{NamesCheck, NamesExplain, NamesManual, NamesReplay, NamesShow, NamesSurvey, setup_text}
 
 -- the line on a no that isn't judged

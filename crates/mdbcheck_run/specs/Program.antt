@@ -1,7 +1,8 @@
 -- What the words of a command line name, and what the program's exit status says.
 use Rattle.std.specs.Prelude.{◌≡◌, ◌≢◌, ◌⊎◌, ◌++◌, ◌<◌, ◌==◌, ℕ, Bool, true, false, List, [], ◌∷◌}
-use Rattle.std.specs.Prelude.{codes, if◌then◌else◌, Option, Some, None, Result, Ok, Err}
+use Rattle.std.specs.Prelude.{codes, if◌then◌else◌, Option, Some, None, Result, Ok, Err, IfSome, length}
 use Rattle.std.specs.Io.KnownBytes.{Appends}
+use Rattle.csv.specs.Reading.{default_config, records, strip_bom}
 use Rattle.command_words.specs.Grammar.{Command, NameCommand, Uses, chosen, is_used}
 use Rattle.command_words.specs.Manual.{AskForManual, Manual}
 use Rattle.mdb_words.specs.Digits.{IsDecimal}
@@ -21,30 +22,26 @@ use Rattle.mdb_follow.specs.declared.offence.Offence.{Offence}
 use Rattle.mdb_follow.specs.declared.report.Report.{Report}
 use Rattle.mdb_explain.specs.Explain.{IsCutExplanation, IsExplainedIn, bound_word}
 use Rattle.mdb_text.specs.Known.{known_devices}
-use Rattle.mdb_explain.specs.Replay.{IsCutReplayIn, IsReplayed, StopsAt}
-use Rattle.mdb_show.specs.Lines.{LineForm}
-use Rattle.mdb_show.specs.Show.{IsCutShortIn, IsShownToFaultIn, IsShownWholeIn}
-use Rattle.mdb_show.specs.ShowJson.{json_lines}
-use Rattle.mdb_show.specs.ShowText.{bytes_text, text_lines}
-use Rattle.mdb_survey_text.specs.Lines.{LineForm as SurveyForm}
-use Rattle.mdb_survey.specs.Survey.{IsCutShort, IsSurveyedWhole}
-use Rattle.mdb_survey.specs.SurveyJson.{json_lines as survey_json_lines}
-use Rattle.mdb_survey_text.specs.SurveyText.{text_lines as survey_text_lines}
+use Rattle.mdb_explain.specs.Replay.{IsReplayAnswer}
+use Rattle.mdb_show.specs.Show.{IsCutShortIn, IsShownToFaultIn, IsShownWholeIn, lines_in}
+use Rattle.mdb_show.specs.ShowText.{bytes_text}
+use Rattle.mdb_survey.specs.Survey.{IsCutShort, IsSurveyedWhole, survey_lines_in}
 use Rattle.mdb_stretches.specs.declared.summary.Summary.{Summary}
 use Rattle.mdb_text.specs.Accounts.{side_word}
 use Rattle.mdb_text.specs.Text.{report_text}
-use Rattle.mdb_verdict.specs.CutReport.{IsCutIn}
-use Rattle.mdb_verdict.specs.Verdict.{IsImpossible, IsPossible}
+use Rattle.mdb_verdict.specs.Answers.{IsCutIn}
+use Rattle.mdb_verdict.specs.Forms.{answer_text}
+use Rattle.mdb_verdict.specs.Verdict.{IsAnswer, IsImpossible, IsPossible}
 use Rattle.mdb_text.specs.declared.outcome.Outcome.{Outcome}
 use Rattle.mdb_text.specs.declared.outcome.Outcome.TheVariants.{Yes, No}
 use Rattle.mdb_verdict.specs.declared.fault.RunFault.{RunFault}
-use Rattle.mdb_json.specs.Json.{json_line}
+use Rattle.mdb_verdict.specs.declared.verdict.TheConstants.{BYTES_MAX}
 use Rattle.mdb_bus.specs.declared.scope.Scope.{Scope}
 use Rattle.mdb_bus.specs.Scopes.{leaving_out, joined as in_mid_session}
 use Rattle.mdb_writing.specs.Written.{HasTaken}
 use Rattle.mdbcheck_run.specs.declared.manual.TheConstants.{ABOUT, CHECK, EXPLAIN, MANUAL, REPLAY, REST, SHOW, SURVEY}
-use Rattle.mdbcheck_run.specs.declared.form.Form.{Form}
-use Rattle.mdbcheck_run.specs.declared.form.Form.TheVariants.{Text, Json}
+use Rattle.mdb_text.specs.declared.form.Form.{Form}
+use Rattle.mdb_text.specs.declared.form.Form.TheVariants.{Text, Json}
 
 -- the word of a device, and bytes as `show` writes them after it
 abbrev pub setup_text : Device → List ℕ → List ℕ
@@ -246,32 +243,17 @@ NameAReading words = (scope : Scope)
 abbrev pub NameATask : List (List ℕ) → Type 0
 NameATask words = NameAReading words ⊎ ((text : List ℕ) × NamesManual words text)
 
--- what is written of an answer: its text, or its line of JSON
-abbrev pub answer_text : Form → Scope → Outcome → List ℕ
-answer_text Text scope outcome = report_text scope outcome
-answer_text Json scope outcome = json_line scope outcome
-
--- the lines that are written of what is shown: those of the text, or objects of JSON
-abbrev pub lines_in : Form → LineForm
-lines_in Text = text_lines
-lines_in Json = json_lines
-
--- the lines that are written of a survey
-abbrev pub survey_lines_in : Form → SurveyForm
-survey_lines_in Text = survey_text_lines
-survey_lines_in Json = survey_json_lines
-
--- What the statuses of `check` say of the records of a text, and of the bytes that the writer held
--- before and after. At 2 nothing was written, or the writer failed, and took a front of what is
--- written of the verdict that there is.
-pub record SaysChecked (scope : Scope) (form : Form) (records : List (List (List ℕ)))
-    (before after : Option (List ℕ)) (status : ℕ) : Type 0 where
-  pub possible : status ≡ 0 → (report : Report) × IsPossible scope ROWS_MAX records report
-      × Appends before after (answer_text form scope (Yes report))
-  pub impossible : status ≡ 1 → (offence : Offence) × IsImpossible scope ROWS_MAX records offence
-      × Appends before after (answer_text form scope (No offence))
-  pub unanswered : status ≡ 2 → (after ≡ before)
-      ⊎ IsCutIn (answer_text form) scope ROWS_MAX records before after
+-- What the statuses of `check` and of `replay` say of the records of a text, by what they may be
+-- answered with, and of the bytes that the writer held before and after, by what is written of an
+-- outcome. At 2 nothing was written, or the writer failed, and took a front of what is written of
+-- the outcome that there is.
+pub record SaysAnswered {Fault : Type 0} (IsAnswer : Result Outcome Fault → Type 0)
+    (text : Outcome → List ℕ) (before after : Option (List ℕ)) (status : ℕ) : Type 0 where
+  pub possible : status ≡ 0 → (report : Report) × IsAnswer (Ok (Yes report))
+      × Appends before after (text (Yes report))
+  pub impossible : status ≡ 1 → (offence : Offence) × IsAnswer (Ok (No offence))
+      × Appends before after (text (No offence))
+  pub unanswered : status ≡ 2 → (after ≡ before) ⊎ IsCutIn IsAnswer text before after
 
 -- The same of `survey`. At 0 and at 1 all records are rows, and the lines of their survey were
 -- written: at 0 it has no fault, and at 1 one or more. At 2 a front of a text was written that the
@@ -306,17 +288,6 @@ pub record SaysExplained (scope : Scope) (goal : Goal) (records : List (List (Li
   pub unanswered : status ≡ 2
       → (after ≡ before) ⊎ IsCutExplanation scope ROWS_MAX goal records before after
 
--- What the statuses of `replay` say of the records of an input, as those of `check` do.
-pub record SaysReplayed (scope : Scope) (form : Form) (records : List (List (List ℕ)))
-    (before after : Option (List ℕ)) (status : ℕ) : Type 0 where
-  pub possible : status ≡ 0 → (report : Report) × IsReplayed scope ROWS_MAX records report
-      × Appends before after (answer_text form scope (Yes report))
-  pub impossible : status ≡ 1 → (offence : Offence) × StopsAt scope ROWS_MAX records (Ok offence)
-      × Appends before after (answer_text form scope (No offence))
-  pub unanswered : status ≡ 2
-      → (after ≡ before)
-      ⊎ IsCutReplayIn (answer_text form) scope ROWS_MAX records before after
-
 -- What the statuses of `manual` say: at 0 its text was written. At 2 the writer failed, and took a
 -- front of it. There is no other.
 pub record SaysManual (text : List ℕ) (before after : Option (List ℕ)) (status : ℕ) : Type 0 where
@@ -331,7 +302,8 @@ pub record SaysManual (text : List ℕ) (before after : Option (List ℕ)) (stat
 pub data Says (words : List (List ℕ)) (records : List (List (List ℕ)))
     (before after : Option (List ℕ)) (status : ℕ) : Type 0 where
   checked : (scope : Scope) (form : Form) → NamesCheck words scope form
-      → SaysChecked scope form records before after status → Says words records before after status
+      → SaysAnswered (IsAnswer scope ROWS_MAX records) (answer_text form scope) before after status
+      → Says words records before after status
   surveyed : (scope : Scope) (form : Form) → NamesSurvey words scope form
       → SaysSurveyed scope form records before after status
       → Says words records before after status
@@ -341,14 +313,21 @@ pub data Says (words : List (List ℕ)) (records : List (List (List ℕ)))
       → SaysExplained scope goal records before after status
       → Says words records before after status
   replayed : (scope : Scope) (form : Form) → NamesReplay words scope form
-      → SaysReplayed scope form records before after status
+      → SaysAnswered (IsReplayAnswer scope ROWS_MAX records) (answer_text form scope) before after
+      status
       → Says words records before after status
   told : (text : List ℕ) → NamesManual words text → SaysManual text before after status
       → Says words records before after status
   refused : status ≡ 2 → after ≡ before → Says words records before after status
 
--- The rest serves private functions: the status for an answer of `check`, `explain` or `replay`, of
--- `survey`, and of `show`.
+-- The rest serves private functions. What one says that reads a recording, by what each status says
+-- of the records of a text.
+pub record SaysOf (Says : List (List (List ℕ)) → ℕ → Type 0) (remaining : Option (List ℕ))
+    (status : ℕ) : Type 0 where
+  pub says : IfSome remaining (λ bytes. Says (records default_config (strip_bom bytes)) status)
+  pub whole : IfSome remaining (λ bytes. BYTES_MAX < length bytes → status ≢ 0)
+
+-- the status for an answer of `check`, `explain` or `replay`, of `survey`, and of `show`
 abbrev pub status_of : {Fault : Type 0} → Result Outcome Fault → ℕ
 status_of (Ok (Yes report)) = 0
 status_of (Ok (No offence)) = 1

@@ -16,7 +16,6 @@ ghost use Rattle.mdbcheck_run.specs.inner.CommandLine.{AsksFor, Fails, FindTask,
 ghost use Rattle.mdbcheck_run.specs.inner.CommandLine.{mdbcheck, names};
 ghost use Rattle.mdbcheck_run.specs.inner.SetupReading.{no_memory};
 
-use super::form::Form;
 use super::goal_words::goal_of;
 use super::manual;
 use super::refusal::{Refusal, SetupFault};
@@ -26,6 +25,7 @@ use command_words::{CommandRow, Named, Program, manual_asked, read};
 use mdb_bus::Scope;
 use mdb_follow::Goal;
 use mdb_msgs::{Device, DeviceSet};
+use mdb_text::Form;
 use std::alloc::Global;
 
 /// The program's version.

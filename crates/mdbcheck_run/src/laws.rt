@@ -13,7 +13,7 @@ ghost use Rattle.mdb_follow.specs.declared.goal.Goal.{Goal};
 ghost use Rattle.mdb_show.specs.ShowText.{act_text, rows_text};
 ghost use Rattle.mdbcheck_run.specs.Program.{Gives, NameAReading, NamesCheck, NamesExplain, NamesManual};
 ghost use Rattle.mdbcheck_run.specs.Program.{NamesReplay, NamesShow, NamesSurvey};
-ghost use Rattle.mdbcheck_run.specs.declared.form.Form.{Form};
+ghost use Rattle.mdb_text.specs.declared.form.Form.{Form};
 
 use command_words::laws as command_lines;
 use mdb_msgs::laws as messages;

@@ -7,7 +7,6 @@
 mod apart;
 mod command_line;
 mod complaint;
-mod form;
 mod goal_words;
 pub mod laws;
 mod levels;

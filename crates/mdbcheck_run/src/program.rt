@@ -1,17 +1,17 @@
 //! The program over its words.
 
-ghost use Rattle.std.specs.Prelude.{◌≡◌, ◌≢◌, ◌<◌, ◌⊎◌, ℕ, List, None, Ok, Err};
-ghost use Rattle.std.specs.Prelude.{IfSome, IsErr, length, map, option_map, string_bytes};
+ghost use Rattle.std.specs.Prelude.{◌≡◌, ◌≢◌, ◌<◌, ◌⊎◌, Err};
+ghost use Rattle.std.specs.Prelude.{IfSome, length, map, option_map, string_bytes};
 ghost use Rattle.command_words.specs.Manual.{manual_text};
 ghost use Rattle.mdbcheck_run.specs.Aside.{HasToldAside, IsAside, IsAsideOfCheck};
 ghost use Rattle.mdbcheck_run.specs.Complaint.{IsToldCause, excess_line};
-ghost use Rattle.mdbcheck_run.specs.Program.{NameAReading, NameATask, Says};
-ghost use Rattle.mdbcheck_run.specs.Program.{SaysChecked, SaysExplained, SaysManual, SaysReplayed};
-ghost use Rattle.mdbcheck_run.specs.Program.{SaysShown, SaysSurveyed};
-ghost use Rattle.mdbcheck_run.specs.Program.{lines_in, mdbcheck_manual, show_status_of, status_of};
-ghost use Rattle.mdbcheck_run.specs.Program.{survey_lines_in, survey_status_of};
-ghost use Rattle.mdb_show.specs.Show.{ShowsIn};
-ghost use Rattle.mdb_survey.specs.Survey.{SurveysIn};
+ghost use Rattle.mdb_explain.specs.Replay.{IsReplayAnswer};
+ghost use Rattle.mdb_verdict.specs.Verdict.{IsAnswer};
+ghost use Rattle.mdbcheck_run.specs.Program.{NameAReading, NameATask, Says, SaysAnswered};
+ghost use Rattle.mdbcheck_run.specs.Program.{SaysExplained, SaysManual, SaysOf, SaysShown, SaysSurveyed};
+ghost use Rattle.mdbcheck_run.specs.Program.{mdbcheck_manual, show_status_of, status_of};
+ghost use Rattle.mdbcheck_run.specs.Program.{survey_status_of};
+ghost use Rattle.mdb_verdict.specs.Forms.{answer_text};
 ghost use Rattle.mdb_bus.specs.Scopes.{leaving_out};
 ghost use Rattle.mdb_verdict.specs.declared.verdict.TheConstants.{BYTES_MAX};
 ghost use Rattle.mdb_writing.specs.Written.{HasTaken};
@@ -21,7 +21,6 @@ ghost use Rattle.csv.specs.Reading.{default_config, records, strip_bom};
 use super::apart::Apart;
 use super::command_line::{PROGRAM, Task, task_of};
 use super::complaint::{Wanted, complain, tell_unjudged};
-use super::form::Form;
 use super::levels::levels_given;
 use super::refusal::Refusal;
 use super::refused::tell_refusal;
@@ -31,9 +30,10 @@ use mdb_explain::{MarkedFault, explain_records, replay_records};
 use mdb_follow::{Goal, ROWS_MAX};
 use mdb_msgs::DeviceSet;
 use mdb_records::Records;
-use mdb_show::{show_json_records, show_records};
-use mdb_survey::{Summary, survey_json_records, survey_records};
-use mdb_text::Outcome;
+use mdb_show::show_records;
+use mdb_stretches::Summary;
+use mdb_survey::survey_records;
+use mdb_text::{Form, Outcome};
 use mdb_unjudged::judge_records;
 use mdb_verdict::{BYTES_MAX, RunFault, records_of};
 use mdb_writing::WriteFailed;
@@ -138,16 +138,14 @@ fn run_check<R: Read + Drop, W: Write, E: Write>(
     err: &mut E,
 ) -> u8
     ensures status { result < 3 }
-    ensures says { IfSome (R.remaining reader) (λ text. SaysChecked scope.now form
-        (records default_config (strip_bom text)) (W.contents out.old) (W.contents out.new)
-        result) }
-    ensures whole { IfSome (R.remaining reader) (λ text. BYTES_MAX < length text
-        → result ≢ POSSIBLE) }
+    ensures says { SaysOf (λ all. SaysAnswered (IsAnswer scope.now ROWS_MAX all)
+        (answer_text form scope.now) (W.contents out.old) (W.contents out.new))
+        (R.remaining reader) result }
     ensures silent { result < 2 → HasToldAside E.contents err.old err.new
         (IsAsideOfCheck scope.now readers (R.remaining reader) result) }
 {
     let mut records = input_of(alloc, reader);
-    let judged = judge_records(alloc, &form, scope, readers, &mut records, out, ROWS_MAX);
+    let judged = judge_records(alloc, form, scope, readers, &mut records, out, ROWS_MAX);
     tell_unjudged(judged.unjudged, err);
     finish_check(judged.answer, Wanted::Row, &records, err)
 }
@@ -162,15 +160,12 @@ fn run_survey<R: Read + Drop, W: Write, E: Write>(
     err: &mut E,
 ) -> u8
     ensures status { result < 3 }
-    ensures says { IfSome (R.remaining reader) (λ text. SaysSurveyed scope.now form
-        (records default_config (strip_bom text)) (W.contents out.old) (W.contents out.new)
-        result) }
-    ensures whole { IfSome (R.remaining reader) (λ text. BYTES_MAX < length text
-        → result ≡ NO_VERDICT) }
+    ensures says { SaysOf (λ all. SaysSurveyed scope.now form all (W.contents out.old)
+        (W.contents out.new)) (R.remaining reader) result }
     ensures silent { result < 2 → err.new ≡ err.old }
 {
     let mut records = input_of(alloc, reader);
-    let answer = survey_in(alloc, scope, form, &mut records, out);
+    let answer = survey_records(alloc, form, scope, &mut records, out);
     finish_survey(answer, &records, err)
 }
 
@@ -184,15 +179,12 @@ fn run_show<R: Read + Drop, W: Write, E: Write>(
     err: &mut E,
 ) -> u8
     ensures status { result < 3 }
-    ensures says { IfSome (R.remaining reader) (λ text. SaysShown scope.now form
-        (records default_config (strip_bom text)) (W.contents out.old) (W.contents out.new)
-        result) }
-    ensures whole { IfSome (R.remaining reader) (λ text. BYTES_MAX < length text
-        → result ≢ POSSIBLE) }
+    ensures says { SaysOf (λ all. SaysShown scope.now form all (W.contents out.old)
+        (W.contents out.new)) (R.remaining reader) result }
     ensures silent { result < 2 → err.new ≡ err.old }
 {
     let mut records = input_of(alloc, reader);
-    let answer = show_in(alloc, scope, form, &mut records, out);
+    let answer = show_records(alloc, form, scope, &mut records, out);
     finish_show(answer, &records, err)
 }
 
@@ -206,16 +198,14 @@ fn run_replay<R: Read + Drop, W: Write, E: Write>(
     err: &mut E,
 ) -> u8
     ensures status { result < 3 }
-    ensures says { IfSome (R.remaining reader) (λ text. SaysReplayed (leaving_out without) form
-        (records default_config (strip_bom text)) (W.contents out.old) (W.contents out.new)
-        result) }
-    ensures whole { IfSome (R.remaining reader) (λ text. BYTES_MAX < length text
-        → result ≢ POSSIBLE) }
+    ensures says { SaysOf (λ all. SaysAnswered (IsReplayAnswer (leaving_out without) ROWS_MAX all)
+        (answer_text form (leaving_out without)) (W.contents out.old) (W.contents out.new))
+        (R.remaining reader) result }
     ensures silent { result < 2 → err.new ≡ err.old }
 {
     // Apart, so that reading marks leaves reading rows as fast as it is alone.
     let mut records = input_of(alloc, Apart { inner: reader });
-    let answer = replay_records(alloc, &form, without, &mut records, out);
+    let answer = replay_records(alloc, form, without, &mut records, out);
     finish_replay(answer, &records, err)
 }
 
@@ -229,11 +219,8 @@ fn run_explain<R: Read + Drop, W: Write, E: Write>(
     err: &mut E,
 ) -> u8
     ensures status { result < 3 }
-    ensures says { IfSome (R.remaining reader) (λ text. SaysExplained (leaving_out without) goal.now
-        (records default_config (strip_bom text)) (W.contents out.old) (W.contents out.new)
-        result) }
-    ensures whole { IfSome (R.remaining reader) (λ text. BYTES_MAX < length text
-        → result ≢ POSSIBLE) }
+    ensures says { SaysOf (λ all. SaysExplained (leaving_out without) goal.now all
+        (W.contents out.old) (W.contents out.new)) (R.remaining reader) result }
     ensures silent { result < 2 → err.new ≡ err.old }
 {
     let mut records = input_of(alloc, reader);
@@ -255,43 +242,6 @@ fn run_manual<W: Write, E: Write>(part: Option<&str>, out: &mut W, err: &mut E) 
             let _ = writeln!(err, "mdbcheck: {}", WriteFailed);
             NO_VERDICT
         }
-    }
-}
-
-/// Surveys the records that are still to come in this form.
-fn survey_in<R: Read + Drop, W: Write>(
-    alloc: Global,
-    scope: &Scope,
-    form: Form,
-    records: &mut Records<R>,
-    out: &mut W,
-) -> Result<Summary, RunFault>
-    ensures surveys { (all : List (List (List ℕ))) → ToCome R.remaining records.old all
-        → SurveysIn (survey_lines_in form) scope.now all (W.contents out.old)
-        (W.contents out.new) result }
-    ensures whole { IsOverLimit R.remaining records.old → IsErr result }
-{
-    match form {
-        Form::Text => survey_records(alloc, scope, records, out),
-        Form::Json => survey_json_records(alloc, scope, records, out),
-    }
-}
-
-/// Shows the records that are still to come in this form.
-fn show_in<R: Read + Drop, W: Write>(
-    alloc: Global,
-    scope: &Scope,
-    form: Form,
-    records: &mut Records<R>,
-    out: &mut W,
-) -> Result<Option<LinkFault>, RunFault>
-    ensures shows { (all : List (List (List ℕ))) → ToCome R.remaining records.old all
-        → ShowsIn (lines_in form) scope.now all (W.contents out.old) (W.contents out.new) result }
-    ensures whole { IsOverLimit R.remaining records.old → result ≢ Ok None }
-{
-    match form {
-        Form::Text => show_records(alloc, scope, records, out),
-        Form::Json => show_json_records(alloc, scope, records, out),
     }
 }
 

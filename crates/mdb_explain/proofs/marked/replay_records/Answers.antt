@@ -1,16 +1,28 @@
 use Rattle.std.proofs.Common.{◌∙◌, ap, subst}
 use Rattle.mdb_writing.specs.Written.{HasTaken}
+use Rattle.mdb_bus.specs.Scopes.{leaving_out}
+use Rattle.mdb_follow.specs.declared.follower.TheConstants.{ROWS_MAX}
+use Rattle.mdb_verdict.specs.declared.fault.RunFault.TheVariants.{Write}
+use Rattle.mdb_verdict.specs.Forms.{answer_text}
+use Rattle.mdb_verdict.proofs.Verdicts.{handed}
+use Rattle.mdb_explain.specs.declared.fault.MarkedFault.TheVariants as marked
+use Rattle.mdb_explain.specs.Replay.{IsReplayAnswer}
 use Rattle.mdb_explain.proofs.marked.replay_records.Goals as goal
 
-pub returns-in_err-write_text-clause-cut : goal.returns-in_err-write_text-clause-cut
-returns-in_err-write_text-clause-cut g c all to_come refused =
+pub returns-in_err-write_text-clause-answers : goal.returns-in_err-write_text-clause-answers
+returns-in_err-write_text-clause-answers g c all to_come =
     let held = g.W.Write.contents in
     record {
-      outcome = c.in_ok-outcome.outcome;
-      is = c.in_ok-outcome.ensures.answer all to_come;
-      taken = subst (HasTaken (held c.args.writer.now) (held c.write_text.new.writer))
-          (c.as_slice.ensures.value ∙ (c.in-Some.ensures
-          ∙ ap (λ s. g.F.AnswerForm.text c.args.form.now s c.in_ok-outcome.outcome)
-          c.leaving_out.ensures))
-          c.write_text.ensures.front;
+      answer = handed (IsReplayAnswer (leaving_out c.args.without) ROWS_MAX all)
+          (marked.Run Write) _ c.from_residual-in_err-write_text.ensures.1 tt;
+      cut = λ refused.
+          record {
+            outcome = c.in_ok-outcome.outcome;
+            is = c.in_ok-outcome.ensures.answer all to_come;
+            taken = subst (HasTaken (held c.args.writer.now) (held c.write_text.new.writer))
+                (c.as_slice.ensures.value ∙ (c.in-Some.ensures
+                ∙ ap (λ s. answer_text c.args.form s c.in_ok-outcome.outcome)
+                c.leaving_out.ensures))
+                c.write_text.ensures.front;
+          };
     }

@@ -1,5 +1,8 @@
 use Rattle.std.proofs.Common.{◌∙◌, inr, subst}
 use Rattle.mdb_writing.specs.Written.{HasTaken}
+use Rattle.mdb_verdict.specs.declared.fault.RunFault.TheVariants.{Write}
+use Rattle.mdb_verdict.specs.Verdict.{IsAnswer}
+use Rattle.mdb_verdict.proofs.Verdicts.{handed}
 use Rattle.mdb_verdict.proofs.verdict.check_records.Goals as goal
 
 pub returns-clause-headline : goal.returns-clause-headline
@@ -7,14 +10,19 @@ returns-clause-headline g c all to_come =
     c.verdicts_say_the_headline.ensures c.args.scope.now _ all _
     (c.in_ok-outcome.ensures.answer all to_come)
 
-pub returns-in_err-write_text-clause-cut : goal.returns-in_err-write_text-clause-cut
-returns-in_err-write_text-clause-cut g c all to_come refused =
+pub returns-in_err-write_text-clause-answers : goal.returns-in_err-write_text-clause-answers
+returns-in_err-write_text-clause-answers g c all to_come =
     let held = g.W.Write.contents in
     record {
-      outcome = c.in_ok-outcome.outcome;
-      is = c.in_ok-outcome.ensures.answer all to_come;
-      taken = subst (HasTaken (held c.args.writer.now) (held c.write_text.new.writer))
-          (c.as_slice.ensures.value ∙ c.in-Some.ensures) c.write_text.ensures.front;
+      answer = handed (IsAnswer c.args.scope.now c.args.rows_max all) Write _
+          c.from_residual-in_err-write_text.ensures.1 tt;
+      cut = λ refused.
+          record {
+            outcome = c.in_ok-outcome.outcome;
+            is = c.in_ok-outcome.ensures.answer all to_come;
+            taken = subst (HasTaken (held c.args.writer.now) (held c.write_text.new.writer))
+                (c.as_slice.ensures.value ∙ c.in-Some.ensures) c.write_text.ensures.front;
+          };
     }
 
 pub returns-in_default-clause-room : goal.returns-in_default-clause-room

@@ -9,7 +9,7 @@ use Rattle.mdbcheck_run.specs.Program.{NameATask, checked, explained, replayed, 
 use Rattle.mdbcheck_run.specs.declared.command_line.Task.{Task}
 use Rattle.mdbcheck_run.specs.declared.command_line.Task.TheVariants.{Check, Show, Explain}
 use Rattle.mdbcheck_run.specs.declared.command_line.Task.TheVariants.{Manual, Replay, Survey}
-use Rattle.mdbcheck_run.proofs.Status.{manual_says, refused_says, surveyed_not_yes}
+use Rattle.mdbcheck_run.proofs.Status.{manual_says, refused_says}
 use Rattle.mdbcheck_run.proofs.program.run.Goals as goal
 
 -- the words that were read are those that were given
@@ -34,7 +34,7 @@ returns-in-Ok-Check-clause-says g c =
     let asks =
     asked _ _ _ (Check c.in-Ok-Check.scope c.in-Ok-Check.form) c.as_slice.ensures.value
     c.in-Ok-Check.field-0-is c.in-Ok-Check.ensures.asked in
-    IfSome_then _ c.run_check.ensures.says
+    IfSome_then _ c.run_check.ensures.says.says
     (λ text says. checked c.in-Ok-Check.scope c.in-Ok-Check.form asks says)
 
 pub returns-in-Ok-Check-clause-named : goal.returns-in-Ok-Check-clause-named
@@ -48,7 +48,7 @@ returns-in-Ok-Survey-clause-says g c =
     let task = Survey c.in-Ok-Survey.scope c.in-Ok-Survey.form in
     let asks = asked _ _ _ task c.as_slice.ensures.value c.in-Ok-Survey.field-0-is
     c.in-Ok-Survey.ensures.asked in
-    IfSome_then _ c.run_survey.ensures.says
+    IfSome_then _ c.run_survey.ensures.says.says
     (λ text says. surveyed c.in-Ok-Survey.scope c.in-Ok-Survey.form asks says)
 
 pub returns-in-Ok-Survey-clause-named : goal.returns-in-Ok-Survey-clause-named
@@ -59,16 +59,27 @@ returns-in-Ok-Survey-clause-named g c =
     (asked _ _ _ task c.as_slice.ensures.value c.in-Ok-Survey.field-0-is
     c.in-Ok-Survey.ensures.asked))
 
+pub returns-in-Ok-Check-clause-whole : goal.returns-in-Ok-Check-clause-whole
+returns-in-Ok-Check-clause-whole g c reads = c.run_check.ensures.says.whole
+
 pub returns-in-Ok-Survey-clause-whole : goal.returns-in-Ok-Survey-clause-whole
-returns-in-Ok-Survey-clause-whole g c reads =
-    surveyed_not_yes (g.R.Read.remaining c.args.reader) _ _ c.run_survey.ensures.whole
+returns-in-Ok-Survey-clause-whole g c reads = c.run_survey.ensures.says.whole
+
+pub returns-in-Ok-Show-clause-whole : goal.returns-in-Ok-Show-clause-whole
+returns-in-Ok-Show-clause-whole g c reads = c.run_show.ensures.says.whole
+
+pub returns-in-Ok-Explain-clause-whole : goal.returns-in-Ok-Explain-clause-whole
+returns-in-Ok-Explain-clause-whole g c reads = c.run_explain.ensures.says.whole
+
+pub returns-in-Ok-Replay-clause-whole : goal.returns-in-Ok-Replay-clause-whole
+returns-in-Ok-Replay-clause-whole g c reads = c.run_replay.ensures.says.whole
 
 pub returns-in-Ok-Show-clause-says : goal.returns-in-Ok-Show-clause-says
 returns-in-Ok-Show-clause-says g c =
     let asks =
     asked _ _ _ (Show c.in-Ok-Show.scope c.in-Ok-Show.form) c.as_slice.ensures.value
     c.in-Ok-Show.field-0-is c.in-Ok-Show.ensures.asked in
-    IfSome_then _ c.run_show.ensures.says
+    IfSome_then _ c.run_show.ensures.says.says
     (λ text says. shown c.in-Ok-Show.scope c.in-Ok-Show.form asks says)
 
 pub returns-in-Ok-Show-clause-named : goal.returns-in-Ok-Show-clause-named
@@ -82,7 +93,7 @@ returns-in-Ok-Replay-clause-says g c =
     let asks =
     asked _ _ _ (Replay c.in-Ok-Replay.without c.in-Ok-Replay.form) c.as_slice.ensures.value
     c.in-Ok-Replay.field-0-is c.in-Ok-Replay.ensures.asked in
-    IfSome_then _ c.run_replay.ensures.says
+    IfSome_then _ c.run_replay.ensures.says.says
     (λ text says. replayed (leaving_out c.in-Ok-Replay.without) c.in-Ok-Replay.form asks says)
 
 pub returns-in-Ok-Replay-clause-named : goal.returns-in-Ok-Replay-clause-named
@@ -100,7 +111,7 @@ returns-in-Ok-Explain-clause-says g c =
     let asks =
     asked _ _ _ task c.as_slice.ensures.value c.in-Ok-Explain.field-0-is
     c.in-Ok-Explain.ensures.asked in
-    IfSome_then _ c.run_explain.ensures.says (λ text says.
+    IfSome_then _ c.run_explain.ensures.says.says (λ text says.
     explained (leaving_out c.in-Ok-Explain.without) c.in-Ok-Explain.goal asks says)
 
 pub returns-in-Ok-Explain-clause-named : goal.returns-in-Ok-Explain-clause-named

@@ -1,24 +1,21 @@
-use Rattle.std.proofs.Common.{subst, sym, ◌∙◌}
+use Rattle.std.proofs.Common.{subst, sym}
 use Rattle.std.proofs.lemmas.Option.{IfSome_then}
+use Rattle.mdb_follow.specs.declared.follower.TheConstants.{ROWS_MAX}
+use Rattle.mdb_verdict.specs.Forms.{answer_text}
+use Rattle.mdb_verdict.specs.Verdict.{IsAnswer}
 use Rattle.mdbcheck_run.specs.Aside.{HasHeard}
 use Rattle.mdbcheck_run.proofs.Asides.{aside_of_check}
-use Rattle.mdbcheck_run.proofs.Status.{checked_says, not_yes, too_long}
+use Rattle.mdbcheck_run.proofs.Status.{is_write, not_yes, says_answered, says_of}
 use Rattle.mdbcheck_run.proofs.program.run_check.Goals as goal
 
 pub returns-clause-says : goal.returns-clause-says
 returns-clause-says g c =
-    checked_says c.args.scope.now c.args.form g.W.Write.contents _ _ _ _ _
-    (IfSome_then _ c.input_of-records.ensures.records
-    (λ text to_come. c.judge_records-judged.ensures.answer _ to_come))
-    c.judge_records-judged.ensures.written c.judge_records-judged.ensures.nothing_written
-    (IfSome_then _ c.input_of-records.ensures.records
-    (λ text to_come. c.judge_records-judged.ensures.cut _ to_come))
-    c.finish_check.ensures.status
-
-pub returns-clause-whole : goal.returns-clause-whole
-returns-clause-whole g c =
-    too_long _ _ _ c.input_of-records.ensures.over (λ over yes. not_yes _
-    (c.judge_records-judged.ensures.whole over) (sym c.finish_check.ensures.status ∙ yes))
+    says_of _ _ _ _ c.finish_check.ensures.status
+    (IfSome_then _ c.input_of-records.ensures.records (λ text to_come.
+    says_answered (IsAnswer c.args.scope.now ROWS_MAX _) (answer_text c.args.form c.args.scope.now)
+    _ is_write g.W.Write.contents _ _ _ (c.judge_records-judged.ensures.answers _ to_come)
+    c.judge_records-judged.ensures.leaves)) c.input_of-records.ensures.over
+    (λ over. not_yes _ (c.judge_records-judged.ensures.whole over))
 
 pub returns-clause-silent : goal.returns-clause-silent
 returns-clause-silent g c below = (

@@ -1,20 +1,17 @@
-use Rattle.std.proofs.Common.{sym, ◌∙◌}
 use Rattle.std.proofs.lemmas.Option.{IfSome_then}
 use Rattle.mdb_bus.specs.Scopes.{leaving_out}
-use Rattle.mdbcheck_run.proofs.Status.{not_yes, replayed_says, too_long}
+use Rattle.mdb_explain.specs.Replay.{IsReplayAnswer}
+use Rattle.mdb_follow.specs.declared.follower.TheConstants.{ROWS_MAX}
+use Rattle.mdb_verdict.specs.Forms.{answer_text}
+use Rattle.mdbcheck_run.proofs.Status.{is_marked_write, not_yes, says_answered, says_of}
 use Rattle.mdbcheck_run.proofs.program.run_replay.Goals as goal
 
 pub returns-clause-says : goal.returns-clause-says
 returns-clause-says g c =
-    replayed_says (leaving_out c.args.without) c.args.form g.W.Write.contents _ _ _ _ _
-    (IfSome_then _ c.input_of-records.ensures.records
-    (λ text to_come. c.replay_records-answer.ensures.answer _ to_come))
-    c.replay_records-answer.ensures.written c.replay_records-answer.ensures.nothing_written
-    (IfSome_then _ c.input_of-records.ensures.records
-    (λ text to_come. c.replay_records-answer.ensures.cut _ to_come))
-    c.finish_replay.ensures.status
-
-pub returns-clause-whole : goal.returns-clause-whole
-returns-clause-whole g c =
-    too_long _ _ _ c.input_of-records.ensures.over (λ over yes. not_yes _
-    (c.replay_records-answer.ensures.whole over) (sym c.finish_replay.ensures.status ∙ yes))
+    says_of _ _ _ _ c.finish_replay.ensures.status
+    (IfSome_then _ c.input_of-records.ensures.records (λ text to_come.
+    says_answered (IsReplayAnswer (leaving_out c.args.without) ROWS_MAX _)
+    (answer_text c.args.form (leaving_out c.args.without)) _ is_marked_write g.W.Write.contents _ _
+    _ (c.replay_records-answer.ensures.answers _ to_come) c.replay_records-answer.ensures.leaves))
+    c.input_of-records.ensures.over
+    (λ over. not_yes _ (c.replay_records-answer.ensures.whole over))
