@@ -1,10 +1,9 @@
 -- How the rows of a text are followed, and what they do to the ranges is listed.
-use Rattle.std.proofs.Common.{◌≡◌, ◌≢◌, ◌+◌, ◌*◌, ◌^◌, ◌<◌, ◌≤◌, ◌-ℤ◌, ℕ, ℤ, Bool, true, false, List, [], ◌∷◌, ◌++◌, append-nil, append_assoc, flat_map, length, refl, sym, subst, ap, ◌∙◌, arith, Option, None, Some, cond}
+use Rattle.std.proofs.Common.{◌≡◌, ◌≢◌, ◌*◌, ◌^◌, ◌≤◌, ◌-ℤ◌, ℕ, ℤ, Bool, true, false, List, [], ◌∷◌, ◌++◌, append-nil, flat_map, refl, sym, subst, ap, ◌∙◌, arith, Option, None, Some, cond}
 use Rattle.std.proofs.lemmas.Bool.Decides.{Decides-int_eq}
 use Rattle.std.proofs.lemmas.Int.{ints}
 use Rattle.std.specs.Prelude.{IsSomeAnd}
 use Rattle.mdb_words.specs.declared.event.Event.{Event}
-use Rattle.mdb_words.specs.declared.row.RowFault.{RowFault}
 use Rattle.mdb_bus.specs.declared.act.Act.{Act}
 use Rattle.mdb_bus.specs.declared.scope.Scope.{Scope}
 use Rattle.mdb_bus.specs.Bus.{ended_act}
@@ -19,15 +18,13 @@ use Rattle.mdb_follow.specs.declared.report.Report.{Report}
 use Rattle.mdb_follow.specs.AccountNames.{account_in, account_of, account_place}
 use Rattle.mdb_follow.specs.EndedActs.{IsEndedAct}
 use Rattle.mdb_follow.specs.Follower.{StandsFor, rows_of, scope_of}
-use Rattle.mdb_follow.specs.Limits.{IsAccountWithin, IsRangeWithin}
+use Rattle.mdb_follow.specs.Limits.{IsRangeWithin}
 use Rattle.mdb_follow.specs.Offences.{IsOffence}
 use Rattle.mdb_follow.specs.Report.{IsReport}
 use Rattle.mdb_follow.specs.ReportLimits.{IsReportWithin}
-use Rattle.mdb_page.specs.Answers.{number_of}
 use Rattle.mdb_page.specs.Lines.{HasRead, IsLine, TellsRow, blank, row, start}
 use Rattle.mdb_page.specs.Rises.{AreRises, EndsSo, broken, no_row, none, rise_of, rises_between, too_long, unread, whole}
 use Rattle.mdb_page.specs.Rises as rises
-use Rattle.mdb_page.specs.Surveys.{HasLine}
 use Rattle.mdb_page.specs.inner.Rising.{HasFollowed, HasListed, HasTakenRow, IsNear}
 use Rattle.mdb_page.specs.declared.answer.PageTold.{PageTold}
 use Rattle.mdb_page.specs.declared.lines.LineFault.{LineFault}

@@ -172,7 +172,7 @@ fn judge<J: Judge>(
     match end {
         End::Text => {
             told.row = judge.taken();
-            write_as(YES, scope, &Outcome::Yes(judge.tell()), answer)
+            write_as(YES, scope, &Outcome::Yes(judge.report_now()), answer)
         }
         End::Offence(offence) => {
             told.row = offence.row;
@@ -221,7 +221,7 @@ fn follow<J: Judge>(judge: &mut J, scope: &Scope, rest: &mut &[u8]) -> End
         × J.stands_for judge.new scope.now rows × IsNoRow rest.new.now why }
 {
     while !rest.is_empty() {
-        let (line, behind) = first_line(*rest);
+        let (line, after) = first_line(*rest);
         let line = without_return(line);
         if !line.is_empty() {
             if judge.taken() >= ROWS_MAX {
@@ -235,7 +235,7 @@ fn follow<J: Judge>(judge: &mut J, scope: &Scope, rest: &mut &[u8]) -> End
                 return End::Offence(offence);
             }
         }
-        *rest = behind;
+        *rest = after;
     }
     End::Text
 }

@@ -17,7 +17,7 @@ use mdb_words::Event;
 
 /// What takes rows until one is impossible, and reports on those before it.
 pub(crate) trait Judge {
-    /// It has taken these rows of a recording that is taken so, and none was impossible.
+    /// It has taken these rows of a recording with this scope, and none was impossible.
     ghost stands_for: { Self → Scope → List Event → Type 0 };
 
     /// What a row breaks that is impossible after others.
@@ -46,7 +46,7 @@ pub(crate) trait Judge {
             → stands_for self.old scope rows → refuses scope rows event offence) };
 
     /// The report on the rows so far.
-    fn tell(&self) -> Report
+    fn report_now(&self) -> Report
         requires { (scope : Scope) × (rows : List Event) × stands_for self.now scope rows }
         ensures { (scope : Scope) (rows : List Event)
             → stands_for self.now scope rows → reports scope rows result };
@@ -70,7 +70,7 @@ impl Judge for Follower {
         self.feed(event)
     }
 
-    fn tell(&self) -> Report {
+    fn report_now(&self) -> Report {
         self.report_before()
     }
 }
@@ -96,7 +96,7 @@ impl Judge for Replay {
         }
     }
 
-    fn tell(&self) -> Report {
+    fn report_now(&self) -> Report {
         match self.report() {
             Ok(report) => report,
             Err(_) => unreachable!(),

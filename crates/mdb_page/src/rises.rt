@@ -95,7 +95,7 @@ fn follow(
     laws::ways_join();
     bus_laws::transcripts_have_one_act_list();
     while !rest.is_empty() {
-        let (line, behind) = first_line(*rest);
+        let (line, after) = first_line(*rest);
         let line = without_return(line);
         if !line.is_empty() {
             told.row = follower.rows() + 1;
@@ -111,7 +111,7 @@ fn follow(
                 None => return NO,
             }
         }
-        *rest = behind;
+        *rest = after;
     }
     told.row = follower.rows();
     YES

@@ -119,7 +119,7 @@ fn survey_lines(
     ensures stops { StopsFor result rest.new.now (rows_of surveyor.new) }
 {
     while !rest.is_empty() {
-        let (line, behind) = first_line(*rest);
+        let (line, after) = first_line(*rest);
         let line = without_return(line);
         if !line.is_empty() {
             if surveyor.rows() >= ROWS_MAX {
@@ -135,7 +135,7 @@ fn survey_lines(
                 }
             }
         }
-        *rest = behind;
+        *rest = after;
     }
     Stop::Text
 }

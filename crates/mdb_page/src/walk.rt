@@ -102,7 +102,7 @@ fn walk(
     };
     told.row = 0;
     while !rest.is_empty() {
-        let (line, behind) = first_line(*rest);
+        let (line, after) = first_line(*rest);
         let line = without_return(line);
         if !line.is_empty() {
             told.row = rows.last + 1;
@@ -123,7 +123,7 @@ fn walk(
                 Err(_) => return NO,
             }
         }
-        *rest = behind;
+        *rest = after;
     }
     lists.cut(acts, &rows);
     told.row = rows.last;

@@ -2,8 +2,8 @@ use Rattle.std.proofs.Common.{◌≢◌, ◌+◌, ap, ◌∙◌, arith, length, 
 use Rattle.mdb_page.specs.declared.answer.End.TheVariants as end
 use Rattle.mdb_page.proofs.answer.judge.Goals as goal
 
-pub tell-requires : goal.tell-requires
-tell-requires g c =
+pub report_now-requires : goal.report_now-requires
+report_now-requires g c =
     let read = c.follow-end.ensures.text c.in-Text.is in (c.args.scope.now, read.0, read.2)
 
 pub returns-in-Text-clause-yes : goal.returns-in-Text-clause-yes
@@ -15,8 +15,8 @@ returns-in-Text-clause-yes g c = λ zero.
       unmarked = c.without_mark-rest.ensures.rest;
       rows = read.0;
       read = read.1;
-      report = c.tell.result;
-      is = c.tell.ensures c.args.scope.now read.0 read.2;
+      report = c.report_now.result;
+      is = c.report_now.ensures c.args.scope.now read.0 read.2;
       says = (c.write_as.ensures other).1;
       row = c.taken-told.ensures.counted c.args.scope.now read.0 read.2;
       offset = omega (

@@ -1,4 +1,4 @@
-use Rattle.std.proofs.Common.{[], List, ℕ, arith, length, refl, subst}
+use Rattle.std.proofs.Common.{List, ℕ, arith, length, subst}
 use Rattle.std.proofs.Math.Nat.{le_refl}
 use Rattle.mdb_follow.specs.Follower.{act_of, offence_of, scope_of}
 use Rattle.mdb_page.specs.Lines.{IsBare}

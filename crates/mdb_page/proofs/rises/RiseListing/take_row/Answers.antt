@@ -1,8 +1,5 @@
-use Rattle.std.proofs.Common.{List, subst, sym}
-use Rattle.mdb_words.specs.declared.event.Event.{Event}
-use Rattle.mdb_follow.specs.declared.report.Report.{Report}
-use Rattle.mdb_follow.specs.Follower.{rows_of, scope_of}
-use Rattle.mdb_follow.specs.Report.{IsReport}
+use Rattle.std.proofs.Common.{subst, sym}
+use Rattle.mdb_follow.specs.Follower.{rows_of}
 use Rattle.mdb_page.specs.inner.Rising.{IsNear}
 use Rattle.mdb_page.proofs.Rising.{near}
 use Rattle.mdb_page.proofs.rises.RiseListing.take_row.Goals as goal

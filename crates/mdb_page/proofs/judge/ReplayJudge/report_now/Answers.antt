@@ -1,5 +1,5 @@
 use Rattle.std.proofs.Common.{[], true≢false, sym}
-use Rattle.mdb_page.proofs.judge.ReplayJudge.tell.Goals as goal
+use Rattle.mdb_page.proofs.judge.ReplayJudge.report_now.Goals as goal
 
 pub unreachable-requires : goal.unreachable-requires
 unreachable-requires c =
