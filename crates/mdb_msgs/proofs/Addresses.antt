@@ -13,12 +13,6 @@ use Rattle.mdb_msgs.specs.CommandFaults.{IsCommandFault, IsRefused}
 use Rattle.mdb_msgs.specs.Commands.{reader_address}
 use Rattle.mdb_msgs.specs.Needs.{device_at, is_for, need, need_for, needed, reader_need}
 
-pub at_changer : (first : ℕ) → 0x08 ≤ first → first ≤ 0x0F → device_at first ≡ Some Changer
-at_changer first least most = let address : first / 8 ≡ 1 = omega arith in rw address
-
-pub at_bill : (first : ℕ) → 0x30 ≤ first → first ≤ 0x37 → device_at first ≡ Some Bill
-at_bill first least most = let address : first / 8 ≡ 6 = omega arith in rw address
-
 pub at_first : (first : ℕ) → 0x10 ≤ first → first ≤ 0x17 → device_at first ≡ Some (Reader First)
 at_first first least most = let address : first / 8 ≡ 2 = omega arith in rw address
 
