@@ -21,11 +21,6 @@ no_more : (b : Bool) → (b || false) ≡ b
 no_more true = refl
 no_more false = refl
 
--- what wasn't made needn't be anything
-pub none_made : {A E : Type 0} (r : Result A E) (P : A → Type 0) → is_err r ≡ true → IfOk r P
-none_made (Ok x) P wrong = cc
-none_made (Err e) P wrong = tt
-
 -- what was made, where a part of it is known better
 pub made_as : {A B E : Type 0} (r : Result A E) (f : A → B) {b c : B} → IfOk r (λ x. f x ≡ b)
     → b ≡ c → IfOk r (λ x. f x ≡ c)
@@ -121,9 +116,3 @@ command_more name old new sub rows i row within so_far adds local is =
     ∙ ap (app_with name)
     (sym (ap (map command_of) (take_more rows i row within)
     ∙ map-append command_of (take i rows) (get_or rows i row ∷ [])))
-
-pub commands_done : (name : Text) (now : Command) (rows : List CommandRow) (i : ℕ) → length rows ≤ i
-    → app_of now ≡ app_with name (map command_of (take i rows))
-    → app_of now ≡ app_with name (map command_of rows)
-commands_done name now rows i over so_far =
-    so_far ∙ ap (λ all. app_with name (map command_of all)) (take_all i rows over)

@@ -442,10 +442,6 @@ rows_read named found name own_found rows is =
 
 module _ (commands : List Command) (words : List Text) (found : Named)
     (read : IsReadFrom commands words found) where
-  -- the name is that of a command
-  pub name_known : IsOneOf (name_in found) (names_in commands)
-  name_known = is_one (name_in found) commands read.command read.knows
-
   -- the words name the command of this name
   pub named_as : (c : Command) → Knows commands c → name_in found ≡ c.name
       → NameCommand words c read.uses

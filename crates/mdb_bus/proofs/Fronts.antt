@@ -41,7 +41,8 @@ need_high first high = by_device (device_at first) refl
   where
     by_device : (device : Option Device) → device_at first ≡ device
         → need_of first None ≡ need.Foreign
-    by_device (Some device) at = let less = low first device at in absurd (omega (arith, less, high))
+    by_device (Some device) at =
+        let less = low first device at in absurd (omega (arith, less, high))
     by_device None at = ap (λ device. need_for device first None) at
 
 -- the front of a command's block is of bytes

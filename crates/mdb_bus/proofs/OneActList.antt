@@ -17,15 +17,6 @@ use Rattle.mdb_bus.proofs.OneStep.{Readings, one_step}
 use Rattle.mdb_bus.specs.inner.Grammar.{OpenIsAFront}
 use Rattle.mdb_bus.specs.declared.scope.Scope.{Scope}
 
--- data bytes have one reply where their block has one
-pub reply_of_bytes : (one_reply : BlockHasOneReply) (command : Command) (one other : Reply)
-    → IsReplyTo command one
-    → IsReplyTo command other → reply_bytes one ≡ reply_bytes other → one ≡ other
-reply_of_bytes one_reply command one other first second same =
-    one_reply command (block_of (reply_bytes one)) one other
-    (record { answers = first; bytes = refl })
-    (record { answers = second; bytes = ap block_of same })
-
 -- a transcript without rows has the empty act list alone
 none_of_none : (scope : Scope) (pieces : List Piece) → IsActList scope pieces [] → pieces ≡ []
 none_of_none scope [] list = refl

@@ -337,13 +337,6 @@ going_on scope bytes from at word levels (Err rule.Profile) order early late sma
 going_on scope bytes from at word levels (Err other) order early late small law some
     followed h = absurd h
 
--- the last word of a block of a peripheral
-pub reply_sum : (bytes : List ℕ)
-    → slice_index (peripheral_words (block_of bytes)) (length bytes) ≡ 256 + sum bytes % 256
-reply_sum bytes = ap (λ words. slice_index words (length bytes))
-    (peripheral_push bytes (sum bytes % 256))
-    ∙ get_or-append_seam bytes (256 + sum bytes % 256) [] 0
-
 -- a reply with the bytes of a block is one with the block's content
 pub is_reply : (command : Command) (bytes : List ℕ) (reply : Reply) → IsContent bytes
     → IsReplyTo command reply
@@ -413,14 +406,6 @@ length_right : (command : Command) (bytes : List ℕ) (at word : ℕ) → 256 �
     → WrongLength (InReply command bytes) (Word at Peripheral word) → ⊥
 length_right command bytes at word marked count (inl wrong) = omega (arith, wrong.0)
 length_right command bytes at word marked count (inr wrong) = wrong.1 count
-
--- the number of bytes of a reply is right
-count_right : (command : Command) (bytes : List ℕ) (reply : Reply) → IsReply command reply
-    → bytes ≡ reply_bytes reply
-    → HasDataAnswer command (length bytes)
-count_right command bytes reply is same =
-    let P : List ℕ → Type 0 = λ bs. HasDataAnswer command (length bs) in
-    subst P (sym same) (form_of_reply reply, is.answers.answer.form, is.answers.answer.count)
 
 -- a peripheral's word inside a reply breaks a rule
 abbrev Breaks : (scope : Scope) → Command → List ℕ → Option Event → ℕ → ℕ → Levels → Rule → Type 0

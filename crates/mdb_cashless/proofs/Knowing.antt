@@ -381,10 +381,6 @@ step_same unit facts a b t u k l (acts.VmcAck c r) choice before after gains sam
     (λ its is step. record { to = step.to; gained = step.gained })
 step_same unit facts a b t u k l act choice before after gains same = λ step. step
 
--- what is settled says so
-abbrev is_of_known : Bool → Option Transaction → Bool
-is_of_known knows its = knows || is_none its
-
 settles_one : (knows : Bool) (found : Option ReaderCommand) (x y : Option Transaction)
     → (knows || is_none (own_transaction found)) ≡ true → Allows (if_known knows x) y
     → (its : ReaderCommand) → found ≡ Some its → (y ≡ x) ⊎ (transaction_of its ≡ None)

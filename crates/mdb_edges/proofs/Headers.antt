@@ -37,10 +37,6 @@ pub is_below : (fields : List (List ℕ)) (place : ℕ) (text : List ℕ) → Is
     → place < length fields
 is_below fields place text field = field_below fields place field.field field.there
 
-pub found_none : (told : Option (List ℕ)) (capital small : ℕ) (header : List (List ℕ))
-    → IsFoundBelow told capital small header 1 None
-found_none told capital small header other text some below field named = omega (arith, some, below)
-
 pub found_first : (told : Option (List ℕ)) (capital small : ℕ) (header : List (List ℕ)) (place : ℕ)
     (name : List ℕ) → 0 < place → IsFoundBelow told capital small header place None
     → IsField header place name → IsName told capital small name

@@ -36,16 +36,3 @@ told_refutes (stop.Order at fault) n _ P is denied = absurd is
 told_refutes (stop.Level line at) n _ P is denied = absurd is
 told_refutes (stop.Levels (levels.Line line wrong)) n _ P is denied = absurd is
 told_refutes (stop.Levels levels.Memory) n _ P is denied = absurd is
-
-pub told_numbered : (s : Stop) (n : ℕ) (e : EdgesFault) → IsTellOf s n e → 1 ≤ n → IsNumbered e
-told_numbered (stop.Form fault) n (Form number told) is some = omega (arith, is.0, some)
-told_numbered (stop.Order at fault) n (Order number micros told) is some = omega (arith, is.0, some)
-told_numbered (stop.Level line at) n (Level number micros wire) is some = omega (arith, is.0, some)
-told_numbered (stop.Levels (levels.Line line wrong)) n (Line number micros wire told) is some =
-    omega (arith, is.0, some)
-told_numbered (stop.Levels levels.Memory) n Memory is some = tt
-told_numbered (stop.Form fault) n _ is some = absurd is
-told_numbered (stop.Order at fault) n _ is some = absurd is
-told_numbered (stop.Level line at) n _ is some = absurd is
-told_numbered (stop.Levels (levels.Line line wrong)) n _ is some = absurd is
-told_numbered (stop.Levels levels.Memory) n _ is some = absurd is

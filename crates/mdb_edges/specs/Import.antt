@@ -53,7 +53,8 @@ IsImport options records answer text =
     (part_of options.from options.until) (AreRefusedFor options records) answer text
 
 -- The bytes that a writer held before the answer to these records and after it. The text of the
--- rows was written, or, where the answer is a refusal, the line of one.
+-- rows was written, or, where the answer is a refusal, the line of one. Where the writer failed, it
+-- took a front of such a text.
 abbrev pub Imports : EdgesOptions → List (List (List ℕ)) → Option (List ℕ) → Option (List ℕ)
     → Result LevelsImported EdgesFault → Type 0
 Imports options records before after answer =

@@ -213,13 +213,6 @@ pub record IsBestSoFar (rest : List (ℕ × Best)) (first : Best) (i : ℕ) (bes
   pub least : (entry : ℕ × Best) → Contains (take i rest) entry
       → IsAsGood best.value best.marks entry.1.value entry.1.marks
 
-pub best-first : (rest : List (ℕ × Best)) (first : Best) → IsBestSoFar rest first 0 first
-best-first rest first = record {
-  is = inl refl;
-  good = as_good-same first.value first.marks;
-  least = λ entry has. absurd (contains-none entry has);
-}
-
 -- with one more it stays, where it is as good
 pub best-stays : (rest : List (ℕ × Best)) (first : Best) (i : ℕ) (d : ℕ × Best) (best : Best)
     → i < length rest

@@ -53,10 +53,6 @@ within-at links at marks nothing = omega arith
 within-at links at marks (linked n link rest is old) =
     let within : n < length links = slice_get_within links n link is in omega (arith, within)
 
-pub chain-within : (links : List Link) (chain : Chain) → IsChain links chain
-    → chain.at ≤ length links
-chain-within links chain is = within-at links chain.at is.0 is.1
-
 -- a chain is one of more links too
 pub chain-kept : (old new : List Link) (chain : Chain) → KeepChains old new → IsChain old chain
     → IsChain new chain

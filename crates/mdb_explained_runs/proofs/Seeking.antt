@@ -113,17 +113,6 @@ row-is pieces row act longer rows events grown more whole counted =
 
 -- reached rows have an act list, and each device has a way through its acts
 
-pub list-of-reached : (scope : Scope) (pieces : List Piece) (events : List Event) (row : Event)
-    → events_of pieces ≡ events → IsReached scope (events ++ row ∷ [])
-    → HasActList scope (events_of pieces ++ row ∷ [])
-list-of-reached scope pieces events row whole reached = (
-  reached.1.pieces,
-  record {
-    in_order = reached.1.act_list.in_order;
-    whole = reached.1.act_list.whole ∙ ap (λ rows. rows ++ row ∷ []) (sym whole);
-  },
-)
-
 pub way-of-reached : (scope : Scope) → OneActList scope → scope.begins ≡ PowerOn
     → (rows : List Event) (act : Act) (events : List Event) (earlier : List Piece)
     → IsActList scope (Whole act events ∷ earlier) rows → IsReached scope rows

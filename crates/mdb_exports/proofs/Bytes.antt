@@ -47,14 +47,6 @@ around byte xs i below is =
     (drop-cons xs i 0 below ∙ (ap (λ c. c ∷ drop (suc i) xs) is ∙ ap (λ n. byte ∷ drop n xs)
     next))
 
--- padding at the start
-pub start_passed : (c : ℕ) (text : List ℕ) → is_padding c ≡ true
-    → begun_bare (c ∷ text) ≡ begun_bare text
-start_passed c text is = ap (λ b. cond b (begun_bare text) (c ∷ text)) is
-
-pub start_bare : (c : ℕ) (text : List ℕ) → is_padding c ≡ false → begun_bare (c ∷ text) ≡ c ∷ text
-start_bare c text is = ap (λ b. cond b (begun_bare text) (c ∷ text)) is
-
 -- padding at the end
 all_but : (a b : Bool) → b ≡ false → (a && b) ≡ false
 all_but true b is = is

@@ -102,17 +102,6 @@ refused {T} {E} IsOf failed before later now fault told never (inr broken)
       },
     )
 
--- a fault of another kind is told only where it was met
-pub refused_only : {E : Type 0} (failed read : E) (now : Output) (later : Option (List ℕ))
-    (fault told : E) (P : Type 0) → (failed ≡ read → ⊥) → Refuses failed now later fault told
-    → (fault ≡ read → P) → told ≡ read → P
-refused_only failed read now later fault told P apart (inl is) met read_is =
-    met (sym is.1 ∙ read_is)
-refused_only failed read now later fault told P apart (inr (inl is)) met read_is =
-    absurd (apart (sym is.1 ∙ read_is))
-refused_only failed read now later fault told P apart (inr (inr is)) met read_is =
-    met (sym is.1 ∙ read_is)
-
 -- a text of one answer is one of another
 pub sent_as : {T E : Type 0} (IsOf IsOther : Result T E → List ℕ → Type 0) (failed : E)
     (before after : Output) (answer : Result T E)

@@ -8,27 +8,6 @@ use Rattle.mdb_exports.specs.inner.Decoding.{decoded_of, given_by, mode_text}
 use Rattle.mdb_exports.specs.declared.decoded.Decoding.{Decoding}
 use Rattle.mdb_exports.specs.declared.decoded.Mode.TheVariants as mode
 
--- a byte is read, and decoded
-pub byte_read : (first old new : Option (List ℕ)) (before after : Decoding) (c : ℕ)
-    → Keeps first (decoded_of before old) → Consumes old new (c ∷ [])
-    → ((text : List ℕ) → given_by after text ≡ given_by before (c ∷ text))
-    → Keeps first (decoded_of after new)
-byte_read None old new before after c keeps read takes = tt
-byte_read (Some xs) None new before after c keeps read takes = absurd keeps
-byte_read (Some xs) (Some ys) None before after c keeps read takes = absurd read
-byte_read (Some xs) (Some ys) (Some zs) before after c keeps read takes =
-    takes zs ∙ (ap (given_by before) (sym read) ∙ keeps)
-
--- the end is read
-pub end_read : (first old new : Option (List ℕ)) (before after : Decoding)
-    → Keeps first (decoded_of before old) → Consumes old new [] → IsAtEnd new
-    → given_by after [] ≡ given_by before [] → Keeps first (decoded_of after new)
-end_read None old new before after keeps read end ends = tt
-end_read (Some xs) None new before after keeps read end ends = absurd keeps
-end_read (Some xs) (Some ys) None before after keeps read end ends = absurd read
-end_read (Some xs) (Some ys) (Some zs) before after keeps read end ends =
-    ap (given_by after) end ∙ (ends ∙ (ap (given_by before) (sym (read ∙ end)) ∙ keeps))
-
 -- nothing is left then
 pub at_end : (new : Option (List ℕ)) (after : Decoding) → IsAtEnd new → after.ready.items ≡ []
     → mode_text after.mode [] ≡ [] → IsAtEnd (decoded_of after new)
@@ -43,14 +22,6 @@ gives_none None now buf keeps = tt
 gives_none (Some xs) None buf keeps = absurd keeps
 gives_none (Some xs) (Some ys) buf keeps = sym keeps
 
--- a read that failed
-pub read_failed : (first old new : Option (List ℕ)) (before : Decoding)
-    → Keeps first (decoded_of before old) → Keeps old new → Keeps first (decoded_of before new)
-read_failed None old new before keeps kept = tt
-read_failed (Some xs) None new before keeps kept = absurd keeps
-read_failed (Some xs) (Some ys) None before keeps kept = absurd kept
-read_failed (Some xs) (Some ys) (Some zs) before keeps kept = ap (given_by before) kept ∙ keeps
-
 -- a byte that is ready is given
 pub ready_given : (first known : Option (List ℕ)) (before after : Decoding) (c : ℕ) (front : List ℕ)
     → Keeps first (decoded_of before known) → before.ready.items ≡ c ∷ after.ready.items
@@ -62,28 +33,6 @@ ready_given (Some xs) (Some ys) before after c front keeps is same given =
     sym keeps ∙ (ap (λ l. l ++ mode_text before.mode ys) is
     ∙ (ap (λ m. c ∷ (after.ready.items ++ mode_text m ys)) (sym same)
     ∙ ap (λ f. f ++ given_by after ys) (sym given)))
-
--- bytes that are the text are given as they are
-pub plain_given : (first old new : Option (List ℕ)) (decoding : Decoding) (front : List ℕ)
-    → Keeps first (decoded_of decoding old) → decoding.ready.items ≡ [] → decoding.mode ≡ mode.Plain
-    → Consumes old new front → Consumes first (decoded_of decoding new) front
-plain_given None old new decoding front keeps empty plain read = tt
-plain_given (Some xs) None new decoding front keeps empty plain read = absurd keeps
-plain_given (Some xs) (Some ys) None decoding front keeps empty plain read = absurd read
-plain_given (Some xs) (Some ys) (Some zs) decoding front keeps empty plain read =
-    sym keeps ∙ (is_plain decoding empty plain ys
-    ∙ (read ∙ ap (λ l. front ++ l) (sym (is_plain decoding empty plain zs))))
-  where
-    is_plain : (decoding : Decoding) → decoding.ready.items ≡ [] → decoding.mode ≡ mode.Plain
-        → (text : List ℕ) → given_by decoding text ≡ text
-    is_plain decoding empty plain text = ap (λ l. l ++ mode_text decoding.mode text) empty
-        ∙ ap (λ m. mode_text m text) plain
-
-pub plain_end : (new : Option (List ℕ)) (decoding : Decoding) → decoding.ready.items ≡ []
-    → decoding.mode ≡ mode.Plain → IsAtEnd new → IsAtEnd (decoded_of decoding new)
-plain_end None decoding empty plain end = tt
-plain_end (Some zs) decoding empty plain end = ap (λ l. l ++ mode_text decoding.mode zs) empty
-    ∙ (ap (λ m. mode_text m zs) plain ∙ end)
 
 -- the first of the bytes that are ready
 pub removed : (items rest : List ℕ) (c : ℕ) → 0 < length items → c ≡ get_or items 0 c

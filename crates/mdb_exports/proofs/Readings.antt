@@ -126,19 +126,6 @@ only_broken byte field before after low is lacks n places (inr broken) =
     subst (λ b. AreDigits before b n places) (sym same.1)
     (subst (λ b. AreDigits b broken.after n places) (sym same.0) broken.are)
 
--- where there is no mark, only whole numbers
-pub only_whole : (field : List ℕ) → has_byte 46 field ≡ false → has_byte 44 field ≡ false
-    → (n places : ℕ) → IsNumber field n places → IsDecimal 15 field n
-only_whole field no_point no_comma n places (inl whole) = whole.0
-only_whole field no_point no_comma n places (inr broken) =
-    absurd (marked broken.mark broken.marked broken.parts)
-  where
-    marked : (mark : ℕ) → IsMark mark → field ≡ broken.before ++ mark ∷ broken.after → ⊥
-    marked mark (inl is) parts = lacks_not 46 field broken.before broken.after no_point
-        (parts ∙ ap (λ m. broken.before ++ m ∷ broken.after) is)
-    marked mark (inr is) parts = lacks_not 44 field broken.before broken.after no_comma
-        (parts ∙ ap (λ m. broken.before ++ m ∷ broken.after) is)
-
 pub number_same : (field : List ℕ) (n p m q : ℕ) → IsNumber field n p → IsNumber field m q
     → (n ≡ m) × (p ≡ q)
 number_same field n p m q (inl one) (inl two) =

@@ -231,27 +231,6 @@ asks-as : (one other : Scope) (device : Device) (silence : Silence) (pieces : Li
 asks-as one other device silence pieces same =
     subst (λ (s : Scope). StandsForAsks silence (asks_of s.begins device pieces)) (sym same)
 
--- The room for an act is of no matter.
-pub stands-beside : (old new : Follower) (events : List Event) → new.bus ≡ old.bus
-    → new.sides ≡ old.sides → new.silences ≡ old.silences → new.rows ≡ old.rows
-    → new.offence ≡ old.offence → StandsFor old events → StandsFor new events
-stands-beside old new events same_bus same_sides same_silences same_rows same on =
-    let begins : Beginning = (scope_of old).begins in
-    let same_scope : scope_of new ≡ scope_of old = ap link.scope_of same_bus in
-    record {
-      pieces = on.pieces;
-      on_bus = subst (λ b. link.StandsFor b on.pieces) (sym same_bus) on.on_bus;
-      whole = on.whole;
-      rows = same_rows ∙ on.rows;
-      going = same ∙ on.going;
-      sides = sides-as (scope_of old) (scope_of new) new.sides (acts_of on.pieces) same_scope
-          (subst (λ sides. AreSides begins sides (acts_of on.pieces)) (sym same_sides) on.sides);
-      silences = λ device. asks-as (scope_of old) (scope_of new) device
-          (silence_in new.silences device) on.pieces same_scope
-          (subst (λ silences. StandsForAsks (silence_in silences device)
-          (asks_of begins device on.pieces)) (sym same_silences) (on.silences device));
-    }
-
 -- sides of a follower that stands for events stand for acts
 standing-for : {follower : Follower} {events : List Event} → StandsFor follower events
     → AreStanding follower.sides
@@ -552,18 +531,6 @@ taken-by joins sales old new rows same counted stands = record {
       (reached-by joins new (events ++ rows) (stands events on));
   sales = λ events on. sales (scope_of old) (events ++ rows);
   counted = counted;
-}
-
--- so has one that differs in the room for an act alone
-pub taken-beside : (old mid new : Follower) (rows : List Event) → new.bus ≡ mid.bus
-    → new.sides ≡ mid.sides → new.silences ≡ mid.silences → new.rows ≡ mid.rows
-    → new.offence ≡ mid.offence → HasTakenRows old mid rows → HasTakenRows old new rows
-taken-beside old mid new rows same_bus same_sides same_silences same_rows same has = record {
-  stands = λ events on. stands-beside mid new (events ++ rows) same_bus same_sides same_silences
-      same_rows same (has.stands events on);
-  reached = has.reached;
-  sales = has.sales;
-  counted = same_rows ∙ has.counted;
 }
 
 -- a follower has taken so many events, and met no offence

@@ -81,19 +81,6 @@ nothing-is Kind cell is none only slot below =
     account-start Kind (λ sums. sums slot) (slot_account cell slot) none only refl
     (no-account cell is slot below)
 
--- no code was looked at
-pub no-starts : {State : Type 0} (number : ℕ) (code_of : State → ℕ) (machine : Machine State)
-    (cell : Cell) (entries : List (ℕ × Cell)) → entries ≡ []
-    → AreStarts number code_of machine cell 0 entries
-no-starts {State} number code_of machine cell entries none =
-    subst (AreStarts number code_of machine cell 0) (sym none) (record {
-      few = omega arith;
-      below = λ k d within. absurd (omega (arith, within));
-      within = λ k d within. absurd (omega (arith, within));
-      sound = λ at found has. absurd (contains-none (at, found) has);
-      whole = λ state starts less. absurd (omega (arith, less));
-    })
-
 -- a code is at most that of the last state looked at, or it is this
 last-or-not : (code at : ℕ) → at < code + 1 → (at < code) ⊎ (at ≡ code)
 last-or-not code at less = nat_cases

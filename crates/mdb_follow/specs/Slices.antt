@@ -13,14 +13,15 @@ abbrev pub joined : List (List Event) → List Event
 joined [] = []
 joined (slice ∷ slices) = slice ++ joined slices
 
--- What is answered of rows after earlier ones: the report on all, or the offence of one of these rows.
+-- The answer to rows after earlier ones: the report on all, or the offence of one of these rows.
 abbrev pub AnswersRows : Scope → List Event → List Event → Result Report Offence → Type 0
 AnswersRows scope earlier rows (Ok report) = IsReport scope (earlier ++ rows) report
 AnswersRows scope earlier rows (Err offence) = HasOffence scope earlier rows offence
 
--- What is answered of slices that are fed one by one after earlier rows, as `feed_all` and `report` say
--- of each call: the offence of the first slice that has one, and where none has, the report after
--- the last. Each slice comes after the earlier rows and all slices before it, which are reached.
+-- The answer to slices that are fed one by one after earlier rows, as `feed_all` and `report` have
+-- it for each call: the offence of the first slice that has one, and where none has, the report
+-- after the last. Each slice comes after the earlier rows and all slices before it, which are
+-- reached.
 abbrev pub AnswersInSlices : Scope → List Event → List (List Event) → Result Report Offence → Type 0
 AnswersInSlices scope earlier [] (Ok report) = IsReport scope earlier report
 AnswersInSlices scope earlier [] (Err offence) = ⊥

@@ -478,23 +478,6 @@ worded skip line level known at rows f ten high framed le lt holds =
       high = λ t sooner later. here t (omega (arith, sooner, middle)) later;
     }
 
-pub lowered : (skip : Bool) (line : Line) (level : ℕ → Bool) (known at : ℕ) (rows : List Finding)
-    (f : Frame)
-    → f.taken ≡ 10 → f.steady ≡ true → IsFramed skip line level known rows f → known ≤ at
-    → f.next < at
-    → Holds level known at f.high → IsLow skip line level at (rows ++ []) f.start
-lowered skip line level known at rows f ten steady framed le lt holds =
-    let middle : f.next ≡ middle_of f.start 10 = f.at_middle ∙ ap (λ k. middle_of f.start k) ten in
-    subst (λ r. IsLow skip line level at r f.start) (sym (append-nil rows)) (record {
-      from = framed.from;
-      leads = framed.leads;
-      falls = framed.falls;
-      late = omega (arith, middle, lt);
-      low =
-          extended level f.start known at false (framed.was_low steady)
-          (subst (λ b. Holds level known at b) (framed.low steady) holds);
-    })
-
 stop_low : (skip : Bool) (line : Line) (level : ℕ → Bool) (known at : ℕ) (rows : List Finding)
     (f : Frame) → f.taken ≡ 10 → f.high ≡ false → IsFramed skip line level known rows f
     → f.next < at → Holds level known at f.high → level (middle_of f.start 10) ≡ false
@@ -589,116 +572,6 @@ risen_first skip line level at rows stands high =
       high = λ t le lt. let same : t ≡ at = omega (arith, le, lt) in ap level same ∙ high;
     })
 
-pub still_unknown : (skip : Bool) (line : Line) (level : ℕ → Bool) (at : ℕ) (rows : List Finding)
-    → Stands skip line level at Unknown rows → level at ≡ false
-    → Stands skip line level (at + 1) Unknown (rows ++ [])
-still_unknown skip line level at rows stands low =
-    unnil skip line level (at + 1) Unknown rows (
-      stands.0,
-      extended level 0 at (at + 1) false stands.1
-          (λ t le lt. let same : t ≡ at = omega (arith, le, lt) in ap level same ∙ low),
-    )
-
-pub still_idle : (skip : Bool) (line : Line) (level : ℕ → Bool) (at : ℕ) (rows : List Finding)
-    → Stands skip line level at Idle rows → level at ≡ true
-    → Stands skip line level (at + 1) Idle (rows ++ [])
-still_idle skip line level at rows stands high =
-    unnil skip line level (at + 1) Idle rows (record {
-      from = stands.from;
-      leads = stands.leads;
-      before = omega (arith, stands.before);
-      high =
-          extended level stands.from at (at + 1) true stands.high
-          (λ t le lt. let same : t ≡ at = omega (arith, le, lt) in ap level same ∙ high);
-    })
-
-pub still_low : (skip : Bool) (line : Line) (level : ℕ → Bool) (at start : ℕ) (rows : List Finding)
-    → Stands skip line level at (Low start) rows → level at ≡ false
-    → Stands skip line level (at + 1) (Low start) (rows ++ [])
-still_low skip line level at start rows stands low =
-    unnil skip line level (at + 1) (Low start) rows (record {
-      from = stands.from;
-      leads = stands.leads;
-      falls = stands.falls;
-      late = omega (arith, stands.late);
-      low =
-          extended level start at (at + 1) false stands.low
-          (λ t le lt. let same : t ≡ at = omega (arith, le, lt) in ap level same ∙ low);
-    })
-
-pub fallen : (skip : Bool) (line : Line) (level : ℕ → Bool) (at : ℕ) (rows : List Finding)
-    (f : Frame)
-    → f.start ≡ at → f.taken ≡ 0 → f.value ≡ 0 → f.high ≡ false → f.steady ≡ true
-    → Stands skip line level at Idle rows → level at ≡ false
-    → Stands skip line level (at + 1) (Framed f) (rows ++ [])
-fallen skip line level at rows f start none nothing low steady stands here =
-    let middle : f.next ≡ middle_of f.start 0 = f.at_middle ∙ ap (λ k. middle_of f.start k) none in
-    let now : Holds level at (at + 1) false =
-    λ t le lt. let same : t ≡ at = omega (arith, le, lt) in
-    ap level same ∙ here in
-    unnil skip line level (at + 1) (Framed f) rows (record {
-      from = stands.from;
-      leads = stands.leads;
-      falls =
-          subst (λ x. Falls level stands.from x) (sym start)
-          (record { later = stands.before; high = stands.high; low = here });
-      begun = omega (arith, start);
-      near = omega (arith, start, middle);
-      due = λ t le lt. absurd (omega (arith, le, lt, start, middle));
-      start_bit = λ some. absurd (omega (arith, some, none));
-      data_bits = nothing ∙ ap (λ k. bits_value level f.start (k - 1)) (sym none);
-      low = λ s. low;
-      was_low = λ s. subst (λ x. Holds level x (at + 1) false) (sym start) now;
-      was_high = λ s. absurd (differ f.steady steady s);
-    })
-
-both_true : (a b : Bool) → (a && not b) ≡ true → (a ≡ true) × (b ≡ false)
-both_true true true h = absurd cc
-both_true true false h = (refl, refl)
-both_true false b h = absurd cc
-
-one_false : (a b : Bool) → (a && not b) ≡ false → (a ≡ false) ⊎ (b ≡ true)
-one_false true true h = inr refl
-one_false true false h = absurd cc
-one_false false b h = inl refl
-
-pub turned_framed : (skip : Bool) (line : Line) (level : ℕ → Bool) (at : ℕ) (rows : List Finding)
-    (f g : Frame)
-    (high : Bool) → at ≤ f.next → g.start ≡ f.start → g.next ≡ f.next → g.taken ≡ f.taken
-    → g.value ≡ f.value → g.high ≡ high → g.steady ≡ (f.steady && not high)
-    → Stands skip line level at (Framed f) rows → level at ≡ high
-    → Stands skip line level (at + 1) (Framed g) (rows ++ [])
-turned_framed skip line level at rows f g high due start next taken value level_is steady framed
-    here =
-    unnil skip line level (at + 1) (Framed g) rows (record {
-      from = framed.from;
-      leads = framed.leads;
-      falls = subst (λ x. Falls level framed.from x) (sym start) framed.falls;
-      begun = omega (arith, start, framed.begun);
-      near = omega (arith, due, next);
-      due = λ t le lt.
-          let same : t ≡ at = omega (arith, le, lt, due, next) in
-          ap level same ∙ here ∙ sym level_is;
-      start_bit = λ some.
-          ap (λ x. level (middle_of x 0)) start ∙ framed.start_bit (omega (arith, some, taken));
-      data_bits =
-          value ∙ framed.data_bits ∙ ap (λ x. bits_value level x (f.taken - 1)) (sym start)
-          ∙ ap (λ k. bits_value level g.start (k - 1)) (sym taken);
-      low = λ s. level_is ∙ (both_true f.steady high (sym steady ∙ s)).1;
-      was_low = λ s.
-          let both = both_true f.steady high (sym steady ∙ s) in
-          subst (λ x. Holds level x (at + 1) false) (sym start)
-          (extended level f.start at (at + 1) false (framed.was_low both.0)
-          (λ t le lt.
-          let same : t ≡ at = omega (arith, le, lt) in ap level same ∙ here ∙ both.1));
-      was_high = λ s. elim (one_false f.steady high (sym steady ∙ s)) [
-        | inl before ↦
-            let was = framed.was_high before in
-            (was.0, subst (λ x. x ≤ was.0) (sym start) was.1, omega (arith, was.2), was.3)
-        | inr now ↦ (at, omega (arith, start, framed.begun), omega arith, here ∙ now)
-      ];
-    })
-
 pub broke : (skip : Bool) (line : Line) (level : ℕ → Bool) (at start : ℕ) (rows : List Finding)
     (row : Event)
     → IsBreakRow line start at row → IsLow skip line level at rows start → level at ≡ true
@@ -775,22 +648,6 @@ mended_waiting skip line level at start rows stands high =
     mended_from skip line level at stands.from start rows stands.leads stands.falls stands.skips
     stands.damaged
     (record { later = omega (arith, stands.late); low = stands.low; high = high })
-
-pub still_waiting : (skip : Bool) (line : Line) (level : ℕ → Bool) (at start : ℕ)
-    (rows : List Finding) → Stands skip line level at (Waiting start) rows → level at ≡ false
-    → Stands skip line level (at + 1) (Waiting start) (rows ++ [])
-still_waiting skip line level at start rows stands low =
-    unnil skip line level (at + 1) (Waiting start) rows (record {
-      from = stands.from;
-      leads = stands.leads;
-      falls = stands.falls;
-      skips = stands.skips;
-      damaged = stands.damaged;
-      late = omega (arith, stands.late);
-      low =
-          extended level (middle_of start 10) at (at + 1) false stands.low
-          (λ t le lt. let same : t ≡ at = omega (arith, le, lt) in ap level same ∙ low);
-    })
 
 -- the end of a table
 

@@ -75,7 +75,7 @@ place_at line start = record { at = micros_of start; line = line }
 --   * a frame: it goes on so after the middle of the stop bit
 --   * on the controller's line a break: it goes on so after that
 --   * a pulse, as the line is high at the middle of what would be the start bit: it goes on so
---   there
+--     there
 --   * where damage is skipped, a damaged word: it goes on so where the line is high again after the
 --     middle of the stop bit; where it never is, nothing more is found
 pub data Follows : Bool → Line → (ℕ → Bool) → ℕ → List Finding → Type 0 where

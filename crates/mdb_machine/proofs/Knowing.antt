@@ -860,29 +860,6 @@ settled_steps {State = State} some tables conduct overlooks value act choice bef
       λ step. (has (after, gains)).1 (inr (is.1 step)),
     )
 
--- an act that isn't settled is an ask or a reply, of which the one thing isn't known or the other
-pub reply_open : {Own Setup Asked M : Type 0} (tables : Tables Own Setup Asked M)
-    (knows_asked knows_kept : Bool) {act : Act} {command : Command} {reply : Reply}
-    → act ≡ acts.Reply command reply → settled tables knows_asked knows_kept act ≡ false
-    → knows_kept ≡ false
-reply_open tables knows_asked true is open_act = absurd (never
-    (sym (ap (settled tables knows_asked true) is) ∙ open_act))
-  where
-    never : true ≡ false → ⊥
-    never same = cc
-reply_open tables knows_asked false is open_act = refl
-
-pub ask_open : {Own Setup Asked M : Type 0} (tables : Tables Own Setup Asked M)
-    (knows_asked knows_kept : Bool) {act : Act} {command : Command}
-    → act ≡ acts.Ask command → settled tables knows_asked knows_kept act ≡ false
-    → knows_asked ≡ false
-ask_open tables true knows_kept is open_act = absurd (never
-    (sym (ap (settled tables true knows_kept) is) ∙ open_act))
-  where
-    never : true ≡ false → ⊥
-    never same = cc
-ask_open tables false knows_kept is open_act = refl
-
 -- amounts have no value where no setup table is known
 pub all_unvalued : {Own Setup Asked M State : Type 0} (tables : Tables Own Setup Asked M)
     (conduct : Conduct Own Setup Asked M State) (begins : Beginning) (act : Act) (past : List Act)

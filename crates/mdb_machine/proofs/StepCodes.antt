@@ -53,16 +53,6 @@ coded_more {State} code_of steps more coded longer step more_is longer_is are ne
     as_pair after next gains one code is =
         ap (λ (p : State × Gains). (code_of p.0, p.1)) is ∙ ap (λ (n : ℕ). (n, gains)) code
 
--- no step has no code
-pub none_coded : {State : Type 0} (code_of : State → ℕ) → AreCoded code_of [] []
-none_coded code_of next gains = (
-  λ has. absurd (nothing (next, gains) has),
-  λ has. absurd (nothing (has.0, gains) has.2),
-)
-  where
-    nothing : {X : Type 0} (x : X) → Contains [] x → ⊥
-    nothing x (k, within, is) = omega (arith, within)
-
 -- so they are the steps from the state of a code
 pub steps_coded : {State : Type 0} (code_of : State → ℕ) (Step : State → State → Gains → Type 0)
     (apart : (one other : State) → code_of one ≡ code_of other → one ≡ other)

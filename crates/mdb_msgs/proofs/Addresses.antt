@@ -93,5 +93,5 @@ refused_by_reader unit (first ∷ rest) fault some least most refused =
     let Q : ℕ → Type 0 = λ count. IsRefused (needed (block_of (first ∷ rest))) count fault in
     let long : length (first ∷ rest) + 1 ≡ length (block_of (first ∷ rest)) =
     sym (length-append (first ∷ rest) ((sum (first ∷ rest) % 256) ∷ [])) in
-    subst Q long (subst P (need_of_reader unit first (slice_get (block_of (first ∷ rest)) 1) least most)
-    refused)
+    subst Q long
+    (subst P (need_of_reader unit first (slice_get (block_of (first ∷ rest)) 1) least most) refused)

@@ -196,15 +196,6 @@ are_messages list bytes h e =
           ∙ sym e;
     }
 
-pub stand_as_messages : (bytes : List ℕ) → AreMessages bytes → StandAsMessages bytes
-stand_as_messages bytes h = record {
-  list = messages_of bytes;
-  id_length = h.is_list.id_length;
-  text_length = h.is_list.text_length;
-  last = h.is_list.last;
-  spelled = sym h.spelled;
-}
-
 -- a message with a text and what is after it are told by their bytes
 same_text : (m : ReaderMsg) (text words x y : List ℕ) → IsTextOf m text x → IsTextOf m words y
     → text ++ x ≡ words ++ y → (text ≡ words) × (x ≡ y)

@@ -41,36 +41,6 @@ display_last ms front x false e h = (
   λ l. refl,
 )
 
--- a message's bytes have room where all messages' have
-pub room_for_one : (id text : List ℕ) (ms : List ReaderMsg) (i : ℕ) (d : ReaderMsg) (bytes : List ℕ)
-    → i < length ms → bytes ≡ flat_map (reader_msg_bytes id text) (take i ms)
-    → length (flat_map (reader_msg_bytes id text) ms) ≤ 35
-    → length bytes + length (reader_msg_bytes id text (get_or ms i d)) ≤ 35
-room_for_one id text ms i d bytes below e room =
-    let fits = length-flat_map-take (reader_msg_bytes id text) ms i d below in
-    let same : length bytes ≡ length (flat_map (reader_msg_bytes id text) (take i ms)) =
-    ap length e in
-    omega arith
-
--- where the first two tests hold, the third decides
-pub valid_list : (list : ReaderMessages) (last id text : Bool)
-    → (IsTrue last → IsDisplayLast list.messages) → last ≡ true
-    → (IsTrue id → list_any is_id list.messages ≡ false → list.id ≡ replicate 29 0) → id ≡ true
-    → (IsTrue text → list_any is_display list.messages ≡ false → list.text ≡ [])
-    × ((list_any is_display list.messages ≡ false → list.text ≡ []) → IsTrue text)
-    → length list.id ≡ 29 → length list.text ≤ 32 → (IsTrue text → IsReaderList list)
-    × (IsReaderList list → IsTrue text)
-valid_list list last id text on_last is_last on_id is_id on_text id_length text_length = (
-  λ t. record {
-    id_length = id_length;
-    text_length = text_length;
-    last = on_last is_last;
-    no_id = on_id is_id;
-    no_text = on_text.0 t;
-  },
-  λ h. on_text.1 h.no_text,
-)
-
 -- and have none where the bytes with them are too many
 pub no_room : (id text : List ℕ) (ms : List ReaderMsg) (i : ℕ) (d : ReaderMsg) (bytes : List ℕ)
     → i < length ms → bytes ≡ flat_map (reader_msg_bytes id text) (take i ms)

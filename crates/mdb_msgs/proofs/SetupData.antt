@@ -13,12 +13,6 @@ use Rattle.mdb_msgs.specs.SetupData.{IsSetup, IsSetupOf, config_in, known_with, 
 use Rattle.mdb_msgs.specs.inner.SetupAsked.{setup_of}
 use Rattle.mdb_msgs.proofs.OneReply.{one_reply}
 
--- any command that asks a device how it is set up has the answers of this one
-pub asks_so : (device : Device) → IsSetup device (setup_of device)
-asks_so Changer = refl
-asks_so Bill = refl
-asks_so (Reader unit) = (0, 0, 0, 0, refl)
-
 pub spells_so : (device : Device) (asked : Command) (answer : Reply) (bytes : List ℕ)
     → IsSetup device asked → SpellsReply asked answer bytes
     → SpellsReply (setup_of device) answer bytes

@@ -4,8 +4,9 @@
 //! memory that the page provides. [`mdb_page_replay`] does the same for one run: the one in which
 //! nothing was lost. [`mdb_page_list`] puts there the acts, and the news: what the
 //! acts report of money, sales, resets, breaks and silences. [`mdb_page_survey`] puts there the
-//! lines of a survey and the places of its faults. [`mdb_page_rises`] puts there the rows by which a
-//! sum becomes uncertain, or certain again. [`mdb_page_layout`] has the sizes of what is put there.
+//! lines of a survey and the places of its faults. [`mdb_page_rises`] puts there the rows by which
+//! a sum becomes uncertain, or certain again. [`mdb_page_layout`] has the sizes of what is put
+//! there.
 //! The crate allocates nothing. Each call reads the whole text, and keeps nothing for the
 //! next call. Rows are numbered from 1, and times are in microseconds.
 #![tactic(auto)]

@@ -103,14 +103,6 @@ keeps-on (Some x) None c h k = absurd h
 keeps-on (Some x) (Some y) None h k = absurd k
 keeps-on (Some x) (Some y) (Some z) h k = k ∙ h
 
--- a line that is taken after bytes were kept
-pub takes-on : (a b c : Option (List ℕ)) (fields : List (List ℕ)) → Keeps a b → TakesLine b c fields
-    → TakesLine a c fields
-takes-on None b c fields h k = tt
-takes-on (Some x) None c fields h k = absurd h
-takes-on (Some x) (Some y) None fields h k = absurd k
-takes-on (Some x) (Some y) (Some z) fields h k = (k.0, k.1, rw h at k.2)
-
 -- no record comes at the end of a text, be it after a line
 pub ends-text : (begun : Bool) (before : Option (List ℕ)) (known : Option (List ℕ)) → IsAtEnd known
     → Keeps before

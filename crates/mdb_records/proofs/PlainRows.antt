@@ -19,9 +19,6 @@ digit_plain c digit = (omega (arith, digit), omega (arith, digit))
 decimal_plain : (most n : ℕ) → IsDecimal most (decimal n) n → All IsPlainByte (decimal n)
 decimal_plain most n is = All-weaker IsAsciiDigit IsPlainByte digit_plain (decimal n) is.digits
 
-glyph_digit : (d : ℕ) → d < 16 → IsAsciiHexdigit (digit_glyph true d)
-glyph_digit d h = grind (arith, nat_tests)
-
 glyph_plain : (d : ℕ) → d < 16 → IsPlainByte (digit_glyph true d)
 glyph_plain d h = grind (arith, nat_tests)
 

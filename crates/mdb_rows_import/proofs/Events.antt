@@ -162,47 +162,6 @@ named_three options fields a b c field is fields_are is_second same = (
       (subst (NameNoLine options) fields_are named)),
 )
 
--- the fields of a line, by its separator
-fields_by : (separator : ℕ) (line : List ℕ) → separator ≡ separator_of line
-    → map bare (parts_of separator line) ≡ line_fields line
-fields_by separator line is = ap (λ s. map bare (parts_of s line)) is
-
--- what makes a line that of a header
-pub header_of : (options : RowsOptions) (separator : ℕ) (line first field : List ℕ)
-    (others : List (List ℕ)) → separator ≡ separator_of line
-    → parts_of separator line ≡ first ∷ others → field ≡ bare first → HasNoDigit field
-    → NameNoLine options (map bare (parts_of separator line))
-    → AreTitles (map bare (parts_of separator line)) → IsHeaderOf options (line_fields line)
-header_of options separator line first field others is parts is_bare no_digit no_line titles =
-    let same = fields_by separator line is in
-    record {
-      titles = subst AreTitles same titles;
-      no_time = subst BeginWithNoDigit (sym (ap (map bare) parts) ∙ same)
-          (subst HasNoDigit is_bare no_digit);
-      no_line = subst (NameNoLine options) same no_line;
-    }
-
--- and what that of a header is
-pub header_begins : (options : RowsOptions) (separator : ℕ) (line first field : List ℕ)
-    (others : List (List ℕ)) → separator ≡ separator_of line
-    → parts_of separator line ≡ first ∷ others → field ≡ bare first
-    → IsHeaderOf options (line_fields line) → HasNoDigit field
-header_begins options separator line first field others is parts is_bare header =
-    subst HasNoDigit (sym is_bare) (subst BeginWithNoDigit
-    (sym (fields_by separator line is) ∙ ap (map bare) parts) header.no_time)
-
-pub header_names : (options : RowsOptions) (separator : ℕ) (line : List ℕ)
-    → separator ≡ separator_of line → IsHeaderOf options (line_fields line)
-    → NameNoLine options (map bare (parts_of separator line))
-header_names options separator line is header =
-    subst (NameNoLine options) (sym (fields_by separator line is)) header.no_line
-
-pub header_titles : (options : RowsOptions) (separator : ℕ) (line : List ℕ)
-    → separator ≡ separator_of line → IsHeaderOf options (line_fields line)
-    → AreTitles (map bare (parts_of separator line))
-header_titles options separator line is header =
-    subst AreTitles (sym (fields_by separator line is)) header.titles
-
 -- the row of a line
 pub row_of : (options : RowsOptions) (line a b c : List ℕ) (separator : ℕ)
     → separator ≡ separator_of line → parts_of separator line ≡ a ∷ b ∷ c ∷ []
@@ -418,14 +377,6 @@ fields_why options fields time line value fault.BadWord three is = (time, line, 
 fields_why options fields time line value fault.BadLength three is = (time, line, value, three, is)
 fields_why options fields time line value fault.SameTime three is = absurd is
 fields_why options fields time line value fault.EarlierTime three is = absurd is
-
--- a line with more parts or fewer
-pub parts_why : (options : RowsOptions) (line : List ℕ) (separator : ℕ)
-    → separator ≡ separator_of line → (length (parts_of separator line) ≡ 3 → ⊥)
-    → length (line_fields line) ≡ 3 → ⊥
-parts_why options line separator is other three =
-    other (ap (λ s. length (parts_of s line)) is
-    ∙ (sym (length-map (parts_of (separator_of line) line) bare) ∙ three))
 
 pub no_row_why : {T : Type 0} (r : Result T RecordFault) (options : RowsOptions)
     (fields : List (List ℕ)) (time line value : List ℕ) → fields ≡ time ∷ line ∷ value ∷ []

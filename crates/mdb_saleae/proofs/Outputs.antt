@@ -48,7 +48,3 @@ pub never_written : (options : SaleaeOptions) (all : List (List (List ℕ))) (te
     → IsImport options all (Err Write) text → ⊥
 never_written options all text (inl is) = is.import
 never_written options all text (inr header) = header.0
-
--- a writer that fails is no failed read
-pub write_apart : Write ≡ Read → ⊥
-write_apart is = absurd (cc)

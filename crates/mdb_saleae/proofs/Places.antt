@@ -15,11 +15,6 @@ IsOnlyBelow header col below (Some place) =
     → other ≡ place)
 IsOnlyBelow header col below None = (other : ℕ) → other < below → IsAt header col other → ⊥
 
--- a column that is there is somewhere
-at_its : (header : List (List ℕ)) (col : Column) (place : ℕ) → IsOnly header col None
-    → IsOnly header col (Some place) → ⊥
-at_its header col place none is = none place is.0
-
 not_there : (header : List (List ℕ)) (col : Column) (place : Option ℕ) → IsOnly header col None
     → IsOnly header col place → IsSome place → ⊥
 not_there header col None none is some = absurd (cc)

@@ -98,13 +98,12 @@ IsShowingIn form scope records (Err Read) text = IsShownInPartIn form scope reco
 IsShowingIn form scope records (Err Memory) text = IsShownInPartIn form scope records text
 IsShowingIn form scope records (Err Write) text = ⊥
 
--- The same of the bytes that a writer held before and after, and that it took a front of a text of
--- the records.
-
+-- the same of the bytes that a writer held before and after
 abbrev pub ShowsIn : LineForm → Scope → List (List (List ℕ)) → Option (List ℕ) → Option (List ℕ)
     → Result (Option LinkFault) RunFault → Type 0
 ShowsIn form scope records = Tells (IsShowingIn form scope records)
 
+-- the writer took a front of a text that goes with some answer to the records
 abbrev pub IsCutShortIn : LineForm → Scope → List (List (List ℕ)) → Option (List ℕ)
     → Option (List ℕ) → Type 0
 IsCutShortIn form scope records = IsCutShort (IsShowingIn form scope records)
@@ -113,8 +112,8 @@ IsCutShortIn form scope records = IsCutShort (IsShowingIn form scope records)
 abbrev pub IsNotWhole : Result (Option LinkFault) RunFault → Type 0
 IsNotWhole answer = answer ≢ Ok None
 
--- What is shown as text of the records of a text that a reader has left, if that is known. More
--- bytes than there may be aren't shown to the end.
+-- What is shown of the text that a reader has left, where that is known. A text that is longer than
+-- allowed isn't shown to the end.
 pub record ShowsText (scope : Scope) (left before after : Option (List ℕ))
     (answer : Result (Option LinkFault) RunFault) : Type 0 where
   pub shows : IfSome left (λ text.

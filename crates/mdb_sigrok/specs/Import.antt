@@ -32,8 +32,9 @@ IsImport options trace answer text =
     IsWhole (AreRowsOfTrace options trace) (IsTold options) (part_of options)
     (IsFault options trace) answer text
 
--- The bytes that a writer held before the answer to a trace and after it. The text of the rows was
--- written, or, where the answer is a refusal, the line of one.
+-- The bytes that a writer held before the answer to a trace and after it. The text of the
+-- rows was written, or, where the answer is a refusal, the line of one. Where the writer failed, it
+-- took a front of such a text.
 abbrev pub Imports : SigrokOptions → List ℕ → Option (List ℕ) → Option (List ℕ)
     → Result SigrokRows SigrokFault → Type 0
 Imports options trace before after answer =

@@ -15,9 +15,6 @@ use Rattle.mdb_survey.specs.SurveyJson.{device_member, device_total, devices_tot
 pub of_stretch : (stretch : Stretch) → has_float (stretch_data stretch) ≡ false
 of_stretch stretch = rw (of_yes stretch.scope stretch.report) refl
 
-pub of_fault : (fault : Offence) → has_float (fault_data fault) ≡ false
-of_fault fault = refl
-
 of_device : (summary : Summary) (which : Device) → has_float (device_total summary which) ≡ false
 of_device summary which = rw (of_accounts summary.totals.accounts which) refl
 

@@ -167,27 +167,6 @@ pub record Goes (form : LineForm) (scope : Scope) (old new : Surveyor) (was now 
       → HasSurveyed form scope old before was earlier
       → HasSurveyed form scope new before now (earlier ++ taken)
 
--- none is taken
-pub goes_none : (form : LineForm) (scope : Scope) (surveyor : Surveyor) (now : Output)
-    (rows : List Event) → Goes form scope surveyor surveyor now now rows rows
-goes_none form scope surveyor now rows = record {
-  taken = [];
-  parts = refl;
-  counted = omega arith;
-  surveyed = λ before earlier has.
-      let P : List Event → Type 0 = λ l. HasSurveyed form scope surveyor before now l in
-      subst P (sym (append-nil earlier)) has;
-}
-
--- there is room for the rest
-pub goes_within : (form : LineForm) (scope : Scope) (old mid : Surveyor) (was now : Output)
-    (rows rest : List Event) (most : ℕ) → Goes form scope old mid was now rows rest
-    → rows_of old + length rows ≤ most → rows_of mid + length rest ≤ most
-goes_within form scope old mid was now rows rest most goes room =
-    let all : length rows ≡ length goes.taken + length rest =
-    ap length goes.parts ∙ length-append goes.taken rest in
-    omega (arith, all, goes.counted, room)
-
 -- the rows up to one of the rest are the next ones
 next_rows : (rows taken rest front after : List Event) (row : Event) → rows ≡ taken ++ rest
     → rest ≡ front ++ row ∷ after → rows ≡ (taken ++ (front ++ row ∷ [])) ++ after

@@ -99,13 +99,12 @@ IsSurveying form scope records (Err Read) text = IsSurveyedToStop form scope rec
 IsSurveying form scope records (Err Memory) text = IsSurveyedInPart form scope records text
 IsSurveying form scope records (Err Write) text = ⊥
 
--- The same of the bytes that a writer held before and after, and that it took a front of a text of
--- the records.
-
+-- the same of the bytes that a writer held before and after
 abbrev pub SurveysIn : LineForm → Scope → List (List (List ℕ)) → Option (List ℕ)
     → Option (List ℕ) → Result Summary RunFault → Type 0
 SurveysIn form scope records = Tells (IsSurveying form scope records)
 
+-- the writer took a front of a text that goes with some answer to the records
 abbrev pub IsCutShort : LineForm → Scope → List (List (List ℕ)) → Option (List ℕ)
     → Option (List ℕ) → Type 0
 IsCutShort form scope records = telling.IsCutShort (IsSurveying form scope records)

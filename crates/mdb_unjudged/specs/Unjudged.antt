@@ -98,8 +98,8 @@ abbrev pub reported : Reported → List Act → Reported
 reported known [] = known
 reported known (act ∷ acts) = reported_by act (reported known acts)
 
--- what is known of the level of a reader before a recording: one that is left out counts as one of
--- level 1, so no no rests on its level
+-- what is known of the level of a reader before a recording: a reader that is left out counts as
+-- one of level 1, so each no is judged as far as it is concerned
 abbrev pub level_before : DeviceSet → ReaderUnit → Option ℕ → Option ℕ
 level_before without unit known = if has without (Reader unit) then Some 1 else known
 

@@ -23,7 +23,7 @@ pub struct Reported {
 
 impl Reported {
     /// What is known before a recording that is taken so, where these levels of the readers are
-    /// known from elsewhere. A reader that is left out counts as one of level 1: no no rests on it.
+    /// known from elsewhere. A reader that is left out counts as one of level 1.
     pub fn before(scope: &Scope, readers: Levels) -> Reported
         ensures { result ≡ spec.known_before scope.now readers }
     {

@@ -50,17 +50,6 @@ word_alone (c ∷ cs) (d ∷ ds) rest parts begun some plain parted =
     ap words_of (sym (append-nil (d ∷ ds)))
     ∙ from_plain [] (d ∷ ds) [] plain
 
-pub word_some : (text word rest : List ℕ) → text ≡ word ++ rest → IsBegun text → 0 < length text
-    → IsParted rest → length rest < length text
-word_some [] word rest parts begun some parted = absurd (omega (arith, some))
-word_some (c ∷ cs) [] [] parts begun some parted = absurd cc
-word_some (c ∷ cs) [] (d ∷ ds) parts begun some parted =
-    let same : c ≡ d = cc in
-    let both : true ≡ false = sym parted ∙ ap is_blank (sym same) ∙ begun in
-    absurd cc
-word_some (c ∷ cs) (d ∷ ds) rest parts begun some parted =
-    omega (arith, simp length-append at (ap length parts))
-
 -- a byte more that isn't blank
 plain_at : (text : List ℕ) (i : ℕ) → i < length text → IsPlain (take i text)
     → is_blank (get_or text i 0) ≡ false → IsPlain (take (suc i) text)
@@ -71,12 +60,6 @@ plain_at (c ∷ cs) (suc i) within plain is = (plain.0, plain_at cs i (omega ari
 pub plain_more : (text : List ℕ) (i : ℕ) → i < length text → IsPlain (take i text)
     → is_blank (get_or text i 0) ≡ false → IsPlain (take (i + 1) text)
 plain_more text i within plain is = rw add-one (plain_at text i within plain is)
-
-pub parted_at : (text : List ℕ) (i : ℕ) → i < length text → is_blank (get_or text i 0) ≡ true
-    → IsParted (drop i text)
-parted_at [] i within is = absurd (omega arith)
-parted_at (c ∷ cs) zero within is = is
-parted_at (c ∷ cs) (suc i) within is = parted_at cs i (omega arith) is
 
 around_by : (word : List ℕ) (d : ℕ) (front : List ℕ) (c : ℕ) (rest : List ℕ) (b : Bool)
     → ended word ++ words_of (front ++ c ∷ rest) ≡ ended word ++ (words_of front ++ words_of rest)

@@ -18,14 +18,6 @@ abbrev pub GoesOn : VcdOptions → Dump → Dump → List (List ℕ) → List �
 GoesOn options old new words line rest =
     HasRead options old words → HasPart options new words line rest
 
-pub part_none : (o : VcdOptions) (dump : Dump) (words : List (List ℕ)) (line : List ℕ)
-    → GoesOn o dump dump words line line
-part_none o dump words line has = record {
-  front = [];
-  parts = refl;
-  read = subst (HasRead o dump) (sym (append-nil words)) has;
-}
-
 pub part_more : (o : VcdOptions) (dump : Dump) (words : List (List ℕ)) (word : List ℕ)
     (line rest behind : List ℕ) (next : Dump) → HasPart o dump words line rest
     → words_of rest ≡ word ∷ words_of behind
@@ -41,14 +33,6 @@ part_more o dump words word line rest behind next part is goes = record {
       subst (HasRead o next) (append_assoc words part.front (word ∷ []))
       (goes (words ++ part.front) part.read);
 }
-
-pub part_all : (o : VcdOptions) (dump : Dump) (words : List (List ℕ)) (line rest : List ℕ)
-    → HasPart o dump words line rest → words_of rest ≡ []
-    → HasRead o dump (words ++ words_of line)
-part_all o dump words line rest part none =
-    let whole : part.front ≡ words_of line =
-    sym (part.parts ∙ (ap (λ l. part.front ++ l) none ∙ append-nil part.front)) in
-    subst (λ l. HasRead o dump (words ++ l)) whole part.read
 
 pub part_halts : (o : VcdOptions) (dump : Dump) (words : List (List ℕ)) (word : List ℕ)
     (line rest behind : List ℕ) (halt : Halt) → HasPart o dump words line rest

@@ -20,8 +20,8 @@ use Rattle.mdb_vcd.specs.declared.fault.Stop.{Stop}
 use Rattle.mdb_vcd.specs.declared.fault.Stop.TheVariants.{Form, Early, Level}
 
 -- what a word is, by its first byte: a time (`#`, 35), a digit and the code of its variable (`0`,
--- `1`,
--- `x`, `X`, `z`, `Z`), bits (`b`, `B`), another value (`r`, `R`, `s`, `S`), or a command (`$`, 36)
+-- `1`, `x`, `X`, `z`, `Z`), bits (`b`, `B`), another value (`r`, `R`, `s`, `S`), or a command (`$`,
+-- 36)
 abbrev pub kind_of : ℕ → Kind
 kind_of c =
     if c == 35 then kind.Time

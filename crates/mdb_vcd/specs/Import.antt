@@ -40,8 +40,9 @@ IsImport options dump answer text =
     IsWhole (AreRowsOfDump options dump) (IsTold options.from options.until)
     (part_of options.from options.until) (IsFault options dump) answer text
 
--- The bytes that a writer held before the answer to a dump and after it. The text of the rows was
--- written, or, where the answer is a refusal, the line of one.
+-- The bytes that a writer held before the answer to a dump and after it. The text of the
+-- rows was written, or, where the answer is a refusal, the line of one. Where the writer failed, it
+-- took a front of such a text.
 abbrev pub Imports : VcdOptions → List ℕ → Option (List ℕ) → Option (List ℕ)
     → Result LevelsImported VcdFault → Type 0
 Imports options dump before after answer =

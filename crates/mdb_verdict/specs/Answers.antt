@@ -13,21 +13,24 @@ pub record IsCutIn {Fault : Type 0} (IsAnswer : Result Outcome Fault → Type 0)
   pub is : IsAnswer (Ok outcome)
   pub taken : HasTaken before after (text outcome)
 
--- What records are answered with, where a failed writer has the fault `broken`.
+-- The answer to records. `broken` is the fault that says that the writer failed: then the writer
+-- took a front of what is written of some outcome.
 pub record Answers {Fault : Type 0} (IsAnswer : Result Outcome Fault → Type 0)
     (text : Outcome → List ℕ) (broken : Fault) (before after : Option (List ℕ))
     (result : Result Outcome Fault) : Type 0 where
   pub answer : IsAnswer result
   pub cut : result ≡ Err broken → IsCutIn IsAnswer text before after
 
--- What the writer then has: all that is written of an outcome, and nothing with another fault.
+-- What the writer has afterwards: all that is written of an outcome. With a fault other than
+-- `broken` it is as it was.
 pub record Leaves {W Fault : Type 0} (contents : W → Option (List ℕ)) (text : Outcome → List ℕ)
     (broken : Fault) (old new : W) (result : Result Outcome Fault) : Type 0 where
   pub written : IfOk result (λ outcome. Appends (contents old) (contents new) (text outcome))
   pub nothing_written : IfErr result (λ fault. fault ≢ broken → new ≡ old)
 
--- Both, where the records are those of what a reader still gives, if that is known. With more than
--- so many bytes it has no yes.
+-- Both, of the text that a reader has left. Where that text is known, its records have this answer,
+-- and it is no yes if the text has more than `bytes_max` bytes. What the writer has afterwards
+-- holds for every reader.
 pub record AnswersText {W Fault : Type 0} (contents : W → Option (List ℕ))
     (IsAnswer : List (List (List ℕ)) → Result Outcome Fault → Type 0) (text : Outcome → List ℕ)
     (broken : Fault) (bytes_max : ℕ) (remaining : Option (List ℕ)) (old new : W)

@@ -27,7 +27,8 @@ Tells Is before after answer =
     ((text : List ℕ) × Is answer text × Appends before after text)
     ⊎ ((answer ≡ Err Write) × IsCutShort Is before after)
 
--- the fault of reading that was met is the fault, or one of the output is
+-- a fault that may be answered where reading met a fault: that one, a failed writer, or refused
+-- memory
 abbrev pub IsMetBy : ReadFault → RunFault → Type 0
 IsMetBy met (BadRow row fault) = ⊥
 IsMetBy met TooLong = ⊥
@@ -35,10 +36,10 @@ IsMetBy met Read = met ≡ reading.Read
 IsMetBy met Write = ⊤
 IsMetBy met Memory = ⊤
 
--- How an answer stands to the reading of the records, where `IsPart` says that it doesn't tell all
--- of them. It doesn't of more bytes than there may be, nor after a fault of reading. That they
--- can't be read is answered only where the reading met that; and where it met a fault, this or one
--- of the output is answered, if any is.
+-- How an answer goes with the reading of the records. `IsPart` says of an answer that it isn't one
+-- to all records. Such an answer comes where the text is longer than allowed (`whole`), and where
+-- reading met a fault (`met`). `Read` is answered only where reading met it (`heard`). After a
+-- fault of reading no other fault is answered but a failed writer or refused memory (`told`).
 pub record Reads {R Answer : Type 0} (IsPart : Result Answer RunFault → Type 0)
     (remaining : R → Option (List ℕ)) (old new : Records R) (answer : Result Answer RunFault)
     : Type 0 where

@@ -34,13 +34,6 @@ pub only_from : (fields : List (List ℕ)) (read : Result Event RowFault) → Te
 only_from fields (Ok found) told event h = ap Ok (row_one fields found event told h)
 only_from fields (Err fault) told event h = absurd (row_not_refused fields event fault h told)
 
--- a list of one byte
-pub letter_is : (field : List ℕ) (c : ℕ) → 1 ≤ length field → length field < 2
-    → get_or field 0 0 ≡ c → field ≡ c ∷ []
-letter_is [] c some one is = absurd (omega arith)
-letter_is (b ∷ []) c some one is = ap (λ x. x ∷ []) is
-letter_is (b ∷ d ∷ rest) c some one is = absurd (omega arith)
-
 -- a field that tells no line and no break
 no_letter : (letter : List ℕ) → ((line : Line) → letter ≢ letter_of line ∷ [])
     → letter ≢ break_letter ∷ [] → IsLetter letter → ⊥

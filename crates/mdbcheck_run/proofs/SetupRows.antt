@@ -67,7 +67,8 @@ number_lacks c row digits below is = digits_lack c digits below is.digits
 rows_lack : (rows : List ℕ) → AreRows rows → Lack 32 rows
 rows_lack rows are =
     subst (Lack 32) (sym are.parts)
-    (lack_on 32 are.first 45 are.last (number_lacks 32 are.first_is.0 are.first (omega arith) are.first_is.1)
+    (lack_on 32 are.first 45 are.last
+    (number_lacks 32 are.first_is.0 are.first (omega arith) are.first_is.1)
     (λ e. absurd (cc e)) (number_lacks 32 are.last_is.0 are.last (omega arith) are.last_is.1))
 
 pub one_line : (text line other : List ℕ) → HasRows text line → HasRows text other → line ≡ other
@@ -78,7 +79,8 @@ one_line text line other one two =
 -- the first byte is a digit
 rows_begin : (rows : List ℕ) → AreRows rows → head_of rows < 58
 rows_begin rows are =
-    subst (λ text. head_of text < 58) (sym are.parts) (by are.first are.first_is.1.some are.first_is.1.digits)
+    subst (λ text. head_of text < 58) (sym are.parts)
+    (by are.first are.first_is.1.some are.first_is.1.digits)
   where
     by : (first : List ℕ) → 1 ≤ length first → All IsAsciiDigit first
         → head_of (first ++ 45 ∷ are.last) < 58
@@ -117,7 +119,8 @@ no_reply_rows text line more has is =
 not_reply : (text more : List ℕ) (device : Device) (bytes : List ℕ) → text ≡ reply_word ++ more
     → text ≡ setup_text device bytes → ⊥
 not_reply text more device bytes word is =
-    omega (arith, reply_head more, sym (ap head_of word), ap head_of is, (device_head device bytes).1)
+    omega
+    (arith, reply_head more, sym (ap head_of word), ap head_of is, (device_head device bytes).1)
 
 same_words : (one other : List ℕ) → reply_word ++ one ≡ reply_word ++ other → one ≡ other
 same_words one other same = ap (drop 6) same
@@ -134,7 +137,8 @@ gives_line text line words device bytes has word =
   where
     to : Gives text device bytes → words ≡ setup_text device bytes
     to (with_rows other rows is) =
-        same_words words (setup_text device bytes) (sym word ∙ one_line text line other has rows ∙ is)
+        same_words words (setup_text device bytes)
+        (sym word ∙ one_line text line other has rows ∙ is)
     to (with_word is) = absurd (no_reply_rows text line (setup_text device bytes) has is)
     to (bare is) = absurd (not_rows text line device bytes has is)
 
@@ -249,7 +253,8 @@ line_has first last more few_first few_last = record {
     first = decimal first;
     last = decimal last;
     parts = append_assoc (decimal first) (codes "-") (decimal last);
-    first_is = (first, IsDecimal-decimal 15 first (omega arith) few_first (omega (arith, few_first)));
+    first_is =
+        (first, IsDecimal-decimal 15 first (omega arith) few_first (omega (arith, few_first)));
     last_is = (last, IsDecimal-decimal 15 last (omega arith) few_last (omega (arith, few_last)));
   };
   parts = append_assoc (decimal first ++ codes "-" ++ decimal last) (codes " ") more;

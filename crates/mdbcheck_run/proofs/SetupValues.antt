@@ -171,33 +171,12 @@ before_blank Bill more = refl
 before_blank (Reader First) more = refl
 before_blank (Reader Second) more = refl
 
-has_blank : (device : Device) (more : List ℕ)
-    → position_or_len is_blank (device_word device ++ 32 ∷ more) ≡ length (device_word device)
-has_blank Changer more = refl
-has_blank Bill more = refl
-has_blank (Reader First) more = refl
-has_blank (Reader Second) more = refl
-
 pub word_is : (text : List ℕ) (device : Device) (bytes : List ℕ) → IsBlock bytes
     → text ≡ setup_text device bytes → before_first is_blank text ≡ device_word device
 word_is text device bytes block is =
     let front = begun bytes block in
     ap (before_first is_blank) (is ∙ ap (λ t. device_word device ++ t) front.is)
     ∙ before_blank device front.more
-
-pub not_without : (text : List ℕ) (device : Device) (bytes : List ℕ) → IsBlock bytes
-    → text ≡ setup_text device bytes → position_or_len is_blank text ≡ length text → ⊥
-not_without text device bytes block is none =
-    let front = begun bytes block in
-    let whole : text ≡ device_word device ++ 32 ∷ front.more =
-    is ∙ ap (λ t. device_word device ++ t) front.is in
-    omega (
-      arith,
-      sym (ap (position_or_len is_blank) whole) ∙ none,
-      has_blank device front.more,
-      ap length whole,
-      length-append (device_word device) (32 ∷ front.more),
-    )
 
 -- a text is what stands before its first blank, and the rest
 pub cut_at : (text : List ℕ) → position_or_len is_blank text < length text

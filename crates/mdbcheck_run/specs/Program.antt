@@ -243,10 +243,10 @@ NameAReading words = (scope : Scope)
 abbrev pub NameATask : List (List ℕ) → Type 0
 NameATask words = NameAReading words ⊎ ((text : List ℕ) × NamesManual words text)
 
--- What the statuses of `check` and of `replay` say of the records of a text, by what they may be
--- answered with, and of the bytes that the writer held before and after, by what is written of an
--- outcome. At 2 nothing was written, or the writer failed, and took a front of what is written of
--- the outcome that there is.
+-- What the status of `check` and of `replay` says of the records of a text, and of the bytes that
+-- the writer held before and after. `IsAnswer` says which answers the records may have, and `text`
+-- what is written of an outcome. At 2 nothing was written, or the writer failed and took a front of
+-- what is written of the outcome.
 pub record SaysAnswered {Fault : Type 0} (IsAnswer : Result Outcome Fault → Type 0)
     (text : Outcome → List ℕ) (before after : Option (List ℕ)) (status : ℕ) : Type 0 where
   pub possible : status ≡ 0 → (report : Report) × IsAnswer (Ok (Yes report))
@@ -320,8 +320,8 @@ pub data Says (words : List (List ℕ)) (records : List (List (List ℕ)))
       → Says words records before after status
   refused : status ≡ 2 → after ≡ before → Says words records before after status
 
--- The rest serves private functions. What one says that reads a recording, by what each status says
--- of the records of a text.
+-- The rest serves private functions: what a command says that reads a recording, by what each
+-- status says of the records of a text.
 pub record SaysOf (Says : List (List (List ℕ)) → ℕ → Type 0) (remaining : Option (List ℕ))
     (status : ℕ) : Type 0 where
   pub says : IfSome remaining (λ bytes. Says (records default_config (strip_bom bytes)) status)

@@ -9,7 +9,8 @@ returns-in-16-to-23 c =
     let second : c.copied-second.result ≡ slice_get c.args.prefix.now 1 =
     grind (arith, common_steps) in
     let at = at_first (slice_index c.args.prefix.now 0) (omega arith) (omega arith) in
-    c.reader_need.ensures ∙ sym (need_at (slice_index c.args.prefix.now 0) c.copied-second.result at)
+    c.reader_need.ensures
+    ∙ sym (need_at (slice_index c.args.prefix.now 0) c.copied-second.result at)
     ∙ ap (need (slice_index c.args.prefix.now 0)) second
 
 pub returns-in-96-to-103 : goal.returns-in-96-to-103

@@ -65,7 +65,8 @@ loop-line-preserved-in-Some c =
           c.take_row.ensures.taken;
     }
 
-pub returns-then-rows-ge-ROWS_MAX-clause-followed : goal.returns-then-rows-ge-ROWS_MAX-clause-followed
+pub returns-then-rows-ge-ROWS_MAX-clause-followed
+    : goal.returns-then-rows-ge-ROWS_MAX-clause-followed
 returns-then-rows-ge-ROWS_MAX-clause-followed c =
     let before = c.loop-line.invariant in
     let bare = c.without_return-line.result.now in

@@ -15,7 +15,9 @@ loop-name-preserved c =
       listed = λ skip all first has.
           one_name_more (rises_in c.args.self.now.last report) skip all first
           c.take_account.new.rises c.take_account.new.self ALL c.loop-name.name-index CoinsIn _
-          c.loop-name-test.true (ap (λ last. rises_in last report (get_or ALL c.loop-name.name-index CoinsIn)) before.last)
+          c.loop-name-test.true
+          (ap (λ last. rises_in last report (get_or ALL c.loop-name.name-index CoinsIn))
+          before.last)
           (c.take_account.ensures.listed skip
           (all ++ flat_map (rises_in c.args.self.now.last report)
           (take c.loop-name.name-index ALL)) first (before.listed skip all first has));
