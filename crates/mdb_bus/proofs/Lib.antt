@@ -6,7 +6,6 @@ pub mod Feed
 pub mod Fitting
 pub mod Followed
 pub mod Forward
-pub mod Fronts
 pub mod Verdicts
 pub mod LeftOutActs
 pub mod LeftOutLoss
@@ -22,6 +21,5 @@ pub mod Polls
 pub mod Promises
 pub mod Rows
 pub mod RuleLaws
-pub mod SomeRule
 pub mod Sound
 pub mod Stops

@@ -1,11 +1,11 @@
 -- The laws of mdb_msgs, put together, of the devices that are followed.
-use Rattle.std.proofs.Common.{arith, refl, ap, ◌∙◌, ◌+◌, ◌∷◌, ◌≡◌, ◌≢◌, ◌<◌, ℕ, List, [], ◌++◌, ◌⊎◌, inl, inr, length, All, sym, subst}
+use Rattle.std.proofs.Common.{arith, refl, ap, ◌∙◌, ◌∷◌, ◌≡◌, ◌≢◌, ◌<◌, ℕ, List, [], ◌++◌, length, sym, subst}
 use Rattle.mdb_blocks.specs.Block.{block_of}
 use Rattle.mdb_msgs.specs.declared.command.Command.{Command}
 use Rattle.mdb_msgs.specs.declared.need.Need.{Need}
 use Rattle.mdb_msgs.specs.declared.need.Need.TheVariants.{Exactly, Foreign, More, Outside}
 use Rattle.mdb_msgs.specs.declared.reply.Reply.{Reply}
-use Rattle.mdb_msgs.specs.Commands.{IsByte, Spells}
+use Rattle.mdb_msgs.specs.Commands.{Spells}
 use Rattle.mdb_msgs.specs.Laws.{BlockHasOneReply, OpenIsAFront as PlainOpenIsAFront}
 use Rattle.mdb_msgs.specs.Needs.{IsShort, IsTold, TellsLength, needed}
 use Rattle.mdb_msgs.specs.Replies.{IsReplyTo, reply_bytes}
@@ -51,27 +51,6 @@ tells first law scope prefix rest command some asks =
     subst Told (sym (needed_followed scope prefix followed))
     (law prefix rest command some asks.spells)
 
--- bytes that need a length are some, and their block is to whom they are
-whole_followed : (scope : Scope) (bytes : List ℕ) → AreFollowed scope bytes
-    → needed bytes ≡ Exactly (length bytes + 1) → AreFollowed scope (block_of bytes)
-whole_followed scope [] followed told = absurd (cc told)
-whole_followed scope (byte ∷ bytes) followed told = followed
-
--- bytes that are as long as they need to be are those of a command
-pub is_command : FirstTells
-    → ((content : List ℕ) → All IsByte content → needed content ≡ Exactly (length content + 1)
-    → (command : Command) × Spells command (block_of content))
-    → (scope : Scope) (content : List ℕ) → All IsByte content
-    → needed_in scope content ≡ Exactly (length content + 1)
-    → (command : Command) × Asks scope command (block_of content)
-is_command first law scope content all told =
-    let plain = within scope content (Exactly (length content + 1)) told (λ same. cc same) in
-    let found = law content all plain.1 in (
-      found.0,
-      asks_followed first scope found.0 (block_of content) found.1
-          (whole_followed scope content plain.0 plain.1),
-    )
-
 -- open bytes are the front of a command's block
 pub open_front : FirstTells → PlainOpenIsAFront → (scope : Scope) → OpenIsAFront scope
 open_front first law scope bytes all wanting =
@@ -98,19 +77,6 @@ open_front first law scope bytes all wanting =
     some_there [] is short none =
         let Short : Need → Type 0 = λ n. IsShort n 0 in subst Short (sym is) short
     some_there (byte ∷ bs) is short none = cc none
-
--- bytes that need more are the front of a command's block
-pub opens : (scope : Scope) → OpenIsAFront scope → (bytes : List ℕ) → 0 < length bytes
-    → All IsByte bytes
-    → ((needed_in scope bytes ≡ More) × (length bytes ≡ 1))
-    ⊎ ((n : ℕ) × (needed_in scope bytes ≡ Exactly n) × (length bytes < n))
-    → (command : Command) × (rest : List ℕ) × (rest ≢ []) × Asks scope command (bytes ++ rest)
-opens scope law bytes some all (inl alone) =
-    let P : Need → Type 0 = λ n. IsShort n (length bytes) in
-    law bytes all (subst P (sym alone.0) alone.1)
-opens scope law bytes some all (inr short) =
-    let P : Need → Type 0 = λ n. IsShort n (length bytes) in
-    law bytes all (subst P (sym short.1) short.2)
 
 -- for a command, data bytes have at most one reply
 pub one_reply : BlockHasOneReply → (command : Command) (one other : Reply) → IsReplyTo command one

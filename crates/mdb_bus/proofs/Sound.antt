@@ -10,10 +10,9 @@ use Rattle.mdb_blocks.specs.Block.{words_on}
 use Rattle.mdb_blocks.specs.declared.answer.Answer.TheVariants as answers
 use Rattle.mdb_bus.specs.declared.act.Act.{Act}
 use Rattle.mdb_bus.specs.declared.act.Act.TheVariants as acts
-use Rattle.mdb_bus.specs.Acts.{IsForeign, IsForeignWord, NamesAReply, Say, command_words, reply_words}
-use Rattle.mdb_bus.specs.ActLists.{Piece, Whole, AskTail, ReplyTail, RepeatTail, Position, ArePieces, IsSaid, events_of, first_position, last_of, piece_events, position_of}
+use Rattle.mdb_bus.specs.Acts.{IsForeign, IsForeignWord, IsReply, NamesAReply, Say, command_words, reply_words}
+use Rattle.mdb_bus.specs.ActLists.{Piece, Whole, AskTail, ReplyTail, RepeatTail, Position, InRepeat, Replied, Returned, ArePieces, IsSaid, events_of, first_position, last_of, piece_events, position_of}
 use Rattle.mdb_bus.specs.inner.Steps.{IsSound}
-use Rattle.mdb_bus.proofs.SomeRule.{HasReply}
 use Rattle.mdb_bus.proofs.Stops.{LastIsLong}
 use Rattle.mdb_bus.specs.declared.scope.Beginning.{Beginning}
 use Rattle.mdb_bus.specs.declared.scope.Beginning.TheVariants.{PowerOn, Joined}
@@ -23,6 +22,13 @@ use Rattle.mdb_bus.specs.declared.scope.Scope.{Scope}
 first_sound : (scope : Scope) (begins : Beginning) → IsSound scope (first_position begins)
 first_sound scope PowerOn = tt
 first_sound scope (Joined setups) = tt
+
+-- a reply that was told, or is told again, is one
+abbrev HasReply : Position → Type 0
+HasReply (Replied command reply) = IsReply command reply
+HasReply (Returned command reply) = IsReply command reply
+HasReply (InRepeat command reply words) = IsReply command reply
+HasReply _ = Unit {0}
 
 first_replied : (begins : Beginning) → HasReply (first_position begins)
 first_replied PowerOn = tt
@@ -118,7 +124,7 @@ last_is_long scope (piece ∷ pieces) order =
     here)
 
 -- after a reply or a repeat, and where it was asked for again, there is a reply
-pub has_reply : (scope : Scope) (pieces : List Piece) → ArePieces scope pieces
+has_reply : (scope : Scope) (pieces : List Piece) → ArePieces scope pieces
     → HasReply (position_of scope pieces)
 has_reply scope [] order = first_replied scope.begins
 has_reply scope (Whole (acts.Reply command reply) events ∷ pieces) order = order.0.said.0

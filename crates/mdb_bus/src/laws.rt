@@ -14,7 +14,7 @@ ghost use Rattle.mdb_bus.specs.ActLists.{ArePieces, GoesOnFrom, HasActList, IsAc
 ghost use Rattle.mdb_bus.specs.Wish.{Wish, HearsFreeAsWished, HearsAsWished, nothing_told};
 ghost use Rattle.mdb_bus.specs.inner.Grammar.{Grammar};
 ghost use Rattle.mdb_bus.specs.LeavingOut.{CutBlocksTell, LeavesOutMore, acts_with, breaks_among, device_in, has_part, is_left_out, leave_out, position_without};
-ghost use Rattle.mdb_bus.specs.LinkFaults.{IsFirstBroken, IsLinkFault, RowBreaks, asked_device, blame_on, situation_of};
+ghost use Rattle.mdb_bus.specs.LinkFaults.{IsLinkFault, RowBreaks, asked_device, blame_on, situation_of};
 ghost use Rattle.mdb_bus.specs.Loss.{Loss, LossFits};
 ghost use Rattle.mdb_bus.specs.Scopes.{IsFollowed, IsLeftOut};
 
@@ -28,12 +28,9 @@ fn grammar()
     messages::command_has_what_it_needs();
     messages::first_bytes_tell_the_length();
     messages::first_byte_tells_the_device();
-    messages::what_it_needs_is_a_command();
     messages::need_leaves_a_command_open();
     messages::block_has_one_reply();
     messages::reply_has_no_fault();
-    messages::bytes_have_one_fault();
-    messages::data_is_a_reply_or_has_a_fault();
     messages::reply_has_its_length();
 }
 
@@ -96,16 +93,6 @@ pub fn rows_that_break_a_rule_end_the_act_list()
     ensures { (scope : Scope) (pieces : List Piece) (row : Event) (broken : Rule)
         → ArePieces scope pieces → RowBreaks (situation_of scope pieces) row broken
         → HasActList scope (events_of pieces ++ row ∷ []) → ⊥ }
-{
-    grammar();
-}
-
-/// After pieces, a row that no act list goes on with breaks some rule of the link. So there is a
-/// first rule to report.
-pub fn rows_that_end_the_act_list_break_a_rule()
-    ensures { (scope : Scope) (pieces : List Piece) (row : Event) → ArePieces scope pieces
-        → (HasActList scope (events_of pieces ++ row ∷ []) → ⊥)
-        → (broken : Rule) × IsFirstBroken (situation_of scope pieces) row broken }
 {
     grammar();
 }

@@ -1,10 +1,9 @@
 -- What mdb_msgs promises of commands and replies, as its laws say it, of the devices that are
 -- followed.
-use Rattle.std.specs.Prelude.{◌≡◌, ◌≢◌, ◌+◌, ◌<◌, ℕ, List, [], ◌++◌, ◌⊎◌, length, All}
-use Rattle.mdb_blocks.specs.Block.{IsContent, block_of}
+use Rattle.std.specs.Prelude.{◌≡◌, ◌≢◌, ◌<◌, ℕ, List, [], ◌++◌, length, All}
 use Rattle.mdb_msgs.specs.declared.command.Command.{Command}
 use Rattle.mdb_msgs.specs.declared.fault.MsgFault.{MsgFault}
-use Rattle.mdb_msgs.specs.declared.need.Need.TheVariants.{Exactly, More}
+use Rattle.mdb_msgs.specs.declared.need.Need.TheVariants.{Exactly}
 use Rattle.mdb_msgs.specs.declared.reply.Reply.{Reply}
 use Rattle.mdb_msgs.specs.Commands.{IsByte}
 use Rattle.mdb_msgs.specs.Needs.{IsShort, IsTold}
@@ -31,30 +30,14 @@ pub record Grammar (scope : Scope) : Type 0 where
   pub tells : (prefix rest : List ℕ) (command : Command) → 0 < length prefix
       → Asks scope command (prefix ++ rest)
       → IsTold (needed_in scope prefix) (length prefix) (length (prefix ++ rest))
-  -- bytes that are as long as they need to be are those of a command
-  pub is_command : (content : List ℕ) → All IsByte content
-      → needed_in scope content ≡ Exactly (length content + 1)
-      → (command : Command) × Asks scope command (block_of content)
-  -- bytes that need more are the front of a command's block
-  pub opens : (bytes : List ℕ) → 0 < length bytes → All IsByte bytes
-      → ((needed_in scope bytes ≡ More) × (length bytes ≡ 1))
-      ⊎ ((n : ℕ) × (needed_in scope bytes ≡ Exactly n) × (length bytes < n))
-      → (command : Command) × (rest : List ℕ) × (rest ≢ []) × Asks scope command (bytes ++ rest)
   pub open_front : OpenIsAFront scope
   -- for a command, data bytes have at most one reply
   pub one_reply : (command : Command) (one other : Reply) → IsReplyTo command one
       → IsReplyTo command other
       → reply_bytes one ≡ reply_bytes other → one ≡ other
-  -- data bytes that are a reply have no fault, and data bytes have at most one
+  -- data bytes that are a reply have no fault
   pub no_fault : (command : Command) (reply : Reply) (fault : MsgFault) → IsReplyTo command reply
       → IsReadFault command (reply_bytes reply) fault → ⊥
-  pub one_fault : (command : Command) (bytes : List ℕ) (one other : MsgFault)
-      → IsReadFault command bytes one
-      → IsReadFault command bytes other → one ≡ other
-  -- data bytes are a reply or have a fault
-  pub readable : (command : Command) (bytes : List ℕ) → IsContent bytes
-      → ((reply : Reply) × IsReplyTo command reply × (bytes ≡ reply_bytes reply))
-      ⊎ ((fault : MsgFault) × IsReadFault command bytes fault)
   -- a reply has a number of bytes that the command allows
   pub counted : (command : Command) (reply : Reply) → IsReplyTo command reply
       → HasDataAnswer command (length (reply_bytes reply))
