@@ -15,7 +15,7 @@ use Rattle.mdb_bus.specs.declared.scope.Scope.{Scope}
 use Rattle.mdb_bus.specs.ActLists.{Piece, Whole, ArePieces, acts_of, piece_events}
 use Rattle.mdb_bus.specs.LeavingOut.{acts_with, breaks_among, device_in, has_part, is_break, is_left_out, is_one_left_out, is_this, leave_out, with_foreign}
 use Rattle.mdb_bus.specs.Scopes.{IsFollowed, IsLeftOut}
-use Rattle.mdb_bus.proofs.Named.{IsOneFollowed, in_act, the_one}
+use Rattle.mdb_bus.proofs.Named.{IsOneFollowed, in_act}
 
 -- a device that is left out is another than one that isn't
 apart : (set : DeviceSet) (one other : Device) (out : Bool) → has set one ≡ out
@@ -133,12 +133,6 @@ kept_followed : (scope : Scope) (act : Act) (events : List Event)
 kept_followed scope acts.Foreign events kept = tt
 kept_followed scope (acts.Break length) events kept = tt
 kept_followed scope act events kept = kept
-
-pub stays_followed : (scope : Scope) (act : Act) (events : List Event) (device : Device)
-    → is_left_out scope (Whole act events) ≡ false → device_in act ≡ Some device
-    → IsFollowed scope device
-stays_followed scope act events device kept is =
-    the_one scope (device_in act) device (kept_followed scope act events kept) is
 
 -- and what is left out is no break
 no_break : (scope : Scope) (act : Act) (events : List Event)

@@ -8,7 +8,6 @@ pub mod Followed
 pub mod Forward
 pub mod Verdicts
 pub mod LeftOutActs
-pub mod LeftOutLoss
 pub mod LeftOutOrder
 pub mod LeftOutWords
 pub mod Lists

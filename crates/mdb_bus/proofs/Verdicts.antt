@@ -12,7 +12,7 @@ use Rattle.mdb_words.specs.declared.word.Line.TheVariants.{Controller, Periphera
 use Rattle.mdb_blocks.specs.Answer.{answer_byte}
 use Rattle.mdb_blocks.specs.declared.answer.Answer.{Answer}
 use Rattle.mdb_blocks.specs.declared.answer.Answer.TheVariants as answers
-use Rattle.mdb_blocks.specs.Block.{IsContent, block_of, peripheral_words}
+use Rattle.mdb_blocks.specs.Block.{block_of, peripheral_words}
 use Rattle.mdb_msgs.specs.declared.command.Command.{Command}
 use Rattle.mdb_msgs.specs.declared.fault.MsgFault.{MsgFault}
 use Rattle.mdb_msgs.specs.declared.fault.MsgFault.TheVariants as reading
@@ -24,33 +24,27 @@ use Rattle.mdb_msgs.specs.Answers.{HasDataAnswer, IsDataLength}
 use Rattle.mdb_msgs.specs.Commands.{IsByte, Spells, command_bytes}
 use Rattle.mdb_msgs.specs.Laws.{BytesHaveOneFault, FrontIsOpen, OpenIsAFront, ReplyHasNoFault}
 use Rattle.mdb_msgs.specs.Needs.{IsOpen, IsShort, needed}
-use Rattle.mdb_msgs.specs.Replies.{IsReadFault, IsReplyTo, form_of_reply, reply_bytes}
+use Rattle.mdb_msgs.specs.Replies.{IsReadFault, form_of_reply}
 use Rattle.mdb_bus.specs.declared.fault.Rule.{Rule}
 use Rattle.mdb_bus.specs.declared.fault.Rule.TheVariants as rule
 use Rattle.mdb_bus.specs.declared.levels.Levels.{Levels}
 use Rattle.mdb_bus.specs.declared.place.Place.{Place}
 use Rattle.mdb_bus.specs.declared.judged.Judged.{Judged}
 use Rattle.mdb_bus.specs.declared.judged.Judged.TheVariants as judged
-use Rattle.mdb_bus.specs.Acts.{IsReply, reply_words}
+use Rattle.mdb_bus.specs.Acts.{reply_words}
 use Rattle.mdb_bus.specs.ActLists.{Asked, InAsk, InReply, IsRepeatFront, NotBefore, NotAfter}
 use Rattle.mdb_bus.specs.declared.phase.Phase.{Phase}
 use Rattle.mdb_bus.specs.declared.phase.Phase.TheVariants as phase
 use Rattle.mdb_bus.specs.Bus.{position_at, position_in}
 use Rattle.mdb_bus.specs.LinkFaults.{IsBefore, IsAfter, OutOfOrder, RowBreaks, Situation, WrongLength}
 use Rattle.mdb_bus.specs.inner.RulePlaces.{IsFirstByPlace, place_of}
-use Rattle.mdb_bus.specs.inner.Steps.{Belongs, IsCommandFront, IsGoingOn, IsJudged, IsOpened, IsRead, IsReplyEnd, IsSettled, IsSound, IsUnknownExpansion, MayAsk, rule_of}
+use Rattle.mdb_bus.specs.inner.Steps.{Belongs, IsCommandFront, IsGoingOn, IsJudged, IsOpened, IsRead, IsReplyEnd, IsSettled, IsSound, IsUnknownExpansion, MayAsk}
 use Rattle.mdb_bus.proofs.Needs.{at_least_two, at_most_32, not_left, stays, narrows}
 use Rattle.mdb_bus.specs.declared.scope.Scope.{Scope}
 use Rattle.mdb_bus.specs.ActLists.{IsAskFront}
 use Rattle.mdb_bus.specs.Scopes.{needed_in}
 use Rattle.mdb_bus.proofs.Followed.{AreFollowed, FirstTells, ask_front_followed, asks_followed, expansion_opens, front_followed, needed_followed, plain_front, still_followed, within}
 use Rattle.mdb_bus.proofs.Lists.{peripheral_push}
-
--- a row isn't both too early and in time
-pub not_early : (least : ℕ) (from : Option Event) (to : Event) → NotBefore least from to
-    → IsBefore least from to → ⊥
-not_early least None to enough early = early
-not_early least (Some before) to enough early = omega (arith, enough, early)
 
 -- it is one of them, and late or in time
 pub in_time : (least : ℕ) (from : Option Event) (to : Event) → (IsBefore least from to → ⊥)
@@ -337,14 +331,6 @@ going_on scope bytes from at word levels (Err rule.Profile) order early late sma
 going_on scope bytes from at word levels (Err other) order early late small law some
     followed h = absurd h
 
--- a reply with the bytes of a block is one with the block's content
-pub is_reply : (command : Command) (bytes : List ℕ) (reply : Reply) → IsContent bytes
-    → IsReplyTo command reply
-    → bytes ≡ reply_bytes reply → IsReply command reply
-is_reply command bytes reply is answers same =
-    let P : List ℕ → Type 0 = λ bs. IsContent bs in
-    record { answers = answers; content = subst P same is }
-
 -- what isn't read of an allowed number of bytes has no fault in that number
 length_read : (command : Command) (bytes : List ℕ) → HasDataAnswer command (length bytes)
     → IsReadFault command bytes reading.Length → ⊥
@@ -384,21 +370,6 @@ no_answer scope command from at word byte levels order early late marked small l
     first rule.Early b = absurd (early b)
     first rule.Late b = absurd (late b)
     first other b = search rules
-
--- what isn't read breaks the rule of its fault
-unread_by : (command : Command) (bytes : List ℕ) (levels : Levels) (fault : MsgFault)
-    → IsReadFault command bytes fault → IsRead command bytes levels (Err (rule_of fault))
-unread_by command bytes levels reading.Length bad = bad
-unread_by command bytes levels reading.Message bad = bad
-unread_by command bytes levels reading.Profile bad = inl bad
-unread_by command bytes levels reading.Answer bad = bad
-
-pub unread : (command : Command) (bytes : List ℕ) (levels : Levels) (fault : MsgFault) (told : Rule)
-    → IsReadFault command bytes fault → told ≡ rule_of fault
-    → IsRead command bytes levels (Err told)
-unread command bytes levels fault told bad is =
-    let P : Rule → Type 0 = λ r. IsRead command bytes levels (Err r) in
-    subst P (sym is) (unread_by command bytes levels fault bad)
 
 -- a marked word ends a reply of a right number of bytes
 length_right : (command : Command) (bytes : List ℕ) (at word : ℕ) → 256 ≤ word

@@ -16,7 +16,6 @@ use Rattle.mdb_bus.specs.declared.act.Act.{Act}
 use Rattle.mdb_bus.specs.declared.act.Act.TheVariants as acts
 use Rattle.mdb_bus.specs.declared.scope.Scope.{Scope}
 use Rattle.mdb_bus.specs.ActLists.{Piece, Whole, AskTail, ReplyTail, RepeatTail, Position, InForeign, first_position, left_by, piece_events}
-use Rattle.mdb_bus.specs.Loss.{Loss, FitsNext}
 use Rattle.mdb_bus.specs.Scopes.{IsLeftOut}
 
 -- A recording is read twice, and once without further devices: it begins alike, the readers were
@@ -102,13 +101,3 @@ acts_with device = filter (has_part device)
 -- the breaks among acts
 abbrev pub breaks_among : List Act → List Act
 breaks_among = filter is_break
-
--- A block to a device that is left out, cut before its end, is a foreign block all the same: a
--- reply of another device right before it wasn't heard.
-abbrev pub CutBlocksTell : Scope → Loss → List Piece → Type 0
-CutBlocksTell scope loss [] = Unit {0}
-CutBlocksTell scope loss (AskTail bytes events ∷ pieces) =
-    (is_left_out scope (AskTail bytes events) ≡ true
-    → FitsNext loss (leave_out scope pieces) acts.Foreign)
-    × CutBlocksTell scope loss pieces
-CutBlocksTell scope loss (piece ∷ pieces) = CutBlocksTell scope loss pieces

@@ -1,10 +1,8 @@
 -- Loss: which words were damaged at their receivers, and how that fits the acts (this profile).
 use Rattle.std.specs.Prelude.{◌≡◌, ◌+◌, ◌<◌, ◌≤◌, ℕ, Bool, false, List, [], ◌∷◌, length}
-use Rattle.mdb_words.specs.declared.event.Event.{Event}
 use Rattle.mdb_bus.specs.declared.act.Act.{Act}
 use Rattle.mdb_bus.specs.declared.act.Act.TheVariants as acts
-use Rattle.mdb_bus.specs.declared.scope.Scope.{Scope}
-use Rattle.mdb_bus.specs.ActLists.{Piece, Whole, IsActList, events_of}
+use Rattle.mdb_bus.specs.ActLists.{Piece, Whole, events_of}
 
 -- A loss tells of each row, by its number from 1, whether its word was damaged at its receiver.
 abbrev pub Loss : Type 0
@@ -64,10 +62,3 @@ abbrev pub LossFits : Loss → List Piece → Type 0
 LossFits loss [] = Unit {0}
 LossFits loss (Whole act events ∷ pieces) = FitsNext loss pieces act × LossFits loss pieces
 LossFits loss (piece ∷ pieces) = LossFits loss pieces
-
--- The acts and the loss of a transcript.
-pub record IsExplained (scope : Scope) (events : List Event) : Type 0 where
-  pub pieces : List Piece
-  pub act_list : IsActList scope pieces events
-  pub loss : Loss
-  pub fits : LossFits loss pieces

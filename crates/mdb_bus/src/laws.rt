@@ -1,10 +1,9 @@
 //! Laws of act lists, of loss and of the rules of the link. Each function's contract is the law,
 //! and its body calls the laws that it rests on.
 
-ghost use Rattle.std.specs.Prelude.{◌≡◌, ◌↔◌, true, false, List, [], ◌∷◌, ◌++◌, Some};
+ghost use Rattle.std.specs.Prelude.{◌≡◌, List, [], ◌∷◌, ◌++◌, Some};
 ghost use Rattle.mdb_words.specs.declared.event.Event.{Event};
 ghost use Rattle.mdb_msgs.specs.declared.command.Device.{Device};
-ghost use Rattle.mdb_msgs.specs.Devices.{same_device};
 ghost use Rattle.mdb_bus.specs.declared.act.Act.{Act};
 ghost use Rattle.mdb_bus.specs.declared.fault.Blame.{Blame};
 ghost use Rattle.mdb_bus.specs.declared.fault.Rule.{Rule};
@@ -13,8 +12,8 @@ ghost use Rattle.mdb_bus.specs.Acts.{NamesAReply};
 ghost use Rattle.mdb_bus.specs.ActLists.{ArePieces, GoesOnFrom, HasActList, IsActList, Piece, Whole, acts_of, events_of, position_of};
 ghost use Rattle.mdb_bus.specs.Wish.{Wish, HearsFreeAsWished, HearsAsWished, nothing_told};
 ghost use Rattle.mdb_bus.specs.inner.Grammar.{Grammar};
-ghost use Rattle.mdb_bus.specs.LeavingOut.{CutBlocksTell, LeavesOutMore, acts_with, breaks_among, device_in, has_part, is_left_out, leave_out, position_without};
-ghost use Rattle.mdb_bus.specs.LinkFaults.{IsLinkFault, RowBreaks, asked_device, blame_on, situation_of};
+ghost use Rattle.mdb_bus.specs.LeavingOut.{LeavesOutMore, acts_with, breaks_among, device_in, leave_out, position_without};
+ghost use Rattle.mdb_bus.specs.LinkFaults.{IsLinkFault, RowBreaks, blame_on, situation_of};
 ghost use Rattle.mdb_bus.specs.Loss.{Loss, LossFits};
 ghost use Rattle.mdb_bus.specs.Scopes.{IsFollowed, IsLeftOut};
 
@@ -111,12 +110,6 @@ pub fn acts_name_devices_that_are_followed()
         → device_in act ≡ Some device → IsFollowed scope device }
 {}
 
-/// After pieces, the device that was asked last isn't left out.
-pub fn asked_devices_are_followed()
-    ensures { (scope : Scope) (pieces : List Piece) (device : Device) → ArePieces scope pieces
-        → asked_device pieces ≡ Some device → IsFollowed scope device }
-{}
-
 /// No fault of the link is blamed on a device that is left out.
 pub fn faults_are_blamed_on_devices_that_are_followed()
     ensures { (scope : Scope) (pieces : List Piece) (row : Event) (broken : Rule) (blamed : Blame)
@@ -147,14 +140,6 @@ pub fn act_lists_stay_without_further_devices()
     pieces_stay_in_order_without_further_devices();
 }
 
-/// A recording that is possible with devices is possible without them.
-pub fn rows_keep_an_act_list_without_further_devices()
-    ensures { (less more : Scope) (rows : List Event) → LeavesOutMore less more
-        → HasActList less rows → HasActList more rows }
-{
-    act_lists_stay_without_further_devices();
-}
-
 /// If rows have an act list with devices, the act list without them keeps everything else
 /// unchanged.
 pub fn act_lists_without_further_devices_are_what_is_left()
@@ -165,17 +150,6 @@ pub fn act_lists_without_further_devices_are_what_is_left()
     act_lists_stay_without_further_devices();
     transcripts_have_one_act_list();
 }
-
-/// A device that is followed has no part in an act that is left out. An act that stays names only
-/// devices that are followed.
-pub fn acts_that_stay_are_those_of_followed_devices()
-    ensures left_out { (scope : Scope) (act : Act) (events : List Event) (device : Device)
-        → is_left_out scope (Whole act events) ≡ true → IsFollowed scope device
-        → has_part device act ≡ false }
-    ensures stays { (scope : Scope) (act : Act) (events : List Event) (device : Device)
-        → is_left_out scope (Whole act events) ≡ false → device_in act ≡ Some device
-        → IsFollowed scope device }
-{}
 
 /// A device that is followed keeps its part in the same acts if further devices are left out. A
 /// device that is left out has a part in breaks only.
@@ -193,20 +167,4 @@ pub fn devices_left_out_have_a_part_in_breaks_alone()
     ensures { (scope : Scope) (pieces : List Piece) (device : Device) → ArePieces scope pieces
         → IsLeftOut scope device
         → acts_with device (acts_of pieces) ≡ breaks_among (acts_of pieces) }
-{}
-
-/// Two devices compare as one exactly if they are one.
-pub fn one_device_is_told_to_be_one()
-    ensures { (one other : Device) → (same_device one other ≡ true) ↔ (one ≡ other) }
-{}
-
-/// A loss that fits pieces still fits them if further devices are left out, under one condition. It
-/// concerns a block to one of these devices that was cut before its end, right after another
-/// device's reply. As the beginning of a command, such a block leaves open whether the reply was
-/// heard. As a foreign block it shows that the reply wasn't heard, so the loss fits exactly if it
-/// agrees.
-pub fn losses_fit_without_further_devices()
-    ensures { (less more : Scope) (pieces : List Piece) (loss : Loss) → LeavesOutMore less more
-        → ArePieces less pieces → LossFits loss pieces
-        → LossFits loss (leave_out more pieces) ↔ CutBlocksTell more loss pieces }
 {}
