@@ -4,5 +4,4 @@ pub mod Digits
 pub mod Events
 pub mod Outputs
 pub mod Imports
-pub mod Orders
 pub mod OneImport

@@ -1,7 +1,6 @@
 -- What the import of an export answers, and what it writes.
 use Rattle.std.specs.Prelude.{◌≡◌, ◌+◌, ℕ, List, [], ◌∷◌, ◌++◌, length, filter, Bool, true, false}
-use Rattle.std.specs.Prelude.{IfSome, IfNone, Option, Some, None, ⊤, Result, Ok, Err}
-use Rattle.mdb_words.specs.Event.{start_of}
+use Rattle.std.specs.Prelude.{IfSome, IfNone, Option, None, Result, Ok, Err}
 use Rattle.std.specs.List.{list_any}
 use Rattle.mdb_words.specs.declared.event.Event.{Event}
 use Rattle.mdb_records.specs.declared.ReadFault.{ReadFault}
@@ -31,11 +30,6 @@ taken_of options events = filter (is_taken options) events
 abbrev pub AreImported : RowsOptions → List (List (List ℕ)) → List Event → Type 0
 AreImported options records rows =
     (events : List Event) × AreEvents options records events × (rows ≡ taken_of options events)
-
--- rows each of which starts after the one before it, and the first after a time, if there is one
-abbrev pub AreInOrder : Option ℕ → List Event → Type 0
-AreInOrder last [] = ⊤
-AreInOrder last (row ∷ rows) = IsAfter last row × AreInOrder (Some (start_of row)) rows
 
 -- the time that the next row has to come after, behind some events
 abbrev pub last_start : RowsOptions → Option ℕ → List Event → Option ℕ

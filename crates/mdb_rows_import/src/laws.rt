@@ -1,18 +1,11 @@
 //! Laws of the import of rows. Each function's contract is the law, and its body is empty.
 
-ghost use Rattle.std.specs.Prelude.{◌≡◌, List, None, ℕ};
+ghost use Rattle.std.specs.Prelude.{◌≡◌, List, ℕ};
 ghost use Rattle.mdb_words.specs.declared.event.Event.{Event};
-ghost use Rattle.mdb_rows_import.specs.Imports.{AreImported, AreInOrder};
+ghost use Rattle.mdb_rows_import.specs.Imports.{AreImported};
 ghost use Rattle.mdb_exports.specs.ReadBack.{AreReadBack};
 ghost use Rattle.mdb_rows_import.specs.Rows.{AreEvents};
 ghost use Rattle.mdb_rows_import.specs.declared.options.RowsOptions.{RowsOptions};
-
-/// The rows that are written of an export, or of a part of it, start one after the other, whatever
-/// was passed over, and whatever rows are outside the part.
-pub fn imported_rows_stand_in_order()
-    ensures { (options : RowsOptions) (records : List (List (List ℕ))) (rows : List Event)
-        → AreImported options records rows → AreInOrder None rows }
-{}
 
 /// An export has no other events than its events, and no other rows are written of it, whatever
 /// names its lines have.
