@@ -7,7 +7,6 @@
 
 mod answer;
 mod block;
-pub mod laws;
 
 pub use answer::Answer;
 pub use block::{Block, BlockFault, seal, sum_of, unseal};

@@ -3,7 +3,6 @@ pub mod FirstBytes
 pub mod Addressed
 pub mod Addresses
 pub mod Contents
-pub mod ListFaults
 pub mod OneReader
 pub mod OneReading
 pub mod OneReply

@@ -1,5 +1,5 @@
 -- Reading a list of messages, one after the other.
-use Rattle.std.proofs.Common.{◌≡◌, ℕ, ◌+◌, ◌<◌, ◌≤◌, List, [], ◌∷◌, ◌++◌, length, sym, ap, ◌∙◌, arith, append_assoc, length-append, append-nil, suc, drop, get_or, subst, drop-cons}
+use Rattle.std.proofs.Common.{◌≡◌, ℕ, ◌+◌, ◌<◌, ◌≤◌, List, [], ◌∷◌, ◌++◌, length, sym, ap, ◌∙◌, append_assoc, append-nil, suc, drop, get_or, subst, drop-cons}
 use Rattle.std.specs.List.{flat_map, AllByRecursion}
 use Rattle.std.proofs.lemmas.Grind.{flat_map-append}
 use Rattle.mdb_msgs.specs.declared.fault.MsgFault.{MsgFault}
@@ -24,21 +24,6 @@ spelled_more f xs x whole rest after e d =
     e ∙ ap (λ r. flat_map f xs ++ r) d ∙ sym (append_assoc (flat_map f xs) (f x) after)
     ∙ ap (λ r. (flat_map f xs ++ r) ++ after) (sym (append-nil (f x)))
     ∙ ap (λ r. r ++ after) (sym (flat_map-append f xs (x ∷ [])))
-
-pub goes_on : {M : Type 0} {f : M → List ℕ} {IsMsg : M → Type 0} {whole rest : List ℕ} {xs : List M}
-    (x : M) (after : List ℕ) → Going f IsMsg whole xs rest → IsMsg x → rest ≡ f x ++ after
-    → length after < length rest → Going f IsMsg whole (xs ++ x ∷ []) after
-goes_on {M} {f} {IsMsg} {whole} {rest} {xs} x after g p d shorter = record {
-  fields = all_more IsMsg xs x g.fields p;
-  spelled = spelled_more f xs x whole rest after g.spelled d;
-  room = let longer = length-append xs (x ∷ []) in let room = g.room in omega arith;
-}
-
--- where nothing is left, the messages are all of the bytes
-pub all_taken : {M : Type 0} {f : M → List ℕ} {IsMsg : M → Type 0} {whole rest : List ℕ}
-    {xs : List M} → Going f IsMsg whole xs rest → rest ≡ [] → whole ≡ flat_map f xs
-all_taken {f = f} {xs = xs} g e = g.spelled ∙ ap (λ r. flat_map f xs ++ r) e
-    ∙ append-nil (flat_map f xs)
 
 -- where no message stands, reading stops
 pub stops : {M : Type 0} {f : M → List ℕ} {IsMsg : M → Type 0} {whole rest : List ℕ} {xs : List M}

@@ -3,20 +3,16 @@ use Rattle.std.specs.Prelude.{◌≡◌, ◌≢◌, ◌<◌, ◌≤◌, ◌⊎�
 use Rattle.mdb_blocks.specs.Block.{IsContent}
 use Rattle.mdb_msgs.specs.declared.command.Command.{Command}
 use Rattle.mdb_msgs.specs.declared.command.Command.TheVariants as command
-use Rattle.mdb_msgs.specs.declared.command.ReaderCommand.{ReaderCommand}
-use Rattle.mdb_msgs.specs.declared.command.ReaderUnit.{ReaderUnit}
 use Rattle.mdb_msgs.specs.declared.fault.MsgFault.{MsgFault}
-use Rattle.mdb_msgs.specs.declared.fault.MsgFault.TheVariants.{Answer}
 use Rattle.mdb_msgs.specs.declared.command.Device.{Device}
 use Rattle.mdb_msgs.specs.declared.reply.Reply.{Reply}
 use Rattle.mdb_msgs.specs.declared.reply.Reply.TheVariants as reply
 use Rattle.mdb_msgs.specs.Answers.{HasDataAnswer}
 use Rattle.mdb_msgs.specs.Commands.{IsByte, Spells}
 use Rattle.mdb_msgs.specs.Needs.{IsOpen}
-use Rattle.mdb_msgs.specs.Reader.{ReaderMessages, IsListFault}
 use Rattle.mdb_msgs.specs.declared.setups.Setups.{Setups}
 use Rattle.mdb_msgs.specs.SetupData.{IsSetupOf}
-use Rattle.mdb_msgs.specs.Replies.{reply_bytes, IsReplyTo, IsReadFault, IsWriteFault, SpellsReply}
+use Rattle.mdb_msgs.specs.Replies.{reply_bytes, IsReplyTo, IsReadFault, SpellsReply}
 
 -- open bytes are the front of some command's block
 abbrev pub OpenIsAFront : Type 0
@@ -67,19 +63,6 @@ abbrev pub BytesHaveOneFault : Type 0
 BytesHaveOneFault =
     (command : Command) (bytes : List ℕ) (one other : MsgFault)
     → IsReadFault command bytes one → IsReadFault command bytes other → one ≡ other
-
--- why messages and texts are no list is the fault in writing them as a reply to a reader's command
-abbrev pub ListFaultIsAWriteFault : Type 0
-ListFaultIsAWriteFault =
-    (unit : ReaderUnit) (asked : ReaderCommand) (list : ReaderMessages) (fault : MsgFault)
-    → IsListFault list fault → IsWriteFault (command.Reader unit asked) (reply.Reader list) fault
-
--- and every fault in writing them is why they are no list, but for Answer
-abbrev pub WriteFaultIsAListFault : Type 0
-WriteFaultIsAListFault =
-    (unit : ReaderUnit) (asked : ReaderCommand) (list : ReaderMessages) (fault : MsgFault)
-    → IsWriteFault (command.Reader unit asked) (reply.Reader list) fault
-    → (fault ≡ Answer) ⊎ IsListFault list fault
 
 -- with a device's answer to SETUP, one thing is known
 abbrev pub AnswerTellsOneSetup : Type 0

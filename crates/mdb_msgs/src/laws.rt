@@ -8,7 +8,7 @@ ghost use Rattle.mdb_msgs.specs.declared.device_set.DeviceSet.{DeviceSet};
 ghost use Rattle.mdb_msgs.specs.Commands.{IsByte, Spells, device_of};
 ghost use Rattle.mdb_msgs.specs.DeviceSets.{has};
 ghost use Rattle.mdb_msgs.specs.Needs.{TellsLength, is_to_one_of, needed};
-ghost use Rattle.mdb_msgs.specs.Laws.{OpenIsAFront, FrontIsOpen, BlockHasOneReply, ReplyHasItsLength, DataFitsABlock, DataIsAReplyOrHasAFault, ReplyHasNoFault, BytesHaveOneFault, ListFaultIsAWriteFault, WriteFaultIsAListFault, AnswerTellsOneSetup};
+ghost use Rattle.mdb_msgs.specs.Laws.{OpenIsAFront, FrontIsOpen, BlockHasOneReply, ReplyHasItsLength, DataFitsABlock, DataIsAReplyOrHasAFault, ReplyHasNoFault, BytesHaveOneFault, AnswerTellsOneSetup};
 
 /// A block has at most one command.
 pub fn block_has_one_command()
@@ -78,14 +78,6 @@ pub fn reply_has_no_fault()
 /// For a command, data bytes have at most one fault.
 pub fn bytes_have_one_fault()
     ensures { BytesHaveOneFault }
-{}
-
-/// The fault of a refused reader's list is the fault that these messages have in writing, as a
-/// reply to any command of a reader. They have no other there, except `Answer`, which depends on
-/// the command alone.
-pub fn list_fault_is_a_write_fault()
-    ensures same { ListFaultIsAWriteFault }
-    ensures only { WriteFaultIsAListFault }
 {}
 
 /// A device's answer to SETUP reports one setup of it.
