@@ -24,7 +24,7 @@ use Rattle.mdb_edges.specs.inner.Reading.{IsHeaded}
 use Rattle.mdb_levels.specs.Faults.{AreBarred, Claims, HaveNoRows}
 use Rattle.mdb_exports.specs.declared.places.Place.{Place}
 use Rattle.mdb_levels.specs.Lines.{HaveEnded, HaveHeard, IsBus}
-use Rattle.mdb_levels.specs.declared.lines.Bus.{Bus}
+use Rattle.mdb_levels.specs.declared.lines.BusRows.{BusRows}
 use Rattle.mdb_levels.specs.Moments.{AreRising, AreRowsOfBus, end_of}
 use Rattle.mdb_edges.proofs.Headers.{one_header}
 use Rattle.mdb_edges.proofs.Records.{moments_more, moments_rise, moments_split, one_moment}
@@ -376,7 +376,7 @@ no_records remaining now options columns all others rest none both =
     absurd (let parts = both.1.parts in cc)
 
 pub table_of : (options : EdgesOptions) (columns : Columns) (all rest : List (List (List ℕ)))
-    (lines : Lines) (bus : Bus) → IsHeaded options all columns rest
+    (lines : Lines) (bus : BusRows) → IsHeaded options all columns rest
     → HasEnded options columns lines rest
     → ((skip : Bool) (ms : List Moment) → HaveEnded skip lines ms → IsBus skip ms bus)
     → IsBusOfTable options all bus

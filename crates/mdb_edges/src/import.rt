@@ -10,7 +10,7 @@ use super::fault::EdgesFault;
 use super::options::EdgesOptions;
 use super::table::rows_of_records;
 use mdb_exports::write_refusal;
-use mdb_levels::{Bus, LevelsImported, PartFault, write_part};
+use mdb_levels::{BusRows, LevelsImported, PartFault, write_part};
 use mdb_records::Records;
 use mdb_writing::WriteFailed;
 use std::alloc::Global;
@@ -51,7 +51,7 @@ pub fn import_edge_records<R: Read + Drop, W: Write>(
 fn write_rows_of_table<W: Write>(
     alloc: Global,
     options: &EdgesOptions,
-    bus: Bus,
+    bus: BusRows,
     writer: &mut W,
 ) -> Result<LevelsImported, EdgesFault>
     ensures imports { (all : List (List (List ℕ))) → IsBusOfTable options.now all bus

@@ -22,7 +22,7 @@ use super::fault::{EdgesFault, FormFault, OrderFault, Stop};
 use super::header::columns_of;
 use super::options::EdgesOptions;
 use super::record::moment_of;
-use mdb_levels::{Bus, Instant, Lines, Moment};
+use mdb_levels::{BusRows, Instant, Lines, Moment};
 use mdb_records::{ReadFault, Record, Records};
 use std::alloc::Global;
 use std::io::Read;
@@ -33,7 +33,7 @@ pub(crate) fn rows_of_records<R: Read + Drop>(
     alloc: Global,
     options: &EdgesOptions,
     records: &mut Records<R>,
-) -> Result<Bus, EdgesFault>
+) -> Result<BusRows, EdgesFault>
     ensures ok { IfOk result (λ bus. (all : List (List (List ℕ))) →
         ToCome R.remaining records.old all → IsBusOfTable options.now all bus) }
     ensures err { IfErr result (λ fault. (all : List (List (List ℕ))) →

@@ -11,7 +11,7 @@ use Rattle.mdb_exports.specs.Whole.{IsWhole}
 use Rattle.mdb_exports.specs.declared.places.Place.{Place}
 use Rattle.mdb_exports.specs.declared.places.Places.{Places}
 use Rattle.mdb_levels.specs.Told.{IsTold, is_before, is_behind, is_taken, part_of}
-use Rattle.mdb_levels.specs.declared.lines.Bus.{Bus}
+use Rattle.mdb_levels.specs.declared.lines.BusRows.{BusRows}
 use Rattle.mdb_levels.specs.declared.part.LevelsImported.{LevelsImported}
 use Rattle.mdb_writing.specs.Written.{HasTaken}
 
@@ -30,7 +30,7 @@ told_of from until rows pulses damaged = record {
 -- the writer failed with a front of the rows of a part
 pub front_of_part : {E : Type 0} (AreRows : List Event → List Place → List Place → Type 0)
     (IsRefused : E → Type 0) (failed : E) (before after : Option (List ℕ)) (from until : Option ℕ)
-    (bus : Bus) (pulses damaged : List Place) → AreRows bus.rows.items pulses damaged
+    (bus : BusRows) (pulses damaged : List Place) → AreRows bus.rows.items pulses damaged
     → AreNoted bus.pulses pulses → AreNoted bus.damaged damaged
     → HasTaken before after (rows_text (part_of from until bus.rows.items))
     → IsAnswered (IsWhole AreRows (IsTold from until) (part_of from until) IsRefused) failed before

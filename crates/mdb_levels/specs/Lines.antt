@@ -7,7 +7,7 @@ use Rattle.mdb_exports.specs.declared.places.Places.{Places}
 use Rattle.mdb_levels.specs.Levels.{AreFoundOn, damaged_in, pulses_in, rows_in}
 use Rattle.mdb_levels.specs.Moments.{AreRising, AreRowsOfBus, level_of}
 use Rattle.mdb_levels.specs.declared.finding.Finding.{Finding}
-use Rattle.mdb_levels.specs.declared.lines.Bus.{Bus}
+use Rattle.mdb_levels.specs.declared.lines.BusRows.{BusRows}
 use Rattle.mdb_levels.specs.declared.lines.Lines.{Lines}
 use Rattle.mdb_levels.specs.declared.moment.Moment.{Moment}
 use Rattle.mdb_levels.specs.declared.passed.Passed.{Passed}
@@ -44,7 +44,7 @@ pub record HaveEnded (skip : Bool) (lines : Lines) (moments : List Moment) : Typ
   pub passed : HavePassed lines.passed sent answered
 
 -- the rows of the bus by its moments, and what was passed over
-pub record IsBus (skip : Bool) (moments : List Moment) (bus : Bus) : Type 0 where
+pub record IsBus (skip : Bool) (moments : List Moment) (bus : BusRows) : Type 0 where
   pub pulses : List Place
   pub damaged : List Place
   pub are : AreRowsOfBus skip moments bus.rows.items pulses damaged

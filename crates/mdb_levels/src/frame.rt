@@ -5,7 +5,7 @@ ghost use Rattle.mdb_levels.specs.Levels.{middle_of};
 
 use super::instant::Instant;
 
-/// A frame of which the bits at first were read, each at its middle.
+/// A frame of which the first bits were read, each at its middle. `reading.rt` has its functions.
 #[derive(Clone, Copy)]
 pub(crate) struct Frame {
     /// When its start bit fell.

@@ -24,7 +24,7 @@ mod writing;
 
 pub use fault::{LevelsFault, LineFault, Wire, Wrong};
 pub use instant::Instant;
-pub use lines::{Bus, Lines};
+pub use lines::{BusRows, Lines};
 pub use moment::Moment;
 pub use part::LevelsImported;
 pub use writing::{PartFault, write_part};

@@ -135,7 +135,7 @@ impl Wave {
 
 /// The rows of the bus, and what was passed over on both lines.
 #[derive(Drop)]
-pub struct Bus {
+pub struct BusRows {
     /// The rows of both lines in the order of their times.
     pub rows: Vec<Event>,
     /// Where a line was low for half a bit at most, and no start bit began.
@@ -209,7 +209,7 @@ impl Lines {
     /// # Errors
     ///
     /// That memory was refused.
-    pub fn bus(self, alloc: Global) -> Result<Bus, AllocError>
+    pub fn bus(self, alloc: Global) -> Result<BusRows, AllocError>
         ensures { IfOk result (λ bus. (skip : Bool) (moments : List Moment) →
             HaveEnded skip self moments → IsBus skip moments bus) }
     {
@@ -219,7 +219,7 @@ impl Lines {
             self.peripheral.rows.as_slice(),
         )?;
         let Passed { pulses, damaged } = self.passed;
-        Ok(Bus {
+        Ok(BusRows {
             rows,
             pulses,
             damaged,

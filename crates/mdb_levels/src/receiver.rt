@@ -78,7 +78,7 @@ pub(crate) fn wait_until(
         *state = State::Framed(read);
         return Ok(None);
     }
-    match stop(line, skip, read) {
+    match read_stop_bit(line, skip, read) {
         Ok(step) => {
             *state = step.state;
             Ok(step.found)
@@ -88,7 +88,7 @@ pub(crate) fn wait_until(
 }
 
 /// Reads the stop bit of a frame.
-fn stop(line: Line, skip: bool, frame: Frame) -> Result<Step, Wrong>
+fn read_stop_bit(line: Line, skip: bool, frame: Frame) -> Result<Step, Wrong>
     requires { frame.taken ≡ 10 }
     ensures ok { IfOk result (λ step. (level : ℕ → Bool) (known at : ℕ) (found : List Finding) →
         IsFramed skip line level known found frame → known ≤ at → frame.next < at →
@@ -289,7 +289,7 @@ fn last_finding(line: Line, skip: bool, frame: Frame) -> Result<Option<Finding>,
         Ok(whole) => whole,
         Err(place) => return Ok(Some(Finding::Pulse(place))),
     };
-    match stop(line, skip, whole) {
+    match read_stop_bit(line, skip, whole) {
         Ok(step) => Ok(step.found),
         Err(wrong) => Err(wrong),
     }

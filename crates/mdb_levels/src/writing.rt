@@ -5,7 +5,7 @@ ghost use Rattle.mdb_exports.specs.Places.{AreNoted};
 ghost use Rattle.mdb_exports.specs.declared.places.Place.{Place};
 ghost use Rattle.mdb_levels.specs.Told.{IsUnwritten, IsWritten};
 
-use super::lines::Bus;
+use super::lines::BusRows;
 use super::part::{LevelsImported, part_of};
 use mdb_exports::write_rows;
 use mdb_writing::WriteFailed;
@@ -30,7 +30,7 @@ pub fn write_part<W: Write>(
     alloc: Global,
     from: Option<u64>,
     until: Option<u64>,
-    bus: Bus,
+    bus: BusRows,
     writer: &mut W,
 ) -> Result<LevelsImported, PartFault>
     ensures written { IfOk result (λ told. (pulses damaged : List Place) →
@@ -40,7 +40,7 @@ pub fn write_part<W: Write>(
     ensures refused { IfErr result (λ fault. IsUnwritten from until bus.rows.items fault
         (W.contents writer.old) (W.contents writer.new)) }
 {
-    let Bus {
+    let BusRows {
         rows,
         pulses,
         damaged,

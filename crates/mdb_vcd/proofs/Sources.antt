@@ -8,7 +8,7 @@ use Rattle.mdb_words.specs.declared.word.Line.{Line}
 use Rattle.mdb_words.specs.declared.word.Line.TheVariants.{Controller, Peripheral}
 use Rattle.mdb_levels.specs.Faults.{line_of}
 use Rattle.mdb_levels.specs.Lines.{HaveEnded, IsBus}
-use Rattle.mdb_levels.specs.declared.lines.Bus.{Bus}
+use Rattle.mdb_levels.specs.declared.lines.BusRows.{BusRows}
 use Rattle.mdb_levels.specs.declared.lines.Lines.{Lines}
 use Rattle.mdb_levels.specs.Moments.{AreRising, AreRowsOfBus}
 use Rattle.mdb_levels.specs.declared.fault.LevelsFault.TheVariants as levels
@@ -401,7 +401,7 @@ read_fault o (Some text) fault (inl is) =
 read_fault o (Some text) fault (inr is) =
     subst (IsFault o text) (sym is) (tt, tt, λ is. absurd cc)
 
-pub bus_by : (o : VcdOptions) (known : Option (List ℕ)) (lines : Lines) (bus : Bus)
+pub bus_by : (o : VcdOptions) (known : Option (List ℕ)) (lines : Lines) (bus : BusRows)
     → IfSome known (λ text. HasEnded o lines (words_of text))
     → ((skip : Bool) (moments : List Moment) → HaveEnded skip lines moments
     → IsBus skip moments bus)

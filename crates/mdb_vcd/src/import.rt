@@ -9,7 +9,7 @@ use super::fault::VcdFault;
 use super::options::VcdOptions;
 use super::source::bus_of_dump;
 use mdb_exports::write_refusal;
-use mdb_levels::{Bus, LevelsImported, PartFault, write_part};
+use mdb_levels::{BusRows, LevelsImported, PartFault, write_part};
 use mdb_writing::WriteFailed;
 use std::alloc::Global;
 use std::io::{Read, Write};
@@ -45,7 +45,7 @@ pub fn import_vcd<R: Read + Drop, W: Write>(
 fn write_rows_of_dump<W: Write>(
     alloc: Global,
     options: &VcdOptions,
-    bus: Bus,
+    bus: BusRows,
     writer: &mut W,
 ) -> Result<LevelsImported, VcdFault>
     ensures { (text : List ℕ) → IsBusOf options.now text bus → Imports options.now text

@@ -8,7 +8,7 @@ ghost use Rattle.mdb_vcd.specs.inner.Reading.{HasEnded, HasRead, IsBusOf};
 use super::dump::Dump;
 use super::fault::VcdFault;
 use super::options::VcdOptions;
-use mdb_levels::Bus;
+use mdb_levels::BusRows;
 use std::alloc::Global;
 use std::io::{BufRead, BufReader, ErrorKind, Read};
 
@@ -20,7 +20,7 @@ pub(crate) fn bus_of_dump<R: Read + Drop>(
     alloc: Global,
     options: &VcdOptions,
     reader: R,
-) -> Result<Bus, VcdFault>
+) -> Result<BusRows, VcdFault>
     ensures ok { IfOk result (λ bus. IfSome (R.remaining reader) (λ text.
         IsBusOf options.now text bus)) }
     ensures err { IfErr result (λ fault. IfSome (R.remaining reader) (λ text.

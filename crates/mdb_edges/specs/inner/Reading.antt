@@ -7,7 +7,7 @@ use Rattle.mdb_levels.specs.Lines.{HaveEnded, HaveHeard}
 use Rattle.mdb_levels.specs.Moments.{AreRowsOfBus, end_of}
 use Rattle.mdb_levels.specs.declared.lines.Lines.{Lines}
 use Rattle.mdb_levels.specs.declared.moment.Moment.{Moment}
-use Rattle.mdb_levels.specs.declared.lines.Bus.{Bus}
+use Rattle.mdb_levels.specs.declared.lines.BusRows.{BusRows}
 use Rattle.mdb_exports.specs.Places.{AreNoted}
 use Rattle.mdb_edges.specs.Table.{AreMoments, AreRowsOfTable, IsHeader}
 use Rattle.mdb_edges.specs.declared.columns.Columns.{Columns}
@@ -30,7 +30,7 @@ pub record HasEnded (options : EdgesOptions) (columns : Columns) (lines : Lines)
   pub ended : HaveEnded options.skip_damaged lines moments
 
 -- the rows of the table of these records, and what was passed over
-pub record IsBusOfTable (options : EdgesOptions) (records : List (List (List ℕ))) (bus : Bus) :
+pub record IsBusOfTable (options : EdgesOptions) (records : List (List (List ℕ))) (bus : BusRows) :
     Type 0 where
   pub pulses : List Place
   pub damaged : List Place

@@ -12,7 +12,7 @@ use Rattle.mdb_levels.specs.declared.fault.Wire.{Wire}
 use Rattle.mdb_levels.specs.declared.fault.Wire.TheVariants as wire
 use Rattle.mdb_exports.specs.Places.{AreNoted}
 use Rattle.mdb_exports.specs.declared.places.Place.{Place as Passed}
-use Rattle.mdb_levels.specs.declared.lines.Bus.{Bus}
+use Rattle.mdb_levels.specs.declared.lines.BusRows.{BusRows}
 use Rattle.mdb_levels.specs.declared.lines.Lines.{Lines}
 use Rattle.mdb_levels.specs.declared.moment.Moment.{Moment}
 use Rattle.mdb_vcd.specs.Dump.{AreMoments, AreRowsOfDump, start}
@@ -107,7 +107,7 @@ HasComeBy options (Some text) None number dump = ⊥
 HasComeBy options (Some text) (Some rest) number dump = HasCome options text rest number dump
 
 -- the rows of a dump and what was passed over, as they are held
-pub record IsBusOf (options : VcdOptions) (text : List ℕ) (bus : Bus) : Type 0 where
+pub record IsBusOf (options : VcdOptions) (text : List ℕ) (bus : BusRows) : Type 0 where
   pub pulses : List Passed
   pub damaged : List Passed
   pub are : AreRowsOfDump options text bus.rows.items pulses damaged

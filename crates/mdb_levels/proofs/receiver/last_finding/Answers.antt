@@ -33,29 +33,29 @@ returns-in-Err-clause-ok c level known rows framed after =
     (c.in-Err.ensures.err c.args.skip c.args.line level known rows framed
     (λ t le lt. after t le)) (omega arith) high (λ t le. after t le ∙ high))
 
-pub returns-in-Ok-stop-clause-ok : goal.returns-in-Ok-stop-clause-ok
-returns-in-Ok-stop-clause-ok c level known rows framed after =
+pub returns-in-Ok-read_stop_bit-clause-ok : goal.returns-in-Ok-read_stop_bit-clause-ok
+returns-in-Ok-read_stop_bit-clause-ok c level known rows framed after =
     let whole =
     c.in-Ok.ensures.ok c.args.skip c.args.line level known rows framed (λ t le lt. after t le) in
     let at = c.in-Ok.whole.next + 1 in
     let high : c.in-Ok.whole.high ≡ c.args.frame.high = c.in-Ok.ensures.high in
-    ends_row c.args.skip c.args.line level at (rows ++ told_by c.in-Ok-stop.step.found)
-    c.in-Ok-stop.step.state
-    (c.in-Ok-stop.ensures.idle (high ∙ not_fails c.args.frame.high c.if-not-frame.false))
-    (c.in-Ok-stop.ensures.ok level known at rows whole whole.near (omega arith)
+    ends_row c.args.skip c.args.line level at (rows ++ told_by c.in-Ok-read_stop_bit.step.found)
+    c.in-Ok-read_stop_bit.step.state
+    (c.in-Ok-read_stop_bit.ensures.idle (high ∙ not_fails c.args.frame.high c.if-not-frame.false))
+    (c.in-Ok-read_stop_bit.ensures.ok level known at rows whole whole.near (omega arith)
     (λ t le lt. after t le ∙ sym high))
     (λ t le.
     let far : known ≤ t = omega (arith, whole.near, le) in
     after t far ∙ not_fails c.args.frame.high c.if-not-frame.false)
 
-pub returns-in-Err-stop-clause-err : goal.returns-in-Err-stop-clause-err
-returns-in-Err-stop-clause-err c level known rows framed after =
+pub returns-in-Err-read_stop_bit-clause-err : goal.returns-in-Err-read_stop_bit-clause-err
+returns-in-Err-read_stop_bit-clause-err c level known rows framed after =
     absurd (differ c.in-Ok.whole.high
     (c.in-Ok.ensures.high ∙ not_fails c.args.frame.high c.if-not-frame.false)
-    c.in-Err-stop.ensures.low)
+    c.in-Err-read_stop_bit.ensures.low)
 
-pub returns-in-Err-stop-clause-wrong : goal.returns-in-Err-stop-clause-wrong
-returns-in-Err-stop-clause-wrong c level known rows framed after =
+pub returns-in-Err-read_stop_bit-clause-wrong : goal.returns-in-Err-read_stop_bit-clause-wrong
+returns-in-Err-read_stop_bit-clause-wrong c level known rows framed after =
     absurd (differ c.in-Ok.whole.high
     (c.in-Ok.ensures.high ∙ not_fails c.args.frame.high c.if-not-frame.false)
-    c.in-Err-stop.ensures.low)
+    c.in-Err-read_stop_bit.ensures.low)

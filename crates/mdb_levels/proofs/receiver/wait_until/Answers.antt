@@ -18,8 +18,8 @@ returns-then-read-parts-clause-ok c level known rows stands le holds =
     waited c.args.skip c.args.line level known c.args.at (Framed c.in-Ok.read) rows due framed le
     (subst (λ b. Holds level known c.args.at b) (sym c.in-Ok.ensures.high) held)
 
-pub returns-in-Ok-stop-clause-ok : goal.returns-in-Ok-stop-clause-ok
-returns-in-Ok-stop-clause-ok c level known rows stands le holds =
+pub returns-in-Ok-read_stop_bit-clause-ok : goal.returns-in-Ok-read_stop_bit-clause-ok
+returns-in-Ok-read_stop_bit-clause-ok c level known rows stands le holds =
     let held = subst (λ s. Holds level known c.args.at (held_of s)) c.in-Framed.is holds in
     let framed =
     c.in-Ok.ensures.ok c.args.skip c.args.line level known rows
@@ -28,14 +28,14 @@ returns-in-Ok-stop-clause-ok c level known rows stands le holds =
     held) in
     let late : c.in-Ok.read.next < c.args.at =
     omega (arith, c.if-read-parts.false, c.parts-2.ensures.value) in
-    c.in-Ok-stop.ensures.ok level known c.args.at rows framed le late
+    c.in-Ok-read_stop_bit.ensures.ok level known c.args.at rows framed le late
     (subst (λ b. Holds level known c.args.at b) (sym c.in-Ok.ensures.high) held)
 
-pub returns-in-Ok-stop-clause-due : goal.returns-in-Ok-stop-clause-due
-returns-in-Ok-stop-clause-due c = c.in-Ok-stop.ensures.due c.args.at
+pub returns-in-Ok-read_stop_bit-clause-due : goal.returns-in-Ok-read_stop_bit-clause-due
+returns-in-Ok-read_stop_bit-clause-due c = c.in-Ok-read_stop_bit.ensures.due c.args.at
 
-pub returns-in-Err-stop-clause-err : goal.returns-in-Err-stop-clause-err
-returns-in-Err-stop-clause-err c level known rows stands le holds =
+pub returns-in-Err-read_stop_bit-clause-err : goal.returns-in-Err-read_stop_bit-clause-err
+returns-in-Err-read_stop_bit-clause-err c level known rows stands le holds =
     let held = subst (λ s. Holds level known c.args.at (held_of s)) c.in-Framed.is holds in
     let framed =
     c.in-Ok.ensures.ok c.args.skip c.args.line level known rows
@@ -44,11 +44,11 @@ returns-in-Err-stop-clause-err c level known rows stands le holds =
     held) in
     let late : c.in-Ok.read.next < c.args.at =
     omega (arith, c.if-read-parts.false, c.parts-2.ensures.value) in
-    c.in-Err-stop.ensures.err level known c.args.at rows framed le late
+    c.in-Err-read_stop_bit.ensures.err level known c.args.at rows framed le late
     (subst (λ b. Holds level known c.args.at b) (sym c.in-Ok.ensures.high) held)
 
-pub returns-in-Err-stop-clause-wrong : goal.returns-in-Err-stop-clause-wrong
-returns-in-Err-stop-clause-wrong c level known rows stands le holds =
+pub returns-in-Err-read_stop_bit-clause-wrong : goal.returns-in-Err-read_stop_bit-clause-wrong
+returns-in-Err-read_stop_bit-clause-wrong c level known rows stands le holds =
     let held = subst (λ s. Holds level known c.args.at (held_of s)) c.in-Framed.is holds in
     let framed =
     c.in-Ok.ensures.ok c.args.skip c.args.line level known rows
@@ -57,7 +57,7 @@ returns-in-Err-stop-clause-wrong c level known rows stands le holds =
     held) in
     let late : c.in-Ok.read.next < c.args.at =
     omega (arith, c.if-read-parts.false, c.parts-2.ensures.value) in
-    c.in-Err-stop.ensures.wrong level known c.args.at rows framed le late
+    c.in-Err-read_stop_bit.ensures.wrong level known c.args.at rows framed le late
     (subst (λ b. Holds level known c.args.at b) (sym c.in-Ok.ensures.high) held)
 
 pub returns-in-Err-clause-ok : goal.returns-in-Err-clause-ok

@@ -5,7 +5,7 @@ use Rattle.mdb_levels.specs.Levels.{micros_of}
 use Rattle.mdb_levels.specs.declared.finding.Finding.TheVariants.{Row}
 use Rattle.mdb_levels.specs.inner.Standing.{IsIdle}
 use Rattle.mdb_levels.proofs.Standings.{misframed, worded}
-use Rattle.mdb_levels.proofs.receiver.stop.Goals as goal
+use Rattle.mdb_levels.proofs.receiver.read_stop_bit.Goals as goal
 
 pub returns-then-frame-clause-ok : goal.returns-then-frame-clause-ok
 returns-then-frame-clause-ok c level known at rows framed le lt holds =
