@@ -1,4 +1,5 @@
 pub mod Fields
+pub mod Found
 pub mod Mark
 pub mod SetUp
 pub mod Lines

@@ -61,6 +61,10 @@ current_fields value = fields_at value.stage value.ends.items value.row
 abbrev pub fault_of : {R : Type 0} → Records R → Option ReadFault
 fault_of value = value.fault
 
+-- how many records were found (2^64 - 1 stands for more, too)
+abbrev pub found_by : {R : Type 0} → Records R → ℕ
+found_by value = value.found
+
 -- the most bytes of the text that are given
 abbrev pub limit_of : {R : Type 0} → Records R → ℕ
 limit_of value = limit_in (source_in value.stage)

@@ -14,6 +14,7 @@ ghost use Rattle.std.specs.Prelude.{Some, Err, if◌then◌else◌};
 ghost use Rattle.csv.specs.Reading.{default_config, records, strip_bom};
 ghost use Rattle.csv.specs.Records as csv;
 ghost use Rattle.mdb_records.specs.Fields.{fields_of};
+ghost use Rattle.mdb_records.specs.Found.{count_after};
 ghost use Rattle.mdb_records.specs.SetUp.{IsSetUp, reader_in};
 ghost use Rattle.mdb_records.specs.Stage.{source_in};
 
@@ -70,6 +71,8 @@ pub struct Records<R> {
     row: ByteRecord,
     // The fault that ended the reading.
     fault: Option<ReadFault>,
+    // How many records were found.
+    found: u64,
     ghost set_up: { fault ≡ None → IsSetUp stage },
     ghost there: { IsSome (source_in stage) },
 }
@@ -77,7 +80,9 @@ pub struct Records<R> {
 impl<R: Read + Drop> Records<R> {
     ghost use Rattle.mdb_records.specs.Cause.{HasBlocked};
     ghost use Rattle.mdb_records.specs.ToCome.{Advances, IsOverLimit, IsUncut, ToCome};
-    ghost use Rattle.mdb_records.specs.ToCome.{IsPastLimit, current_fields, fault_of, given_by, limit_of};
+    ghost use Rattle.mdb_records.specs.Found.{found_after};
+    ghost use Rattle.mdb_records.specs.ToCome.{IsPastLimit, current_fields, fault_of, found_by};
+    ghost use Rattle.mdb_records.specs.ToCome.{given_by, limit_of};
 
     /// The records of the text that `reader` has left, which may be at most `limit` bytes long:
     /// past them one more byte is asked for, to tell the end from a longer text. Fields are
@@ -96,6 +101,7 @@ impl<R: Read + Drop> Records<R> {
         ensures going { fault_of result ≡ None }
         ensures limit { limit_of result ≡ limit }
         ensures fresh { given_by result ≡ 0 }
+        ensures none { found_by result ≡ 0 }
     {
         Records {
             alloc,
@@ -103,6 +109,7 @@ impl<R: Read + Drop> Records<R> {
             ends: Vec::new(alloc),
             row: empty_row(alloc),
             fault: None,
+            found: 0,
         }
     }
 
@@ -122,13 +129,19 @@ impl<R: Read + Drop> Records<R> {
         ensures fine { OnOk result (fault_of self.new ≡ None) }
         ensures stays { IfSome (fault_of self.old) (λ fault. result ≡ Err fault) }
         ensures kept { IsSome (fault_of self.old) → self.new ≡ self.old }
+
+        // Each record that is found is counted.
+        ensures counted { found_by self.new ≡ found_after result (found_by self.old) }
     {
         if let Some(fault) = self.fault {
             return Err(fault);
         }
         if let Stage::Lines(lines) = &mut self.stage {
             match lines.advance(&mut self.ends) {
-                Ok(Some(found)) => return Ok(found),
+                Ok(Some(found)) => {
+                    self.found = counted(self.found, found);
+                    return Ok(found);
+                }
                 Ok(None) => self.hand_over(),
                 Err(fault) => {
                     self.fault = Some(fault);
@@ -147,6 +160,7 @@ impl<R: Read + Drop> Records<R> {
             → ToCome R.remaining self.new rows }
         ensures endless { IsOverLimit R.remaining self.old → IsOverLimit R.remaining self.new }
         ensures fault { fault_of self.new ≡ fault_of self.old }
+        ensures found { found_by self.new ≡ found_by self.old }
         ensures csv { IsSome (reader_in self.new.stage) }
     {
         let stage = mem::replace(&mut self.stage, Stage::Between);
@@ -164,10 +178,12 @@ impl<R: Read + Drop> Records<R> {
             IsOverLimit R.remaining self.old → (found ≡ true) × IsOverLimit R.remaining self.new) }
         ensures failed { IfErr result (λ fault. fault_of self.new ≡ Some fault) }
         ensures fine { OnOk result (fault_of self.new ≡ None) }
+        ensures counted { found_by self.new ≡ found_after result (found_by self.old) }
     {
         match self.stage.read_by_csv(&mut self.row) {
             Ok(found) => {
                 see_bytes(self.row.as_slice());
+                self.found = counted(self.found, found);
                 Ok(found)
             }
             Err(fault) => {
@@ -246,6 +262,17 @@ fn empty_row(alloc: Global) -> ByteRecord
     match ByteRecord::with_capacity(alloc, ROW_BYTES, ROW_FIELDS) {
         Ok(row) => row,
         Err(_) => ByteRecord::new(alloc),
+    }
+}
+
+// The number of the records that were found, after a call that found one or none.
+#[inline(always)]
+fn counted(before: u64, found: bool) -> u64
+    ensures { result ≡ count_after found before }
+{
+    match found {
+        true => before.saturating_add(1),
+        false => before,
     }
 }
 

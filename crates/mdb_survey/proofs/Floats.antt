@@ -3,14 +3,13 @@ use Rattle.std.proofs.Common.{[], ◌∷◌, refl, ◌≡◌, ◌==◌, Bool, tr
 use Rattle.serde_json.specs.Data.{Data, null, object}
 use Rattle.serde_json.specs.Written.{has_float}
 use Rattle.mdb_msgs.specs.declared.command.Device.{Device}
-use Rattle.mdb_follow.specs.declared.offence.Offence.{Offence}
 use Rattle.mdb_follow.specs.declared.report.TheConstants.Report.{DEVICES}
 use Rattle.mdb_json.specs.Reports.{members}
 use Rattle.mdb_json.proofs.Floats.{of_accounts, of_yes}
 use Rattle.mdb_json.proofs.Objects.{without_float}
 use Rattle.mdb_stretches.specs.declared.stretch.Stretch.{Stretch}
 use Rattle.mdb_stretches.specs.declared.summary.Summary.{Summary}
-use Rattle.mdb_survey.specs.SurveyJson.{device_member, device_total, devices_total, fault_data, stretch_data, summary_data, total_data}
+use Rattle.mdb_survey.specs.SurveyJson.{device_member, device_total, devices_total, stretch_data, summary_data, total_data}
 
 pub of_stretch : (stretch : Stretch) → has_float (stretch_data stretch) ≡ false
 of_stretch stretch = rw (of_yes stretch.scope stretch.report) refl

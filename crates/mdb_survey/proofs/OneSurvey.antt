@@ -85,10 +85,11 @@ record Ending (form : LineForm) (scope : Scope) (records : List (List (List ℕ)
   front : Front scope records ended last rest
   end : Ends form ended last (length front.surveyed.rows) rest answer text
 
-ending : (form : LineForm) (scope : Scope) (records : List (List (List ℕ)))
-    (answer : Result Summary RunFault) (text : List ℕ) → IsSurveying form scope records answer text
-    → IsOwnAnswer answer → Ending form scope records answer text
-ending form scope records (Ok summary) text is own = record {
+ending : (form : LineForm) (scope : Scope) (records : List (List (List ℕ))) (read : ℕ)
+    (answer : Result Summary RunFault) (text : List ℕ)
+    → IsSurveying form scope records read answer text → IsOwnAnswer answer
+    → Ending form scope records answer text
+ending form scope records read (Ok summary) text is own = record {
   ended = is.ended;
   last = is.last;
   rest = [];
@@ -99,7 +100,7 @@ ending form scope records (Ok summary) text is own = record {
   };
   end = (refl, is.comes_to, is.lines);
 }
-ending form scope records (Err (BadRow row fault)) text is own = record {
+ending form scope records read (Err (BadRow row fault)) text is own = record {
   ended = is.ended;
   last = is.last;
   rest = is.fields ∷ is.rest;
@@ -115,7 +116,7 @@ ending form scope records (Err (BadRow row fault)) text is own = record {
     no_row fields event same told =
         let P : List (List ℕ) → Type 0 = λ f. IsRow f event in
         row_not_refused is.fields event fault (subst P same told) is.refused
-ending form scope records (Err TooLong) text is own = record {
+ending form scope records read (Err TooLong) text is own = record {
   ended = is.ended;
   last = is.last;
   rest = is.fields ∷ is.rest;
@@ -126,9 +127,9 @@ ending form scope records (Err TooLong) text is own = record {
   };
   end = (is.fields, is.rest, refl, is.full, is.lines);
 }
-ending form scope records (Err Read) text is own = absurd own
-ending form scope records (Err Write) text is own = absurd own
-ending form scope records (Err Memory) text is own = absurd own
+ending form scope records read (Err Read) text is own = absurd own
+ending form scope records read (Err Write) text is own = absurd own
+ending form scope records read (Err Memory) text is own = absurd own
 
 none_left : (rest : List (List (List ℕ))) (fields : List (List ℕ)) (more : List (List (List ℕ)))
     → rest ≡ [] → rest ≡ fields ∷ more → ⊥
@@ -183,12 +184,13 @@ one_end form ended last count rest a (Err Memory) s t p q = absurd q
 
 -- the survey of a text is one
 pub one_surveying : (form : LineForm) (scope : Scope) → HaveOneSurvey scope
-    → (records : List (List (List ℕ))) (a b : Result Summary RunFault) (s t : List ℕ)
-    → IsSurveying form scope records a s → IsSurveying form scope records b t → IsOwnAnswer a
-    → IsOwnAnswer b → (a ≡ b) × (s ≡ t)
-one_surveying form scope law records a b s t p q own other =
-    let first : Ending form scope records a s = ending form scope records a s p own in
-    let second : Ending form scope records b t = ending form scope records b t q other in
+    → (records : List (List (List ℕ))) (read more : ℕ) (a b : Result Summary RunFault)
+    (s t : List ℕ) → IsSurveying form scope records read a s
+    → IsSurveying form scope records more b t → IsOwnAnswer a → IsOwnAnswer b
+    → (a ≡ b) × (s ≡ t)
+one_surveying form scope law records read more a b s t p q own other =
+    let first : Ending form scope records a s = ending form scope records read a s p own in
+    let second : Ending form scope records b t = ending form scope records more b t q other in
     let rows : List Event = first.front.surveyed.rows in
     let others : List Event = second.front.surveyed.rows in
     let same : (rows ≡ others) × (first.rest ≡ second.rest) =
@@ -210,9 +212,10 @@ one_surveying form scope law records a b s t p q own other =
 
 -- and so it is in each form
 pub in_other_form : (form other : LineForm) (scope : Scope) (records : List (List (List ℕ)))
-    (answer : Result Summary RunFault) (text : List ℕ) → IsSurveying form scope records answer text
-    → (same : List ℕ) × IsSurveying other scope records answer same
-in_other_form form other scope records (Ok summary) text is = (
+    (read : ℕ) (answer : Result Summary RunFault) (text : List ℕ)
+    → IsSurveying form scope records read answer text
+    → (same : List ℕ) × IsSurveying other scope records read answer same
+in_other_form form other scope records read (Ok summary) text is = (
   lines_of other is.ended ++ other.stretch is.last ++ other.summary summary,
   record {
     ended = is.ended;
@@ -223,7 +226,7 @@ in_other_form form other scope records (Ok summary) text is = (
     lines = refl;
   },
 )
-in_other_form form other scope records (Err (BadRow row fault)) text is = (
+in_other_form form other scope records read (Err (BadRow row fault)) text is = (
   lines_of other is.ended ++ other.stretch is.last,
   record {
     ended = is.ended;
@@ -237,7 +240,7 @@ in_other_form form other scope records (Err (BadRow row fault)) text is = (
     lines = refl;
   },
 )
-in_other_form form other scope records (Err TooLong) text is = (
+in_other_form form other scope records read (Err TooLong) text is = (
   lines_of other is.ended ++ other.stretch is.last,
   record {
     ended = is.ended;
@@ -249,18 +252,19 @@ in_other_form form other scope records (Err TooLong) text is = (
     lines = refl;
   },
 )
-in_other_form form other scope records (Err Read) text is = (
+in_other_form form other scope records read (Err Read) text is = (
   lines_of other is.ended ++ other.stretch is.last,
   record {
     ended = is.ended;
     last = is.last;
     rest = is.rest;
     surveyed = is.surveyed;
+    none_left_out = is.none_left_out;
     lines = refl;
   },
 )
-in_other_form form other scope records (Err Write) text is = absurd is
-in_other_form form other scope records (Err Memory) text is = (
+in_other_form form other scope records read (Err Write) text is = absurd is
+in_other_form form other scope records read (Err Memory) text is = (
   lines_of other is.ended,
   record {
     ended = is.ended;

@@ -1,5 +1,5 @@
 -- What the survey is, by how the reading of rows ended.
-use Rattle.std.proofs.Common.{refl, ap, sym, subst, inl, inr, ◌∙◌, ◌≡◌, ℕ, List, [], ◌∷◌, ◌++◌, Result, Ok, Err, append_assoc}
+use Rattle.std.proofs.Common.{arith, refl, ap, sym, subst, inl, inr, ◌∙◌, ◌≡◌, ◌+◌, ◌-◌, ℕ, List, [], ◌∷◌, ◌++◌, Result, Ok, Err, append_assoc}
 use Rattle.std.specs.Prelude.{IfErr}
 use Rattle.mdb_words.specs.declared.event.Event.{Event}
 use Rattle.mdb_words.specs.Row.{IsRefusal, IsRow}
@@ -11,10 +11,10 @@ use Rattle.mdb_stretches.specs.declared.summary.Summary.{Summary}
 use Rattle.mdb_stretches.specs.declared.surveyor.Surveyor.{Surveyor}
 use Rattle.mdb_stretches.specs.Stretches.{IsSurvey}
 use Rattle.mdb_stretches.specs.Summaries.{summary_of}
-use Rattle.mdb_stretches.specs.Surveyor.{StandsFor}
+use Rattle.mdb_stretches.specs.Surveyor.{StandsFor, rows_of}
 use Rattle.mdb_verdict.specs.declared.fault.RunFault.{RunFault}
 use Rattle.mdb_verdict.specs.declared.fault.RunFault.TheVariants.{BadRow, TooLong, Read, Write, Memory}
-use Rattle.mdb_verdict.specs.Ending.{AreRead, HasEnded, IsStopped, IsTakenInPart, IsTakenWhole}
+use Rattle.mdb_verdict.specs.Ending.{AreRead, FindsUpTo, HasEnded, IsStopped, IsTakenInPart, IsTakenWhole}
 use Rattle.mdb_verdict.proofs.Rows.{IsReadBefore, are_rows, read_before}
 use Rattle.mdb_verdict.proofs.Tellings.{not_taken_of_output}
 use Rattle.mdb_verdict.specs.Telling.{IsNotTaken, IsOfOutput}
@@ -62,14 +62,14 @@ part_of form scope all rows rest ended read lead =
     }
 
 -- The text ends.
-whole_by : (form : LineForm) (scope : Scope) (all : List (List (List ℕ))) (surveyor : Surveyor)
-    (before now later : Output)
+whole_by : (form : LineForm) (scope : Scope) (all : List (List (List ℕ))) (read : ℕ)
+    (surveyor : Surveyor) (before now later : Output)
     → (it : IsTakenWhole IsRow (HasSurveyed form scope surveyor before now) ROWS_MAX all)
     → (answer : Result Summary RunFault) → (adds : HasAddedEnd form surveyor now later answer)
     → (summary : Summary) → summary ≡ adds.summary
-    → IsSurveying form scope all (Ok summary)
+    → IsSurveying form scope all read (Ok summary)
     (lines_of form it.has.ended ++ form.stretch adds.last ++ form.summary adds.summary)
-whole_by form scope all surveyor before now later it answer adds summary is =
+whole_by form scope all read surveyor before now later it answer adds summary is =
     let both = adds.survey scope it.rows it.has.ended it.has.stands in
     record {
       ended = it.has.ended;
@@ -82,30 +82,31 @@ whole_by form scope all surveyor before now later it answer adds summary is =
     }
 
 pub whole : NoneAreReached
-    → (form : LineForm) (scope : Scope) (all : List (List (List ℕ))) (surveyor : Surveyor)
-    (before now later : Output)
+    → (form : LineForm) (scope : Scope) (all : List (List (List ℕ))) (read : ℕ)
+    (surveyor : Surveyor) (before now later : Output)
     → IsTakenWhole IsRow (HasSurveyed form scope surveyor before now) ROWS_MAX all
     → (answer : Result Summary RunFault) → HasAddedEnd form surveyor now later answer
-    → PutsSurveying form scope all before later answer
-whole law form scope all surveyor before now later it (Ok summary) adds = inl (
+    → PutsSurveying form scope all read before later answer
+whole law form scope all read surveyor before now later it (Ok summary) adds = inl (
   lines_of form it.has.ended ++ form.stretch adds.last ++ form.summary adds.summary,
-  whole_by form scope all surveyor before now later it (Ok summary) adds summary adds.told,
+  whole_by form scope all read surveyor before now later it (Ok summary) adds summary adds.told,
   subst (Puts before later) (sym (append_assoc (lines_of form it.has.ended) (form.stretch adds.last)
       (form.summary adds.summary)))
       (put_both before now later (lines_of form it.has.ended)
       (form.stretch adds.last ++ form.summary adds.summary) it.has.written adds.added),
 )
-whole law form scope all surveyor before now later it (Err (BadRow row fault)) adds =
+whole law form scope all read surveyor before now later it (Err (BadRow row fault)) adds =
     absurd adds.refused
-whole law form scope all surveyor before now later it (Err TooLong) adds = absurd adds.refused
-whole law form scope all surveyor before now later it (Err Read) adds = absurd adds.refused
-whole law form scope all surveyor before now later it (Err Write) adds = inr (
+whole law form scope all read surveyor before now later it (Err TooLong) adds = absurd adds.refused
+whole law form scope all read surveyor before now later it (Err Read) adds = absurd adds.refused
+whole law form scope all read surveyor before now later it (Err Write) adds = inr (
   refl,
   record {
     answer = Ok adds.summary;
     text = lines_of form it.has.ended ++ form.stretch adds.last ++ form.summary adds.summary;
     is =
-        whole_by form scope all surveyor before now later it (Err Write) adds adds.summary refl;
+        whole_by form scope all read surveyor before now later it (Err Write) adds adds.summary
+        refl;
     broken =
         subst (Breaks before later) (sym (append_assoc (lines_of form it.has.ended)
         (form.stretch adds.last) (form.summary adds.summary)))
@@ -113,7 +114,7 @@ whole law form scope all surveyor before now later it (Err Write) adds = inr (
         (form.stretch adds.last ++ form.summary adds.summary) it.has.written adds.refused);
   },
 )
-whole law form scope all surveyor before now later it (Err Memory) adds =
+whole law form scope all read surveyor before now later it (Err Memory) adds =
     let P : Output → Type 0 = λ bytes. Puts before bytes (lines_of form it.has.ended) in inl (
       lines_of form it.has.ended,
       part_of form scope all it.rows [] it.has.ended it.read
@@ -141,18 +142,20 @@ end_refused form surveyor now later last summary survey fault not_taken = record
 -- A record isn't taken, or can't be read.
 
 -- so many rows are taken, and with the lines of the stretch that runs this is the answer
-record TakenUpTo (form : LineForm) (scope : Scope) (all : List (List (List ℕ)))
+record TakenUpTo (form : LineForm) (scope : Scope) (all : List (List (List ℕ))) (read : ℕ)
     (surveyor : Surveyor) (before now : Output) (fault : RunFault) : Type 0 where
   taken : IsTakenInPart IsRow (HasSurveyed form scope surveyor before now) all
   answers : (last : Stretch) → IsSurvey scope taken.rows taken.has.ended last
-      → IsSurveying form scope all (Err fault) (lines_of form taken.has.ended ++ form.stretch last)
+      → IsSurveying form scope all read (Err fault)
+      (lines_of form taken.has.ended ++ form.stretch last)
 
-taken_up_to : (form : LineForm) (scope : Scope) (all : List (List (List ℕ))) (surveyor : Surveyor)
-    (before now : Output) (fault : RunFault) → (fault ≡ Memory → ⊥)
+taken_up_to : (form : LineForm) (scope : Scope) (all : List (List (List ℕ))) (start found : ℕ)
+    (surveyor : Surveyor) (before now : Output) (fault : RunFault) → (fault ≡ Memory → ⊥)
     → HasEnded IsRow IsRefusal (HasSurveyed form scope surveyor before now)
     (Stops form scope before now) ROWS_MAX all (Err fault)
-    → TakenUpTo form scope all surveyor before now fault
-taken_up_to form scope all surveyor before now (BadRow row fault) not it = record {
+    → FindsUpTo fault (start + rows_of surveyor) found
+    → TakenUpTo form scope all (found - start) surveyor before now fault
+taken_up_to form scope all start found surveyor before now (BadRow row fault) not it most = record {
   taken = record { rows = it.rows; rest = it.fields ∷ it.rest; read = it.read; has = it.has };
   answers = λ last survey. record {
     ended = it.has.ended;
@@ -166,7 +169,7 @@ taken_up_to form scope all surveyor before now (BadRow row fault) not it = recor
     lines = refl;
   };
 }
-taken_up_to form scope all surveyor before now TooLong not it = record {
+taken_up_to form scope all start found surveyor before now TooLong not it most = record {
   taken = record { rows = it.rows; rest = it.fields ∷ it.rest; read = it.read; has = it.has };
   answers = λ last survey. record {
     ended = it.has.ended;
@@ -178,29 +181,33 @@ taken_up_to form scope all surveyor before now TooLong not it = record {
     lines = refl;
   };
 }
-taken_up_to form scope all surveyor before now Read not it = record {
+taken_up_to form scope all start found surveyor before now Read not it most = record {
   taken = it;
   answers = λ last survey. record {
     ended = it.has.ended;
     last = last;
     rest = it.rest;
     surveyed = surveyed_of scope all it.rows it.rest it.has.ended last it.read survey;
+    none_left_out = omega (arith, it.has.counted, most);
     lines = refl;
   };
 }
-taken_up_to form scope all surveyor before now Write not it = absurd it
-taken_up_to form scope all surveyor before now Memory not it = absurd (not refl)
+taken_up_to form scope all start found surveyor before now Write not it most = absurd it
+taken_up_to form scope all start found surveyor before now Memory not it most = absurd (not refl)
 
 -- the lines of the stretch that runs are added
 pub told_with_last : (form : LineForm) (scope : Scope) (all : List (List (List ℕ)))
-    (surveyor : Surveyor) (before now later : Output) (fault : RunFault) → (fault ≡ Memory → ⊥)
+    (start found : ℕ) (surveyor : Surveyor) (before now later : Output) (fault : RunFault)
+    → (fault ≡ Memory → ⊥)
     → HasEnded IsRow IsRefusal (HasSurveyed form scope surveyor before now)
     (Stops form scope before now) ROWS_MAX all (Err fault)
+    → FindsUpTo fault (start + rows_of surveyor) found
     → (done : Unit) → HasAddedLast form surveyor now later (Ok done)
-    → PutsSurveying form scope all before later (Err fault)
-told_with_last form scope all surveyor before now later fault not ended done adds =
-    let it : TakenUpTo form scope all surveyor before now fault =
-    taken_up_to form scope all surveyor before now fault not ended in
+    → PutsSurveying form scope all (found - start) before later (Err fault)
+told_with_last form scope all start found surveyor before now later fault not ended finds done
+    adds =
+    let it : TakenUpTo form scope all (found - start) surveyor before now fault =
+    taken_up_to form scope all start found surveyor before now fault not ended finds in
     let has : HasSurveyed form scope surveyor before now it.taken.rows = it.taken.has in inl (
       lines_of form has.ended ++ form.stretch adds.last,
       it.answers adds.last (adds.survey scope it.taken.rows has.ended has.stands),
@@ -210,17 +217,18 @@ told_with_last form scope all surveyor before now later fault not ended done add
 
 -- they aren't taken
 last_untaken : NoneAreReached
-    → (form : LineForm) (scope : Scope) (all : List (List (List ℕ))) (surveyor : Surveyor)
-    (before now later : Output) (fault : RunFault)
-    → TakenUpTo form scope all surveyor before now fault → (other : RunFault)
+    → (form : LineForm) (scope : Scope) (all : List (List (List ℕ))) (read : ℕ)
+    (surveyor : Surveyor) (before now later : Output) (fault : RunFault)
+    → TakenUpTo form scope all read surveyor before now fault → (other : RunFault)
     → HasAddedLast form surveyor now later (Err other)
-    → PutsSurveying form scope all before later (Err other)
-last_untaken law form scope all surveyor before now later fault it (BadRow row refusal) adds =
+    → PutsSurveying form scope all read before later (Err other)
+last_untaken law form scope all read surveyor before now later fault it (BadRow row refusal) adds =
     absurd adds.refused
-last_untaken law form scope all surveyor before now later fault it TooLong adds =
+last_untaken law form scope all read surveyor before now later fault it TooLong adds =
     absurd adds.refused
-last_untaken law form scope all surveyor before now later fault it Read adds = absurd adds.refused
-last_untaken law form scope all surveyor before now later fault it Write adds =
+last_untaken law form scope all read surveyor before now later fault it Read adds =
+    absurd adds.refused
+last_untaken law form scope all read surveyor before now later fault it Write adds =
     let has : HasSurveyed form scope surveyor before now it.taken.rows = it.taken.has in inr (
       refl,
       record {
@@ -232,7 +240,7 @@ last_untaken law form scope all surveyor before now later fault it Write adds =
             has.written adds.refused;
       },
     )
-last_untaken law form scope all surveyor before now later fault it Memory adds =
+last_untaken law form scope all read surveyor before now later fault it Memory adds =
     let has : HasSurveyed form scope surveyor before now it.taken.rows = it.taken.has in
     let P : Output → Type 0 = λ bytes. Puts before bytes (lines_of form has.ended) in inl (
       lines_of form has.ended,
@@ -242,28 +250,31 @@ last_untaken law form scope all surveyor before now later fault it Memory adds =
     )
 
 pub last_refused : NoneAreReached → (form : LineForm) (scope : Scope) (all : List (List (List ℕ)))
-    (surveyor : Surveyor) (before now later : Output) (fault : RunFault) → (fault ≡ Memory → ⊥)
+    (start found : ℕ) (surveyor : Surveyor) (before now later : Output) (fault : RunFault)
+    → (fault ≡ Memory → ⊥)
     → HasEnded IsRow IsRefusal (HasSurveyed form scope surveyor before now)
     (Stops form scope before now) ROWS_MAX all (Err fault)
+    → FindsUpTo fault (start + rows_of surveyor) found
     → (other : RunFault) → HasAddedLast form surveyor now later (Err other)
-    → PutsSurveying form scope all before later (Err other)
-last_refused law form scope all surveyor before now later fault not ended other adds =
-    last_untaken law form scope all surveyor before now later fault
-    (taken_up_to form scope all surveyor before now fault not ended) other adds
+    → PutsSurveying form scope all (found - start) before later (Err other)
+last_refused law form scope all start found surveyor before now later fault not ended finds other
+    adds =
+    last_untaken law form scope all (found - start) surveyor before now later fault
+    (taken_up_to form scope all start found surveyor before now fault not ended finds) other adds
 
 -- memory is refused
 pub out_of_memory : NoneAreReached → (form : LineForm) (scope : Scope) (all : List (List (List ℕ)))
-    (surveyor : Surveyor) (before now : Output) (fault : RunFault) → fault ≡ Memory
+    (read : ℕ) (surveyor : Surveyor) (before now : Output) (fault : RunFault) → fault ≡ Memory
     → HasEnded IsRow IsRefusal (HasSurveyed form scope surveyor before now)
     (Stops form scope before now) ROWS_MAX all (Err fault)
-    → PutsSurveying form scope all before now (Err fault)
-out_of_memory law form scope all surveyor before now fault is ended =
+    → PutsSurveying form scope all read before now (Err fault)
+out_of_memory law form scope all read surveyor before now fault is ended =
     let Ended : RunFault → Type 0 = λ f.
     HasEnded IsRow IsRefusal (HasSurveyed form scope surveyor before now)
     (Stops form scope before now) ROWS_MAX all (Err f) in
     let it : IsTakenInPart IsRow (HasSurveyed form scope surveyor before now) all =
     subst Ended is ended in
-    let P : RunFault → Type 0 = λ f. PutsSurveying form scope all before now (Err f) in
+    let P : RunFault → Type 0 = λ f. PutsSurveying form scope all read before now (Err f) in
     subst P (sym is) (inl (
       lines_of form it.has.ended,
       part_of form scope all it.rows it.rest it.has.ended it.read
@@ -272,14 +283,14 @@ out_of_memory law form scope all surveyor before now fault is ended =
     ))
 
 -- The lines of a fault and its stretch aren't taken.
-pub lines_untaken : (form : LineForm) (scope : Scope) (all : List (List (List ℕ)))
+pub lines_untaken : (form : LineForm) (scope : Scope) (all : List (List (List ℕ))) (read : ℕ)
     (before now : Output) (fault : RunFault)
     → IsStopped IsRow (λ earlier later. HasStopped form scope before now (earlier ++ later) fault)
-    ROWS_MAX all → PutsSurveying form scope all before now (Err fault)
-lines_untaken form scope all before now (BadRow row fault) it = absurd it.stops
-lines_untaken form scope all before now TooLong it = absurd it.stops
-lines_untaken form scope all before now Read it = absurd it.stops
-lines_untaken form scope all before now Write it =
+    ROWS_MAX all → PutsSurveying form scope all read before now (Err fault)
+lines_untaken form scope all read before now (BadRow row fault) it = absurd it.stops
+lines_untaken form scope all read before now TooLong it = absurd it.stops
+lines_untaken form scope all read before now Read it = absurd it.stops
+lines_untaken form scope all read before now Write it =
     let rows : List Event = it.earlier ++ it.later in inr (
       refl,
       record {
@@ -289,7 +300,7 @@ lines_untaken form scope all before now Write it =
         broken = it.stops.2;
       },
     )
-lines_untaken form scope all before now Memory it =
+lines_untaken form scope all read before now Memory it =
     let rows : List Event = it.earlier ++ it.later in inl (
       lines_of form it.stops.0,
       part_of form scope all rows it.rest it.stops.0 it.read it.stops.1,

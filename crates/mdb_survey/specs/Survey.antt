@@ -67,14 +67,15 @@ pub record IsSurveyedTooLong (form : LineForm) (scope : Scope) (records : List (
   pub full : length surveyed.rows ≡ ROWS_MAX
   pub lines : text ≡ lines_of form ended ++ form.stretch last
 
--- Some first records are rows, and the reading ended after them. The text is as before a record
--- that is no row.
+-- Some first records are rows, and the reading ended after them. So many were read, and none of
+-- these is left out. The text is as before a record that is no row.
 pub record IsSurveyedToStop (form : LineForm) (scope : Scope) (records : List (List (List ℕ)))
-    (text : List ℕ) : Type 0 where
+    (read : ℕ) (text : List ℕ) : Type 0 where
   pub ended : List Ended
   pub last : Stretch
   pub rest : List (List (List ℕ))
   pub surveyed : AreSurveyed scope records ended last rest
+  pub none_left_out : read ≤ length surveyed.rows
   pub lines : text ≡ lines_of form ended ++ form.stretch last
 
 -- Some first records are rows. The text is the lines of their faults, each with the stretch that it
@@ -87,27 +88,30 @@ pub record IsSurveyedInPart (form : LineForm) (scope : Scope) (records : List (L
   pub surveyed : AreSurveyed scope records ended last rest
   pub lines : text ≡ lines_of form ended
 
--- The answer to the records of a text, and the text that is written of them. A refused read or
--- memory may come after any row. That the writer failed is none of these answers.
-abbrev pub IsSurveying : LineForm → Scope → List (List (List ℕ)) → Result Summary RunFault
+-- The answer to the records of a text, of which so many were read, and the text that is written of
+-- them. A refused read or memory may come after any row. That the writer failed is none of these
+-- answers.
+abbrev pub IsSurveying : LineForm → Scope → List (List (List ℕ)) → ℕ → Result Summary RunFault
     → List ℕ → Type 0
-IsSurveying form scope records (Ok summary) text = IsSurveyedWhole form scope records summary text
-IsSurveying form scope records (Err (BadRow row fault)) text =
+IsSurveying form scope records read (Ok summary) text =
+    IsSurveyedWhole form scope records summary text
+IsSurveying form scope records read (Err (BadRow row fault)) text =
     IsSurveyedToBadRow form scope records row fault text
-IsSurveying form scope records (Err TooLong) text = IsSurveyedTooLong form scope records text
-IsSurveying form scope records (Err Read) text = IsSurveyedToStop form scope records text
-IsSurveying form scope records (Err Memory) text = IsSurveyedInPart form scope records text
-IsSurveying form scope records (Err Write) text = ⊥
+IsSurveying form scope records read (Err TooLong) text = IsSurveyedTooLong form scope records text
+IsSurveying form scope records read (Err Read) text = IsSurveyedToStop form scope records read text
+IsSurveying form scope records read (Err Memory) text = IsSurveyedInPart form scope records text
+IsSurveying form scope records read (Err Write) text = ⊥
 
 -- the same of the bytes that a writer held before and after
-abbrev pub SurveysIn : LineForm → Scope → List (List (List ℕ)) → Option (List ℕ)
+abbrev pub SurveysIn : LineForm → Scope → List (List (List ℕ)) → ℕ → Option (List ℕ)
     → Option (List ℕ) → Result Summary RunFault → Type 0
-SurveysIn form scope records = Tells (IsSurveying form scope records)
+SurveysIn form scope records read = Tells (IsSurveying form scope records read)
 
 -- the writer took a front of a text that goes with some answer to the records
 abbrev pub IsCutShort : LineForm → Scope → List (List (List ℕ)) → Option (List ℕ)
     → Option (List ℕ) → Type 0
-IsCutShort form scope records = telling.IsCutShort (IsSurveying form scope records)
+IsCutShort form scope records before after =
+    (read : ℕ) × telling.IsCutShort (IsSurveying form scope records read) before after
 
 -- the lines of a form
 abbrev pub survey_lines_in : Form → LineForm

@@ -15,8 +15,8 @@ use mdb_stretches::laws as stretches;
 /// is written.
 pub fn texts_are_surveyed_in_one_way()
     ensures { (form : LineForm) (scope : Scope) (records : List (List (List ℕ)))
-        (a b : Result Summary RunFault) (s t : List ℕ)
-        → IsSurveying form scope records a s → IsSurveying form scope records b t
+        (read more : ℕ) (a b : Result Summary RunFault) (s t : List ℕ)
+        → IsSurveying form scope records read a s → IsSurveying form scope records more b t
         → IsOwnAnswer a → IsOwnAnswer b → (a ≡ b) × (s ≡ t) }
 {
     stretches::rows_have_one_survey();
@@ -26,7 +26,7 @@ pub fn texts_are_surveyed_in_one_way()
 /// same answer: so what is told differs in its form alone.
 pub fn texts_are_surveyed_alike_in_all_forms()
     ensures { (form other : LineForm) (scope : Scope) (records : List (List (List ℕ)))
-        (answer : Result Summary RunFault) (text : List ℕ)
-        → IsSurveying form scope records answer text
-        → (same : List ℕ) × IsSurveying other scope records answer same }
+        (read : ℕ) (answer : Result Summary RunFault) (text : List ℕ)
+        → IsSurveying form scope records read answer text
+        → (same : List ℕ) × IsSurveying other scope records read answer same }
 {}

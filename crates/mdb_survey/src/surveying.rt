@@ -1,7 +1,7 @@
 //! The survey of a recording.
 
-ghost use Rattle.std.specs.Prelude.{◌≡◌, List, [], ℕ, IsErr};
-ghost use Rattle.mdb_records.specs.ToCome.{ToCome};
+ghost use Rattle.std.specs.Prelude.{◌≡◌, ◌-◌, List, [], ℕ, IsErr};
+ghost use Rattle.mdb_records.specs.ToCome.{ToCome, found_by};
 ghost use Rattle.mdb_bus.specs.declared.scope.Scope.{Scope};
 ghost use Rattle.mdb_survey.specs.Survey.{SurveysIn, survey_lines_in};
 ghost use Rattle.mdb_survey.specs.inner.SurveySteps.{HasSurveyed, PutsSurveying};
@@ -53,7 +53,8 @@ pub fn survey_records<R: Read + Drop, W: Write>(
     writer: &mut W,
 ) -> Result<Summary, RunFault>
     ensures surveys { (all : List (List (List ℕ))) → ToCome R.remaining records.old all
-        → SurveysIn (survey_lines_in form) scope.now all (W.contents writer.old)
+        → SurveysIn (survey_lines_in form) scope.now all
+        (found_by records.new - found_by records.old) (W.contents writer.old)
         (W.contents writer.new) result }
     ensures reads { Reads IsErr R.remaining records.old records.new result }
 {
@@ -73,7 +74,7 @@ fn survey_rows<R: Read + Drop, W: Write>(
         (output (W.contents writer.old) surveying.old.printer.page) [] }
     ensures surveys { (all : List (List (List ℕ))) → ToCome R.remaining records.old all
         → PutsSurveying (survey_lines_in surveying.old.form) surveying.old.scope all
-        (begun (W.contents writer.old))
+        (found_by records.new - found_by records.old) (begun (W.contents writer.old))
         (output (W.contents writer.new) surveying.new.printer.page) result }
     ensures reads { Reads IsErr R.remaining records.old records.new result }
 {

@@ -1,8 +1,10 @@
 -- How far the reading of a batch of rows has come.
-use Rattle.std.proofs.Common.{arith, refl, ap, sym, subst, ◌∙◌, ◌≡◌, ◌≤◌, ℕ, List, [], ◌∷◌, ◌++◌, Option, Bool, true, false, length, append_assoc}
+use Rattle.std.proofs.Common.{arith, refl, ap, sym, subst, ◌∙◌, ◌≡◌, ◌+◌, ◌-◌, ◌^◌, ◌≤◌, ℕ, List, [], ◌∷◌, ◌++◌, Option, Bool, true, false, length, append_assoc}
+use Rattle.std.proofs.Math.Nat.{min-le_left}
 use Rattle.mdb_words.specs.declared.row.RowFault.{RowFault}
 use Rattle.mdb_records.specs.declared.ReadFault.{ReadFault}
 use Rattle.mdb_records.specs.declared.Records.{Records}
+use Rattle.mdb_records.specs.Found.{count_after}
 use Rattle.mdb_records.specs.ToCome.{Advances, ToCome, current_fields}
 use Rattle.mdb_verdict.specs.declared.batch.Next.{Next}
 use Rattle.mdb_verdict.specs.declared.batch.Next.TheVariants.{More, End, BadRow, Failed}
@@ -140,3 +142,15 @@ fits room rows More within = within.1
 fits room rows End within = omega (arith, within)
 fits room rows (BadRow fault) within = omega (arith, within)
 fits room rows (Failed fault) within = omega (arith, within)
+
+-- at most one record more was found
+pub found_one : (found : Bool) (before after : ℕ) → after ≡ count_after found before
+    → after ≤ before + 1
+found_one true before after is = omega (arith, is, min-le_left (before + 1) (2 ^ 64 - 1))
+found_one false before after is = omega (arith, is)
+
+-- or none
+pub found_none : (found : Bool) (before after : ℕ) → found ≡ false
+    → after ≡ count_after found before → after ≤ before
+found_none true before after none is = absurd (cc)
+found_none false before after none is = omega (arith, is)

@@ -10,8 +10,8 @@ use Rattle.mdb_verdict.specs.declared.batch.Next.{Next}
 use Rattle.mdb_verdict.specs.declared.batch.Next.TheVariants as next
 use Rattle.mdb_verdict.specs.declared.fault.RunFault.{RunFault}
 use Rattle.mdb_verdict.specs.declared.fault.RunFault.TheVariants.{BadRow, TooLong, Read, Write, Memory}
-use Rattle.mdb_verdict.specs.Batch.{FitsIn, HasRead, IsMet}
-use Rattle.mdb_verdict.specs.Ending.{EndsAfter, HasEnded, HasFirst, HasTakenOrStopped, IsHeard, IsStop, IsStopped, IsTakenWhole, IsToldEnd, goes_on_by}
+use Rattle.mdb_verdict.specs.Batch.{FindsAtMost, FitsIn, HasRead, IsMet}
+use Rattle.mdb_verdict.specs.Ending.{EndsAfter, FindsUpTo, HasEnded, HasFirst, HasTakenOrStopped, IsHeard, IsStop, IsStopped, IsTakenWhole, IsToldEnd, goes_on_by}
 use Rattle.mdb_verdict.specs.Verdict.{run_fault_of}
 use Rattle.mdb_verdict.proofs.Rows.{all_append, empty, first_row, no_rows}
 
@@ -498,3 +498,49 @@ pub fault_no_stop : {Stop : Type 0} (P : Stop → Type 0) (fault : RunFault)
     → IfOk answer (λ stop. IfSome stop P)
 fault_no_stop P fault (Ok stop) handed = absurd handed
 fault_no_stop P fault (Err other) handed = tt
+
+-- How many records were found, `old` before a batch and `new` after it.
+
+-- no more than the rows that were taken, after a batch that others follow
+pub found_more : (after : Next) (start old new count total many : ℕ) → old ≤ start + count
+    → total ≡ count + many → FindsAtMost after (old + many) new → after ≡ next.More
+    → new ≤ start + total
+found_more after start old new count total many before is finds more =
+    let P : Next → Type 0 = λ n. FindsAtMost n (old + many) new in
+    let found : new ≤ old + many = subst P more finds in omega (arith, before, is, found)
+
+-- nor where the next one can't be read
+found_by_next : (after : Next) (rows most new : ℕ) → FindsAtMost after most new
+    → IfErr (goes_on_by after rows) (λ fault. FindsUpTo fault most new)
+found_by_next next.More rows most new finds = tt
+found_by_next next.End rows most new finds = tt
+found_by_next (next.BadRow refused) rows most new finds = tt
+found_by_next (next.Failed reading.Read) rows most new finds = finds
+found_by_next (next.Failed reading.Memory) rows most new finds = finds
+
+at_most : (fault : RunFault) (most more new : ℕ) → most ≤ more → FindsUpTo fault most new
+    → FindsUpTo fault more new
+at_most (BadRow row why) most more new below finds = tt
+at_most TooLong most more new below finds = tt
+at_most Read most more new below finds = omega (arith, below, finds)
+at_most Write most more new below finds = tt
+at_most Memory most more new below finds = omega (arith, below, finds)
+
+pub found_at : {Found Stop : Type 0} (told : Result Found RunFault) (fault : RunFault)
+    (most more new : ℕ) → most ≤ more → IfErr told (λ f. FindsUpTo f most new)
+    → told ≡ Err fault → (answer : Result (Option Stop) RunFault)
+    → IsErrAnd answer (λ other. other ≡ fault) → IfErr answer (λ f. FindsUpTo f more new)
+found_at told fault most more new below known is (Ok stop) handed = absurd handed
+found_at told fault most more new below known is (Err other) handed =
+    subst (λ f. FindsUpTo f more new) (sym handed)
+    (at_most fault most more new below (subst (λ t. IfErr t (λ f. FindsUpTo f most new)) is known))
+
+pub found_refused : {Stop : Type 0} (after : Next) (rows : ℕ) (told : Result Bool RunFault)
+    (fault : RunFault) → told ≡ goes_on_by after rows → told ≡ Err fault
+    → (most more new : ℕ) → most ≤ more → FindsAtMost after most new
+    → (answer : Result (Option Stop) RunFault) → IsErrAnd answer (λ other. other ≡ fault)
+    → IfErr answer (λ f. FindsUpTo f more new)
+found_refused after rows told fault by is most more new below finds =
+    let P : Result Bool RunFault → Type 0 = λ t. IfErr t (λ f. FindsUpTo f most new) in
+    found_at told fault most more new below
+    (subst P (sym by) (found_by_next after rows most new finds)) is

@@ -1,7 +1,7 @@
 -- What the reading of a batch of rows comes to.
 --
 -- `Is` says which fields are which row, `Refuses` why they are none.
-use Rattle.std.specs.Prelude.{◌≡◌, ◌<◌, ◌≤◌, ◌++◌, ℕ, List, [], ◌∷◌, length, ⊤, Option, Some, None}
+use Rattle.std.specs.Prelude.{◌≡◌, ◌+◌, ◌<◌, ◌≤◌, ◌++◌, ℕ, List, [], ◌∷◌, length, ⊤, Option, Some, None}
 use Rattle.mdb_words.specs.declared.row.RowFault.{RowFault}
 use Rattle.mdb_records.specs.declared.ReadFault.{ReadFault}
 use Rattle.mdb_records.specs.declared.Records.{Records}
@@ -50,6 +50,11 @@ BatchGoesOnOver remaining records (Failed fault) = ⊤
 abbrev pub IsMet : Next → Option ReadFault → Type 0
 IsMet (Failed fault) met = met ≡ Some fault
 IsMet _ met = met ≡ None
+
+-- no more records were found than these rows, and the one that is no row
+abbrev pub FindsAtMost : Next → ℕ → ℕ → Type 0
+FindsAtMost (BadRow fault) most found = found ≤ most + 1
+FindsAtMost _ most found = found ≤ most
 
 -- the rows have room, and so has a row more where one was asked for; while more is to come there is
 -- a row

@@ -115,6 +115,12 @@ IsHeard met Read = met ≡ Some reading.Read
 IsHeard met Memory = met ≡ Some reading.Memory
 IsHeard met Write = ⊥
 
+-- no more records were found than these, where a record can't be read
+abbrev pub FindsUpTo : RunFault → ℕ → ℕ → Type 0
+FindsUpTo Read most found = found ≤ most
+FindsUpTo Memory most found = found ≤ most
+FindsUpTo _ most found = ⊤
+
 -- a fault of reading that was met is the answer, or a row before it was stopped at
 abbrev pub IsToldEnd : {Stop : Type 0} → ReadFault → Result (Option Stop) RunFault → Type 0
 IsToldEnd met (Ok None) = ⊥

@@ -1,9 +1,9 @@
 //! Rows that are read before they are checked.
 
-ghost use Rattle.std.specs.Prelude.{◌≡◌, ◌<◌, ◌≤◌, List, ℕ, None, Some, length};
+ghost use Rattle.std.specs.Prelude.{◌≡◌, ◌+◌, ◌<◌, ◌≤◌, List, ℕ, None, Some, length};
 ghost use Rattle.mdb_records.specs.declared.ReadFault.{ReadFault};
-ghost use Rattle.mdb_records.specs.ToCome.{IsOverLimit, ToCome, fault_of};
-ghost use Rattle.mdb_verdict.specs.Batch.{FitsIn, BatchGoesOnOver, HasRead, IsMet};
+ghost use Rattle.mdb_records.specs.ToCome.{IsOverLimit, ToCome, fault_of, found_by};
+ghost use Rattle.mdb_verdict.specs.Batch.{FindsAtMost, FitsIn, BatchGoesOnOver, HasRead, IsMet};
 
 use super::row::FromRecord;
 use mdb_records::{ReadFault, Records};
@@ -106,6 +106,8 @@ impl<T: FromRecord> Batch<T> {
         ensures fits { FitsIn rows_max self.new result }
         ensures failed { (fault : ReadFault) → result ≡ Next.Failed fault
             → fault_of records.new ≡ Some fault }
+        ensures counted { FindsAtMost result (found_by records.old + length self.new)
+            (found_by records.new) }
     {
         self.clear();
         for _ in 0..rows_max.min(BATCH as u64) {

@@ -1,9 +1,9 @@
 //! Reading rows, batch by batch, for a type that accepts them.
 
 ghost use Rattle.std.specs.Prelude.{◌≡◌, ◌+◌, ◌^◌, ◌<◌, ◌≤◌, ◌≢◌, List, ℕ, [], IfErr, IfOk, IfSome, IsErr, IsErrOf, None, Ok, Option, length};
-ghost use Rattle.mdb_records.specs.ToCome.{IsOverLimit, ToCome, fault_of};
+ghost use Rattle.mdb_records.specs.ToCome.{IsOverLimit, ToCome, fault_of, found_by};
 ghost use Rattle.mdb_bus.specs.declared.scope.Scope.{Scope};
-ghost use Rattle.mdb_verdict.specs.Ending.{EndsAfter, HasEnded, HasTakenOrStopped, IsHeard, IsStop, IsToldEnd, goes_on_by};
+ghost use Rattle.mdb_verdict.specs.Ending.{EndsAfter, FindsUpTo, HasEnded, HasTakenOrStopped, IsHeard, IsStop, IsToldEnd, goes_on_by};
 ghost use Rattle.mdb_verdict.specs.Verdict.{run_fault_of};
 
 use super::batch::{Batch, Next};
@@ -90,6 +90,8 @@ pub fn read_rows<R: Read + Drop, O, T: TakeRows<O>>(
     ensures met { fault_of records.old ≡ None → IfSome (fault_of records.new)
         (λ fault. IsToldEnd fault result) }
     ensures same_scope { T.scope taker.new ≡ T.scope taker.old }
+    ensures counted { IfErr result (λ fault. FindsUpTo fault
+        (found_by records.old + T.count taker.new) (found_by records.new)) }
 {
     while taker.rows_taken() < rows_max {
         let next = batch.refill(records, rows_max - taker.rows_taken());
@@ -131,6 +133,8 @@ fn expect_end<R: Read + Drop, T: FromRecord>(
     ensures heard { IfErr result (IsHeard (fault_of records.new)) }
     ensures met { fault_of records.old ≡ None → IfSome (fault_of records.new)
         (λ fault. IsErrOf result (run_fault_of fault)) }
+    ensures counted { IfErr result (λ fault. FindsUpTo fault (found_by records.old)
+        (found_by records.new)) }
 {
     match batch.refill(records, 1) {
         Next::End => Ok(()),

@@ -171,29 +171,32 @@ says_whole scope form all before after summary text false is whole written =
       unanswered = λ e. absurd (omega (arith, e));
     }
 
-pub says_surveyed : (scope : Scope) (form : Form) (all : List (List (List ℕ)))
+pub says_surveyed : (scope : Scope) (form : Form) (all : List (List (List ℕ))) (read : ℕ)
     (before after : Option (List ℕ)) (answer : Result Summary RunFault)
-    → SurveysIn (survey_lines_in form) scope all before after answer
+    → SurveysIn (survey_lines_in form) scope all read before after answer
     → SaysSurveyed scope form all before after (survey_status_of answer)
-says_surveyed scope form all before after (Ok summary) (inl (text, whole, written)) =
+says_surveyed scope form all read before after (Ok summary) (inl (text, whole, written)) =
     says_whole scope form all before after summary text (summary.faults.all == 0) refl whole written
-says_surveyed scope form all before after (Ok summary) (inr cut) = absurd (cc (cut.0))
-says_surveyed scope form all before after (Err fault) (inl (text, surveying, written)) =
+says_surveyed scope form all read before after (Ok summary) (inr cut) = absurd (cc (cut.0))
+says_surveyed scope form all read before after (Err fault) (inl (text, surveying, written)) =
     record {
       faultless = λ e. absurd (omega (arith, e));
       faulty = λ e. absurd (omega (arith, e));
-      unanswered = λ e. record {
-        answer = Err fault;
-        text = text;
-        is = surveying;
-        taken = taken_whole before after text written;
-      };
+      unanswered = λ e. (
+        read,
+        record {
+          answer = Err fault;
+          text = text;
+          is = surveying;
+          taken = taken_whole before after text written;
+        },
+      );
     }
-says_surveyed scope form all before after (Err fault) (inr cut) =
+says_surveyed scope form all read before after (Err fault) (inr cut) =
     record {
       faultless = λ e. absurd (omega (arith, e));
       faulty = λ e. absurd (omega (arith, e));
-      unanswered = λ e. cut.1;
+      unanswered = λ e. (read, cut.1);
     }
 
 -- a text that isn't one of a yes has another status, and so has one that isn't shown or surveyed

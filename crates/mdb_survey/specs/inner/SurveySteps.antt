@@ -70,6 +70,6 @@ pub record HasAddedEnd (form : LineForm) (surveyor : Surveyor) (before after : O
       (form.stretch last ++ form.summary summary))
 
 -- what `SurveysIn` says, where some of the text may still be on its way
-abbrev pub PutsSurveying : LineForm → Scope → List (List (List ℕ)) → Output → Output
+abbrev pub PutsSurveying : LineForm → Scope → List (List (List ℕ)) → ℕ → Output → Output
     → Result Summary RunFault → Type 0
-PutsSurveying form scope records = PutsTelling (IsSurveying form scope records)
+PutsSurveying form scope records read = PutsTelling (IsSurveying form scope records read)

@@ -1,6 +1,7 @@
-use Rattle.std.proofs.Common.{ap, refl, rules, subst, Err, IfErr, IfSome, IsErr, Ok, Option}
+use Rattle.std.proofs.Common.{ap, refl, rules, subst, ℕ, ◌-◌, Err, IfErr, IfSome, IsErr, Ok, Option}
 use Rattle.mdb_bus.specs.declared.scope.Scope.{Scope}
 use Rattle.mdb_follow.specs.declared.follower.TheConstants.{ROWS_MAX}
+use Rattle.mdb_records.specs.ToCome.{found_by}
 use Rattle.mdb_text.specs.declared.form.Form.{Form}
 use Rattle.mdb_verdict.specs.declared.fault.RunFault.{RunFault}
 use Rattle.mdb_verdict.specs.Ending.{HasEnded, IsStop}
@@ -17,6 +18,9 @@ use Rattle.mdb_survey.proofs.surveying.survey_rows.Goals as goal
 
 pub returns-in-Ok-None-clause-surveys : goal.returns-in-Ok-None-clause-surveys
 returns-in-Ok-None-clause-surveys g c all to_come =
+    let start : ℕ = found_by c.args.records.now in
+    let found : ℕ = found_by c.read_rows.new.records in
+    let read : ℕ = found - start in
     let held = g.W.Write.contents in
     let taker = c.read_rows.new.taker in
     let form = survey_lines_in taker.form in
@@ -30,14 +34,17 @@ returns-in-Ok-None-clause-surveys g c all to_come =
     HasEnded IsRow IsRefusal (HasSurveyed form taker.scope taker.surveyor before now)
     (Stops form taker.scope before now) ROWS_MAX all (Ok o) in
     let Puts : Scope × Form → Type 0 = λ kept.
-    PutsSurveying (survey_lines_in kept.1) kept.0 all before later c.end.result in
+    PutsSurveying (survey_lines_in kept.1) kept.0 all read before later c.end.result in
     subst Puts c.read_rows.ensures.same_scope
-    (surveyings.whole law form taker.scope all taker.surveyor before now later
+    (surveyings.whole law form taker.scope all read taker.surveyor before now later
     (subst Ended c.in-Ok-None.field-0-is (c.in-Ok-None.ensures.ended all to_come)) c.end.result
     c.end.ensures)
 
 pub returns-in-Ok-Some-clause-surveys : goal.returns-in-Ok-Some-clause-surveys
 returns-in-Ok-Some-clause-surveys g c all to_come =
+    let start : ℕ = found_by c.args.records.now in
+    let found : ℕ = found_by c.read_rows.new.records in
+    let read : ℕ = found - start in
     let held = g.W.Write.contents in
     let taker = c.read_rows.new.taker in
     let form = survey_lines_in taker.form in
@@ -47,13 +54,16 @@ returns-in-Ok-Some-clause-surveys g c all to_come =
     HasEnded IsRow IsRefusal (HasSurveyed form taker.scope taker.surveyor before now)
     (Stops form taker.scope before now) ROWS_MAX all (Ok o) in
     let Puts : Scope × Form → Type 0 = λ kept.
-    PutsSurveying (survey_lines_in kept.1) kept.0 all before now (Err c.in-Ok-Some.fault) in
+    PutsSurveying (survey_lines_in kept.1) kept.0 all read before now (Err c.in-Ok-Some.fault) in
     subst Puts c.read_rows.ensures.same_scope
-    (surveyings.lines_untaken form taker.scope all before now c.in-Ok-Some.fault
+    (surveyings.lines_untaken form taker.scope all read before now c.in-Ok-Some.fault
     (subst Ended c.in-Ok-Some.field-0-is (c.in-Ok-Some.ensures.ended all to_come)))
 
 pub returns-in_ok-stop-in-Err-clause-surveys : goal.returns-in_ok-stop-in-Err-clause-surveys
 returns-in_ok-stop-in-Err-clause-surveys g c all to_come =
+    let start : ℕ = found_by c.args.records.now in
+    let found : ℕ = found_by c.read_rows.new.records in
+    let read : ℕ = found - start in
     let held = g.W.Write.contents in
     let taker = c.read_rows.new.taker in
     let form = survey_lines_in taker.form in
@@ -61,14 +71,18 @@ returns-in_ok-stop-in-Err-clause-surveys g c all to_come =
     let now : Output = output (held c.read_rows.new.out) taker.printer.page in
     let later : Output = output (held c.stop.new.writer) c.stop.new.self.printer.page in
     let Puts : Scope × Form → Type 0 = λ kept.
-    PutsSurveying (survey_lines_in kept.1) kept.0 all before later (Err c.in-Err.fault) in
+    PutsSurveying (survey_lines_in kept.1) kept.0 all read before later (Err c.in-Err.fault) in
     subst Puts c.read_rows.ensures.same_scope
-    (surveyings.told_with_last form taker.scope all taker.surveyor before now later c.in-Err.fault
-    (search rules) (c.in-Err.ensures.ended all to_come) c.in_ok-stop-in-Err.field-0
+    (surveyings.told_with_last form taker.scope all start found taker.surveyor before now later
+    c.in-Err.fault (search rules) (c.in-Err.ensures.ended all to_come) c.in-Err.ensures.counted
+    c.in_ok-stop-in-Err.field-0
     c.in_ok-stop-in-Err.ensures)
 
 pub returns-in_err-stop-in-Err-clause-surveys : goal.returns-in_err-stop-in-Err-clause-surveys
 returns-in_err-stop-in-Err-clause-surveys g c all to_come =
+    let start : ℕ = found_by c.args.records.now in
+    let found : ℕ = found_by c.read_rows.new.records in
+    let read : ℕ = found - start in
     let held = g.W.Write.contents in
     let taker = c.read_rows.new.taker in
     let form = survey_lines_in taker.form in
@@ -79,15 +93,19 @@ returns-in_err-stop-in-Err-clause-surveys g c all to_come =
     none_are_reached c.followers_stand_for_reached_rows.ensures
     c.fronts_of_reached_rows_are_reached.ensures in
     let Puts : Scope × Form → Type 0 = λ kept.
-    PutsSurveying (survey_lines_in kept.1) kept.0 all before later c.from_residual.result in
+    PutsSurveying (survey_lines_in kept.1) kept.0 all read before later c.from_residual.result in
     subst Puts c.read_rows.ensures.same_scope
-    (handed_on (PutsSurveying form taker.scope all before later) c.in_err-stop-in-Err.field-0.0
-    (surveyings.last_refused law form taker.scope all taker.surveyor before now later c.in-Err.fault
-    (search rules) (c.in-Err.ensures.ended all to_come) c.in_err-stop-in-Err.field-0.0
-    c.in_err-stop-in-Err.ensures) c.from_residual.result c.from_residual.ensures.1)
+    (handed_on (PutsSurveying form taker.scope all read before later) c.in_err-stop-in-Err.field-0.0
+    (surveyings.last_refused law form taker.scope all start found taker.surveyor before now later
+    c.in-Err.fault (search rules) (c.in-Err.ensures.ended all to_come) c.in-Err.ensures.counted
+    c.in_err-stop-in-Err.field-0.0 c.in_err-stop-in-Err.ensures) c.from_residual.result
+    c.from_residual.ensures.1)
 
 pub returns-else-ne-clause-surveys : goal.returns-else-ne-clause-surveys
 returns-else-ne-clause-surveys g c all to_come =
+    let start : ℕ = found_by c.args.records.now in
+    let found : ℕ = found_by c.read_rows.new.records in
+    let read : ℕ = found - start in
     let held = g.W.Write.contents in
     let taker = c.read_rows.new.taker in
     let form = survey_lines_in taker.form in
@@ -97,9 +115,9 @@ returns-else-ne-clause-surveys g c all to_come =
     none_are_reached c.followers_stand_for_reached_rows.ensures
     c.fronts_of_reached_rows_are_reached.ensures in
     let Puts : Scope × Form → Type 0 = λ kept.
-    PutsSurveying (survey_lines_in kept.1) kept.0 all before now (Err c.in-Err.fault) in
+    PutsSurveying (survey_lines_in kept.1) kept.0 all read before now (Err c.in-Err.fault) in
     subst Puts c.read_rows.ensures.same_scope
-    (surveyings.out_of_memory law form taker.scope all taker.surveyor before now c.in-Err.fault
+    (surveyings.out_of_memory law form taker.scope all read taker.surveyor before now c.in-Err.fault
     (search rules) (c.in-Err.ensures.ended all to_come))
 
 pub returns-in-Ok-None-clause-reads : goal.returns-in-Ok-None-clause-reads

@@ -133,6 +133,9 @@ loop-batch-preserved g c =
             c.refill-next.result c.refill-next.ensures.fits,
       );
       same_scope = c.take_all.ensures.same_scope ∙ c.loop-batch.invariant.same_scope;
+      found =
+          endings.found_more c.refill-next.result _ _ _ _ _ _ c.loop-batch.invariant.found
+          after.counted c.refill-next.ensures.counted more;
     }
 
 pub returns-in_err-expect_end-clause-ended : goal.returns-in_err-expect_end-clause-ended
@@ -353,6 +356,7 @@ loop-batch-init g c = record {
             c.requires.begun,
       );
   same_scope = refl;
+  found = omega (arith);
 }
 
 pub returns-in_err-goes_on-clause-kept : goal.returns-in_err-goes_on-clause-kept
@@ -379,3 +383,29 @@ returns-in_err-expect_end-clause-kept g c = λ is.
 pub returns-clause-kept : goal.returns-clause-kept
 returns-clause-kept g c = λ is.
     (c.loop-batch.invariant.progress.rows, c.loop-batch.invariant.progress.has)
+
+pub returns-in_err-goes_on-clause-counted : goal.returns-in_err-goes_on-clause-counted
+returns-in_err-goes_on-clause-counted g c =
+    let after =
+    endings.goes_on g.T.Row.FromRecord.is g.T.Row.FromRecord.refuses g.R.Read.remaining
+    (g.T.TakeRows.has c.loop-batch.taker c.args.out.now c.loop-batch.out)
+    (g.T.TakeRows.has c.take_all.new.self c.args.out.now c.take_all.new.out)
+    (g.T.TakeRows.stops c.take_all.new.self c.args.out.now c.take_all.new.out) c.args.records.now
+    c.loop-batch.records c.refill-next.new.records c.as_slice.result.now
+    c.refill-next.new.self c.refill-next.result (g.T.TakeRows.count c.loop-batch.taker)
+    (g.T.TakeRows.count c.take_all.new.self) c.take_all.result c.loop-batch.invariant.progress
+    c.refill-next.ensures.read
+    c.as_slice.ensures.rows c.in_default.is
+    (λ earlier has. c.take_all.ensures.taken c.args.out.now earlier has)
+    (g.met.T.TakeRows.counts c.loop-batch.taker c.args.out.now c.loop-batch.out)
+    (g.met.T.TakeRows.counts c.take_all.new.self c.args.out.now c.take_all.new.out) in
+    endings.found_refused c.refill-next.result c.rows_taken-in-loop-batch-2.result c.goes_on.result
+    c.in_err-goes_on.field-0.0 c.goes_on.ensures c.in_err-goes_on.was _ _ _
+    (omega (arith, c.loop-batch.invariant.found, after.counted)) c.refill-next.ensures.counted
+    c.from_residual.result c.from_residual.ensures.1
+
+pub returns-in_err-expect_end-clause-counted : goal.returns-in_err-expect_end-clause-counted
+returns-in_err-expect_end-clause-counted g c =
+    endings.found_at c.expect_end.result c.in_err-expect_end.field-0.0 _ _ _
+    c.loop-batch.invariant.found c.expect_end.ensures.counted c.in_err-expect_end.was
+    c.from_residual-in_err-expect_end.result c.from_residual-in_err-expect_end.ensures.1

@@ -1,5 +1,5 @@
-use Rattle.std.proofs.Common.{None, ◌≡◌, ◌≤◌, ◌-◌}
-use Rattle.mdb_records.specs.ToCome.{IsOverLimit, fault_of}
+use Rattle.std.proofs.Common.{None, ◌≡◌, ◌≤◌, ◌+◌, ◌-◌}
+use Rattle.mdb_records.specs.ToCome.{IsOverLimit, fault_of, found_by}
 use Rattle.mdb_verdict.specs.declared.batch.Next.TheVariants as next
 use Rattle.mdb_verdict.proofs.Endings.{Progress}
 use Rattle.mdb_verdict.proofs.reading.read_rows.Given as goal
@@ -13,6 +13,7 @@ invariant-loop-batch g l = record {
   over : IsOverLimit g.R.Read.remaining l.fn.records → IsOverLimit g.R.Read.remaining l.records;
   met : fault_of l.fn.records ≡ None → fault_of l.records ≡ None;
   few : g.T.TakeRows.count l.taker ≤ l.fn.rows_max;
+  found : found_by l.records ≤ found_by l.fn.records + g.T.TakeRows.count l.taker;
   same_scope : g.T.TakeRows.scope l.taker ≡ g.T.TakeRows.scope l.fn.taker;
 }
 

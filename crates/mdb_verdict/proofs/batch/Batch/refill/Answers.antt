@@ -53,6 +53,13 @@ loop-preserved g c =
             one_longer c.loop.self c.push.new.self c.in-Ok-of.row c.push.ensures,
             c.loop.invariant.counted,
           );
+      found =
+          omega (
+            arith,
+            one_longer c.loop.self c.push.new.self c.in-Ok-of.row c.push.ensures,
+            batches.found_one c.in-Ok.found _ _ c.in-Ok.ensures.counted,
+            c.loop.invariant.found,
+          );
     }
 
 pub returns-clause-read : goal.returns-clause-read
@@ -133,4 +140,37 @@ loop-init g c = record {
   over = λ over. over;
   met = λ none. none;
   counted = ap length c.clear.ensures;
+  found = omega (arith);
 }
+
+pub returns-in-Err-clause-counted : goal.returns-in-Err-clause-counted
+returns-in-Err-clause-counted g c =
+    omega (arith, c.loop.invariant.found, c.in-Err.ensures.counted)
+
+pub returns-then-not-found-clause-counted : goal.returns-then-not-found-clause-counted
+returns-then-not-found-clause-counted g c =
+    omega (
+      arith,
+      c.loop.invariant.found,
+      batches.found_none c.in-Ok.found _ _ c.if-not-found.true c.in-Ok.ensures.counted,
+    )
+
+pub returns-in-Err-of-clause-counted : goal.returns-in-Err-of-clause-counted
+returns-in-Err-of-clause-counted g c =
+    omega (
+      arith,
+      c.loop.invariant.found,
+      batches.found_one c.in-Ok.found _ _ c.in-Ok.ensures.counted,
+    )
+
+pub returns-then-is_alone-clause-counted : goal.returns-then-is_alone-clause-counted
+returns-then-is_alone-clause-counted g c =
+    omega (
+      arith,
+      one_longer c.loop.self c.push.new.self c.in-Ok-of.row c.push.ensures,
+      batches.found_one c.in-Ok.found _ _ c.in-Ok.ensures.counted,
+      c.loop.invariant.found,
+    )
+
+pub returns-clause-counted : goal.returns-clause-counted
+returns-clause-counted g c = c.loop.invariant.found

@@ -1,5 +1,5 @@
-use Rattle.std.proofs.Common.{◌≡◌, List, ℕ, None, length}
-use Rattle.mdb_records.specs.ToCome.{IsOverLimit, ToCome, fault_of}
+use Rattle.std.proofs.Common.{◌≡◌, ◌+◌, ◌≤◌, List, ℕ, None, length}
+use Rattle.mdb_records.specs.ToCome.{IsOverLimit, ToCome, fault_of, found_by}
 use Rattle.mdb_verdict.proofs.Batches.{Taken}
 use Rattle.mdb_verdict.proofs.batch.Batch.refill.Given as goal
 
@@ -11,4 +11,5 @@ invariant-loop g l = record {
   over : IsOverLimit g.R.Read.remaining l.fn.records → IsOverLimit g.R.Read.remaining l.records;
   met : fault_of l.fn.records ≡ None → fault_of l.records ≡ None;
   counted : length l.self ≡ l.counter;
+  found : found_by l.records ≤ found_by l.fn.records + length l.self;
 }
