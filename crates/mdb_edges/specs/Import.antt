@@ -7,7 +7,7 @@ use Rattle.mdb_records.specs.declared.ReadFault.TheVariants as reading
 use Rattle.mdb_records.specs.declared.Records.{Records}
 use Rattle.mdb_exports.specs.declared.places.Place.{Place}
 use Rattle.mdb_exports.specs.Refusal.{IsAnswered}
-use Rattle.mdb_exports.specs.Whole.{IsWhole}
+use Rattle.mdb_exports.specs.Whole.{IsAllOrNone}
 use Rattle.mdb_levels.specs.Told.{IsTold, part_of}
 use Rattle.mdb_levels.specs.declared.part.LevelsImported.{LevelsImported}
 use Rattle.mdb_edges.specs.Faults.{IsFirstFault}
@@ -49,7 +49,7 @@ AreRefusedFor options records Memory = ⊤
 abbrev pub IsImport : EdgesOptions → List (List (List ℕ)) → Result LevelsImported EdgesFault
     → List ℕ → Type 0
 IsImport options records answer text =
-    IsWhole (AreRowsOfTable options records) (IsTold options.from options.until)
+    IsAllOrNone (AreRowsOfTable options records) (IsTold options.from options.until)
     (part_of options.from options.until) (AreRefusedFor options records) answer text
 
 -- The bytes that a writer held before the answer to these records and after it. The text of the

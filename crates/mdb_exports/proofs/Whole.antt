@@ -6,7 +6,7 @@ use Rattle.mdb_words.specs.declared.event.Event.{Event}
 use Rattle.mdb_writing.specs.Written.{HasTaken}
 use Rattle.mdb_exports.specs.Refusal.{IsAnswered, refusal_line}
 use Rattle.mdb_exports.specs.Rows.{rows_text}
-use Rattle.mdb_exports.specs.Whole.{IsWhole}
+use Rattle.mdb_exports.specs.Whole.{IsAllOrNone}
 use Rattle.mdb_exports.specs.declared.places.Place.{Place}
 use Rattle.mdb_exports.specs.shared.Closing.{IsClosed}
 
@@ -16,7 +16,7 @@ pub all_written : {T E : Type 0} (AreRows : List Event → List Place → List P
     (IsRefused : E → Type 0) (failed : E) (before after : Option (List ℕ)) (told : T)
     (rows : List Event) (pulses damaged : List Place) → AreRows rows pulses damaged
     → IsTold rows pulses damaged told → Appends before after (rows_text (part rows))
-    → IsAnswered (IsWhole AreRows IsTold part IsRefused) failed before after (Ok told)
+    → IsAnswered (IsAllOrNone AreRows IsTold part IsRefused) failed before after (Ok told)
 all_written AreRows IsTold part IsRefused failed before after told rows pulses damaged are tells
     written =
     inl (
@@ -38,7 +38,7 @@ pub front_written : {T E : Type 0} (AreRows : List Event → List Place → List
     (IsRefused : E → Type 0) (failed : E) (before after : Option (List ℕ)) (told : T)
     (rows : List Event) (pulses damaged : List Place) → AreRows rows pulses damaged
     → IsTold rows pulses damaged told → HasTaken before after (rows_text (part rows))
-    → IsAnswered (IsWhole AreRows IsTold part IsRefused) failed before after (Err failed)
+    → IsAnswered (IsAllOrNone AreRows IsTold part IsRefused) failed before after (Err failed)
 front_written AreRows IsTold part IsRefused failed before after told rows pulses damaged are tells
     taken =
     inr (
@@ -63,13 +63,13 @@ pub none_written : {T E : Type 0} (AreRows : List Event → List Place → List 
     (IsTold : List Event → List Place → List Place → T → Type 0) (part : List Event → List Event)
     (IsRefused : E → Type 0) (failed : E) (before after : Option (List ℕ)) (fault told : E)
     → IsRefused fault → IsClosed failed fault before after told
-    → IsAnswered (IsWhole AreRows IsTold part IsRefused) failed before after (Err told)
+    → IsAnswered (IsAllOrNone AreRows IsTold part IsRefused) failed before after (Err told)
 none_written {T} AreRows IsTold part IsRefused failed before after fault told refused
     (inl (same, written)) =
     let answers :
-    IsAnswered (IsWhole AreRows IsTold part IsRefused) failed before after (Err fault) =
+    IsAnswered (IsAllOrNone AreRows IsTold part IsRefused) failed before after (Err fault) =
     inl ([], (refused, refl), written) in
-    subst (λ f. IsAnswered (IsWhole AreRows IsTold part IsRefused) failed before after (Err f))
+    subst (λ f. IsAnswered (IsAllOrNone AreRows IsTold part IsRefused) failed before after (Err f))
     (sym same) answers
 none_written {T} AreRows IsTold part IsRefused failed before after fault told refused
     (inr (is, taken)) =

@@ -16,10 +16,10 @@ pub record HasRows {T : Type 0} (AreRows : List Event → List Place → List Pl
   pub tells : IsTold rows pulses damaged told
   pub lines : text ≡ rows_text (part rows)
 
--- the answer to an export, and the text of the rows that are written of it: none where the export
--- is refused, and `IsRefused` holds of the fault
-abbrev pub IsWhole : {T E : Type 0} → (List Event → List Place → List Place → Type 0)
+-- The answer to an export, and the text of the rows that are written of it. They are all rows of
+-- the part, or none where the export is refused: then `IsRefused` holds of the fault.
+abbrev pub IsAllOrNone : {T E : Type 0} → (List Event → List Place → List Place → Type 0)
     → (List Event → List Place → List Place → T → Type 0) → (List Event → List Event)
     → (E → Type 0) → Result T E → List ℕ → Type 0
-IsWhole AreRows IsTold part IsRefused (Ok told) text = HasRows AreRows IsTold part told text
-IsWhole AreRows IsTold part IsRefused (Err fault) text = IsRefused fault × (text ≡ [])
+IsAllOrNone AreRows IsTold part IsRefused (Ok told) text = HasRows AreRows IsTold part told text
+IsAllOrNone AreRows IsTold part IsRefused (Err fault) text = IsRefused fault × (text ≡ [])

@@ -7,7 +7,7 @@ use Rattle.mdb_exports.specs.Places.{AreNoted}
 use Rattle.mdb_exports.specs.Refusal.{IsAnswered}
 use Rattle.mdb_exports.specs.Rows.{rows_text}
 use Rattle.mdb_exports.specs.Told.{is_controllers, is_marked, is_peripherals, told_count}
-use Rattle.mdb_exports.specs.Whole.{IsWhole}
+use Rattle.mdb_exports.specs.Whole.{IsAllOrNone}
 use Rattle.mdb_exports.specs.declared.places.Place.{Place}
 use Rattle.mdb_exports.specs.declared.places.Places.{Places}
 use Rattle.mdb_levels.specs.Told.{IsTold, is_before, is_behind, is_taken, part_of}
@@ -33,8 +33,8 @@ pub front_of_part : {E : Type 0} (AreRows : List Event → List Place → List P
     (bus : BusRows) (pulses damaged : List Place) → AreRows bus.rows.items pulses damaged
     → AreNoted bus.pulses pulses → AreNoted bus.damaged damaged
     → HasTaken before after (rows_text (part_of from until bus.rows.items))
-    → IsAnswered (IsWhole AreRows (IsTold from until) (part_of from until) IsRefused) failed before
-    after (Err failed)
+    → IsAnswered (IsAllOrNone AreRows (IsTold from until) (part_of from until) IsRefused) failed
+    before after (Err failed)
 front_of_part AreRows IsRefused failed before after from until bus pulses damaged are passed
     left_out taken =
     front_written AreRows (IsTold from until) (part_of from until) IsRefused failed before after

@@ -119,7 +119,8 @@ IsImport options records (Err Memory) text = ImportedInPart options records text
 IsImport options records (Err Write) text = ⊥
 
 -- The bytes that a writer held before the answer to these records and after it. The text of the
--- rows was written, and behind it, where the answer is a refusal, the line of one.
+-- rows was written, and after it, where the answer is a refusal, the line of one. Where the writer
+-- failed, it took a front of such a text.
 abbrev pub Imports : RowsOptions → List (List (List ℕ)) → Option (List ℕ) → Option (List ℕ)
     → Result Imported ImportFault → Type 0
 Imports options records before after answer =

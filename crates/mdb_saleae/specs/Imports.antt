@@ -137,7 +137,8 @@ IsImport options records answer text =
     IsTableImport options records answer text ⊎ (IsHeaderAnswer records answer × (text ≡ []))
 
 -- The bytes that a writer held before the answer to these records and after it. The text of the
--- rows was written, and behind it, where the answer is a refusal, the line of one.
+-- rows was written, and after it, where the answer is a refusal, the line of one. Where the writer
+-- failed, it took a front of such a text.
 abbrev pub Imports : SaleaeOptions → List (List (List ℕ)) → Option (List ℕ) → Option (List ℕ)
     → Result Imported SaleaeFault → Type 0
 Imports options records before after answer =

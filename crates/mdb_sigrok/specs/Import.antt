@@ -2,7 +2,7 @@
 use Rattle.std.specs.Prelude.{⊤, ℕ, List, Option, Result}
 use Rattle.mdb_words.specs.declared.event.Event.{Event}
 use Rattle.mdb_exports.specs.Refusal.{IsAnswered}
-use Rattle.mdb_exports.specs.Whole.{IsWhole}
+use Rattle.mdb_exports.specs.Whole.{IsAllOrNone}
 use Rattle.mdb_exports.specs.declared.places.Place.{Place}
 use Rattle.mdb_sigrok.specs.declared.fault.SigrokFault.{SigrokFault}
 use Rattle.mdb_sigrok.specs.declared.fault.SigrokFault.TheVariants.{Form, Order, Read, Write}
@@ -29,7 +29,7 @@ IsFault options text Memory = ⊤
 -- the answer to a trace, and the text of the rows that are written of it
 abbrev pub IsImport : SigrokOptions → List ℕ → Result SigrokRows SigrokFault → List ℕ → Type 0
 IsImport options trace answer text =
-    IsWhole (AreRowsOfTrace options trace) (IsTold options) (part_of options)
+    IsAllOrNone (AreRowsOfTrace options trace) (IsTold options) (part_of options)
     (IsFault options trace) answer text
 
 -- The bytes that a writer held before the answer to a trace and after it. The text of the

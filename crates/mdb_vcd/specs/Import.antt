@@ -2,7 +2,7 @@
 use Rattle.std.specs.Prelude.{⊤, ◌≢◌, ℕ, List, Option, Result}
 use Rattle.mdb_words.specs.declared.event.Event.{Event}
 use Rattle.mdb_exports.specs.Refusal.{IsAnswered}
-use Rattle.mdb_exports.specs.Whole.{IsWhole}
+use Rattle.mdb_exports.specs.Whole.{IsAllOrNone}
 use Rattle.mdb_exports.specs.declared.places.Place.{Place}
 use Rattle.mdb_levels.specs.Told.{IsTold, part_of}
 use Rattle.mdb_levels.specs.declared.part.LevelsImported.{LevelsImported}
@@ -37,7 +37,7 @@ IsFault options text fault =
 -- the answer to a dump, and the text of the rows that are written of it
 abbrev pub IsImport : VcdOptions → List ℕ → Result LevelsImported VcdFault → List ℕ → Type 0
 IsImport options dump answer text =
-    IsWhole (AreRowsOfDump options dump) (IsTold options.from options.until)
+    IsAllOrNone (AreRowsOfDump options dump) (IsTold options.from options.until)
     (part_of options.from options.until) (IsFault options dump) answer text
 
 -- The bytes that a writer held before the answer to a dump and after it. The text of the
