@@ -1,10 +1,11 @@
 -- What is written of an answer at last.
-use Rattle.std.proofs.Common.{ap, sym, subst, inl, inr, ◌∙◌, ◌≡◌, ◌++◌, ℕ, List, append_assoc}
+use Rattle.std.proofs.Common.{refl, ap, sym, subst, inl, inr, ◌∙◌, ◌≡◌, ◌++◌, ℕ, List, append_assoc}
 use Rattle.std.proofs.Common.{Option, Result, Ok, Err}
 use Rattle.std.specs.Prelude.{IsErrAnd}
 use Rattle.std.specs.Io.KnownBytes.{Appends}
 use Rattle.mdb_exports.specs.Refusal.{IsAnswered, closed, refusal_line}
-use Rattle.mdb_exports.specs.shared.Closing.{IsSent, Refuses}
+use Rattle.mdb_exports.specs.shared.Closing.{Refuses}
+use Rattle.mdb_writing.specs.Answers.{IsSent}
 use Rattle.mdb_writing.specs.Output.{Output, Puts, begun, output}
 use Rattle.mdb_writing.specs.Written.{HasTaken}
 use Rattle.mdb_writing.proofs.Outputs as outputs
@@ -31,7 +32,7 @@ page_broken IsOf failed before later now told (Err fault) (inl sent) taken is =
       record {
         answer = Ok told;
         text = sent.0;
-        import = sent.1;
+        is = (sent.0, sent.1, refl);
         taken = outputs.broken_out before later now sent.0 sent.2 taken;
       },
     )
@@ -48,14 +49,14 @@ more_waits before now text more puts = record {
   grown = puts.grown;
 }
 
--- a front of a text is one of the text with the line behind it
+-- a front of a text is one of the text with the line after it
 taken_closed : {T E : Type 0} (answer : Result T E) (before after : Option (List ℕ))
     (text : List ℕ) → HasTaken before after text → HasTaken before after (closed answer text)
 taken_closed (Ok told) before after text taken = taken
 taken_closed (Err fault) before after text taken =
     outputs.taken_longer before after text refusal_line taken
 
--- a fault, and the line behind what was written
+-- a fault, and the line after what was written
 pub refused : {T E : Type 0} (IsOf : Result T E → List ℕ → Type 0) (failed : E)
     (before later : Option (List ℕ)) (now : Output) (fault told : E)
     → ((text : List ℕ) → IsOf (Err failed) text → ⊥)
@@ -75,8 +76,8 @@ refused {T} {E} IsOf failed before later now fault told never (inl sent)
       ap Err same,
       record {
         answer = Err fault;
-        text = sent.0;
-        import = sent.1;
+        text = sent.0 ++ refusal_line;
+        is = (sent.0, sent.1, refl);
         taken = outputs.broken_out before later (output now.held (now.waiting ++ refusal_line))
             (sent.0 ++ refusal_line) (more_waits before now sent.0 refusal_line sent.2) taken;
       },
@@ -95,8 +96,8 @@ refused {T} {E} IsOf failed before later now fault told never (inr broken)
       ap Err (same ∙ is),
       record {
         answer = broken.1.answer;
-        text = broken.1.text;
-        import = broken.1.import;
+        text = closed broken.1.answer broken.1.text;
+        is = (broken.1.text, broken.1.is, refl);
         taken = subst (λ o. HasTaken before o (closed broken.1.answer broken.1.text)) (sym kept)
             (taken_closed broken.1.answer before now.held broken.1.text broken.1.broken);
       },
@@ -115,7 +116,7 @@ sent_as IsOf IsOther failed before after answer too (inr broken) =
       record {
         answer = broken.1.answer;
         text = broken.1.text;
-        import = too broken.1.answer broken.1.text broken.1.import;
+        is = too broken.1.answer broken.1.text broken.1.is;
         broken = broken.1.broken;
       },
     )

@@ -46,14 +46,18 @@ front_written AreRows IsTold part IsRefused failed before after told rows pulses
       record {
         answer = Ok told;
         text = rows_text (part rows);
-        import = record {
-          rows = rows;
-          pulses = pulses;
-          damaged = damaged;
-          are = are;
-          tells = tells;
-          lines = refl;
-        };
+        is = (
+          rows_text (part rows),
+          record {
+            rows = rows;
+            pulses = pulses;
+            damaged = damaged;
+            are = are;
+            tells = tells;
+            lines = refl;
+          },
+          refl,
+        );
         taken = taken;
       },
     )
@@ -75,7 +79,12 @@ none_written {T} AreRows IsTold part IsRefused failed before after fault told re
     (inr (is, taken)) =
     inr (
       ap Err is,
-      record { answer = Err fault; text = []; import = (refused, refl); taken = taken },
+      record {
+        answer = Err fault;
+        text = refusal_line;
+        is = ([], (refused, refl), refl);
+        taken = taken;
+      },
     )
 
 -- nothing was written before the export is refused

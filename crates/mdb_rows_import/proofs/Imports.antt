@@ -389,7 +389,7 @@ not_taken remaining old now options first next before middle after count all row
       record {
         answer = Err Read;
         text = rows_text (taken_of options taken.0);
-        import = record {
+        is = record {
           done = so_far.done ++ row ∷ [];
           events = taken.0;
           rest = rest;

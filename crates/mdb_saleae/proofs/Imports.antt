@@ -269,7 +269,7 @@ not_taken remaining old options columns first next before middle after count all
       record {
         answer = Err Read;
         text = part_text options taken.0;
-        import = record {
+        is = record {
           done = so_far.done ++ row ∷ [];
           events = taken.0;
           rest = rest;

@@ -3,23 +3,8 @@
 use Rattle.std.specs.Prelude.{◌≡◌, ◌≢◌, ◌⊎◌, ◌++◌, ℕ, List, Option, Result, Ok, Err}
 use Rattle.std.specs.Io.KnownBytes.{Appends}
 use Rattle.mdb_exports.specs.Refusal.{refusal_line}
-use Rattle.mdb_writing.specs.Output.{Breaks, Output, Puts}
+use Rattle.mdb_writing.specs.Output.{Output}
 use Rattle.mdb_writing.specs.Written.{HasTaken}
-
--- The writer failed with a front of the text of some answer.
-pub record IsBroken {T E : Type 0} (IsOf : Result T E → List ℕ → Type 0) (before after : Output)
-    : Type 0 where
-  pub answer : Result T E
-  pub text : List ℕ
-  pub import : IsOf answer text
-  pub broken : Breaks before after text
-
--- what `IsAnswered` says, where the text may still be on its way, and no line ends it yet
-abbrev pub IsSent : {T E : Type 0} → (Result T E → List ℕ → Type 0) → E → Output → Output
-    → Result T E → Type 0
-IsSent IsOf failed before after answer =
-    ((text : List ℕ) × IsOf answer text × Puts before after text)
-    ⊎ ((answer ≡ Err failed) × IsBroken IsOf before after)
 
 -- a success tells this, and a fault stays as it is
 abbrev pub telling : {T E S : Type 0} → S → Result T E → Result S E

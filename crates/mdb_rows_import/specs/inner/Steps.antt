@@ -10,11 +10,11 @@ use Rattle.mdb_rows_import.specs.Imports.{last_start, taken_of}
 use Rattle.mdb_rows_import.specs.Refusals.{IsFault}
 use Rattle.mdb_exports.specs.Order.{IsAfter}
 use Rattle.mdb_rows_import.specs.Rows.{AreEvents, IsHeaderOf, IsRowOf, TellsTime}
+use Rattle.mdb_writing.specs.Answers.{IsSent}
 use Rattle.mdb_writing.specs.Output.{Breaks, Output, Puts}
 use Rattle.mdb_rows_import.specs.declared.fault.ImportFault.{ImportFault}
 use Rattle.mdb_rows_import.specs.declared.fault.ImportFault.TheVariants.{BadRecord, Read, Write}
 use Rattle.mdb_rows_import.specs.declared.fault.ImportFault.TheVariants.{Memory}
-use Rattle.mdb_exports.specs.shared.Closing.{IsSent}
 use Rattle.mdb_exports.specs.shared.Told.{IsKept, IsSaid, counted_more}
 use Rattle.mdb_exports.specs.declared.told.Imported.{Imported}
 use Rattle.mdb_exports.specs.declared.fault.RecordFault.{RecordFault}

@@ -8,8 +8,8 @@ use Rattle.mdb_records.specs.declared.ReadFault.TheVariants as reading
 use Rattle.mdb_records.specs.declared.Records.{Records}
 use Rattle.mdb_exports.specs.Rows.{row_line}
 use Rattle.mdb_exports.specs.Order.{IsAfter}
+use Rattle.mdb_writing.specs.Answers.{IsSent}
 use Rattle.mdb_writing.specs.Output.{Breaks, Output, Puts}
-use Rattle.mdb_exports.specs.shared.Closing.{IsSent}
 use Rattle.mdb_exports.specs.shared.Told.{IsKept, IsSaid, counted_more}
 use Rattle.mdb_exports.specs.declared.places.Place.{Place}
 use Rattle.mdb_exports.specs.declared.told.Imported.{Imported}
