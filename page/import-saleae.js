@@ -17,7 +17,7 @@ const CALLED = {
   error: "error (or Parity Error and Framing Error)",
 };
 const NEGATIVE = "wanted no negative time: set the time zero to the start of the capture";
-const NO_SECONDS = "wanted a time in seconds: up to 15 digits, perhaps with decimals behind a point";
+const NO_SECONDS = "wanted a time in seconds: up to 15 digits, perhaps with decimals after a point";
 const SAME_ROW = "wanted a time after that of the row before it, and it is the same";
 const EARLY_ROW = "wanted a later time than the row before it: sort the table by the start time";
 

@@ -11,7 +11,7 @@ const NO_TIMESCALE = "wanted a timescale in the header";
 const NO_VARIABLE = "wanted one variable of each line: as --controller and --peripheral say, or M and S";
 const SAME_CODE = "wanted another variable for each line, and it is the same";
 const NO_ENTRY = "wanted a time, a change of a value, or a command of the dump";
-const BAD_TIME = "wanted a time: digits behind #";
+const BAD_TIME = "wanted a time: digits after #";
 const EARLY_TIME = "wanted a time that isn't before the time before it";
 const NO_LEVEL = "wanted a level, 0 or 1, and the value is none";
 const LOST_LEVEL = "wanted a level, 0 or 1, after the first one, and it is x or z";
@@ -127,7 +127,7 @@ const COMMANDS = {
   },
 };
 
-// The time that the digits of a field tell, with so many zeros behind them, in 10^-15 of a second; or null, where it
+// The time that the digits of a field tell, with so many zeros after them, in 10^-15 of a second; or null, where it
 // has more than 15 digits of microseconds.
 function dumpTime({all, from, to}, zeros) {
   const end = Math.max(from, to - Math.max(0, 9 - zeros));

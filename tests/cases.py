@@ -145,7 +145,7 @@ class Case(Rows):
 
 def part_lines(front, defaults, lines):
     """The lines of a part of the output: each line that is said in place of the default of its first
-    word, and the others behind the report."""
+    word, and the others after the report."""
     out, said = [], list(lines)
     for line in defaults:
         is_said = said and said[0].partition(" ")[0] == line.partition(" ")[0]

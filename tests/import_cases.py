@@ -30,7 +30,7 @@ def damaged(*places):
 
 SAME = "the same"  # with --skip-damaged as without
 REFUSES = None  # it is refused without --skip-damaged
-# A name, a wave, the rows behind those of BASE and what is told without --skip-damaged, and with it; and
+# A name, a wave, the rows after those of BASE and what is told without --skip-damaged, and with it; and
 # perhaps the same of a trace, where that is another.
 CASES = [
     ("nothing", "", ("", []), SAME),

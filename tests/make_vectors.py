@@ -5,7 +5,7 @@ Each line is one case, an object with these members, in this order:
 
     name      the case's name; no two cases have one
     why       why this is wanted, or ""
-    words     the words behind the program's name, a list of strings
+    words     the words after the program's name, a list of strings
     input     standard input
     status    the exit status, a number
     output    standard output

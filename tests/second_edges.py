@@ -127,7 +127,7 @@ class Records(NamedTuple):
     levels: "dict[str, list[bool]]"  # for M and S whether the line is high from each time on
     numbers: "list[int]"  # where each is read: the number of its record
     end: int  # the number of what would come next
-    fault: "Refused | None"  # what is wrong with what comes behind them; None: nothing comes
+    fault: "Refused | None"  # what is wrong with what comes after them; None: nothing comes
 
     def seen(self, time):
         """Where the first is read that is later than a time, or the end where none is; None where

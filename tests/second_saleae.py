@@ -127,7 +127,7 @@ def time_of(field):
     if field.startswith(b"-"):
         raise Refused("wanted no negative time: set the time zero to the start of the capture", None)
     if not re.fullmatch(rb"[0-9]{1,15}(\.[0-9]+)?", field):
-        raise Refused("wanted a time in seconds: up to 15 digits, perhaps with decimals behind a "
+        raise Refused("wanted a time in seconds: up to 15 digits, perhaps with decimals after a "
                       "point", None)
     with localcontext() as context:
         context.prec = len(field) + 20

@@ -29,7 +29,7 @@ NO_TIMESCALE = "wanted a timescale in the header"
 NO_VARIABLE = "wanted one variable of each line: as --controller and --peripheral say, or M and S"
 SAME = "wanted another variable for each line, and it is the same"
 NO_TOKEN = "wanted a time, a change of a value, or a command of the dump"
-NO_TIME = "wanted a time: digits behind #"
+NO_TIME = "wanted a time: digits after #"
 LONG_TIME = "wanted a time of at most 15 digits of microseconds"
 EARLY = "wanted a time that isn't before the time before it"
 NO_LEVEL = "wanted a level, 0 or 1, and the value is none"
@@ -52,7 +52,7 @@ class Tokens:
             line += text.count(b"\n", at, one.start())
             at = one.start()
             self.lines.append(line)
-        # Behind the last line, whether or not it has its end.
+        # After the last line, whether or not it has its end.
         self.next_line = text.count(b"\n") + (0 if text.endswith(b"\n") or not text else 1) + 1
         self.at = 0
 

@@ -135,7 +135,7 @@ first_found told capital small header place found name some none found_is field 
     found_first told capital small header place name some
     (subst (IsFoundBelow told capital small header place) none found_is) field named
 
--- behind the last place, or at place 1 where there are none
+-- after the last place, or at place 1 where there are none
 pub all_found : (told : Option (List ℕ)) (capital small : ℕ) (header : List (List ℕ)) (below : ℕ)
     (found : Option ℕ) → length header ≤ below → IsFoundBelow told capital small header below found
     → IfSome found (IsColumn told capital small header)

@@ -81,7 +81,7 @@ pub record IsLevelless (options : EdgesOptions) (columns : Columns) (row : List 
   pub instant : IsInstant options.unit time at
   pub no_level : HasNoLevel options columns row line
 
--- an instant before one that is behind moments: it is that of the last of them, or an earlier one
+-- an instant before one that is after moments: it is that of the last of them, or an earlier one
 abbrev pub IsTooEarly : OrderFault → ℕ → ℕ → Type 0
 IsTooEarly SameTime behind at = at + 1 ≡ behind
 IsTooEarly EarlierTime behind at = at + 1 < behind
@@ -101,7 +101,7 @@ pub record IsShownBy (options : EdgesOptions) (columns : Columns) (moments : Lis
   pub later : end_of 0 moments ≤ moment.at
   pub shown : IsShown options.skip_damaged (moments ++ moment ∷ []) moment.at line start fault
 
--- a record behind these moments, or the end of the table behind them, in which this is wrong with a
+-- a record after these moments, or the end of the table after them, in which this is wrong with a
 -- line since an instant
 abbrev pub IsOfLine : EdgesOptions → Columns → List Moment → List (List (List ℕ)) → Line → ℕ →
     LineFault → Type 0
@@ -111,7 +111,7 @@ IsOfLine options columns moments (row ∷ others) line at fault =
     IsShownBy options columns moments row line at fault
 
 -- Something is wrong with the record of that number, or at the end of the table if it is the number
--- behind the last record, and it is what is told; and nothing is wrong with the records before it.
+-- after the last record, and it is what is told; and nothing is wrong with the records before it.
 -- Of a fault that isn't one of the table nothing is said.
 abbrev pub IsFirstFault : EdgesOptions → List (List (List ℕ)) → EdgesFault → Type 0
 IsFirstFault options records (told.Form number fault) =

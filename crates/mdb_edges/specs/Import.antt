@@ -17,7 +17,7 @@ use Rattle.mdb_edges.specs.declared.fault.EdgesFault.TheVariants.{Form, Order, L
 use Rattle.mdb_edges.specs.declared.fault.EdgesFault.TheVariants.{Write, Memory}
 use Rattle.mdb_edges.specs.declared.options.EdgesOptions.{EdgesOptions}
 
--- No table has rows that begins with the first of these records, so many, whatever comes behind
+-- No table has rows that begins with the first of these records, so many, whatever comes after
 -- them. (Where there are fewer, that is the table of these alone.)
 abbrev pub HaveNoRows : EdgesOptions → ℕ → List (List (List ℕ)) → Type 0
 HaveNoRows options number records = (others : List (List (List ℕ))) (rows : List Event)

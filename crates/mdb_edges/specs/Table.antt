@@ -57,7 +57,7 @@ abbrev pub IsName : Option (List ℕ) → ℕ → ℕ → List ℕ → Type 0
 IsName (Some name) capital small text = text ≡ name
 IsName None capital small text = (text ≡ capital ∷ []) ⊎ (text ≡ small ∷ [])
 
--- the only column behind the first that is called so
+-- the only column after the first that is called so
 pub record IsColumn (told : Option (List ℕ)) (capital small : ℕ) (header : List (List ℕ))
     (place : ℕ) : Type 0 where
   pub name : List ℕ

@@ -90,7 +90,7 @@ fn name_of(told: &Option<String>, letters: (u8, u8)) -> Name<'_>
     }
 }
 
-/// The only column behind the first that has a name; `None` where none has it, or several have.
+/// The only column after the first that has a name; `None` where none has it, or several have.
 fn column_of(name: &Name<'_>, header: &Record<'_>) -> Option<usize>
     ensures some { IfSome result (IsColumn (option_map (λ s. s.now) name.now.told)
         name.now.letters.0 name.now.letters.1 (fields_of header.now)) }

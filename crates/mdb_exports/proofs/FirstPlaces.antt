@@ -172,7 +172,7 @@ note_popped all first kept (Some last) slot place old parts five four at below =
     note_full all kept last slot place (subst (AreFirst all) parts old) four
     (subst (λ f. IsSlot f place slot) parts at) below
 
--- a place behind all that are kept
+-- a place after all that are kept
 pub note_behind : (all first : List Place) (slot : ℕ) (place : Place) → AreFirst all first
     → length first ≡ 5 → IsSlot first place slot → 5 ≤ slot → AreFirst (all ++ place ∷ []) first
 note_behind all first slot place old five at past = note_late all first place old five

@@ -45,7 +45,7 @@ at_most row other le one two =
     elim (cases_lt (start_of row) (start_of other))
     [ inl lt ↦ inl lt | inr ge ↦ inr (omega (arith, le, ge), one, two) ]
 
--- each comes before all behind it
+-- each comes before all after it
 abbrev pub InOrder : List Event → Type 0
 InOrder [] = Unit {0}
 InOrder (row ∷ rows) = Leading row rows × InOrder rows

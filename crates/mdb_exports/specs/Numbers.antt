@@ -25,7 +25,7 @@ pub record IsBroken (field : List ℕ) (n places : ℕ) : Type 0 where
   pub are : AreDigits before after n places
 
 -- a field that writes the number n / 10^places: 1 to 15 digits, and perhaps a mark and 1 to 15
--- digits behind it
+-- digits after it
 abbrev pub IsNumber : List ℕ → ℕ → ℕ → Type 0
 IsNumber field n places = (IsDecimal 15 field n × (places ≡ 0)) ⊎ IsBroken field n places
 

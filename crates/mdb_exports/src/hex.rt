@@ -5,7 +5,7 @@ ghost use Rattle.std.specs.Option.{SomeIff};
 ghost use Rattle.std.specs.Char.{digit_value};
 ghost use Rattle.mdb_exports.specs.Hex.{IsHex, IsPrefixed};
 
-/// What stands behind `0x` or `0X`; `None` where a field begins with neither.
+/// What stands after `0x` or `0X`; `None` where a field begins with neither.
 pub fn behind_prefix(field: &[u8]) -> Option<&[u8]>
     ensures some { IfSome result (λ digits. IsPrefixed field.now digits.now) }
     ensures none { IfNone result ((digits : List ℕ) → IsPrefixed field.now digits → ⊥) }

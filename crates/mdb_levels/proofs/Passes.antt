@@ -160,7 +160,7 @@ pulse_no_break level s start end same high breaks =
     differ (level (middle_of start 0)) (subst (λ x. level (middle_of x 0) ≡ true) same high)
     (breaks.low (middle_of start 0) (omega arith) (omega (arith, breaks.long)))
 
--- what is wrong is seen behind its start
+-- what is wrong is seen after its start
 pub seen_late : (fault : LineFault) (line : Line) (level : ℕ → Bool) (start seen : ℕ)
     → IsWrong fault line level start seen → start < seen
 seen_late Framing line level start seen wrong = elim wrong [
@@ -236,7 +236,7 @@ stuck {line = line} {level = level} {from = from} fault start seen falls wrong
     absurd (wrong_pulse fault line level start seen wrong
     (subst (λ x. level (middle_of x 0) ≡ true) (one_fall level from s start fell falls) high))
 
--- so what is wrong comes behind each instant at which nothing was open
+-- so what is wrong comes after each instant at which nothing was open
 pub wrong_behind : (line : Line) (level : ℕ → Bool) (first from : ℕ) (fault : LineFault)
     (start seen : ℕ) → Rises level first → Passes line level first from
     → (begins : Begins line level start) → IsWrong fault line level start seen

@@ -781,7 +781,7 @@ ends_pulse skip line level known at rows f framed is le high after =
           [ inl lt ↦ framed.due t (omega (arith, le, more)) lt ∙ high | inr late ↦ after t late ]
     ])))
 
--- the end of a table behind the word of a frame
+-- the end of a table after the word of a frame
 pub ends_row : (skip : Bool) (line : Line) (level : ℕ → Bool) (known : ℕ) (rows : List Finding)
     (state : State)
     → state ≡ Idle → Stands skip line level known state rows

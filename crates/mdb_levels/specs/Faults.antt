@@ -48,7 +48,7 @@ pub record IsMixed (level : ℕ → Bool) (start : ℕ) : Type 0 where
   pub high : level at ≡ true
   pub stop_bit : level (middle_of start 10) ≡ false
 
--- The stop bit is low, and the line is so from the start bit up to an end behind it.
+-- The stop bit is low, and the line is so from the start bit up to an end after it.
 pub record IsHeldLow (level : ℕ → Bool) (start end : ℕ) : Type 0 where
   pub low : (t : ℕ) → start ≤ t → t < end → level t ≡ false
   pub past : middle_of start 10 < end
@@ -66,7 +66,7 @@ IsWrong LongBreak line level start seen =
     IsHeldLow level start seen × (10 ^ 9 ≤ micros_of (seen - start)) × (line ≡ Controller)
 IsWrong Cut line level start seen = ⊥
 
--- The same at the end of the moments, behind which the line stays as it is.
+-- The same at the end of the moments, after which the line stays as it is.
 abbrev pub IsWrongAtEnd : LineFault → (ℕ → Bool) → ℕ → Type 0
 IsWrongAtEnd Cut level start = (level (middle_of start 0) ≡ false)
     × ((t : ℕ) → middle_of start 10 ≤ t → level t ≡ false)
@@ -113,7 +113,7 @@ abbrev pub HaveNoRows : Bool → List Moment → Type 0
 HaveNoRows skip moments = (rows : List Event) (pulses damaged : List Place) →
     AreRowsOfBus skip moments rows pulses damaged → ⊥
 
--- nor are there any, whatever moments come behind these
+-- nor are there any, whatever moments come after these
 abbrev pub AreBarred : Bool → List Moment → Type 0
 AreBarred skip moments = (more : List Moment) → AreRising 0 (moments ++ more) →
     HaveNoRows skip (moments ++ more)

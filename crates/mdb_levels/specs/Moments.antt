@@ -20,7 +20,7 @@ abbrev pub AreSmall : List Moment → Type 0
 AreSmall [] = ⊤
 AreSmall (moment ∷ moments) = (micros_of moment.at < 10 ^ 15) × AreSmall moments
 
--- the first instant behind moments, the first of which isn't before an instant
+-- the first instant after moments, the first of which isn't before an instant
 abbrev pub end_of : ℕ → List Moment → ℕ
 end_of from [] = from
 end_of from (moment ∷ moments) = end_of (moment.at + 1) moments

@@ -65,7 +65,7 @@ start_same options fields one two first second =
     (time_at options first.time first.line first.value one first.are))
     (time_at options second.time second.line second.value two second.are)
 
--- the fields of a line that has a separator, and of what stands behind it
+-- the fields of a line that has a separator, and of what stands after it
 parts_more : (separator : ℕ) (line first after : List ℕ) → line ≡ first ++ separator ∷ after
     → has_byte separator first ≡ false
     → (next : List ℕ) × (others : List (List ℕ))
@@ -83,7 +83,7 @@ parts_more separator line first after is lacks =
     some [] few all = absurd (omega (arith, few))
     some (part ∷ parts) few all = (bare part, map bare parts, all, refl)
 
--- behind a title stand more titles, and before titles a title
+-- after a title stand more titles, and before titles a title
 pub title_more : (separator : ℕ) (line first after field : List ℕ)
     → line ≡ first ++ separator ∷ after → has_byte separator first ≡ false → field ≡ bare first
     → IsTitle field

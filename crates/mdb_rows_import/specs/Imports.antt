@@ -31,7 +31,7 @@ abbrev pub AreImported : RowsOptions → List (List (List ℕ)) → List Event �
 AreImported options records rows =
     (events : List Event) × AreEvents options records events × (rows ≡ taken_of options events)
 
--- the time that the next row has to come after, behind some events
+-- after some events: the time that the next row has to come after
 abbrev pub last_start : RowsOptions → Option ℕ → List Event → Option ℕ
 last_start options last [] = last
 last_start options last (event ∷ events) = last_start options (last_with options last event) events

@@ -94,7 +94,7 @@ StandsForRow options row event = IsRowOf options (record_fields row) event
 abbrev pub IsHeader : RowsOptions → List (List ℕ) → Type 0
 IsHeader options header = IsHeaderOf options (record_fields header)
 
--- the time that the next row has to come after: that of the last row that isn't behind the part
+-- the time that the next row has to come after: that of the last row that isn't after the part
 abbrev pub last_with : RowsOptions → Option ℕ → Event → Option ℕ
 last_with options last event = if is_behind options event then last else Some (start_of event)
 
@@ -113,7 +113,7 @@ pub record IsPassed (options : RowsOptions) (last : Option ℕ) (row : List (Lis
   pub outside : is_in options at ≡ false
   pub no_row : (event : Event) → StandsForRow options row event → IsAfter last event → ⊥
 
--- Records that stand for events, each of which starts after the one before it that isn't behind the
+-- Records that stand for events, each of which starts after the one before it that isn't after the
 -- part. Records that are passed over stand for none.
 abbrev pub AreRows : RowsOptions → Option ℕ → List (List (List ℕ)) → List Event → Type 0
 AreRows options last [] events = events ≡ []

@@ -2,7 +2,7 @@
 use Rattle.std.specs.Prelude.{◌≡◌, ◌⊎◌, ◌<◌, ℕ, List, [], ◌∷◌, ◌++◌}
 use Rattle.mdb_exports.specs.Hex.{IsHex, IsPrefixed}
 
--- digits with `h` or `H` behind
+-- digits with `h` or `H` after them
 abbrev pub IsSuffixed : List ℕ → List ℕ → Type 0
 IsSuffixed field digits = (h : ℕ) × ((h ≡ 104) ⊎ (h ≡ 72)) × (field ≡ digits ++ h ∷ [])
 

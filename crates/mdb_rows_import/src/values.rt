@@ -18,7 +18,7 @@ pub(crate) fn read_word(field: &[u8]) -> Option<Word>
     }
 }
 
-/// The digits of a field: without `0x` in front or `h` behind.
+/// The digits of a field: without a `0x` before them or an `h` after them.
 fn digits_of(field: &[u8]) -> &[u8]
     ensures are { IsOfDigits field.now result.now }
     ensures only { (digits : List ℕ) (word : ℕ) → IsOfDigits field.now digits

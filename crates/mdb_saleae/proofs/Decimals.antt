@@ -1,4 +1,4 @@
--- Digits, and decimals behind the fifteenth.
+-- Digits, and decimals after the fifteenth.
 use Rattle.std.proofs.Common.{arith, refl, ap, cond, sym, add-one, ◌∙◌, ◌≡◌, ◌+◌, ◌<◌, ◌≤◌, ℕ, zero}
 use Rattle.std.proofs.Common.{suc, Bool, true, false, ◌||◌, List, [], ◌∷◌, ◌++◌, length, take, drop}
 use Rattle.std.proofs.Common.{get_or}

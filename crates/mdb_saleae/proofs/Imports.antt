@@ -369,7 +369,7 @@ pub read_fault : (fault : ReadFault) → read_fault_of fault ≡ Read → fault 
 read_fault reading.Read is = refl
 read_fault reading.Memory is = let bad : Memory ≡ Read = is in absurd (cc bad)
 
--- as many records behind the header as were counted
+-- as many records after the header as were counted
 pub counted_all : {R : Type 0} {remaining : R → Option (List ℕ)} {now : Records R}
     {options : SaleaeOptions} {columns : Columns} {importing : Importing} {before after : Output}
     (count : ℕ) (all : List (List (List ℕ))) (least : ℕ)
@@ -381,12 +381,12 @@ counted_all count all least so_far most =
     let counted = so_far.counted in
     omega (arith, split, counted, most)
 
--- the number of the record behind some
+-- the number of the record after some
 pub next_number : (done : List (List (List ℕ))) (count : ℕ) → length done + 1 ≡ count
     → length done + 2 ≡ count + 1
 next_number done count is = omega (arith, is)
 
--- a failed read behind the header is one of all records
+-- a failed read after the header is one of all records
 failed_behind : {R : Type 0} (remaining : R → Option (List ℕ)) (before middle after : Records R)
     (columns : Columns) → ((all : List (List (List ℕ))) → ToCome remaining before all
     → Begins remaining middle all (Ok columns)) → HasFailedBehind remaining middle after

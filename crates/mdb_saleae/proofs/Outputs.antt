@@ -27,7 +27,7 @@ table options header rows all columns answer text split are export =
       import = export;
     })
 
--- what is on its way of the rows behind a header is of the table
+-- what is on its way of the rows after a header is of the table
 pub of_table : (options : SaleaeOptions) (header : List (List ℕ)) (rows all : List (List (List ℕ)))
     (columns : Columns) (before after : Output) (answer : Result Imported SaleaeFault)
     → all ≡ header ∷ rows → IsColumns header columns

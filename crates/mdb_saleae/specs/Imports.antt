@@ -57,7 +57,7 @@ pub record IsTold (options : SaleaeOptions) (events : List Event) (damaged : Lis
   pub peripheral : imported.peripheral ≡ list_any is_peripherals events
   pub left_out : AreNoted imported.damaged damaged
 
--- the first records behind the header stand for events, but for damaged words, and the text is that
+-- the first records after the header stand for events, but for damaged words, and the text is that
 -- of their rows
 pub record ImportedUpTo (options : SaleaeOptions) (columns : Columns)
     (rows : List (List (List ℕ))) (done : List (List (List ℕ))) (events : List Event)
@@ -87,7 +87,7 @@ pub record ImportedToFault (options : SaleaeOptions) (columns : Columns)
   pub counted : number ≡ length done + 2
   pub refused : IsRefusedRow options columns events named at fault
 
--- some first records behind the header stand for events, and the text is that of their rows
+-- some first records after the header stand for events, and the text is that of their rows
 pub record ImportedInPart (options : SaleaeOptions) (columns : Columns)
     (rows : List (List (List ℕ))) (text : List ℕ) : Type 0 where
   pub done : List (List (List ℕ))
@@ -95,7 +95,7 @@ pub record ImportedInPart (options : SaleaeOptions) (columns : Columns)
   pub rest : List (List (List ℕ))
   pub are : ImportedUpTo options columns rows done events rest text
 
--- the answer to the records behind a header, and the text that is written of them
+-- the answer to the records after a header, and the text that is written of them
 abbrev pub IsRowsImport : SaleaeOptions → Columns → List (List (List ℕ))
     → Result Imported SaleaeFault → List ℕ → Type 0
 IsRowsImport options columns rows (Ok imported) text =

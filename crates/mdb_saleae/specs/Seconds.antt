@@ -10,18 +10,18 @@ use Rattle.mdb_exports.specs.declared.fault.RecordFault.TheVariants as import_fa
 use Rattle.mdb_saleae.specs.declared.fault.RowFault.{RowFault}
 use Rattle.mdb_saleae.specs.declared.fault.RowFault.TheVariants as fault
 
--- a number up to its fifteenth decimal, behind a point (46)
+-- a number up to its fifteenth decimal, after a point (46)
 abbrev pub shortened : List ℕ → List ℕ
 shortened [] = []
 shortened (c ∷ field) = if c == 46 then c ∷ take 15 field else c ∷ shortened field
 
--- its decimals behind that
+-- its decimals after that
 abbrev pub left_over : List ℕ → List ℕ
 left_over [] = []
 left_over (c ∷ field) = if c == 46 then drop 15 field else left_over field
 
 -- A field that tells a time in seconds, with a decimal point or without, and the nearest
--- microsecond, on which no decimal behind the fifteenth counts. It has no comma (44), and no
+-- microsecond, on which no decimal after the fifteenth counts. It has no comma (44), and no
 -- colon (58) as a time of day has.
 pub record IsSeconds (field : List ℕ) (micros : ℕ) : Type 0 where
   pub time : IsTime (Some Seconds) (shortened field) micros

@@ -70,7 +70,7 @@ impl RowFault {
                 "wanted no negative time: set the time zero to the start of the capture"
             }
             RowFault::BadTime => {
-                "wanted a time in seconds: up to 15 digits, perhaps with decimals behind a point"
+                "wanted a time in seconds: up to 15 digits, perhaps with decimals after a point"
             }
             RowFault::LongTime => "wanted a time of at most 15 digits of microseconds",
             RowFault::BadKind => "wanted the type data, which a word has",

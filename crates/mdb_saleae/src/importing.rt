@@ -31,7 +31,7 @@ use std::io::{Read, Write};
 /// # Errors
 ///
 /// `NoHeader` where there is no record, and `BadHeader` where the first one lacks a column or has
-/// one twice. `BadRow`, or `BadRecord` where its time isn't known, for the first record behind it
+/// one twice. `BadRow`, or `BadRecord` where its time isn't known, for the first record after it
 /// that is no row after the one before it, and isn't left out: then the rows of all records before
 /// it were written. `Read` where the reader failed and `Memory` where memory was refused: then
 /// those of some first records were. After these rows, or where there are none, comes a line that
@@ -91,7 +91,7 @@ impl Importing {
     ghost use Rattle.mdb_writing.specs.Output.{Output};
     ghost use Rattle.mdb_saleae.specs.declared.options.SaleaeOptions.{SaleaeOptions};
 
-    /// Before the first record behind the header.
+    /// Before the first record after the header.
     fn new() -> Importing
         ensures last { result.last ≡ None }
         ensures told { (options : SaleaeOptions) → IsTold options [] [] result.tally }
@@ -134,7 +134,7 @@ impl Importing {
         self.take_all(options, &columns, records, writer)
     }
 
-    /// Takes all records that are still to come behind the header, after none.
+    /// Takes all records after the header, of which none was taken.
     fn take_all<R: Read + Drop, W: Write>(
         &mut self,
         options: &SaleaeOptions,

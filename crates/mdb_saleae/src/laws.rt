@@ -9,7 +9,7 @@ ghost use Rattle.mdb_saleae.specs.Imports.{is_taken};
 ghost use Rattle.mdb_saleae.specs.Rows.{AreEvents};
 ghost use Rattle.mdb_saleae.specs.declared.options.SaleaeOptions.{SaleaeOptions};
 
-/// No decimal behind the fifteenth moves the nearest microsecond: that of `n / 10^15` is that of
+/// No decimal after the fifteenth moves the nearest microsecond: that of `n / 10^15` is that of
 /// the same number with `places` decimals more, which are those of `rest`.
 pub fn later_decimals_move_no_microsecond()
     ensures { (n places rest micros : ℕ) → rest < 10 ^ places → IsNearest n (10 ^ 15) micros

@@ -46,7 +46,7 @@ fn is_negative(field: &[u8]) -> bool
     }
 }
 
-/// A number up to its fifteenth decimal, and its decimals behind that.
+/// A number up to its fifteenth decimal, and its decimals after that.
 fn shortened(field: &[u8]) -> (&[u8], &[u8])
     ensures short { result.0.now ≡ shortened_of field.now }
     ensures rest { result.1.now ≡ left_over field.now }

@@ -78,7 +78,7 @@ pulse_case wrong (damaged_low start data_pair frame end value pairs notes starts
     rest) =
     absurd (start_no_frame _ starts.what wrong)
 
--- what comes behind the start bit of a word and the word
+-- what comes after the start bit of a word and the word
 pub record WordCase (skip : Bool) (line : Line) (s : Pair) (value : ℕ) (pairs : List Pair)
     (notes : List Note) : Type 0 where
   pub more : List Note
@@ -185,7 +185,7 @@ cases_of begins (damaged_low start data_pair frame end value pairs notes starts 
       }));
     }
 
--- what is told behind a start bit, a word and what isn't its frame error
+-- what is told after a start bit, a word and what isn't its frame error
 pub word_case : {skip : Bool} {line : Line} {e : ℕ} (s d p : Pair) (w : ℕ) (pairs : List Pair)
     (notes : List Note) → s.what ≡ Start → d.what ≡ Data w → (IsErrorOf s p → ⊥)
     → LineRows skip line e (s ∷ d ∷ p ∷ pairs) notes → WordCase skip line s w (p ∷ pairs) notes
@@ -204,7 +204,7 @@ word_case {skip = skip} {line = line} s d p w pairs notes begins what other rows
       ]
     ]
 
--- and behind its frame error
+-- and after its frame error
 pub record LowAfter (skip : Bool) (line : Line) (e : ℕ) (s : Pair) (value : ℕ)
     (pairs : List Pair) (notes : List Note) : Type 0 where
   pub end : Pair
@@ -309,7 +309,7 @@ ends_damaged skip line e s d f w skips starts what error =
       ];
     })
 
--- where a line stands behind a pulse
+-- where a line stands after a pulse
 
 passes : (skip : Bool) (line : Line) (e : ℕ) (p : Pair) → IsPulse e p
     → IsState skip line e (p ∷ []) (Pulse (micros_of p.from) ∷ [])
@@ -338,7 +338,7 @@ pulsed_state skip line e p at next other is here same = elim is [
       (passes skip line e p is))
 ]
 
--- behind what isn't the frame error of a word
+-- after what isn't the frame error of a word
 
 word_leads : (skip : Bool) (line : Line) (e : ℕ) (s d p : Pair) (w : ℕ) (told : List Note)
     (state : State) → IsStart e s → d.what ≡ Data w → (IsErrorOf s p → ⊥)
@@ -370,7 +370,7 @@ next_state skip line e s d p w at next told state starts what other here same in
     (word_leads skip line e s d p w told state starts what other
     (subst (λ n. IsState skip line (n + 1) (p ∷ []) told state) (same ∙ here) inner))
 
--- behind the frame error of a word, by what is no break condition
+-- after the frame error of a word, by what is no break condition
 
 other_case : {skip : Bool} {line : Line} {e : ℕ} (s d f p : Pair) (w : ℕ) (pairs : List Pair)
     (notes : List Note) → s.what ≡ Start → d.what ≡ Data w → IsErrorOf s f → p.what ≢ BreakEnd

@@ -325,7 +325,7 @@ barred_stops fault options lines stand pair again rest next one two =
               comes.device_rows,
         ))
 
--- ways, one behind the other
+-- ways, one after the other
 
 pub moves_none : (options : SigrokOptions) (again : Bool) (lines : List (List ℕ)) (stand : Stand)
     → Moves options again lines stand again lines stand

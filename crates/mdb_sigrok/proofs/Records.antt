@@ -17,7 +17,7 @@ one_front true false x y is =
     let other : 69 ≡ 66 = ap (λ l. get_or l 8 0) is in absurd (omega (arith, other))
 one_front true true x y is = (refl, append_cancel_left (front_of true) x y is)
 
--- what a head tells of what stands behind its front
+-- what a head tells of what stands after its front
 pub record HeadCut (begun : List ℕ) (e ends : Bool) (time : ℕ) (rest : List ℕ) : Type 0 where
   pub same : e ≡ ends
   pub digits : List ℕ
@@ -116,7 +116,7 @@ one_names text tid name other word m n one two =
     one_field before_name one.middle name (end_of m) word (end_of n) one.second again in
     (first.0, second.0, one_end m n second.1)
 
--- what stands behind `tid`, and behind `name`
+-- what stands after `tid`, and after `name`
 pub name_behind : (text tid middle other name : List ℕ) (more : Bool)
     → IsField before_tid text tid middle → AreNames text other name more
     → IsField before_name middle name (end_of more)

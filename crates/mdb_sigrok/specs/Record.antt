@@ -13,13 +13,13 @@ abbrev pub front_of : Bool → List ℕ
 front_of false = codes "{\"ph\": \"B\", \"ts\": "
 front_of true = codes "{\"ph\": \"E\", \"ts\": "
 
--- a record up to the comma (44) behind its time
+-- a record up to the comma (44) after its time
 pub record IsHead (text : List ℕ) (ends : Bool) (time : ℕ) (rest : List ℕ) : Type 0 where
   pub digits : List ℕ
   pub form : text ≡ front_of ends ++ (digits ++ 44 ∷ rest)
   pub tells : IsTime digits time
 
--- a text that begins with a front, a value and a quote (34), the first one behind the front
+-- a text that begins with a front, a value and a quote (34), the first one after the front
 pub record IsField (front text value rest : List ℕ) : Type 0 where
   pub form : text ≡ front ++ (value ++ 34 ∷ rest)
   pub plain : Lacks 34 value
@@ -36,7 +36,7 @@ abbrev pub end_of : Bool → List ℕ
 end_of false = codes "}"
 end_of true = codes "},"
 
--- a record from the comma behind its time on
+-- a record from the comma after its time on
 pub record AreNames (text tid name : List ℕ) (more : Bool) : Type 0 where
   pub middle : List ℕ
   pub first : IsField before_tid text tid middle
@@ -56,7 +56,7 @@ channel_of false Peripheral = codes "RX"
 channel_of true Controller = codes "RX"
 channel_of true Peripheral = codes "TX"
 
--- what stands in `tid` behind the channel
+-- what stands in `tid` after the channel
 abbrev pub row_of : What → List ℕ
 row_of Start = []
 row_of (Data word) = []

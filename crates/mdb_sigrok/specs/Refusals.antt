@@ -36,7 +36,7 @@ IsNoName name fault.LargeWord = All IsDigit name × (length name ≡ 3) × IsNoW
 IsNoName name fault.Kind = (name ≢ codes "Parity error") × (All IsDigit name → name ≡ [])
 IsNoName name other = ⊥
 
--- why what stands in `tid` behind the channel, and `name`, tell nothing that may be seen
+-- why what stands in `tid` after the channel, and `name`, tell nothing that may be seen
 abbrev pub IsNoKind : List ℕ → List ℕ → OrderFault → Type 0
 IsNoKind row name told = ((row ≡ []) × IsNoName name told) ⊎ ((row ≢ []) × (told ≡ fault.Kind))
 
@@ -48,14 +48,14 @@ IsNoStart earliest pair fault.NoStart = (word : ℕ) × (pair.what ≡ Data word
 IsNoStart earliest pair fault.NoFrameError = pair.what ≡ BreakEnd
 IsNoStart earliest pair other = ⊥
 
--- why what was seen behind a start bit isn't its word
+-- why what was seen after a start bit isn't its word
 abbrev pub IsNoData : Pair → OrderFault → Type 0
 IsNoData pair fault.NoWord = pair.what ≡ Start
 IsNoData pair fault.NoBreak = pair.what ≡ FrameError
 IsNoData pair fault.NoFrameError = pair.what ≡ BreakEnd
 IsNoData pair other = ⊥
 
--- Why a line can't go on behind a start bit and a word: by the frame error of a word that isn't
+-- Why a line can't go on after a start bit and a word: by the frame error of a word that isn't
 -- 000, where damaged words aren't left out; or else by what neither begins a later word nor is a
 -- pulse.
 abbrev pub IsNoNext : Bool → Pair → ℕ → Pair → OrderFault → Type 0
@@ -63,7 +63,7 @@ IsNoNext skip start word pair told =
     (IsErrorOf start pair × (skip ≡ false) × (word ≢ 0) × (told ≡ fault.NoBreak))
     ⊎ ((IsErrorOf start pair → ⊥) × IsNoStart (micros_of start.from + 1) pair told)
 
--- Why a break condition behind the frame error of a word is none. Each reason comes where none of
+-- Why a break condition after the frame error of a word is none. Each reason comes where none of
 -- those above it holds.
 abbrev pub IsNoBreak : Bool → ℕ → Line → ℕ → Pair → OrderFault → Type 0
 IsNoBreak skip earliest line word pair fault.DeviceBreak = (skip ≡ false) × (line ≡ Peripheral)
@@ -75,7 +75,7 @@ IsNoBreak skip earliest line word pair fault.Early =
     (pair.from ≤ pair.to) × IsBreak skip line word pair × (micros_of pair.from < earliest)
 IsNoBreak skip earliest line word pair other = ⊥
 
--- Why a line can't go on behind the frame error of a word by what is no break condition: damaged
+-- Why a line can't go on after the frame error of a word by what is no break condition: damaged
 -- words aren't left out, or that is one more frame error of it; or else it neither begins a later
 -- word nor is a pulse.
 abbrev pub IsNoneAfterError : Bool → Pair → Pair → OrderFault → Type 0
@@ -83,7 +83,7 @@ IsNoneAfterError skip start pair told =
     (((skip ≡ false) ⊎ IsErrorOf start pair) × (told ≡ fault.NoBreak))
     ⊎ ((IsErrorOf start pair → ⊥) × IsNoStart (micros_of start.from + 1) pair told)
 
--- why a line can't go on behind the frame error of a word
+-- why a line can't go on after the frame error of a word
 abbrev pub IsNoLow : Bool → ℕ → Line → Pair → ℕ → Pair → OrderFault → Type 0
 IsNoLow skip earliest line start word pair told =
     ((pair.what ≡ BreakEnd) × IsNoBreak skip earliest line word pair told)

@@ -8,7 +8,7 @@ abbrev pub Lacks : ℕ → List ℕ → Type 0
 Lacks byte [] = Unit {0}
 Lacks byte (c ∷ cs) = (c ≢ byte) × Lacks byte cs
 
--- a text that lacks a byte, that byte, and what stands behind it
+-- a text that lacks a byte, that byte, and what stands after it
 pub record IsCut (byte : ℕ) (text front rest : List ℕ) : Type 0 where
   pub parts : text ≡ front ++ byte ∷ rest
   pub first : Lacks byte front
@@ -38,7 +38,7 @@ lines_of text = map without_return (parts_of text)
 abbrev pub micros_of : ℕ → ℕ
 micros_of millionths = (millionths + 500000) / 1000000
 
--- the digits of a time before its point and behind it
+-- the digits of a time before its point and after it
 pub record AreTimeDigits (whole part : List ℕ) : Type 0 where
   pub some : 1 ≤ length whole
   pub digits : AllDigits 10 whole

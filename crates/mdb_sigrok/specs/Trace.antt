@@ -17,7 +17,7 @@ use Rattle.mdb_sigrok.specs.declared.note.Note.{Note}
 use Rattle.mdb_sigrok.specs.declared.options.SigrokOptions.{SigrokOptions}
 
 -- The lines after the first one tell these pairs of records, one or more. Each record but the last
--- has a comma behind it, and below that stands `]}` as the last line.
+-- has a comma after it, and below that stands `]}` as the last line.
 pub data TellPairs : Bool → List (List ℕ) → List Pair → Type 0 where
   last : {swap : Bool} (first second : List ℕ) (pair : Pair) →
       IsPair swap pair first second false →

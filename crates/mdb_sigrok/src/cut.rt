@@ -11,7 +11,7 @@ use memchr::memchr;
 /// How many bytes a line of a trace seldom goes beyond, with its end.
 const LINE: usize = 96;
 
-/// What stands behind the front of a text; `None` where it begins otherwise.
+/// What stands after the front of a text; `None` where it begins otherwise.
 #[inline(always)]
 pub(crate) fn after<'a, const N: usize>(text: &'a [u8], front: &[u8; N]) -> Option<&'a [u8]>
     ensures some { IfSome result (λ rest. text.now ≡ front.now ++ rest.now) }
@@ -49,7 +49,7 @@ pub(crate) fn is_text(text: &[u8], other: &[u8]) -> bool
     text == other
 }
 
-/// A text up to the first byte of a value, and what stands behind that; `None` where the byte
+/// A text up to the first byte of a value, and what stands after that; `None` where the byte
 /// stands nowhere.
 pub(crate) fn cut_at(text: &[u8], byte: u8) -> Option<(&[u8], &[u8])>
     ensures some { IfSome result (λ cut. IsCut byte text.now cut.0.now cut.1.now) }
@@ -86,7 +86,7 @@ fn place_near<const N: usize>(text: &[u8], byte: u8) -> Option<usize>
     memchr(byte, &text[..N])
 }
 
-/// The same as `cut_at`, for a byte that may be far behind: many bytes are looked at at once.
+/// The same as `cut_at`, for a byte that may be far on: many bytes are looked at at once.
 fn cut_far(text: &[u8], byte: u8) -> Option<(&[u8], &[u8])>
     ensures some { IfSome result (λ cut. IsCut byte text.now cut.0.now cut.1.now) }
     ensures none { IfNone result (Lacks byte text.now) }
@@ -97,7 +97,7 @@ fn cut_far(text: &[u8], byte: u8) -> Option<(&[u8], &[u8])>
     }
 }
 
-/// The first line of a text, and the text behind it; `None` at the end.
+/// The first line of a text, and the text after it; `None` at the end.
 pub(crate) fn next_line(text: &[u8]) -> Option<(&[u8], &[u8])>
     ensures some { IfSome result
         (λ next. lines_of text.now ≡ next.0.now ∷ lines_of next.1.now) }

@@ -151,7 +151,7 @@ fn start_or_pulse(earliest: u64, pair: &Pair) -> Result<Time, OrderFault>
     }
 }
 
-/// Goes on from behind a start bit.
+/// Goes on after a start bit.
 fn worded(state: &mut State, skip: bool, start: &Pair, pair: &Pair) -> Result<(), OrderFault>
     requires { IsStart state.old.earliest start.now }
     ensures ok { OnOk result (IsState skip state.old.line state.old.earliest
@@ -172,7 +172,7 @@ fn worded(state: &mut State, skip: bool, start: &Pair, pair: &Pair) -> Result<()
     }
 }
 
-/// Goes on from behind a word, whose stop bit may be low.
+/// Goes on after a word, whose stop bit may be low.
 fn after_word(
     state: &mut State,
     skip: bool,
@@ -203,7 +203,7 @@ fn is_error_of(start: &Pair, pair: &Pair) -> bool
     matches!(pair.what, What::FrameError) && pair.from.is_near(start.from)
 }
 
-/// Goes on from behind a word by what is no frame error of it.
+/// Goes on after a word by what is no frame error of it.
 fn next_word(
     state: &mut State,
     skip: bool,
@@ -231,7 +231,7 @@ fn next_word(
     })
 }
 
-/// Goes on from behind a word by a frame error of it.
+/// Goes on after a word by a frame error of it.
 fn wrong(
     state: &mut State,
     skip: bool,
@@ -265,7 +265,7 @@ fn is_zero(word: Word) -> bool
     word.byte() == 0 && !word.marked()
 }
 
-/// Goes on from behind a frame error of a word.
+/// Goes on after a frame error of a word.
 fn after_wrong(
     state: &mut State,
     skip: bool,
@@ -293,7 +293,7 @@ fn after_wrong(
     next_damaged(state, skip, start, value, word, frame, pair)
 }
 
-/// Goes on from behind a frame error of a word by what is no break condition: the word is damaged.
+/// Goes on after a frame error of a word by what is no break condition: the word is damaged.
 fn next_damaged(
     state: &mut State,
     skip: bool,
@@ -325,7 +325,7 @@ fn next_damaged(
     })
 }
 
-/// Goes on from behind a frame error of a word by a break condition.
+/// Goes on after a frame error of a word by a break condition.
 fn after_low(
     state: &mut State,
     skip: bool,
@@ -354,7 +354,7 @@ fn after_low(
     Ok(Some(note))
 }
 
-/// What a break condition behind a frame error of a word tells: a break, or a damaged word. And the
+/// What a break condition after a frame error of a word tells: a break, or a damaged word. And the
 /// earliest microsecond of what comes next.
 fn low_note(
     state: &State,

@@ -110,7 +110,7 @@ fn nearest(whole: u64, part: u32) -> u64
     whole + u64::from(part >= 500_000)
 }
 
-/// What stands before the point of a time, and the six bytes behind it; `None` where no point
+/// What stands before the point of a time, and the six bytes after it; `None` where no point
 /// stands there.
 fn around_point(field: &[u8]) -> Option<(&[u8], &[u8])>
     ensures some { IfSome result (λ parts. field.now ≡ parts.0.now ++ 46 ∷ parts.1.now) }
@@ -149,7 +149,7 @@ fn whole_of(digits: &[u8]) -> Result<u64, FormFault>
     }
 }
 
-/// The millionths of a microsecond that stand behind the point of a time; `None` where a byte is no
+/// The millionths of a microsecond that stand after the point of a time; `None` where a byte is no
 /// digit.
 fn part_of(digits: &[u8]) -> Option<u32>
     requires { length digits.now ≡ 6 }

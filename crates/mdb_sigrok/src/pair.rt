@@ -40,7 +40,7 @@ pub struct Pair {
     pub to: Moment,
 }
 
-/// The line of `tid`, and what stands behind its channel.
+/// The line of `tid`, and what stands after its channel.
 pub(crate) fn line_of(swap: bool, tid: &[u8]) -> Option<(Line, &[u8])>
     ensures some { IfSome result (λ place. tid.now ≡ channel_of swap place.0 ++ place.1.now) }
     ensures none { IfNone result ((line : Line) (row : List ℕ) →
@@ -67,7 +67,7 @@ pub(crate) fn line_of(swap: bool, tid: &[u8]) -> Option<(Line, &[u8])>
     }
 }
 
-/// What was seen, by what stands in `tid` behind the channel, and by `name`.
+/// What was seen, by what stands in `tid` after the channel, and by `name`.
 pub(crate) fn what_of(row: &[u8], name: &[u8]) -> Result<What, OrderFault>
     ensures ok { IfOk result (λ what. (row.now ≡ row_of what) × IsName what name.now) }
     ensures err { IfErr result (λ _. (what : What) →

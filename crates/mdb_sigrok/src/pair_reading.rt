@@ -17,14 +17,14 @@ use super::pair::{Pair, line_of, what_of};
 use super::record::{Record, record_behind, record_of};
 use mdb_words::Line;
 
-/// What was seen next, and what stands behind it.
+/// What was seen next, and what stands after it.
 #[derive(Clone, Copy)]
 pub(crate) struct Seen<'a> {
     /// What was seen.
     pub(crate) pair: Pair,
     /// Whether more of it follows.
     pub(crate) more: bool,
-    /// The text behind it.
+    /// The text after it.
     pub(crate) rest: &'a [u8],
 }
 
@@ -68,7 +68,7 @@ pub(crate) fn next_pair(swap: bool, text: &[u8], number: u64) -> Result<Seen<'_>
     })
 }
 
-/// The record of the next line, and the text behind it.
+/// The record of the next line, and the text after it.
 fn next_record(text: &[u8], number: u64) -> Result<(Record<'_>, &[u8]), SigrokFault>
     ensures ok { IfOk result (λ read.
         BeginsWith (lines_of text.now) read.0 (lines_of read.1.now)) }
@@ -90,7 +90,7 @@ fn next_record(text: &[u8], number: u64) -> Result<(Record<'_>, &[u8]), SigrokFa
     }
 }
 
-/// The same, behind a record.
+/// The same, after a record.
 fn next_behind<'a>(
     text: &'a [u8],
     number: u64,

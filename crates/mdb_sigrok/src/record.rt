@@ -9,7 +9,7 @@ use super::cut::{after, cut_at, cut_near, is_text};
 use super::fault::FormFault;
 use super::moment::Moment;
 
-/// How many bytes a time never goes beyond, with the comma behind it, unless it begins with zeros.
+/// How many bytes a time never goes beyond, with the comma after it, unless it begins with zeros.
 const TIME: usize = 32;
 
 /// A record: where something begins, or where it ends.
@@ -23,9 +23,9 @@ pub(crate) struct Record<'a> {
     pub(crate) tid: &'a [u8],
     /// What was seen.
     pub(crate) name: &'a [u8],
-    /// Whether a comma stands behind it.
+    /// Whether a comma stands after it.
     pub(crate) more: bool,
-    /// The text behind its time, which tells the line, what was seen and that comma.
+    /// The text after its time, which tells the line, what was seen and that comma.
     pub(crate) names: &'a [u8],
 }
 
@@ -53,7 +53,7 @@ pub(crate) fn record_of(line: &[u8]) -> Result<Record<'_>, FormFault>
     })
 }
 
-/// The same, behind a record. Where the same text stands behind both times, it isn't read again.
+/// The same, after a record. Where the same text stands after both times, it isn't read again.
 pub(crate) fn record_behind<'a>(
     line: &'a [u8],
     before: &Record<'a>,
@@ -95,7 +95,7 @@ fn names_behind<'a>(text: &'a [u8], before: &Record<'a>) -> Option<(&'a [u8], &'
     names_of(text)
 }
 
-/// Whether a record is an end, the digits of its time, and what stands behind the comma after them.
+/// Whether a record is an end, the digits of its time, and what stands after their comma.
 #[inline(always)]
 fn head_of(line: &[u8]) -> Option<(bool, &[u8], &[u8])>
     ensures some { IfSome result (λ head. HasHead line.now head.0 head.1.now head.2.now) }
@@ -111,7 +111,7 @@ fn head_of(line: &[u8]) -> Option<(bool, &[u8], &[u8])>
     }
 }
 
-/// Whether a record is an end, and what stands behind its front.
+/// Whether a record is an end, and what stands after its front.
 #[inline(always)]
 fn begun_of(line: &[u8]) -> Option<(bool, &[u8])>
     ensures some { IfSome result (λ begun. line.now ≡ front_of begun.0 ++ begun.1.now) }
@@ -146,7 +146,7 @@ fn names_of(text: &[u8]) -> Option<(&[u8], &[u8], bool)>
     }
 }
 
-/// The value behind a front, up to a quote, and what stands behind that.
+/// The value after a front, up to a quote, and what stands after that.
 fn field_of<'a, const N: usize>(text: &'a [u8], front: &[u8; N]) -> Option<(&'a [u8], &'a [u8])>
     ensures some { IfSome result (λ field. IsField front.now text.now field.0.now field.1.now) }
     ensures none { IfNone result ((value rest : List ℕ) →

@@ -165,7 +165,7 @@ fn read_pairs<B: BufRead>(
 }
 
 /// Goes on by the next two records, and tells whether more follow. Their lines are copied where the
-/// reader doesn't show both with something behind them, and where they may not stand there, which
+/// reader doesn't show both with something after them, and where they may not stand there, which
 /// tells why.
 fn next_step<B: BufRead>(
     both: &mut Both,

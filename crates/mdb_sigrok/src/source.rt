@@ -24,7 +24,7 @@ pub(crate) struct Shown {
     length: usize,
 }
 
-/// Passes over the next two records, if the reader shows their lines and something behind them, and
+/// Passes over the next two records, if the reader shows their lines and something after them, and
 /// they may stand there. If not, it passes over nothing.
 pub(crate) fn pass_pair<B: BufRead>(
     reader: &mut B,
@@ -49,7 +49,7 @@ pub(crate) fn pass_pair<B: BufRead>(
     Ok(Some(shown))
 }
 
-/// The next two records, if something stands behind their lines, so that these are whole, and they
+/// The next two records, if something stands after their lines, so that these are whole, and they
 /// may stand there.
 fn shown_pair(swap: bool, text: &[u8], number: u64) -> Option<Shown>
     ensures within { IfSome result (λ shown. shown.length ≤ length text.now) }

@@ -10,7 +10,7 @@ use Rattle.mdb_vcd.proofs.Cuts.{words_around}
 same_byte : (c d : ℕ) → (c == d) ≡ true → c ≡ d
 same_byte c d is = grind (arith, is)
 
--- a line and what stands behind it
+-- a line and what stands after it
 
 through_by : (c : ℕ) (cs front rest : List ℕ) (b : Bool) → cs ≡ front ++ rest
     → c ∷ cs ≡ cond b (c ∷ []) (c ∷ front) ++ cond b cs rest
@@ -22,7 +22,7 @@ through [] = refl
 through (c ∷ cs) =
     through_by c cs (take_through 10 cs) (drop_through 10 cs) (c == 10) (through cs)
 
--- a line has its end, or nothing stands behind it
+-- a line has its end, or nothing stands after it
 
 ended_more : (c : ℕ) (front : List ℕ) → AreLines front → front ≢ [] → AreLines (c ∷ front)
 ended_more c [] lines some = absurd (some refl)
@@ -54,7 +54,7 @@ pub none_taken : (text : List ℕ) → take_through 10 text ≡ [] → text ≡ 
 none_taken [] is = refl
 none_taken (c ∷ cs) is = absurd (taken_some c cs is)
 
--- lines, and what stands behind them
+-- lines, and what stands after them
 
 pub record Whole (text : List ℕ) : Type 0 where
   pub front : List ℕ

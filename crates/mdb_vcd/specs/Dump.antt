@@ -22,7 +22,7 @@ use Rattle.mdb_vcd.specs.declared.reader.Mode.{Mode}
 use Rattle.mdb_vcd.specs.declared.reader.Mode.TheVariants.{Outside, Inside, Body, Valued, Commented}
 
 -- A place in a dump: between the commands of the header, in one whose words so far are these, among
--- the times and changes, behind a value whose variable comes next, or in a comment. And what is
+-- the times and changes, after a value whose variable comes next, or in a comment. And what is
 -- known there: what the header told, and the time and the levels.
 pub record Place : Type 0 where
   pub mode : Mode
@@ -30,24 +30,24 @@ pub record Place : Type 0 where
   pub command : List (List ℕ)
   pub now : Known
 
--- behind a word of the header between two commands: the first of the next one
+-- after a word of the header between two commands: the first of the next one
 abbrev pub between : Place → List ℕ → ℕ → Keyword → Result Place Stop
 between place word first key.End = Err (Form form.NoCommand)
 between place word first _ =
     if first == 36 then Ok (record place { mode = Inside; command = word ∷ [] })
     else Err (Form form.NoCommand)
 
--- behind a command
+-- after a command
 abbrev pub behind_command : Place → Result Heading Stop → Result Place Stop
 behind_command place (Err stop) = Err stop
 behind_command place (Ok heading) = Ok (record place { mode = Outside; heading = heading })
 
--- behind the header, if nothing is missing
+-- after the header, if nothing is missing
 abbrev pub behind_header : Place → Option Stop → Result Place Stop
 behind_header place (Some stop) = Err stop
 behind_header place None = Ok (record place { mode = Body })
 
--- behind the `$end` of a command of these words
+-- after the `$end` of a command of these words
 abbrev pub command_done : VcdOptions → Place → Keyword → List (List ℕ) → Result Place Stop
 command_done options place key.Definitions words =
     behind_header place (lack_of place.heading.scale place.heading.controller
@@ -70,26 +70,26 @@ in_command options place word key.End =
     command_done options place (opened_by place.command) (opened_with place.command)
 in_command options place word _ = Ok (record place { command = place.command ++ word ∷ [] })
 
--- behind a time or a change
+-- after a time or a change
 abbrev pub behind_entry : Place → Result Known Stop → Result Place Stop
 behind_entry place (Err stop) = Err stop
 behind_entry place (Ok now) = Ok (record place { mode = Body; now = now })
 
--- behind a digit and the code of its variable
+-- after a digit and the code of its variable
 abbrev pub behind_digit : VcdOptions → Place → ℕ → List ℕ → Result Place Stop
 behind_digit options place first [] = Err (Form form.NoEntry)
 behind_digit options place first (c ∷ cs) =
     behind_entry place
     (with_change options.invert place.heading (c ∷ cs) (digit_value first) place.now)
 
--- behind a command in the body: what stands between `$dumpvars` and the like and `$end` counts
+-- after a command in the body: what stands between `$dumpvars` and the like and `$end` counts
 abbrev pub behind_mark : Place → Keyword → Result Place Stop
 behind_mark place key.Comment = Ok (record place { mode = Commented })
 behind_mark place key.Mark = Ok place
 behind_mark place key.End = Ok place
 behind_mark place _ = Err (Form form.NoEntry)
 
--- behind a word of the body
+-- after a word of the body
 abbrev pub in_body : VcdOptions → Place → ℕ → List ℕ → Kind → Result Place Stop
 in_body options place first rest kind.Time =
     behind_entry place (at_time place.heading.scale rest place.now)
@@ -105,7 +105,7 @@ abbrev pub in_comment : Place → Keyword → Result Place Stop
 in_comment place key.End = Ok (record place { mode = Body })
 in_comment place _ = Ok place
 
--- behind a word, by its first byte and the others
+-- after a word, by its first byte and the others
 abbrev pub behind_word : VcdOptions → Place → ℕ → List ℕ → Mode → Result Place Stop
 behind_word options place first rest Outside =
     between place (first ∷ rest) first (keyword_of (first ∷ rest))
@@ -117,7 +117,7 @@ behind_word options place first rest (Valued value) =
     (with_change options.invert place.heading (first ∷ rest) value place.now)
 behind_word options place first rest Commented = in_comment place (keyword_of (first ∷ rest))
 
--- the place behind a word, or why it can't stand there
+-- the place after a word, or why it can't stand there
 abbrev pub after_word : VcdOptions → Place → List ℕ → Result Place Stop
 after_word options place [] = Err (Form form.NoEntry)
 after_word options place (first ∷ rest) = behind_word options place first rest place.mode
@@ -126,7 +126,7 @@ after_word options place (first ∷ rest) = behind_word options place first rest
 abbrev pub passed : Known → Known → List Moment
 passed before now = if nat_lt before.at now.at then moment_of before ∷ [] else []
 
--- The moments that words tell from a place on: one for each time, with the levels behind all
+-- The moments that words tell from a place on: one for each time, with the levels after all
 -- changes of that time.
 abbrev pub AreMoments : VcdOptions → Place → List (List ℕ) → List Moment → Type 0
 AreMoments options place [] moments =

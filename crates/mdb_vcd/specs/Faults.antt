@@ -108,7 +108,7 @@ IsWordFault options text number why = (words : List (List ℕ)) × (word : List 
     × IsOnLine text number words word × IsStopped options words word why
 
 -- Something is wrong with a word on the line of that number, or at the end of the text if it is the
--- number behind its last line, and it is what is told; and nothing is wrong with the words before
+-- number after its last line, and it is what is told; and nothing is wrong with the words before
 -- it. Of a fault that isn't one of the dump nothing is said.
 abbrev pub IsFirstFault : VcdOptions → List ℕ → VcdFault → Type 0
 IsFirstFault options text (told.Form number fault) =

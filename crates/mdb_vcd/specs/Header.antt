@@ -12,7 +12,7 @@ use Rattle.mdb_vcd.specs.declared.keyword.Keyword.TheVariants as key
 use Rattle.mdb_vcd.specs.declared.options.VcdOptions.{VcdOptions}
 
 -- What a header has told so far: the parts of a unit of its times, the path of the open scope (the
--- names of all that are open, each with a point behind it), the paths of the scopes around that
+-- names of all that are open, each with a point after it), the paths of the scopes around that
 -- one, the innermost first, and the codes of both lines.
 pub record Heading : Type 0 where
   pub scale : Option ℕ

@@ -21,7 +21,7 @@ unit_of (a ∷ []) = if a == 115 then Some (3 * 10 ^ 24) else None
 unit_of (a ∷ b ∷ []) = if b == 115 then small_unit a else None
 unit_of (a ∷ b ∷ c ∷ more) = None
 
--- what stands behind the first byte of a text, if that is this one
+-- what stands after the first byte of a text, if that is this one
 abbrev pub behind : ℕ → List ℕ → Option (List ℕ)
 behind byte [] = None
 behind byte (c ∷ cs) = if c == byte then Some cs else None
@@ -31,7 +31,7 @@ abbrev pub times : ℕ → Option ℕ → Option ℕ
 times many None = None
 times many (Some each) = Some (many * each)
 
--- a unit behind so many, which a zero (48) makes ten times as many
+-- a unit after so many, which a zero (48) makes ten times as many
 abbrev pub hundreds : List ℕ → Option (List ℕ) → Option ℕ
 hundreds text None = times 10 (unit_of text)
 hundreds text (Some unit) = times 100 (unit_of unit)

@@ -43,7 +43,7 @@ pub enum VcdFault {
     /// Levels of a line that are no words and breaks.
     #[error("line {number} at {micros} on {line}: {fault}")]
     Line {
-        /// The line of the text behind the changes that show the fault, counted from 1: the next
+        /// The line of the text after the changes that show the fault, counted from 1: the next
         /// time stands there. At the end of the dump it is that of the line that would come next.
         number: u64,
         /// When the faulty word or break began, in whole microseconds.
@@ -118,7 +118,7 @@ impl FormFault {
                 "wanted one variable of each line: as --controller and --peripheral say, or M and S"
             }
             FormFault::SameCode => "wanted another variable for each line, and it is the same",
-            FormFault::BadTime => "wanted a time: digits behind #",
+            FormFault::BadTime => "wanted a time: digits after #",
             FormFault::LongTime => "wanted a time of at most 15 digits of microseconds",
             FormFault::NoEntry => "wanted a time, a change of a value, or a command of the dump",
             FormFault::Cut => "wanted more of the dump: it is cut",

@@ -7,7 +7,7 @@ ghost use Rattle.std.specs.Prelude.{◌<◌, ◌^◌, unwrap_or};
 pub(crate) struct Head {
     /// The parts of a unit of its times.
     pub(crate) scale: Option<u128>,
-    /// The names of the open scopes, each with a point behind it.
+    /// The names of the open scopes, each with a point after it.
     pub(crate) path: Vec<u8>,
     /// The same of the scopes around the innermost one, which comes last.
     pub(crate) around: Vec<Vec<u8>>,

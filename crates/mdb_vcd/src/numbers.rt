@@ -56,7 +56,7 @@ fn times(many: u128, unit: &[u8]) -> Option<u128>
     }
 }
 
-/// What stands behind the first byte of a text, if that is this one.
+/// What stands after the first byte of a text, if that is this one.
 fn behind(text: &[u8], byte: u8) -> Option<&[u8]>
     ensures some { IfSome result (λ rest. rest_behind byte text.now ≡ Some rest.now) }
     ensures none { IfNone result (rest_behind byte text.now ≡ None) }

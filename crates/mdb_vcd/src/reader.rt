@@ -27,7 +27,7 @@ pub(crate) enum Mode {
     Inside,
     /// Among times and changes.
     Body,
-    /// Behind a value; its variable's code comes next.
+    /// After a value; its variable's code comes next.
     Valued(Value),
     /// In a comment.
     Commented,
@@ -53,7 +53,7 @@ fn form(fault: FormFault) -> Stop
     Stop::Form(fault)
 }
 
-/// Which command a text begins, and what stands behind its first word.
+/// Which command a text begins, and what stands after its first word.
 fn opened(text: &[u8]) -> (Keyword, &[u8])
     ensures keyword { result.0 ≡ opened_by (words_of text.now) }
     ensures words { words_of result.1.now ≡ opened_with (words_of text.now) }

@@ -28,7 +28,7 @@ fn behind_blanks(text: &[u8]) -> &[u8]
     rest
 }
 
-/// The first word of a text that begins with it, and what stands behind it.
+/// The first word of a text that begins with it, and what stands after it.
 fn cut_word(text: &[u8]) -> (&[u8], &[u8])
     ensures parts { text.now ≡ result.0.now ++ result.1.now }
     ensures plain { IsPlain result.0.now }
@@ -42,7 +42,7 @@ fn cut_word(text: &[u8]) -> (&[u8], &[u8])
     (text, &[])
 }
 
-/// The first word of a text, and what stands behind it; `None` where there is none.
+/// The first word of a text, and what stands after it; `None` where there is none.
 pub(crate) fn next_word(text: &[u8]) -> Option<(&[u8], &[u8])>
     ensures some { IfSome result (λ next. words_of text.now ≡ next.0.now ∷ words_of next.1.now) }
     ensures word { IfSome result (λ next. IsWord next.0.now) }

@@ -40,7 +40,7 @@ fn has(row: &Record<'_>, byte: u8) -> bool {
     false
 }
 
-/// Whether a column behind the first is called by a name but for the case of its letters, if one
+/// Whether a column after the first is called by a name but for the case of its letters, if one
 /// was told and none is called by that itself.
 fn is_called(row: &Record<'_>, name: &Option<String>) -> bool {
     let Some(name) = name else {

@@ -38,7 +38,7 @@ pub record IsBusOfTable (options : EdgesOptions) (records : List (List (List ℕ
   pub pulses_noted : AreNoted bus.pulses pulses
   pub damaged_noted : AreNoted bus.damaged damaged
 
--- records begin with a header of these columns, and these come behind it
+-- records begin with a header of these columns, and these come after it
 pub record IsHeaded (options : EdgesOptions) (all : List (List (List ℕ))) (columns : Columns)
     (rest : List (List (List ℕ))) : Type 0 where
   pub header : List (List ℕ)

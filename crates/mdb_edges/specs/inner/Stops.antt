@@ -76,7 +76,7 @@ IsOfRecord options columns row (stop.Level line micros) =
     (at : ℕ) × IsLevelless options columns row line at × (micros ≡ micros_of at)
 IsOfRecord options columns row (stop.Levels fault) = ⊥
 
--- what is wrong with a record behind moments, or behind the last record
+-- what is wrong with a record after moments, or after the last record
 abbrev pub IsMet : EdgesOptions → Columns → List Moment → List (List (List ℕ)) → Stop → Type 0
 IsMet options columns moments [] (stop.Form fault) = ⊥
 IsMet options columns moments (row ∷ others) (stop.Form fault) =

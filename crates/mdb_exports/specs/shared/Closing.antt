@@ -11,7 +11,7 @@ abbrev pub telling : {T E S : Type 0} → S → Result T E → Result S E
 telling told (Ok done) = Ok told
 telling told (Err fault) = Err fault
 
--- A fault is told once the line stands behind what waited; or the writer fails at that, and so is
+-- A fault is told once the line stands after what waited; or the writer fails at that, and so is
 -- the fault that is told; or it had failed before, and nothing more is written.
 abbrev pub Refuses : {E : Type 0} → E → Output → Option (List ℕ) → E → E → Type 0
 Refuses failed now later fault told =

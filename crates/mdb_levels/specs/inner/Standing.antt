@@ -94,7 +94,7 @@ pub record IsWaiting (skip : Bool) (line : Line) (level : ℕ → Bool) (known :
   pub late : middle_of start 10 < known
   pub low : Holds level (middle_of start 10) known false
 
--- a pulse: the line is high from the middle of a start bit up to an instant behind it
+-- a pulse: the line is high from the middle of a start bit up to an instant after it
 pub record IsPulse (level : ℕ → Bool) (start at : ℕ) : Type 0 where
   pub before : middle_of start 0 < at
   pub high : Holds level (middle_of start 0) at true

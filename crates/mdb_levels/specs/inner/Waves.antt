@@ -56,19 +56,19 @@ pub record HasTurned (skip : Bool) (wave : Wave) (line : Line) (moments : List M
   pub heard : HasHeard skip wave line moments (found ++ more)
   pub noted : IsPassed old new more
 
--- nothing more is found, whatever moments come behind these
+-- nothing more is found, whatever moments come after these
 abbrev pub IsBarred : Bool → Line → List Moment → Type 0
 IsBarred skip line moments =
     (level : ℕ → Bool) → Shows line level false 0 moments → HasNone skip line level
 
--- a moment that comes behind others, of which a line takes this level at this instant
+-- a moment that comes after others, of which a line takes this level at this instant
 pub record IsNow (line : Line) (moments : List Moment) (moment : Moment) (at : ℕ) (high : Bool) :
     Type 0 where
   pub instant : moment.at ≡ at
   pub level : level_on line moment ≡ high
   pub later : end_of 0 moments ≤ at
 
--- levels are those of a line that moments tell, and stay so behind the last of them
+-- levels are those of a line that moments tell, and stay so after the last of them
 pub record Fits (line : Line) (level : ℕ → Bool) (moments : List Moment) : Type 0 where
   pub shows : Shows line level false 0 moments
   pub stays : (t : ℕ) → end_of 0 moments ≤ t → level t ≡ last_of line false moments

@@ -29,7 +29,7 @@ use Rattle.mdb_saleae.specs.declared.rows.Found.{Found}
 use Rattle.mdb_saleae.specs.declared.rows.Found.TheVariants.{Row, Damaged}
 use Rattle.mdb_saleae.specs.declared.rows.Refusal.{Refusal}
 
--- the columns of the first of some records, behind which others come; or why there are none
+-- the columns of the first of some records, after which others come; or why there are none
 abbrev pub Begins : {R : Type 0} → (R → Option (List ℕ)) → Records R → List (List (List ℕ))
     → Result Columns SaleaeFault → Type 0
 Begins remaining now records (Ok columns) =
@@ -37,7 +37,7 @@ Begins remaining now records (Ok columns) =
     × IsColumns header columns × ToCome remaining now rows
 Begins remaining now records (Err fault) = IsHeaderAnswer records (Err fault)
 
--- a read of the records behind a header failed after they stood so; or there are more than can be
+-- a read of the records after a header failed after they stood so; or there are more than can be
 -- counted with the header
 abbrev pub HasFailedBehind : {R : Type 0} → (R → Option (List ℕ)) → Records R → Records R → Type 0
 HasFailedBehind remaining before after = (fault_of after ≡ Some reading.Read)
@@ -100,7 +100,7 @@ TakesOne options columns importing before after done events row (Err Memory) =
     Puts before after (part_text options events)
 TakesOne options columns importing before after done events row (Err other) = ⊥
 
--- the answer to the records behind a header, where some of the text may still be on its way
+-- the answer to the records after a header, where some of the text may still be on its way
 abbrev pub PutsRows : SaleaeOptions → Columns → List (List (List ℕ)) → Output → Output
     → Result Imported SaleaeFault → Type 0
 PutsRows options columns rows before after answer =

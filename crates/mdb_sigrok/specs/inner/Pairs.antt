@@ -60,7 +60,7 @@ pub record IsNext (swap : Bool) (lines : List (List ℕ)) (pair : Pair) (more : 
   pub parts : lines ≡ first ∷ second ∷ rest
   pub tells : IsPair swap pair first second more
 
--- what the lines behind a record tell: pairs, or nothing more
+-- what the lines after a record tell: pairs, or nothing more
 abbrev pub Remains : Bool → Bool → List (List ℕ) → List Pair → Type 0
 Remains swap true lines pairs = TellPairs swap lines pairs
 Remains swap false lines pairs = (lines ≡ codes "]}" ∷ []) × (pairs ≡ [])

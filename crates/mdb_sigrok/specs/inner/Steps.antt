@@ -41,7 +41,7 @@ told_by (Some note) = note ∷ []
 abbrev pub noted_by : Told → List Note
 noted_by told = told_by told.ended ++ told_by told.itself
 
--- What a break condition behind the frame error of a word tells, and the earliest microsecond of
+-- What a break condition after the frame error of a word tells, and the earliest microsecond of
 -- what comes next: a break, or else, where damaged words are left out, one of these.
 pub data LowNote : Bool → Line → ℕ → Pair → ℕ → Pair → Note → ℕ → Type 0 where
   of_break : {skip : Bool} {line : Line} {earliest : ℕ} {start : Pair} {value : ℕ} {end : Pair} →
@@ -52,7 +52,7 @@ pub data LowNote : Bool → Line → ℕ → Pair → ℕ → Pair → Note → 
       LowNote true line earliest start value end (Damaged (micros_of start.from))
       (micros_of start.from + 1)
 
--- Whatever comes behind, these records and those tell what was told, and what the later ones tell.
+-- These records and those tell what was told, and what the later ones tell, whatever comes after.
 pub record Leads (skip : Bool) (line : Line) (earliest : ℕ) (front : List Pair) (later : ℕ)
     (behind : List Pair) (told : List Note) : Type 0 where
   pub took : (pairs : List Pair) (notes : List Note)
@@ -63,14 +63,14 @@ pub record Leads (skip : Bool) (line : Line) (earliest : ℕ) (front : List Pair
       → (more : List Note) × (notes ≡ told ++ more)
       × LineRows skip line later (behind ++ pairs) more
 
--- where a line stands behind some records
+-- where a line stands after some records
 pub record IsState (skip : Bool) (line : Line) (earliest : ℕ) (front : List Pair)
     (told : List Note) (state : State) : Type 0 where
   pub leads : Leads skip line earliest front state.earliest (open_pairs state.held) told
   pub apart : IsOpen skip state.earliest state.held
   pub same : state.line ≡ line
 
--- nothing is told by these records, whatever comes behind
+-- nothing is told by these records, whatever comes after
 abbrev pub Blocks : Bool → Line → ℕ → List Pair → Type 0
 Blocks skip line earliest front = (pairs : List Pair) (notes : List Note)
     → LineRows skip line earliest (front ++ pairs) notes → ⊥

@@ -37,7 +37,7 @@ pub record HasRead (options : VcdOptions) (dump : Dump) (words : List (List ℕ)
   pub heard : HaveHeard options.skip_damaged dump.lines done
   pub before : end_of 0 done ≤ dump.stand.now.at
 
--- why a word stops a reading behind these words
+-- why a word stops a reading after these words
 abbrev pub IsStoppedBy : VcdOptions → List (List ℕ) → List ℕ → Stop → Type 0
 IsStoppedBy options words word stop.Memory = Unit {0}
 IsStoppedBy options words word (stop.Form fault) = IsStopped options words word (stop.Form fault)
