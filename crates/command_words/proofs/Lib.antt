@@ -9,3 +9,4 @@ pub mod Simple
 pub mod Reading
 pub mod Building
 pub mod Manuals
+pub mod Lines

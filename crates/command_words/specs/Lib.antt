@@ -1,4 +1,5 @@
 pub mod Grammar
+pub mod Lines
 pub mod Table
 pub mod Manual
 pub mod Apps

@@ -1,5 +1,9 @@
 //! The line on a command line that is refused.
 
+ghost use Rattle.std.specs.Prelude.{◌≡◌, [], ◌∷◌, codes};
+ghost use Rattle.clap.specs.Words.{kind_of};
+ghost use Rattle.command_words.specs.Lines.{with_texts};
+
 use super::line::Line;
 use super::table::{CommandRow, Program, command_named};
 use super::told::add_fault;
@@ -16,7 +20,11 @@ pub fn line_on_refused(
     program: &Program<'_>,
     words: &[String],
     error: &Error,
-) -> Line {
+) -> Line
+    // Asked for the version, it says that alone.
+    ensures version { kind_of error.now ≡ ErrorKind.DisplayVersion → result
+        ≡ with_texts [] (program.now.name.now ∷ codes " " ∷ program.now.version.now ∷ []) }
+{
     let mut line = Line::of(program);
     let row = row_of(program, words);
     let name = program.name;
