@@ -127,6 +127,17 @@ made number first last scope report = record {
   report = report;
 }
 
+-- the stretch that runs, which has this report
+abbrev running_with : Surveyor → Report → Stretch
+running_with surveyor report =
+    made (surveyor.faults.all + 1) (surveyor.before + 1) (surveyor.before + report.rows)
+    surveyor.scope report
+
+-- an offence of that stretch, as a fault of the recording
+abbrev fault_by : ℕ → Offence → Offence
+fault_by before offence =
+    record { row = before + offence.row; rule = offence.rule; blame = offence.blame }
+
 same_stretch : (n m f g l k : ℕ) (s t : Scope) (report : Report) → n ≡ m → f ≡ g → l ≡ k → s ≡ t
     → made n f l s report ≡ made m g k t report
 same_stretch n m f g l k s t report number first last so =
@@ -154,62 +165,43 @@ stretch_told scope rows ended running place counts before taken report lead faul
 
 -- the stretch that runs
 pub runs : (surveyor : Surveyor) (scope : Scope) (rows : List Event) (ended : List Ended)
-    (report : Report) (taken : Scope) → StandsFor surveyor scope rows ended
+    (report : Report) (last : Stretch) → StandsFor surveyor scope rows ended
     → ((events : List Event) → follow.StandsFor surveyor.follower events
-    → IsReport (follow.scope_of surveyor.follower) events report) → taken ≡ surveyor.scope
-    → IsSurvey scope rows ended (record {
-      number = surveyor.faults.all + 1;
-      first = surveyor.before + 1;
-      last = surveyor.before + report.rows;
-      scope = taken;
-      report = report;
+    → IsReport (follow.scope_of surveyor.follower) events report)
+    → last ≡ running_with surveyor report → IsSurvey scope rows ended last
+runs surveyor scope rows ended report last on reports is =
+    subst (IsSurvey scope rows ended) (sym is) (record {
+      running = on.running;
+      place = on.place;
+      lead = on.lead;
+      is = record {
+        is =
+            subst (λ s. IsReport s on.running report) on.followed_so
+            (reports on.running on.follows);
+        begins = stretch_told scope rows ended on.running on.place surveyor.faults surveyor.before
+            surveyor.scope report on.lead on.faults on.before on.taken_so;
+      };
     })
-runs surveyor scope rows ended report taken on reports same = record {
-  running = on.running;
-  place = on.place;
-  lead = on.lead;
-  is = record {
-    is = subst (λ s. IsReport s on.running report) on.followed_so (reports on.running on.follows);
-    begins = stretch_told scope rows ended on.running on.place surveyor.faults surveyor.before taken
-        report on.lead on.faults on.before (same ∙ on.taken_so);
-  };
-}
 
 some_one : (one other : Offence) → Some one ≡ Some other → one ≡ other
 some_one one other same = cc same
 
 -- the stretch after a fault begins
 pub next_stands : OneActList → (old new : Surveyor) (scope : Scope) (rows : List Event)
-    (row : Event) (ended : List Ended) (offence : Offence) (report : Report) (taken : Scope)
+    (row : Event) (ended : List Ended) (offence : Offence) (report : Report) (stretch : Stretch)
     → HasHalted old scope rows row ended → follow.offence_of old.follower ≡ Some offence
     → ((events : List Event) → follow.HasAccepted old.follower events
-    → IsReport (follow.scope_of old.follower) events report) → taken ≡ old.scope
-    → follow.StandsFor new.follower []
+    → IsReport (follow.scope_of old.follower) events report)
+    → stretch ≡ running_with old report → follow.StandsFor new.follower []
     → follow.scope_of new.follower ≡ scope_after old.told offence old.scope.without
     → new.scope ≡ scope_after old.told offence old.scope.without → new.told ≡ old.told
     → new.before ≡ old.before + offence.row
-    → ((faults : List Offence) → old.faults ≡ counts_of_faults faults → new.faults
-    ≡ counts_of_faults (record {
-      row = old.before + offence.row;
-      rule = offence.rule;
-      blame = offence.blame;
-    } ∷ faults))
+    → ((faults : List Offence) → old.faults ≡ counts_of_faults faults
+    → new.faults ≡ counts_of_faults (fault_by old.before offence ∷ faults))
     → new.totals ≡ with_report old.totals report
-    → StandsFor new scope (rows ++ row ∷ []) (record {
-      stretch = record {
-        number = old.faults.all + 1;
-        first = old.before + 1;
-        last = old.before + report.rows;
-        scope = taken;
-        report = report;
-      };
-      fault = record {
-        row = old.before + offence.row;
-        rule = offence.rule;
-        blame = offence.blame;
-      };
-    } ∷ ended)
-next_stands one old new scope rows row ended offence report taken on noted reports same begun
+    → StandsFor new scope (rows ++ row ∷ [])
+    (record { stretch = stretch; fault = fault_by old.before offence } ∷ ended)
+next_stands one old new scope rows row ended offence report stretch on noted reports same begun
     follows_so so told before faults totals =
     let pieces : List Piece = on.accepted.pieces in
     let list : IsActList on.place.scope pieces on.running =
@@ -223,21 +215,21 @@ next_stands one old new scope rows row ended offence report taken on noted repor
     let is : IsOffence on.place.scope on.running row offence =
     subst (λ o. IsOffence on.place.scope on.running row o) met on.is in
     let number : offence.row ≡ length on.running + 1 = is.number in
-    record {
+    let Stands : Stretch → Type 0 = λ s. StandsFor new scope (rows ++ row ∷ [])
+    (record { stretch = s; fault = fault_by old.before offence } ∷ ended) in
+    subst Stands (sym same) (record {
       running = [];
       place = next;
       lead = lead_on (first_place scope) rows ended on.running on.place row _ next on.lead (record {
         stretch = record {
           is = subst (λ s. IsReport s on.running report) on.followed_so
               (reports on.running on.accepted);
-          begins = stretch_told scope rows ended on.running on.place old.faults old.before taken
-              report on.lead on.faults on.before (same ∙ on.taken_so);
+          begins = stretch_told scope rows ended on.running on.place old.faults old.before old.scope
+              report on.lead on.faults on.before on.taken_so;
         };
         offence = offence;
         is = is;
-        row_is =
-            ap (λ n. record { row = n + offence.row; rule = offence.rule; blame = offence.blame })
-            on.before;
+        row_is = ap (λ n. fault_by n offence) on.before;
         pieces = pieces;
         act_list = list;
         on = refl;
@@ -249,7 +241,7 @@ next_stands one old new scope rows row ended offence report taken on noted repor
       before = omega (arith, before, on.before, number);
       faults = faults (map (λ (it : Ended). it.fault) ended) on.faults;
       totals = totals ∙ ap (λ (t : Totals). with_report t report) on.totals;
-    }
+    })
 
 -- a summary by its parts
 abbrev summed : Totals → DeviceSet → FaultCounts → Summary

@@ -19,7 +19,7 @@ use crate::summary::Summary;
 use crate::told::Told;
 use crate::totals::Totals;
 use mdb_bus::{Beginning, Blame, Rule, Scope, laws as links};
-use mdb_follow::{Follower, Offence};
+use mdb_follow::{Follower, Offence, Report};
 use mdb_msgs::{Device, DeviceSet, ReaderUnit};
 use mdb_words::Event;
 
@@ -51,7 +51,6 @@ impl Surveyor {
     ghost use Rattle.mdb_stretches.specs.Stretches.{IsSurvey};
     ghost use Rattle.mdb_stretches.specs.Summaries.{summary_of};
     ghost use Rattle.mdb_stretches.specs.Surveyor.{EndsAmong, StandsFor, rows_of};
-    ghost use Rattle.mdb_stretches.specs.Totals.{CanBeAdded};
     ghost use Rattle.mdb_stretches.specs.inner.Halts.{HasHalted};
 
     /// The surveyor before the first row of a recording with this scope.
@@ -137,8 +136,8 @@ impl Surveyor {
     {
         links::transcripts_have_one_act_list();
         match self.follower.feed_ending(event) {
-            Some(ended) => {
-                self.told.learn_if(ended, self.follower.act());
+            Some(has_ended) => {
+                self.told.learn_if(has_ended, self.follower.act());
                 true
             }
             None => false,
@@ -151,17 +150,20 @@ impl Surveyor {
         ensures { (scope : Scope) (rows : List Event) (ended : List Ended)
             → StandsFor self.now scope rows ended → IsSurvey scope rows ended result }
     {
-        self.running()
+        self.running(self.follower.report_before())
     }
 
-    /// The stretch that runs, whose report can be added to the totals.
-    fn running(&self) -> Stretch
-        ensures stretch { (scope : Scope) (rows : List Event) (ended : List Ended)
-            → StandsFor self.now scope rows ended → IsSurvey scope rows ended result }
-        ensures scope { result.scope ≡ self.now.scope }
-        ensures within { CanBeAdded self.now.totals result.report }
+    /// The stretch that runs, which has this report.
+    fn running(&self, report: Report) -> Stretch
+        requires { self.now.before + report.rows ≤ ROWS_MAX }
+        ensures { result ≡ record {
+          number = self.now.faults.all + 1;
+          first = self.now.before + 1;
+          last = self.now.before + report.rows;
+          scope = self.now.scope;
+          report = report;
+        } }
     {
-        let report = self.follower.report_before();
         Stretch {
             number: self.faults.all + 1,
             first: self.before + 1,
@@ -178,9 +180,10 @@ impl Surveyor {
             → StandsFor self.now scope rows ended
             → IsSurvey scope rows ended result.0 × (result.1 ≡ summary_of ended result.0) }
     {
-        let last = self.running();
+        let report = self.follower.report_before();
+        let last = self.running(report);
         let summary = Summary {
-            totals: self.totals.with(&last.report),
+            totals: self.totals.with(&report),
             without: self.scope.without,
             faults: self.faults,
         };
@@ -208,13 +211,7 @@ impl Surveyor {
             rule: offence.rule,
             blame: offence.blame,
         };
-        let stretch = Stretch {
-            number: self.faults.all + 1,
-            first: self.before + 1,
-            last: self.before + report.rows,
-            scope: self.scope.copy(),
-            report,
-        };
+        let stretch = self.running(report);
         self.totals = self.totals.with(&report);
         self.faults.add(&fault);
         self.before = fault.row;

@@ -12,6 +12,10 @@ with-self-requires c =
     c.report_before-report.result c.args.self.now.few c.args.self.now.within
     c.report_before-report.ensures.within c.report_before-report.ensures.rows
 
+pub running-stretch-requires : goal.running-stretch-requires
+running-stretch-requires c =
+    omega (arith, c.args.self.now.few, c.report_before-report.ensures.rows)
+
 pub invariant_of-self : goal.invariant_of-self
 invariant_of-self c = record {
   few = omega (arith, c.scoped.ensures.empty, c.in-Some.ensures.numbered, c.requires.room);
@@ -31,8 +35,8 @@ invariant_of-self c = record {
 pub returns-clause-ended : goal.returns-clause-ended
 returns-clause-ended c scope rows row ended on =
     next_stands c.transcripts_have_one_act_list.ensures c.args.self.now _ scope rows row ended
-    c.in-Some.offence c.report_before-report.result c.copy.result on
+    c.in-Some.offence c.report_before-report.result c.running-stretch.result on
     (sym c.offence.ensures.met ∙ c.in-Some.is)
-    c.report_before-report.ensures.before c.copy.ensures c.scoped.ensures.stands
+    c.report_before-report.ensures.before c.running-stretch.ensures c.scoped.ensures.stands
     (c.scoped.ensures.scope ∙ c.scope_after-self.ensures) c.scope_after-self.ensures refl refl
     c.add.ensures.counts c.with-self.ensures

@@ -1,14 +1,29 @@
-use Rattle.std.proofs.Common.{ap, sym, ◌∙◌}
-use Rattle.mdb_bus.specs.declared.scope.Scope.{Scope}
+use Rattle.std.proofs.Common.{arith, ap, sym, ◌∙◌}
+use Rattle.mdb_follow.specs.Follower as follow
+use Rattle.mdb_stretches.specs.declared.stretch.Stretch.{Stretch}
 use Rattle.mdb_stretches.specs.declared.totals.Totals.{Totals}
-use Rattle.mdb_stretches.specs.Totals.{with_report}
-use Rattle.mdb_stretches.proofs.Standing.{same_summary}
+use Rattle.mdb_stretches.specs.Totals.{totals_of, with_report}
+use Rattle.mdb_stretches.proofs.Standing.{runs, same_summary}
+use Rattle.mdb_stretches.proofs.Within.{can_be_added}
 use Rattle.mdb_stretches.proofs.surveyor.Surveyor.ending.Goals as goal
+
+pub running-last-requires : goal.running-last-requires
+running-last-requires c =
+    omega (arith, c.args.self.now.few, c.report_before-report.ensures.rows)
+
+pub with-requires : goal.with-requires
+with-requires c =
+    can_be_added c.args.self.now.before (follow.rows_of c.args.self.now.follower)
+    c.args.self.now.totals
+    c.report_before-report.result c.args.self.now.few c.args.self.now.within
+    c.report_before-report.ensures.within c.report_before-report.ensures.rows
 
 pub returns : goal.returns
 returns c scope rows ended on = (
-  c.running-last.ensures.stretch scope rows ended on,
+  runs c.args.self.now scope rows ended c.report_before-report.result c.running-last.result on
+      c.report_before-report.ensures.going c.running-last.ensures,
   same_summary _ _ _ _ _ _
-      (c.with.ensures ∙ ap (λ (t : Totals). with_report t c.running-last.result.report) on.totals)
-      (sym (ap (λ (s : Scope). s.without) c.running-last.ensures.scope)) on.faults,
+      (c.with.ensures ∙ ap (λ (t : Totals). with_report t c.report_before-report.result) on.totals
+      ∙ ap (λ (s : Stretch). with_report (totals_of ended) s.report) (sym c.running-last.ensures))
+      (ap (λ (s : Stretch). s.scope.without) (sym c.running-last.ensures)) on.faults,
 )

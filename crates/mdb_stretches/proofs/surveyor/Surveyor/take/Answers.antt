@@ -11,11 +11,11 @@ pub returns-in-Some-clause-taken : goal.returns-in-Some-clause-taken
 returns-in-Some-clause-taken c scope rows ended on =
     taken_more c.transcripts_have_one_act_list.ensures c.args.self.now _ scope rows ended
     c.args.event
-    (ended_act c.in-Some.ended (follow.act_of c.feed_ending.new.self)) on
+    (ended_act c.in-Some.has_ended (follow.act_of c.feed_ending.new.self)) on
     c.in-Some.ensures.taken.stands
     c.feed_ending.ensures.scope c.in-Some.ensures.act
     (c.learn_if.ensures
-    ∙ ap (λ act. learnt_if (ended_act c.in-Some.ended act) c.args.self.now.told) c.act.ensures)
+    ∙ ap (λ act. learnt_if (ended_act c.in-Some.has_ended act) c.args.self.now.told) c.act.ensures)
     refl refl refl refl
 
 pub returns-in-None-clause-halted : goal.returns-in-None-clause-halted
