@@ -77,8 +77,9 @@ pub fn explain_scoped<R: Read + Drop, W: Write>(
     explain_records(alloc, without, &mut records, writer, goal)
 }
 
-/// Explains the records that are still to come, and writes the text of that. Afterwards `records`
-/// can still be asked where reading ended.
+/// Explains the records that are still to come, and writes the text of that. The rows are kept, and
+/// after a yes they are followed a second time, for the marks. Afterwards `records` can still be
+/// asked where reading ended.
 pub fn explain_records<R: Read + Drop, W: Write>(
     alloc: Global,
     without: DeviceSet,
@@ -133,6 +134,7 @@ fn kept_outcome<R: Read + Drop>(
     laws::sales_follow_their_approvals();
     match read_rows(records, &mut Batch::new(), keeping, &mut (), ROWS_MAX)? {
         None => Ok(outcome_of(&keeping.follower)),
+        // A row that can't be, or else refused memory.
         Some(stop) => Ok(Outcome::No(stop?)),
     }
 }

@@ -34,7 +34,8 @@ impl Keeping {
     }
 }
 
-/// It stops at the first row that cannot be, or where rows can't be kept, which may all be then.
+/// It stops at the first row that can't be. Or it stops where memory is refused for rows that all
+/// can be.
 impl TakeRows<()> for Keeping {
     ghost use Rattle.std.proofs.Common.{ap};
     ghost use Rattle.mdb_follow.specs.declared.follower.TheConstants.{ROWS_MAX};

@@ -131,6 +131,7 @@ pub fn replay_outcome<R: Read + Drop>(
     let mut taker = Replaying::new(alloc, without);
     match read_rows(records, &mut Batch::new(), &mut taker, &mut (), ENTRIES_MAX)? {
         None => taker.finish(),
+        // A row that can't be, or else a mark that isn't followed or refused memory.
         Some(stop) => Ok(Outcome::No(stop?)),
     }
 }
