@@ -50,7 +50,7 @@ impl TakeRows<()> for Keeping {
 
     ghost count = { λ keeping. length keeping.rows.items };
 
-    ghost scope = { λ keeping. scope_of keeping.follower };
+    ghost kept = { λ keeping. scope_of keeping.follower };
 
     ghost has = { λ keeping before after. HasKept (scope_of keeping.follower) keeping };
 

@@ -228,7 +228,7 @@ impl TakeRows<()> for Replaying {
 
     ghost count = { λ taker. length taker.marks.items + rows_of taker.replay };
 
-    ghost scope = { λ taker. scope_of taker.replay };
+    ghost kept = { λ taker. scope_of taker.replay };
 
     ghost has = { λ taker before after. HasReplayed (scope_of taker.replay) taker };
 

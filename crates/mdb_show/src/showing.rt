@@ -171,7 +171,7 @@ impl<W: Write> TakeRows<W> for Showing {
 
     ghost Kept = { Scope × Form };
 
-    ghost scope = { λ showing. (scope_of showing.lines.bus, showing.form) };
+    ghost kept = { λ showing. (scope_of showing.lines.bus, showing.form) };
 
     ghost has = { λ showing before after rows. HasShown (lines_in showing.form)
         (scope_of showing.lines.bus) showing.lines (begun (W.contents before))

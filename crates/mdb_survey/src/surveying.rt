@@ -164,7 +164,7 @@ impl<W: Write> TakeRows<W> for Surveying {
 
     ghost Kept = { Scope × Form };
 
-    ghost scope = { λ surveying. (surveying.scope, surveying.form) };
+    ghost kept = { λ surveying. (surveying.scope, surveying.form) };
 
     ghost has = { λ surveying before after rows. HasSurveyed (survey_lines_in surveying.form)
         surveying.scope surveying.surveyor (begun (W.contents before))

@@ -131,7 +131,7 @@ impl TakeRows<Levels> for Judging {
 
     ghost count = { λ judging. rows_of judging.follower };
 
-    ghost scope = { λ judging. scope_of judging.follower };
+    ghost kept = { λ judging. scope_of judging.follower };
 
     ghost has = { λ judging readers after. HasFollowed (scope_of judging.follower) readers
         judging };

@@ -27,11 +27,12 @@ pub trait TakeRows<O> {
     /// The number of rows that it has accepted.
     ghost count: { Self → ℕ };
 
-    /// What stays as it is while rows are taken: how the recording is taken, and maybe more.
+    /// What no row changes: how the recording is taken, and of some types also the form of what
+    /// they write.
     ghost Kept: { Type 0 } = { Scope };
 
-    /// How the recording is taken whose rows it takes.
-    ghost scope: { Self → Self.Kept };
+    /// What it has of that.
+    ghost kept: { Self → Self.Kept };
 
     /// It has taken these rows and no others. What it tells to was in the first state before them,
     /// and is in the second.
@@ -52,7 +53,8 @@ pub trait TakeRows<O> {
         ensures taken { (before : O) (earlier : List Self.Row) → has self.old before out.old earlier
             → HasTakenOrStopped (has self.new before out.new) (stops self.new before out.new)
             earlier rows.now result }
-        ensures same_scope { scope self.new ≡ scope self.old };
+        // The rows change nothing of it.
+        ensures keeps { kept self.new ≡ kept self.old };
 
     /// Which rows it has taken tells how many.
     ghost counts: { (taker : Self) (before after : O) (rows : List Self.Row)
@@ -82,14 +84,14 @@ pub fn read_rows<R: Read + Drop, O, T: TakeRows<O>>(
         (T.stops taker.new out.old out.new) rows_max all result }
     ensures whole { IsOverLimit R.remaining records.old → result ≢ Ok None }
     ensures few { result ≡ Ok None → T.count taker.new ≤ rows_max }
-    ensures kept { result ≡ Ok None
+    ensures taken { result ≡ Ok None
         → (rows : List T.Row) × T.has taker.new out.old out.new rows }
     ensures stopped { IfOk result (λ stop. IfSome stop
         (IsStop (T.stops taker.new out.old out.new))) }
     ensures heard { IfErr result (IsHeard (fault_of records.new)) }
     ensures met { fault_of records.old ≡ None → IfSome (fault_of records.new)
         (λ fault. IsToldEnd fault result) }
-    ensures same_scope { T.scope taker.new ≡ T.scope taker.old }
+    ensures keeps { T.kept taker.new ≡ T.kept taker.old }
     ensures counted { IfErr result (λ fault. FindsUpTo fault
         (found_by records.old + T.count taker.new) (found_by records.new)) }
 {

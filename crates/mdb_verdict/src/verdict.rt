@@ -243,7 +243,7 @@ impl TakeRows<()> for Follower {
 
     ghost count = { rows_of };
 
-    ghost scope = { scope_of };
+    ghost kept = { scope_of };
 
     ghost has = { λ follower before after. HasFollowedRows (scope_of follower) follower };
 

@@ -17,7 +17,7 @@ returns-in_err-read_rows-clause-answer g c all to_come =
     let scope = scope_of keeping.follower in
     let Ended : Result (Option (Result Offence RunFault)) RunFault → Type 0 =
     λ r. HasEnded IsRow IsRefusal (HasKept scope keeping) (StopsKeeping scope) ROWS_MAX all r in
-    subst (λ s. IsAnswer s ROWS_MAX all c.from_residual.result) c.read_rows.ensures.same_scope
+    subst (λ s. IsAnswer s ROWS_MAX all c.from_residual.result) c.read_rows.ensures.keeps
     (explanations.refused scope c.followers_stand_for_reached_rows.ensures ROWS_MAX all keeping
     c.in_err-read_rows.field-0.0
     (subst Ended c.in_err-read_rows.was (c.read_rows.ensures.ended all to_come))
@@ -30,7 +30,7 @@ returns-in-None-clause-answer g c all to_come =
     let Ended : Option (Result Offence RunFault) → Type 0 = λ stop.
     HasEnded IsRow IsRefusal (HasKept scope keeping) (StopsKeeping scope) ROWS_MAX all
     (Ok stop) in
-    subst (λ s. IsAnswer s ROWS_MAX all (Ok c.outcome_of.result)) c.read_rows.ensures.same_scope
+    subst (λ s. IsAnswer s ROWS_MAX all (Ok c.outcome_of.result)) c.read_rows.ensures.keeps
     (verdicts.whole scope (c.sales_follow_their_approvals.ensures scope) ROWS_MAX all
     keeping.follower (explanations.followed_whole scope ROWS_MAX all keeping
     (subst Ended c.in-None.is (c.in_ok-read_rows.ensures.ended all to_come)))
@@ -56,7 +56,7 @@ returns-in_ok-stop-in-Some-clause-answer g c all to_come =
     let Stopped : Result Offence RunFault → Type 0 = λ stop.
     IsStopped IsRow (λ earlier later. StopsKeeping scope earlier later stop) ROWS_MAX all in
     subst (λ s. IsImpossible s ROWS_MAX all c.in_ok-stop-in-Some.field-0)
-    c.read_rows.ensures.same_scope
+    c.read_rows.ensures.keeps
     (verdicts.impossible scope ROWS_MAX all c.in_ok-stop-in-Some.field-0
     (subst Stopped c.in_ok-stop-in-Some.was
     (subst Ended c.in-Some.is (c.in_ok-read_rows.ensures.ended all to_come))))
@@ -67,4 +67,4 @@ returns-in-None-clause-reached g c =
     explanations.if_yes c.outcome_of.result _
     (explanations.kept_reached _ keeping
     (c.followers_stand_for_reached_rows.ensures keeping.follower)
-    (c.in_ok-read_rows.ensures.kept (ap Ok c.in-None.is)) c.read_rows.ensures.same_scope)
+    (c.in_ok-read_rows.ensures.taken (ap Ok c.in-None.is)) c.read_rows.ensures.keeps)

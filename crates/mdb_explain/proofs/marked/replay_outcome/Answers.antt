@@ -21,7 +21,7 @@ returns-in_err-read_rows-clause-answer g c all to_come =
     let Ended : Result (Option (Result Offence MarkedFault)) RunFault → Type 0 = λ r.
     HasEnded IsEntry IsNoEntry (HasReplayed scope taker) (HasStopped scope) 200000001 all r in
     subst (λ s. IsReplayAnswer s ROWS_MAX all c.from_residual.result)
-    (c.read_rows.ensures.same_scope ∙ c.new-taker.ensures.scope)
+    (c.read_rows.ensures.keeps ∙ c.new-taker.ensures.scope)
     (answers.refused scope all taker (HasStopped scope) c.in_err-read_rows.field-0.0
     (subst Ended c.in_err-read_rows.was (c.read_rows.ensures.ended all to_come))
     c.from_residual.result c.from_residual.ensures.1)
@@ -34,7 +34,7 @@ returns-in-None-clause-answer g c all to_come =
     HasEnded IsEntry IsNoEntry (HasReplayed scope taker) (HasStopped scope) 200000001 all
     (Ok stop) in
     subst (λ s. IsReplayAnswer s ROWS_MAX all c.finish.result)
-    (c.read_rows.ensures.same_scope ∙ c.new-taker.ensures.scope)
+    (c.read_rows.ensures.keeps ∙ c.new-taker.ensures.scope)
     (answers.whole scope 200000001 all taker
     (subst Ended c.in-None.is (c.in_ok-read_rows.ensures.ended all to_come)) c.finish.result
     (λ taken has. c.finish.ensures.finishes scope taken has))
@@ -49,7 +49,7 @@ returns-in_err-stop-in-Some-clause-answer g c all to_come =
     let Stopped : Result Offence MarkedFault → Type 0 = λ stop.
     IsStopped IsEntry (λ earlier later. HasStopped scope earlier later stop) 200000001 all in
     subst (λ s. IsReplayAnswer s ROWS_MAX all c.from_residual-in_err-stop-in-Some.result)
-    (c.read_rows.ensures.same_scope ∙ c.new-taker.ensures.scope)
+    (c.read_rows.ensures.keeps ∙ c.new-taker.ensures.scope)
     (answers.stopped scope 200000001 all c.in_err-stop-in-Some.field-0.0
     (subst Stopped c.in_err-stop-in-Some.was
     (subst Ended c.in-Some.is (c.in_ok-read_rows.ensures.ended all to_come)))
@@ -65,7 +65,7 @@ returns-clause-answer g c all to_come =
     let Stopped : Result Offence MarkedFault → Type 0 = λ stop.
     IsStopped IsEntry (λ earlier later. HasStopped scope earlier later stop) 200000001 all in
     subst (λ s. IsReplayAnswer s ROWS_MAX all (Ok (No c.in_ok-stop-in-Some.field-0)))
-    (c.read_rows.ensures.same_scope ∙ c.new-taker.ensures.scope)
+    (c.read_rows.ensures.keeps ∙ c.new-taker.ensures.scope)
     (answers.offends scope 200000001 all c.in_ok-stop-in-Some.field-0 (subst Stopped
     c.in_ok-stop-in-Some.was
     (subst Ended c.in-Some.is (c.in_ok-read_rows.ensures.ended all to_come))))

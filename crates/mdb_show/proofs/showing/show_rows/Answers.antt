@@ -28,7 +28,7 @@ returns-in_err-stop-clause-shows g c all to_come =
     (HasStopped form scope taker.lines before now) ROWS_MAX all told in
     let Puts : Scope × Form → Type 0 = λ kept.
     PutsShowing (lines_in kept.1) kept.0 all before now c.from_residual.result in
-    subst Puts c.read_rows.ensures.same_scope
+    subst Puts c.read_rows.ensures.keeps
     (handed_on (PutsShowing form scope all before now) c.in_err-stop.field-0.0
     (showings.refused_by form scope all taker.lines before now c.in_err-stop.field-0.0
     (subst Ended c.in_err-stop.was (c.read_rows.ensures.ended all to_come)))
@@ -50,7 +50,7 @@ returns-in_err-stop-2-clause-shows g c all to_come =
     in
     let Puts : Scope × Form → Type 0 = λ kept.
     PutsShowing (lines_in kept.1) kept.0 all before now c.from_residual-in_err-stop-2.result in
-    subst Puts c.read_rows.ensures.same_scope
+    subst Puts c.read_rows.ensures.keeps
     (handed_on (PutsShowing form scope all before now) c.in_err-stop-2.field-0.0
     (showings.untaken_by form scope all taker.lines before now c.in_err-stop-2.field-0.0
     (subst Stopped c.in_err-stop-2.was
@@ -73,7 +73,7 @@ returns-in-Some-clause-shows g c all to_come =
     in
     let Puts : Scope × Form → Type 0 = λ kept.
     PutsShowing (lines_in kept.1) kept.0 all before now (Ok (Some c.in_ok-stop-2.field-0)) in
-    subst Puts c.read_rows.ensures.same_scope
+    subst Puts c.read_rows.ensures.keeps
     (showings.at_fault form scope all taker.lines before now c.in_ok-stop-2.field-0
     (subst Stopped c.in_ok-stop-2.was
     (subst Ended c.in-Some.is (c.in_ok-stop.ensures.ended all to_come))))
@@ -92,7 +92,7 @@ returns-in_err-add_cut-clause-shows g c all to_come =
     (HasStopped form scope taker.lines before now) ROWS_MAX all (Ok stop) in
     let Puts : Scope × Form → Type 0 = λ kept.
     PutsShowing (lines_in kept.1) kept.0 all before later c.from_residual-in_err-add_cut.result in
-    subst Puts c.read_rows.ensures.same_scope
+    subst Puts c.read_rows.ensures.keeps
     (handed_on (PutsShowing form scope all before later) c.in_err-add_cut.field-0.0
     (showings.untaken form scope all taker.lines before now later
     (subst Ended c.in_default.is (c.in_ok-stop.ensures.ended all to_come))
@@ -113,7 +113,7 @@ returns-clause-shows g c all to_come =
     (HasStopped form scope taker.lines before now) ROWS_MAX all (Ok stop) in
     let Puts : Scope × Form → Type 0 = λ kept.
     PutsShowing (lines_in kept.1) kept.0 all before later (Ok None) in
-    subst Puts c.read_rows.ensures.same_scope
+    subst Puts c.read_rows.ensures.keeps
     (showings.whole form scope all taker.lines before now later
     (subst Ended c.in_default.is (c.in_ok-stop.ensures.ended all to_come))
     c.in_ok-add_cut.ensures.added)

@@ -35,7 +35,7 @@ returns-in-Ok-None-clause-surveys g c all to_come =
     (Stops form taker.scope before now) ROWS_MAX all (Ok o) in
     let Puts : Scope × Form → Type 0 = λ kept.
     PutsSurveying (survey_lines_in kept.1) kept.0 all read before later c.end.result in
-    subst Puts c.read_rows.ensures.same_scope
+    subst Puts c.read_rows.ensures.keeps
     (surveyings.whole law form taker.scope all read taker.surveyor before now later
     (subst Ended c.in-Ok-None.field-0-is (c.in-Ok-None.ensures.ended all to_come)) c.end.result
     c.end.ensures)
@@ -55,7 +55,7 @@ returns-in-Ok-Some-clause-surveys g c all to_come =
     (Stops form taker.scope before now) ROWS_MAX all (Ok o) in
     let Puts : Scope × Form → Type 0 = λ kept.
     PutsSurveying (survey_lines_in kept.1) kept.0 all read before now (Err c.in-Ok-Some.fault) in
-    subst Puts c.read_rows.ensures.same_scope
+    subst Puts c.read_rows.ensures.keeps
     (surveyings.lines_untaken form taker.scope all read before now c.in-Ok-Some.fault
     (subst Ended c.in-Ok-Some.field-0-is (c.in-Ok-Some.ensures.ended all to_come)))
 
@@ -72,7 +72,7 @@ returns-in_ok-stop-in-Err-clause-surveys g c all to_come =
     let later : Output = output (held c.stop.new.writer) c.stop.new.self.printer.page in
     let Puts : Scope × Form → Type 0 = λ kept.
     PutsSurveying (survey_lines_in kept.1) kept.0 all read before later (Err c.in-Err.fault) in
-    subst Puts c.read_rows.ensures.same_scope
+    subst Puts c.read_rows.ensures.keeps
     (surveyings.told_with_last form taker.scope all start found taker.surveyor before now later
     c.in-Err.fault (search rules) (c.in-Err.ensures.ended all to_come) c.in-Err.ensures.counted
     c.in_ok-stop-in-Err.field-0
@@ -94,7 +94,7 @@ returns-in_err-stop-in-Err-clause-surveys g c all to_come =
     c.fronts_of_reached_rows_are_reached.ensures in
     let Puts : Scope × Form → Type 0 = λ kept.
     PutsSurveying (survey_lines_in kept.1) kept.0 all read before later c.from_residual.result in
-    subst Puts c.read_rows.ensures.same_scope
+    subst Puts c.read_rows.ensures.keeps
     (handed_on (PutsSurveying form taker.scope all read before later) c.in_err-stop-in-Err.field-0.0
     (surveyings.last_refused law form taker.scope all start found taker.surveyor before now later
     c.in-Err.fault (search rules) (c.in-Err.ensures.ended all to_come) c.in-Err.ensures.counted
@@ -116,7 +116,7 @@ returns-else-ne-clause-surveys g c all to_come =
     c.fronts_of_reached_rows_are_reached.ensures in
     let Puts : Scope × Form → Type 0 = λ kept.
     PutsSurveying (survey_lines_in kept.1) kept.0 all read before now (Err c.in-Err.fault) in
-    subst Puts c.read_rows.ensures.same_scope
+    subst Puts c.read_rows.ensures.keeps
     (surveyings.out_of_memory law form taker.scope all read taker.surveyor before now c.in-Err.fault
     (search rules) (c.in-Err.ensures.ended all to_come))
 

@@ -22,7 +22,7 @@ returns-in-Ok-None-clause-answer g c all to_come =
     HasEnded IsRow IsRefusal (HasFollowed scope c.args.readers c.read_rows.new.taker)
     (MeetsAmong scope c.args.readers) c.args.rows_max all r in
     subst (λ s. IsAnswer s c.args.rows_max all (Ok c.outcome_of.result))
-    (c.read_rows.ensures.same_scope ∙ c.scoped-judging.ensures.scope)
+    (c.read_rows.ensures.keeps ∙ c.scoped-judging.ensures.scope)
     (verdicts.whole scope (c.sales_follow_their_approvals.ensures scope) c.args.rows_max
     all c.read_rows.new.taker.follower
     (whole_followed scope c.args.readers c.args.rows_max all c.read_rows.new.taker
@@ -48,7 +48,7 @@ returns-in-Ok-Some-clause-answer g c all to_come =
     HasEnded IsRow IsRefusal (HasFollowed scope c.args.readers c.read_rows.new.taker)
     (MeetsAmong scope c.args.readers) c.args.rows_max all r in
     subst (λ s. IsAnswer s c.args.rows_max all (Ok (No c.in-Ok-Some.met.offence)))
-    (c.read_rows.ensures.same_scope ∙ c.scoped-judging.ensures.scope)
+    (c.read_rows.ensures.keeps ∙ c.scoped-judging.ensures.scope)
     ((judged_no scope c.args.readers c.args.rows_max all c.in-Ok-Some.met
     (subst Ended (c.in-Ok-Some.is ∙ ap (λ o. Ok o) c.in-Ok-Some.field-0-is)
     (c.read_rows.ensures.ended all to_come))).no)
@@ -61,7 +61,7 @@ returns-in-Ok-Some-clause-judged g c all to_come =
     (MeetsAmong scope c.args.readers) c.args.rows_max all r in
     subst (λ s. IsJudgedNo s c.args.readers c.args.rows_max all c.in-Ok-Some.met.offence
     c.in-Ok-Some.met.unjudged)
-    (c.read_rows.ensures.same_scope ∙ c.scoped-judging.ensures.scope)
+    (c.read_rows.ensures.keeps ∙ c.scoped-judging.ensures.scope)
     (judged_no scope c.args.readers c.args.rows_max all c.in-Ok-Some.met
     (subst Ended (c.in-Ok-Some.is ∙ ap (λ o. Ok o) c.in-Ok-Some.field-0-is)
     (c.read_rows.ensures.ended all to_come)))
@@ -73,7 +73,7 @@ returns-clause-answer g c all to_come =
     HasEnded IsRow IsRefusal (HasFollowed scope c.args.readers c.read_rows.new.taker)
     (MeetsAmong scope c.args.readers) c.args.rows_max all r in
     subst (λ s. IsAnswer s c.args.rows_max all c.without.result.answer)
-    (c.read_rows.ensures.same_scope ∙ c.scoped-judging.ensures.scope)
+    (c.read_rows.ensures.keeps ∙ c.scoped-judging.ensures.scope)
     (verdicts.refused scope c.followers_stand_for_reached_rows.ensures c.args.rows_max all
     c.read_rows.new.taker.follower (HasOffence scope) c.in-Err.fault
     (fault_followed scope c.args.readers c.args.rows_max all c.read_rows.new.taker

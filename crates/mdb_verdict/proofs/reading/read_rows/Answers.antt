@@ -132,7 +132,7 @@ loop-batch-preserved g c =
         fits (c.args.rows_max - c.rows_taken-in-loop-batch.result) c.refill-next.new.self
             c.refill-next.result c.refill-next.ensures.fits,
       );
-      same_scope = c.take_all.ensures.same_scope ∙ c.loop-batch.invariant.same_scope;
+      keeps = c.take_all.ensures.keeps ∙ c.loop-batch.invariant.keeps;
       found =
           endings.found_more c.refill-next.result _ _ _ _ _ _ c.loop-batch.invariant.found
           after.counted c.refill-next.ensures.counted more;
@@ -220,9 +220,9 @@ pub returns-in-Some-clause-met : goal.returns-in-Some-clause-met
 returns-in-Some-clause-met g c =
     λ none. endings.met_stopped (fault_of c.refill-next.new.records) c.in-Some.stop
 
-pub returns-in-Some-clause-same_scope : goal.returns-in-Some-clause-same_scope
-returns-in-Some-clause-same_scope g c =
-    c.take_all.ensures.same_scope ∙ c.loop-batch.invariant.same_scope
+pub returns-in-Some-clause-keeps : goal.returns-in-Some-clause-keeps
+returns-in-Some-clause-keeps g c =
+    c.take_all.ensures.keeps ∙ c.loop-batch.invariant.keeps
 
 pub returns-in_err-goes_on-clause-heard : goal.returns-in_err-goes_on-clause-heard
 returns-in_err-goes_on-clause-heard g c =
@@ -254,9 +254,9 @@ returns-in_err-goes_on-clause-stopped g c =
     endings.fault_no_stop _ c.in_err-goes_on.field-0.0 c.from_residual.result
     c.from_residual.ensures.1
 
-pub returns-in_err-goes_on-clause-same_scope : goal.returns-in_err-goes_on-clause-same_scope
-returns-in_err-goes_on-clause-same_scope g c =
-    c.take_all.ensures.same_scope ∙ c.loop-batch.invariant.same_scope
+pub returns-in_err-goes_on-clause-keeps : goal.returns-in_err-goes_on-clause-keeps
+returns-in_err-goes_on-clause-keeps g c =
+    c.take_all.ensures.keeps ∙ c.loop-batch.invariant.keeps
 
 pub returns-then-not-branch-clause-whole : goal.returns-then-not-branch-clause-whole
 returns-then-not-branch-clause-whole g c = λ over is.
@@ -297,9 +297,9 @@ returns-then-not-branch-clause-met g c = λ none.
     (endings.is_end c.refill-next.result c.rows_taken-in-loop-batch-2.result c.goes_on.result
     c.in_ok-goes_on.field-0 c.goes_on.ensures c.in_ok-goes_on.was c.if-not-branch.true)
 
-pub returns-then-not-branch-clause-same_scope : goal.returns-then-not-branch-clause-same_scope
-returns-then-not-branch-clause-same_scope g c =
-    c.take_all.ensures.same_scope ∙ c.loop-batch.invariant.same_scope
+pub returns-then-not-branch-clause-keeps : goal.returns-then-not-branch-clause-keeps
+returns-then-not-branch-clause-keeps g c =
+    c.take_all.ensures.keeps ∙ c.loop-batch.invariant.keeps
 
 pub returns-in_err-expect_end-clause-heard : goal.returns-in_err-expect_end-clause-heard
 returns-in_err-expect_end-clause-heard g c =
@@ -327,8 +327,8 @@ returns-in_err-expect_end-clause-stopped g c =
     endings.fault_no_stop _ c.in_err-expect_end.field-0.0 c.from_residual-in_err-expect_end.result
     c.from_residual-in_err-expect_end.ensures.1
 
-pub returns-in_err-expect_end-clause-same_scope : goal.returns-in_err-expect_end-clause-same_scope
-returns-in_err-expect_end-clause-same_scope g c = c.loop-batch.invariant.same_scope
+pub returns-in_err-expect_end-clause-keeps : goal.returns-in_err-expect_end-clause-keeps
+returns-in_err-expect_end-clause-keeps g c = c.loop-batch.invariant.keeps
 
 pub returns-clause-met : goal.returns-clause-met
 returns-clause-met g c = λ none.
@@ -338,8 +338,8 @@ returns-clause-met g c = λ none.
 pub returns-clause-few : goal.returns-clause-few
 returns-clause-few g c = λ is. c.loop-batch.invariant.few
 
-pub returns-clause-same_scope : goal.returns-clause-same_scope
-returns-clause-same_scope g c = c.loop-batch.invariant.same_scope
+pub returns-clause-keeps : goal.returns-clause-keeps
+returns-clause-keeps g c = c.loop-batch.invariant.keeps
 
 pub loop-batch-init : goal.loop-batch-init
 loop-batch-init g c = record {
@@ -355,17 +355,17 @@ loop-batch-init g c = record {
         g.met.T.TakeRows.counts c.args.taker.now c.args.out.now c.args.out.now _
             c.requires.begun,
       );
-  same_scope = refl;
+  keeps = refl;
   found = omega (arith);
 }
 
-pub returns-in_err-goes_on-clause-kept : goal.returns-in_err-goes_on-clause-kept
-returns-in_err-goes_on-clause-kept g c = λ is.
+pub returns-in_err-goes_on-clause-taken : goal.returns-in_err-goes_on-clause-taken
+returns-in_err-goes_on-clause-taken g c = λ is.
     absurd (endings.fault_not_whole c.in_err-goes_on.field-0.0 c.from_residual.result
     c.from_residual.ensures.1 is)
 
-pub returns-then-not-branch-clause-kept : goal.returns-then-not-branch-clause-kept
-returns-then-not-branch-clause-kept g c = λ is.
+pub returns-then-not-branch-clause-taken : goal.returns-then-not-branch-clause-taken
+returns-then-not-branch-clause-taken g c = λ is.
     let progress = c.loop-batch.invariant.progress in (
       progress.rows ++ c.as_slice.result.now,
       subst (HasTakenOrStopped
@@ -375,13 +375,13 @@ returns-then-not-branch-clause-kept g c = λ is.
           (c.take_all.ensures.taken c.args.out.now progress.rows progress.has),
     )
 
-pub returns-in_err-expect_end-clause-kept : goal.returns-in_err-expect_end-clause-kept
-returns-in_err-expect_end-clause-kept g c = λ is.
+pub returns-in_err-expect_end-clause-taken : goal.returns-in_err-expect_end-clause-taken
+returns-in_err-expect_end-clause-taken g c = λ is.
     absurd (endings.fault_not_whole c.in_err-expect_end.field-0.0
     c.from_residual-in_err-expect_end.result c.from_residual-in_err-expect_end.ensures.1 is)
 
-pub returns-clause-kept : goal.returns-clause-kept
-returns-clause-kept g c = λ is.
+pub returns-clause-taken : goal.returns-clause-taken
+returns-clause-taken g c = λ is.
     (c.loop-batch.invariant.progress.rows, c.loop-batch.invariant.progress.has)
 
 pub returns-in_err-goes_on-clause-counted : goal.returns-in_err-goes_on-clause-counted

@@ -14,7 +14,7 @@ invariant-loop-batch g l = record {
   met : fault_of l.fn.records ≡ None → fault_of l.records ≡ None;
   few : g.T.TakeRows.count l.taker ≤ l.fn.rows_max;
   found : found_by l.records ≤ found_by l.fn.records + g.T.TakeRows.count l.taker;
-  same_scope : g.T.TakeRows.scope l.taker ≡ g.T.TakeRows.scope l.fn.taker;
+  keeps : g.T.TakeRows.kept l.taker ≡ g.T.TakeRows.kept l.fn.taker;
 }
 
 -- the rows that may still come

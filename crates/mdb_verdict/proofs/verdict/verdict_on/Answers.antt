@@ -17,7 +17,7 @@ returns-in_err-read_rows-clause-answer g c all to_come =
     (HasFollowedRows (scope_of c.read_rows.new.taker) c.read_rows.new.taker)
     (HasOffence (scope_of c.read_rows.new.taker)) c.args.rows_max all r in
     subst (λ s. IsAnswer s c.args.rows_max all c.from_residual.result)
-    (c.read_rows.ensures.same_scope ∙ c.scoped-follower.ensures.scope)
+    (c.read_rows.ensures.keeps ∙ c.scoped-follower.ensures.scope)
     (verdicts.refused (scope_of c.read_rows.new.taker) c.followers_stand_for_reached_rows.ensures
     c.args.rows_max all c.read_rows.new.taker (HasOffence (scope_of c.read_rows.new.taker))
     c.in_err-read_rows.field-0.0
@@ -31,7 +31,7 @@ returns-in-None-clause-answer g c all to_come =
     (HasFollowedRows (scope_of c.read_rows.new.taker) c.read_rows.new.taker)
     (HasOffence (scope_of c.read_rows.new.taker)) c.args.rows_max all (Ok stop) in
     subst (λ s. IsAnswer s c.args.rows_max all (Ok c.outcome_of.result))
-    (c.read_rows.ensures.same_scope ∙ c.scoped-follower.ensures.scope)
+    (c.read_rows.ensures.keeps ∙ c.scoped-follower.ensures.scope)
     (verdicts.whole (scope_of c.read_rows.new.taker)
     (c.sales_follow_their_approvals.ensures (scope_of c.read_rows.new.taker)) c.args.rows_max
     all c.read_rows.new.taker
@@ -45,6 +45,6 @@ returns-clause-answer g c all to_come =
     (HasFollowedRows (scope_of c.read_rows.new.taker) c.read_rows.new.taker)
     (HasOffence (scope_of c.read_rows.new.taker)) c.args.rows_max all (Ok stop) in
     subst (λ s. IsAnswer s c.args.rows_max all (Ok (No c.in-Some.offence)))
-    (c.read_rows.ensures.same_scope ∙ c.scoped-follower.ensures.scope)
+    (c.read_rows.ensures.keeps ∙ c.scoped-follower.ensures.scope)
     (verdicts.impossible (scope_of c.read_rows.new.taker) c.args.rows_max all c.in-Some.offence
     (subst Ended c.in-Some.is (c.in_ok-read_rows.ensures.ended all to_come)))

@@ -10,5 +10,5 @@ returns-clause-taken c before earlier has =
     c.args.rows.now c.take_each.result) (sym c.take_each.ensures.scope)
     (c.take_each.ensures.taken (scope_of c.args.self.now.replay) earlier has)
 
-pub returns-clause-same_scope : goal.returns-clause-same_scope
-returns-clause-same_scope c = c.take_each.ensures.scope
+pub returns-clause-keeps : goal.returns-clause-keeps
+returns-clause-keeps c = c.take_each.ensures.scope
