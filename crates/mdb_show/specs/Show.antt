@@ -16,7 +16,8 @@ use Rattle.mdb_show.specs.ShowText.{text_lines}
 use Rattle.mdb_text.specs.declared.form.Form.{Form}
 use Rattle.mdb_text.specs.declared.form.Form.TheVariants.{Text, Json}
 use Rattle.mdb_verdict.specs.Rows.{AreRows}
-use Rattle.mdb_verdict.specs.Telling.{IsCutShort, Tells}
+use Rattle.mdb_verdict.specs.Telling.{Tells}
+use Rattle.mdb_writing.specs.Answers.{IsCutShort}
 use Rattle.mdb_verdict.specs.declared.verdict.TheConstants.{BYTES_MAX}
 use Rattle.mdb_bus.specs.declared.scope.Scope.{Scope}
 

@@ -14,8 +14,8 @@ use Rattle.mdb_verdict.specs.declared.fault.RunFault.TheVariants.{BadRow, TooLon
 use Rattle.mdb_text.specs.declared.form.Form.{Form}
 use Rattle.mdb_text.specs.declared.form.Form.TheVariants.{Text, Json}
 use Rattle.mdb_verdict.specs.Rows.{AreRows}
-use Rattle.mdb_verdict.specs.Telling as telling
 use Rattle.mdb_verdict.specs.Telling.{Tells}
+use Rattle.mdb_writing.specs.Answers as answers
 use Rattle.mdb_stretches.specs.declared.summary.Summary.{Summary}
 use Rattle.mdb_survey_text.specs.Lines.{LineForm, lines_of}
 use Rattle.mdb_survey.specs.SurveyJson.{json_lines}
@@ -111,7 +111,7 @@ SurveysIn form scope records read = Tells (IsSurveying form scope records read)
 abbrev pub IsCutShort : LineForm → Scope → List (List (List ℕ)) → Option (List ℕ)
     → Option (List ℕ) → Type 0
 IsCutShort form scope records before after =
-    (read : ℕ) × telling.IsCutShort (IsSurveying form scope records read) before after
+    (read : ℕ) × answers.IsCutShort (IsSurveying form scope records read) before after
 
 -- the lines of a form
 abbrev pub survey_lines_in : Form → LineForm

@@ -8,8 +8,9 @@ use Rattle.mdb_records.specs.ToCome.{IsOverLimit, fault_of}
 use Rattle.mdb_verdict.specs.declared.fault.RunFault.{RunFault}
 use Rattle.mdb_verdict.specs.declared.fault.RunFault.TheVariants.{BadRow, TooLong, Read, Write, Memory}
 use Rattle.mdb_verdict.specs.Ending.{IsHeard, IsToldEnd}
-use Rattle.mdb_verdict.specs.Telling.{IsFinished, IsMetBy, IsNotTaken, IsOfOutput, PutsTelling, Reads, Tells, broken, cut, whole}
+use Rattle.mdb_verdict.specs.Telling.{IsFinished, IsMetBy, IsNotTaken, IsOfOutput, Reads, Tells, broken, cut, whole}
 use Rattle.mdb_verdict.specs.Verdict.{HasCause, run_fault_of}
+use Rattle.mdb_writing.specs.Answers.{IsSent}
 use Rattle.mdb_writing.specs.Output.{Output, begun}
 use Rattle.mdb_writing.specs.Written.{HasTaken}
 use Rattle.mdb_writing.proofs.Outputs as outputs
@@ -27,7 +28,7 @@ handed_on P fault holds (Err other) handed = subst (λ f. P (Err f)) (sym handed
 pub told : {Answer : Type 0} (Is : Result Answer RunFault → List ℕ → Type 0)
     → ((text : List ℕ) → Is (Err Write) text → ⊥)
     → (before later : Option (List ℕ)) (now : Output) (answer last : Result Answer RunFault)
-    → PutsTelling Is (begun before) now answer → IsFinished answer now later last
+    → IsSent Is Write (begun before) now answer → IsFinished answer now later last
     → Tells Is before later last
 told {Answer = Answer} Is none before later now answer last (inl puts) (broken failed same held) =
     let P : Result Answer RunFault → Type 0 = λ a. Is a puts.0 in
@@ -79,11 +80,11 @@ told_output (Some failed) (Err Read) of = absurd of
 told_output (Some failed) (Err Write) of = tt
 told_output (Some failed) (Err Memory) of = tt
 
-pub reads_output : {R Answer : Type 0} (IsPart : Result Answer RunFault → Type 0)
+pub reads_output : {R Answer : Type 0} (IsNotWhole : Result Answer RunFault → Type 0)
     (remaining : R → Option (List ℕ)) (old new : Records R) (answer : Result Answer RunFault)
-    → IsPart answer → IfErr answer IsOfOutput → Reads IsPart remaining old new answer
-reads_output IsPart remaining old new answer part of = record {
-  whole = λ over. part;
+    → IsNotWhole answer → IfErr answer IsOfOutput → Reads IsNotWhole remaining old new answer
+reads_output IsNotWhole remaining old new answer part of = record {
+  over_limit = λ over. part;
   heard = heard_output (fault_of new) answer of;
   met = λ none some. part;
   told = λ none. told_output (fault_of new) answer of;
@@ -98,18 +99,21 @@ not_taken_of_output Write before after text not = tt
 not_taken_of_output Memory before after text not = tt
 
 -- the last page is written out, or the writer fails at it
-pub reads_finished : {R Answer : Type 0} (IsPart : Result Answer RunFault → Type 0)
+pub reads_finished : {R Answer : Type 0} (IsNotWhole : Result Answer RunFault → Type 0)
     (remaining : R → Option (List ℕ)) (old new : Records R) (later : Option (List ℕ)) (now : Output)
-    (answer last : Result Answer RunFault) → IsPart (Err Write)
-    → Reads IsPart remaining old new answer → IsFinished answer now later last
-    → Reads IsPart remaining old new last
-reads_finished IsPart remaining old new later now answer last part reads (broken failed same held) =
-    subst (Reads IsPart remaining old new) (sym same) reads
-reads_finished IsPart remaining old new later now answer last part reads (whole not same written) =
-    subst (Reads IsPart remaining old new) (sym same) reads
-reads_finished IsPart remaining old new later now answer last part reads (cut not failed taken) =
-    subst (Reads IsPart remaining old new) (sym failed)
-    (reads_output IsPart remaining old new (Err Write) part tt)
+    (answer last : Result Answer RunFault) → IsNotWhole (Err Write)
+    → Reads IsNotWhole remaining old new answer → IsFinished answer now later last
+    → Reads IsNotWhole remaining old new last
+reads_finished IsNotWhole remaining old new later now answer last part reads
+    (broken failed same held) =
+    subst (Reads IsNotWhole remaining old new) (sym same) reads
+reads_finished IsNotWhole remaining old new later now answer last part reads
+    (whole not same written) =
+    subst (Reads IsNotWhole remaining old new) (sym same) reads
+reads_finished IsNotWhole remaining old new later now answer last part reads
+    (cut not failed taken) =
+    subst (Reads IsNotWhole remaining old new) (sym failed)
+    (reads_output IsNotWhole remaining old new (Err Write) part tt)
 
 -- All rows were read.
 
@@ -119,14 +123,14 @@ none_met None told known is some = absurd cc
 none_met {Stop = Stop} (Some failed) told known is some =
     subst (λ (t : Result (Option Stop) RunFault). IsToldEnd failed t) is known
 
-pub reads_all : {R Stop Answer : Type 0} (IsPart : Result Answer RunFault → Type 0)
+pub reads_all : {R Stop Answer : Type 0} (IsNotWhole : Result Answer RunFault → Type 0)
     (remaining : R → Option (List ℕ)) (old new : Records R) (told : Result (Option Stop) RunFault)
     → (IsOverLimit remaining old → told ≢ Ok None)
     → (fault_of old ≡ None → IfSome (fault_of new) (λ failed. IsToldEnd failed told))
     → told ≡ Ok None → (answer : Result Answer RunFault) → IfErr answer IsOfOutput
-    → Reads IsPart remaining old new answer
-reads_all IsPart remaining old new told over met is answer of = record {
-  whole = λ past. absurd (over past is);
+    → Reads IsNotWhole remaining old new answer
+reads_all IsNotWhole remaining old new told over met is answer of = record {
+  over_limit = λ past. absurd (over past is);
   heard = heard_output (fault_of new) answer of;
   met = λ none some. absurd (none_met (fault_of new) told (met none) is some);
   told = λ none. told_output (fault_of new) answer of;
@@ -147,18 +151,20 @@ told_fault {Stop = Stop} (Some failed) told fault other known is same =
     subst (λ (t : Result (Option Stop) RunFault). IsToldEnd failed t) is known in
     subst (IsMetBy failed) (sym (same ∙ of)) (run_met failed)
 
-pub reads_fault : {R Stop Answer : Type 0} (IsPart : Result Answer RunFault → Type 0)
+pub reads_fault : {R Stop Answer : Type 0} (IsNotWhole : Result Answer RunFault → Type 0)
     (remaining : R → Option (List ℕ)) (old new : Records R) (told : Result (Option Stop) RunFault)
-    (fault : RunFault) → ((other : RunFault) → IsPart (Err other))
+    (fault : RunFault) → ((other : RunFault) → IsNotWhole (Err other))
     → IfErr told (IsHeard (fault_of new))
     → (fault_of old ≡ None → IfSome (fault_of new) (λ failed. IsToldEnd failed told))
     → told ≡ Err fault → (answer : Result Answer RunFault)
-    → IsErrAnd answer (λ other. other ≡ fault) → Reads IsPart remaining old new answer
-reads_fault IsPart remaining old new told fault part heard met is (Ok done) handed = absurd handed
-reads_fault {Stop = Stop} IsPart remaining old new told fault part heard met is (Err other) handed =
+    → IsErrAnd answer (λ other. other ≡ fault) → Reads IsNotWhole remaining old new answer
+reads_fault IsNotWhole remaining old new told fault part heard met is (Ok done) handed =
+    absurd handed
+reads_fault {Stop = Stop} IsNotWhole remaining old new told fault part heard met is (Err other)
+    handed =
     let P : Result (Option Stop) RunFault → Type 0 = λ t. IfErr t (IsHeard (fault_of new)) in
     record {
-      whole = λ over. part other;
+      over_limit = λ over. part other;
       heard = λ reads. subst (IsHeard (fault_of new)) (sym handed ∙ reads) (subst P is heard);
       met = λ none some. part other;
       told = λ none. told_fault (fault_of new) told fault other (met none) is handed;

@@ -8,16 +8,9 @@ use Rattle.mdb_records.specs.ToCome.{IsOverLimit, fault_of}
 use Rattle.mdb_verdict.specs.declared.fault.RunFault.{RunFault}
 use Rattle.mdb_verdict.specs.declared.fault.RunFault.TheVariants.{BadRow, TooLong, Read, Write, Memory}
 use Rattle.mdb_verdict.specs.Verdict.{HasCause}
-use Rattle.mdb_writing.specs.Output.{Breaks, Output, Puts}
+use Rattle.mdb_writing.specs.Answers.{IsCutShort}
+use Rattle.mdb_writing.specs.Output.{Breaks, Output}
 use Rattle.mdb_writing.specs.Written.{HasTaken}
-
--- The writer took a front of a text that goes with some answer.
-pub record IsCutShort {Answer : Type 0} (Is : Result Answer RunFault → List ℕ → Type 0)
-    (before after : Option (List ℕ)) : Type 0 where
-  pub answer : Result Answer RunFault
-  pub text : List ℕ
-  pub is : Is answer text
-  pub taken : HasTaken before after text
 
 -- By the bytes that a writer held before and after: it took the text of the answer; or the answer
 -- is that it failed, and it took a front of a text.
@@ -36,20 +29,22 @@ IsMetBy met Read = met ≡ reading.Read
 IsMetBy met Write = ⊤
 IsMetBy met Memory = ⊤
 
--- How an answer goes with the reading of the records. `IsPart` says of an answer that it isn't one
--- to all records. Such an answer comes where the text is longer than allowed (`whole`), and where
+-- How an answer goes with the reading of the records. `IsNotWhole` says that an answer isn't one to
+-- all records. Such an answer comes where the text is longer than allowed (`over_limit`), and where
 -- reading met a fault (`met`). `Read` is answered only where reading met it (`heard`). After a
 -- fault of reading no other fault is answered but a failed writer or refused memory (`told`).
-pub record Reads {R Answer : Type 0} (IsPart : Result Answer RunFault → Type 0)
+pub record Reads {R Answer : Type 0} (IsNotWhole : Result Answer RunFault → Type 0)
     (remaining : R → Option (List ℕ)) (old new : Records R) (answer : Result Answer RunFault)
     : Type 0 where
-  pub whole : IsOverLimit remaining old → IsPart answer
+  pub over_limit : IsOverLimit remaining old → IsNotWhole answer
   pub heard : IfErr answer (HasCause (fault_of new))
-  pub met : fault_of old ≡ None → IsSome (fault_of new) → IsPart answer
+  pub met : fault_of old ≡ None → IsSome (fault_of new) → IsNotWhole answer
   pub told : fault_of old ≡ None → IfSome (fault_of new) (λ fault. IfErr answer (IsMetBy fault))
 
--- The rest serves `Printer` and private functions: a text isn't put there; with want of memory
--- nothing has changed.
+-- The rest of this file serves `Printer` and private functions.
+
+-- Why a text isn't on its way: the writer failed with a front of what waited and of the text; or
+-- memory was refused, and the output is as it was. No other fault keeps a text back.
 abbrev pub IsNotTaken : RunFault → Output → Output → List ℕ → Type 0
 IsNotTaken (BadRow row fault) before after text = ⊥
 IsNotTaken TooLong before after text = ⊥
@@ -57,23 +52,10 @@ IsNotTaken Read before after text = ⊥
 IsNotTaken Write before after text = Breaks before after text
 IsNotTaken Memory before after text = after ≡ before
 
--- The writer failed with a front of a text that goes with some answer.
-pub record IsBroken {Answer : Type 0} (Is : Result Answer RunFault → List ℕ → Type 0)
-    (before after : Output) : Type 0 where
-  pub answer : Result Answer RunFault
-  pub text : List ℕ
-  pub is : Is answer text
-  pub broken : Breaks before after text
-
--- what `Tells` says, where some of the text may still be on its way
-abbrev pub PutsTelling : {Answer : Type 0} → (Result Answer RunFault → List ℕ → Type 0)
-    → Output → Output → Result Answer RunFault → Type 0
-PutsTelling Is before after answer =
-    ((text : List ℕ) × Is answer text × Puts before after text)
-    ⊎ ((answer ≡ Err Write) × IsBroken Is before after)
-
--- What waits is written with an answer, or the writer fails at it. Where it failed before, it is
--- given nothing more.
+-- What waits is written at the end, and this is the answer at last (`last`):
+--   * the writer had failed before: it is given nothing more, and the answer stays
+--   * it took all that waited, and the answer stays
+--   * it failed at a front of that, and so is the answer
 pub data IsFinished {Answer : Type 0} (answer : Result Answer RunFault) (now : Output)
     (later : Option (List ℕ)) (last : Result Answer RunFault) : Type 0 where
   broken : answer ≡ Err Write → last ≡ answer → later ≡ now.held → IsFinished answer now later last

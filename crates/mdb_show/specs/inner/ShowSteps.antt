@@ -13,7 +13,7 @@ use Rattle.mdb_verdict.specs.declared.fault.RunFault.{RunFault}
 use Rattle.mdb_verdict.specs.declared.fault.RunFault.TheVariants.{BadRow, TooLong, Read, Write, Memory}
 use Rattle.mdb_show.specs.declared.showing.Lines.{Lines}
 use Rattle.mdb_show.specs.Show.{IsShowingIn}
-use Rattle.mdb_verdict.specs.Telling.{PutsTelling}
+use Rattle.mdb_writing.specs.Answers.{IsSent}
 use Rattle.mdb_writing.specs.Output.{Breaks, Output, Puts}
 use Rattle.mdb_show.specs.Lines.{LineForm, closed_pieces, lines_of}
 use Rattle.mdb_bus.specs.declared.scope.Scope.{Scope}
@@ -106,4 +106,4 @@ HasStopped form scope lines before after earlier rows (Err fault) =
 -- what `ShowsIn` says, where some of the text may still be on its way
 abbrev pub PutsShowing : LineForm → Scope → List (List (List ℕ)) → Output → Output
     → Result (Option LinkFault) RunFault → Type 0
-PutsShowing form scope records = PutsTelling (IsShowingIn form scope records)
+PutsShowing form scope records = IsSent (IsShowingIn form scope records) Write

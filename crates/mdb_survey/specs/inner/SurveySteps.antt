@@ -11,7 +11,8 @@ use Rattle.mdb_stretches.specs.Summaries.{summary_of}
 use Rattle.mdb_stretches.specs.Surveyor.{StandsFor, rows_of}
 use Rattle.mdb_verdict.specs.declared.fault.RunFault.{RunFault}
 use Rattle.mdb_verdict.specs.declared.fault.RunFault.TheVariants.{BadRow, TooLong, Read, Write, Memory}
-use Rattle.mdb_verdict.specs.Telling.{IsNotTaken, PutsTelling}
+use Rattle.mdb_verdict.specs.Telling.{IsNotTaken}
+use Rattle.mdb_writing.specs.Answers.{IsSent}
 use Rattle.mdb_writing.specs.Output.{Breaks, Output, Puts}
 use Rattle.mdb_stretches.specs.declared.summary.Summary.{Summary}
 use Rattle.mdb_survey_text.specs.Lines.{LineForm, lines_of}
@@ -72,4 +73,4 @@ pub record HasAddedEnd (form : LineForm) (surveyor : Surveyor) (before after : O
 -- what `SurveysIn` says, where some of the text may still be on its way
 abbrev pub PutsSurveying : LineForm → Scope → List (List (List ℕ)) → ℕ → Output → Output
     → Result Summary RunFault → Type 0
-PutsSurveying form scope records read = PutsTelling (IsSurveying form scope records read)
+PutsSurveying form scope records read = IsSent (IsSurveying form scope records read) Write

@@ -15,6 +15,6 @@ returns g c =
             (λ text to_come. c.show_records.ensures.shows _ to_come);
         whole =
             IfSome_then _ {Q = Part} c.records_of-records.ensures.over
-            (λ text past over. c.show_records.ensures.reads.whole (past over));
+            (λ text past over. c.show_records.ensures.reads.over_limit (past over));
       };
     }

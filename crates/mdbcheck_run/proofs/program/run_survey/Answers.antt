@@ -8,4 +8,4 @@ returns-clause-says g c =
     (IfSome_then _ c.input_of-records.ensures.records (λ text to_come.
     says_surveyed c.args.scope.now c.args.form _ _ _ _ _
     (c.survey_records-answer.ensures.surveys _ to_come))) c.input_of-records.ensures.over
-    (λ over. not_surveyed _ (c.survey_records-answer.ensures.reads.whole over))
+    (λ over. not_surveyed _ (c.survey_records-answer.ensures.reads.over_limit over))
