@@ -1,8 +1,9 @@
 """The programs under test and their runs, for the scripts of tests/ that are Python.
 
-MDBCHECK and MDBIMPORT of the environment name them. Else they are those that were built last in
-crates/ (by tests/run, or by rt run in crates/mdbcheck and crates/mdbimport), and where none was
-built, those of release/. tests/programs.sh says the same for scripts of the shell.
+MDBCHECK and MDBIMPORT of the environment name them, and MDBPAGE the page. Else they are those that
+were built last in crates/ and out/ (by tests/run, or by rt run in crates/mdbcheck and
+crates/mdbimport, and by page/build), and where none was built, those of release/. tests/programs.sh
+says the same for scripts of the shell.
 """
 
 import importlib.machinery
@@ -26,7 +27,13 @@ def program(name):
     return built if os.access(built, os.X_OK) else TOP / "release" / name
 
 
-MDBCHECK, MDBIMPORT = program("mdbcheck"), program("mdbimport")
+def page():
+    """The path of the page."""
+    built = TOP / "out" / "mdbcheck.html"
+    return pathlib.Path(os.environ.get("MDBPAGE") or (built if built.exists() else TOP / "release" / built.name)).resolve()
+
+
+MDBCHECK, MDBIMPORT, PAGE = program("mdbcheck"), program("mdbimport"), page()
 
 
 def load(name):

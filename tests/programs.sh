@@ -1,7 +1,8 @@
-# The programs under test, for the scripts of tests/ that are of the shell: $program is mdbcheck, $import is mdbimport, and
-# $top is the top of the repository. MDBCHECK and MDBIMPORT of the environment name them. Else they are those that were built
-# last in crates/ (by tests/run, or by rt run in crates/mdbcheck and crates/mdbimport), and where none was built, those of
-# release/. tests/programs.py says the same for scripts that are Python. Read it in before the working folder changes.
+# The programs under test, for the scripts of tests/ that are of the shell: $program is mdbcheck, $import is mdbimport, $page is
+# the page, and $top is the top of the repository. MDBCHECK, MDBIMPORT and MDBPAGE of the environment name them. Else they are
+# those that were built last in crates/ and out/ (by tests/run, or by rt run in crates/mdbcheck and crates/mdbimport, and by
+# page/build), and where none was built, those of release/. tests/programs.py says the same for scripts that are Python. Read it
+# in before the working folder changes.
 top=$(cd "$(dirname "${BASH_SOURCE[0]}")/.." && pwd)
 
 # The path of a program, of which the environment may have given one.
@@ -15,6 +16,9 @@ program_of() {
     fi
 }
 
+page=$top/out/mdbcheck.html
+[ -e "$page" ] || page=$top/release/mdbcheck.html
+page=${MDBPAGE:-$page}
 program=$(program_of mdbcheck "${MDBCHECK-}")
 import=$(program_of mdbimport "${MDBIMPORT-}")
 
