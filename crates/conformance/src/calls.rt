@@ -11,8 +11,8 @@ use mdb_explained_runs::{Mark, Replay, explain_run};
 use mdb_follow::{AccountName, AccountSide, Bound, Goal, ROWS_MAX};
 use mdb_msgs::{
     BillCommand, BillMsg, ChangerCommand, ChangerMsg, ChangerSetup, Command, Device, DeviceSet,
-    MsgFault, Need, ReaderCommand, ReaderList, ReaderMsg, ReaderUnit, Reply, Setups, need_of,
-    read_command, read_reply, write_command, write_reply,
+    MsgFault, Need, ReaderCommand, ReaderList, ReaderMsg, ReaderSetup, ReaderUnit, Reply, Setups,
+    need_of, read_command, read_reply, write_command, write_reply,
 };
 use mdb_show::show_scoped;
 use mdb_text::Outcome;
@@ -477,8 +477,8 @@ fn joined(rt: &HostRuntime, calls: &mut Calls) -> io::Result<()> {
     let setups = Setups {
         changer: Some(changer_table()),
         bill: None,
-        first_reader: None,
-        second_reader: None,
+        first_reader: ReaderSetup::NONE,
+        second_reader: ReaderSetup::NONE,
     };
     let scope = Scope::joined(setups, DeviceSet::NONE);
     let mut told = Vec::new(alloc);

@@ -19,7 +19,7 @@ use Rattle.mdb_bus.specs.declared.levels.Levels.{Levels}
 use Rattle.mdb_bus.specs.inner.Step.{Step}
 use Rattle.mdb_bus.specs.inner.Step as step
 use Rattle.mdb_bus.specs.Acts.{IsBlockWord, IsForeignOpening, IsForeignWord, Say, command_words, reply_words, said_by}
-use Rattle.mdb_bus.specs.ActLists.{AreSpaced, ArePieces, AskTail, Asked, BlockMayCome, InAsk, InForeign, InRepeat, InReply, IsAskFront, IsPiece, IsRepeatFront, IsReplyFront, MayCome, MayStand, Piece, PieceFitsLevels, Position, Quiet, RepeatTail, Replied, ReplyTail, Returned, Whole, events_of, first_position, last_of, levels_of, piece_events, position_of}
+use Rattle.mdb_bus.specs.ActLists.{AreSpaced, ArePieces, AskTail, Asked, BlockMayCome, InAsk, InForeign, InRepeat, InReply, IsAskFront, IsPiece, IsRepeatFront, IsReplyFront, MayCome, MayStand, Piece, PieceFits, Position, Quiet, RepeatTail, Replied, ReplyTail, Returned, Whole, events_of, first_position, last_of, levels_of, piece_events, position_of}
 use Rattle.mdb_bus.specs.LinkFaults.{Situation, situation_of}
 use Rattle.mdb_bus.specs.inner.Steps.{Leads, WordLeads, grown, piece_after, pieces_after}
 use Rattle.mdb_msgs.proofs.CommandBytes.{spelled_low}
@@ -85,7 +85,7 @@ shorter : (scope : Scope) (rest : List Piece) (piece tail : Piece) (front : List
     → ((to : Event) (back : List Event) → front ≡ to ∷ back
     → MayCome piece (position_of scope rest) (last_of (events_of rest)) to
     → MayCome tail (position_of scope rest) (last_of (events_of rest)) to)
-    → PieceFitsLevels (levels_of scope.levels rest) tail → MayStand scope rest piece
+    → PieceFits scope.begins (levels_of scope.levels rest) tail → MayStand scope rest piece
     → MayStand scope rest tail
 shorter scope rest piece tail front row some long short may levels stands =
     let kept = first_stays front row stands.first stands.others some (sym long ∙ stands.begins) in
@@ -314,8 +314,8 @@ Holds (Returned command reply) = 1 ≤ length (reply_bytes reply)
 Holds _ = Unit {0}
 
 first_holds : (begins : Beginning) → Holds (first_position begins)
-first_holds PowerOn = tt
-first_holds (Joined setups) = tt
+first_holds (PowerOn profile) = tt
+first_holds (Joined setups profile) = tt
 
 replied : (scope : Scope) (pieces : List Piece) → ArePieces scope pieces
     → Holds (position_of scope pieces)

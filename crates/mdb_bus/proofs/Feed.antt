@@ -33,6 +33,7 @@ use Rattle.mdb_bus.proofs.Verdicts.{sealed}
 use Rattle.mdb_bus.proofs.Lists.{last_push}
 use Rattle.mdb_bus.proofs.Sound.{is_sound}
 use Rattle.mdb_bus.specs.declared.scope.Scope.{Scope}
+use Rattle.mdb_bus.specs.Scopes.{profile_of}
 
 -- the situation that a bus is in
 abbrev pub situation_at : Bus → Situation
@@ -180,7 +181,7 @@ stands_on old new pieces row found act stands other judged gone =
 pub stands_read : (old new : Bus) (pieces : List Piece) (row : Event) (reply : Reply)
     (act : Option Act) → StandsFor old pieces
     → IsEnded (situation_at old) row
-    → IsReadAt (position_at old.place) old.levels (Ok reply)
+    → IsReadAt (profile_of old.scope.begins) (position_at old.place) old.levels (Ok reply)
     → HasGone old (step.Reply reply) row new act
     → GoesOn new pieces row act
 stands_read old new pieces row reply act stands ended read gone =
@@ -191,7 +192,7 @@ stands_read old new pieces row reply act stands ended read gone =
 pub read_breaks : (old : Bus) (pieces : List Piece) (row : Event) (broken : Rule)
     → StandsFor old pieces
     → IsEnded (situation_at old) row
-    → IsReadAt (position_at old.place) old.levels (Err broken)
+    → IsReadAt (profile_of old.scope.begins) (position_at old.place) old.levels (Err broken)
     → IsFirstByPlace (situation_at old) row broken
 read_breaks old pieces row broken stands ended read = ended (Err broken) read
 
@@ -226,7 +227,8 @@ ended_by old row found is judged =
 pub read_goes_on : (old new : Bus) (pieces : List Piece) (row : Event) (act : Act)
     (result : Result Bool LinkFault)
     → StandsFor old pieces → IsEnded (situation_at old) row
-    → IfOk result (λ ends. (reply : Reply) × IsReadAt (position_at old.place) old.levels (Ok reply)
+    → IfOk result (λ ends. (reply : Reply)
+    × IsReadAt (profile_of old.scope.begins) (position_at old.place) old.levels (Ok reply)
     × HasGone old (step.Reply reply) row new (ended_act ends act))
     → IfOk result (λ ends. GoesOn new pieces row (ended_act ends act))
 read_goes_on old new pieces row act (Ok ends) stands ended h =
@@ -236,7 +238,8 @@ read_goes_on old new pieces row act (Err fault) stands ended h = tt
 pub read_has_fault : (old : Bus) (pieces : List Piece) (row : Event)
     (result : Result Bool LinkFault)
     → StandsFor old pieces → IsEnded (situation_at old) row
-    → IfErr result (λ fault. IsReadAt (position_at old.place) old.levels (Err fault.rule))
+    → IfErr result (λ fault.
+    IsReadAt (profile_of old.scope.begins) (position_at old.place) old.levels (Err fault.rule))
     → IfErr result (λ fault. fault.blame ≡ blame_of (position_at old.place) old.asked row
     fault.rule)
     → IfErr result (λ fault. IsLinkFault old.scope pieces row fault.rule fault.blame)

@@ -15,7 +15,7 @@ use Rattle.mdb_bus.specs.declared.act.Act.TheVariants as acts
 use Rattle.mdb_bus.specs.inner.Step.{Step}
 use Rattle.mdb_bus.specs.inner.Step as step
 use Rattle.mdb_bus.specs.Acts.{Say}
-use Rattle.mdb_bus.specs.ActLists.{Piece, Whole, AskTail, ReplyTail, RepeatTail, Position, Quiet, InAsk, Asked, InReply, Replied, Returned, InRepeat, InForeign, ArePieces, AreSpaced, Within, IsPiece, IsReplyFront, IsSaid, IsTail, MayCome, MayStand, PieceFitsLevels, act_in, acts_of, events_of, first_position, last_of, left_open, levels_of, piece_events, position_of, with_act}
+use Rattle.mdb_bus.specs.ActLists.{Piece, Whole, AskTail, ReplyTail, RepeatTail, Position, Quiet, InAsk, Asked, InReply, Replied, Returned, InRepeat, InForeign, ArePieces, AreSpaced, Within, IsPiece, IsReplyFront, IsSaid, IsTail, MayCome, MayStand, PieceFits, act_in, acts_of, events_of, first_position, last_of, left_open, levels_of, piece_events, position_of, with_act}
 use Rattle.mdb_bus.specs.Bus.{Grown}
 use Rattle.mdb_bus.specs.LinkFaults.{asked_device, situation_of}
 use Rattle.mdb_bus.specs.inner.Steps.{Answers, AnswersReply, BeginsRepeat, GoesOnAsking, GoesOnRepeating, GoesOnReplying, Leads, Opens, WordLeads, act_after, asked_after, grown, levels_after_step, piece_after, pieces_after, position_after}
@@ -25,6 +25,7 @@ use Rattle.mdb_bus.specs.declared.scope.Beginning.{Beginning}
 use Rattle.mdb_bus.specs.declared.levels.Levels.{Levels}
 use Rattle.mdb_bus.specs.declared.scope.Beginning.TheVariants.{PowerOn, Joined}
 use Rattle.mdb_bus.specs.declared.scope.Scope.{Scope}
+use Rattle.mdb_bus.specs.Scopes.{profile_of}
 
 -- what a step makes of pieces
 pub record Extended (scope : Scope) (pieces : List Piece) (row : Event) (next : Step) : Type 0 where
@@ -254,7 +255,7 @@ fresh : (scope : Scope) (pieces : List Piece) (row : Event) (next : Step)
     → pieces_after scope pieces row next ≡ piece (row ∷ []) ∷ pieces → ArePieces scope pieces
     → IsSaid scope (piece (row ∷ []))
     → MayCome (piece (row ∷ [])) (position_of scope pieces) (last_of (events_of pieces)) row
-    → PieceFitsLevels (levels_of scope.levels pieces) (piece (row ∷ []))
+    → PieceFits scope.begins (levels_of scope.levels pieces) (piece (row ∷ []))
     → Extended scope pieces row next
 fresh scope pieces row next piece adds added made are said comes levels =
     let Spaced : List Event → Type 0 = λ es. AreSpaced es in
@@ -292,7 +293,7 @@ longer : (scope : Scope) (tail : Piece) (pieces : List Piece) (row : Event) (nex
     → MayCome tail (position_of scope pieces) (last_of (events_of pieces)) first
     → MayCome (piece (piece_events tail ++ row ∷ [])) (position_of scope pieces)
     (last_of (events_of pieces)) first)
-    → PieceFitsLevels (levels_of scope.levels pieces) (piece (piece_events tail ++ row ∷ []))
+    → PieceFits scope.begins (levels_of scope.levels pieces) (piece (piece_events tail ++ row ∷ []))
     → Within WORD_GAP_MIN BLOCK_GAP_MAX (last_of (events_of (tail ∷ pieces))) row
     → Extended scope (tail ∷ pieces) row next
 longer scope tail pieces row next piece is_tail adds added made are said comes levels gap =
@@ -335,8 +336,8 @@ free act = tt
 
 -- nor does a recording begin in one
 first_free : (begins : Beginning) → IsFree (first_position begins)
-first_free PowerOn = tt
-first_free (Joined setups) = tt
+first_free (PowerOn profile) = tt
+first_free (Joined setups profile) = tt
 
 -- what opens a block at such a position
 asks : (position : Position) (byte : ℕ) → IsFree position
@@ -415,7 +416,7 @@ begun : (scope : Scope) (position : Position) (pieces : List Piece) (row : Event
     ≡ grown pieces row (piece_after (position_of scope pieces) next)
     → piece_after position next ≡ piece → IsSaid scope (piece (row ∷ []))
     → MayCome (piece (row ∷ [])) (position_of scope pieces) (last_of (events_of pieces)) row
-    → PieceFitsLevels (levels_of scope.levels pieces) (piece (row ∷ []))
+    → PieceFits scope.begins (levels_of scope.levels pieces) (piece (row ∷ []))
     → Extended scope pieces row next
 begun scope position pieces row next piece adds are closed here grows gives said comes levels =
     let added : piece_after (position_of scope pieces) next ≡ piece =
@@ -614,7 +615,7 @@ in_reply : (scope : Scope) (command : Command) (bytes : List ℕ) (events : List
     (pieces : List Piece)
     (at word : ℕ) (next : Step)
     → ArePieces scope (ReplyTail command bytes events ∷ pieces)
-    → GoesOnReplying command bytes (last_of (events_of pieces ++ events))
+    → GoesOnReplying (profile_of scope.begins) command bytes (last_of (events_of pieces ++ events))
     (levels_of scope.levels pieces) (Word at Peripheral word) word next
     → Extended scope (ReplyTail command bytes events ∷ pieces) (Word at Peripheral word) next
 in_reply scope command bytes events pieces at word (step.ReplyByte byte) are leads =

@@ -21,13 +21,15 @@ use Rattle.mdb_msgs.specs.Commands.{IsByte, command_bytes, device_of}
 use Rattle.mdb_msgs.specs.DeviceSets.{has}
 use Rattle.mdb_bus.specs.declared.act.Act.TheVariants as acts
 use Rattle.mdb_bus.specs.declared.levels.Levels.{Levels}
+use Rattle.mdb_msgs.specs.declared.reply.Reply.{Reply}
 use Rattle.mdb_bus.specs.declared.scope.Beginning.{Beginning}
 use Rattle.mdb_bus.specs.declared.scope.Beginning.TheVariants.{PowerOn, Joined}
+use Rattle.mdb_bus.specs.declared.scope.Profile.{Profile}
 use Rattle.mdb_bus.specs.declared.scope.Scope.{Scope}
 use Rattle.mdb_bus.specs.Acts.{IsForeign, Say, reply_words}
-use Rattle.mdb_bus.specs.ActLists.{Piece, Whole, AskTail, ReplyTail, RepeatTail, Position, Quiet, InAsk, Asked, InReply, Replied, Returned, InRepeat, InForeign, ArePieces, AreSpaced, BlockMayCome, ForeignMayCome, IsLow, IsPiece, IsSaid, MayCome, MayStand, NotBefore, PieceFitsLevels, events_of, first_position, last_of, left_by, level_for, levels_after, levels_of, piece_events, position_of}
+use Rattle.mdb_bus.specs.ActLists.{Piece, Whole, AskTail, ReplyTail, RepeatTail, Position, Quiet, InAsk, Asked, InReply, Replied, Returned, InRepeat, InForeign, ArePieces, AreSpaced, BlockMayCome, ForeignMayCome, IsLow, IsPiece, IsSaid, MayCome, MayStand, NotBefore, PieceFits, ReplyFits, events_of, first_position, last_of, left_by, level_for, levels_after, levels_of, piece_events, position_of}
 use Rattle.mdb_bus.specs.LeavingOut.{LeavesOutMore, begin_left_out, is_left_out, is_one_left_out, leave_out, position_without, with_foreign}
-use Rattle.mdb_bus.specs.Scopes.{IsFollowed, IsLeftOut}
+use Rattle.mdb_bus.specs.Scopes.{IsFollowed, IsLeftOut, profile_of}
 use Rattle.mdb_msgs.proofs.CommandBytes.{spelled_low}
 use Rattle.mdb_bus.proofs.Followed.{FirstTells, front_followed, plain_front}
 use Rattle.mdb_bus.proofs.LeftOutWords.{AreForeignWords, Becomes, answer_foreign, as_block, as_foreign, as_words, foreign_stays, peripheral_foreign}
@@ -123,8 +125,8 @@ pub record Moves (scope : Scope) (position without : Position) : Type 0 where
 
 -- a recording begins where no command is open
 none_at_first : (begins : Beginning) → device_at (first_position begins) ≡ None
-none_at_first PowerOn = refl
-none_at_first (Joined setups) = refl
+none_at_first (PowerOn profile) = refl
+none_at_first (Joined setups profile) = refl
 
 first_moves : (less more : Scope) → LeavesOutMore less more
     → Moves more (first_position less.begins) (first_position more.begins)
@@ -349,12 +351,12 @@ all_stand scope first others pieces are become spaced =
 
 -- a command tells its own reader a level, and not the other
 first_alone : (asked : ReaderCommand) (levels : Levels)
-    → (levels_after (commands.Reader Second asked) levels).first ≡ levels.first
+    → (levels_after (commands.Reader Second asked) levels).first.asked ≡ levels.first.asked
 first_alone (readers.SetupConfig level columns rows display) levels = refl
 first_alone asked levels = refl
 
 second_alone : (asked : ReaderCommand) (levels : Levels)
-    → (levels_after (commands.Reader First asked) levels).second ≡ levels.second
+    → (levels_after (commands.Reader First asked) levels).second.asked ≡ levels.second.asked
 second_alone (readers.SetupConfig level columns rows display) levels = refl
 second_alone asked levels = refl
 
@@ -431,12 +433,20 @@ same_level scope command (piece ∷ pieces) followed =
     ∙ (same ∙ sym (levels_stay scope command piece pieces followed out)))
     (λ kept. levels_go_on scope.levels command piece (leave_out scope pieces) pieces same)
 
--- and its replies fit the levels as they did
+-- a reply fits levels that are the same for its command
+fits_alike : (profile : Profile) (one other : Levels) (command : Command) (reply : Reply)
+    → level_for command one ≡ level_for command other → ReplyFits profile other command reply
+    → ReplyFits profile one command reply
+fits_alike profile one other command reply same fits = λ high. subst IsLow (sym same) (fits high)
+
+-- so a piece that stays fits the levels of the pieces that stay
 levels_fit : (scope : Scope) (piece : Piece) (pieces : List Piece)
-    → is_left_out scope piece ≡ false → PieceFitsLevels (levels_of scope.levels pieces) piece
-    → PieceFitsLevels (levels_of scope.levels (leave_out scope pieces)) piece
+    → is_left_out scope piece ≡ false
+    → PieceFits scope.begins (levels_of scope.levels pieces) piece
+    → PieceFits scope.begins (levels_of scope.levels (leave_out scope pieces)) piece
 levels_fit scope (Whole (acts.Reply command reply) events) pieces kept fits =
-    λ high. subst IsLow (sym (same_level scope command pieces kept)) (fits high)
+    fits_alike (profile_of scope.begins) _ _ command reply (same_level scope command pieces kept)
+    fits
 levels_fit scope piece pieces kept fits = fits
 
 -- pieces in order are in order without further devices
@@ -456,7 +466,8 @@ in_order law less more wider (piece ∷ pieces) order =
     let Come : Option Event → Type 0 =
     λ from. Becomes more (position_of more rest) from stands.first stands.others in
     let Pieces : List Event → Type 0 = λ events. ArePieces more (with_foreign events rest) in
-    let Fits : Levels → Type 0 = λ told. PieceFitsLevels (levels_of told pieces) piece in
+    let Fits : Beginning → Levels → Type 0 =
+    λ begins told. PieceFits begins (levels_of told pieces) piece in
     cond_both (is_left_out more piece) (with_foreign (piece_events piece) rest) (piece ∷ rest)
     (ArePieces more)
     (λ out. subst Pieces (sym stands.begins)
@@ -475,7 +486,8 @@ in_order law less more wider (piece ∷ pieces) order =
         comes = subst Comes (sym last)
             (comes_as_it_did more piece (position_of less pieces) (position_of more rest)
             (last_of (events_of pieces)) stands.first moved kept stands.comes);
-        levels = levels_fit more piece pieces kept (subst Fits wider.levels stands.levels);
+        levels = levels_fit more piece pieces kept (subst (Fits more.begins) wider.levels
+            (subst (λ begins. Fits begins less.levels) wider.begins stands.levels));
       },
       before,
     ))

@@ -38,8 +38,8 @@ IsOneFollowed scope (Some device) = IsFollowed scope device
 -- a recording begins where no command is open
 first_followed : (scope : Scope) (begins : Beginning)
     → IsOneFollowed scope (device_at (first_position begins))
-first_followed scope PowerOn = tt
-first_followed scope (Joined setups) = tt
+first_followed scope (PowerOn profile) = tt
+first_followed scope (Joined setups profile) = tt
 
 -- the same of the device at one position, as of the device at another that it is
 at_position : (scope : Scope) (position other : Position) → position ≡ other

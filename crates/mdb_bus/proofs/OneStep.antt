@@ -19,8 +19,9 @@ use Rattle.mdb_bus.specs.LinkFaults.{Situation}
 use Rattle.mdb_bus.specs.inner.Steps.{Answers, AnswersReply, BeginsRepeat, GoesOnAsking, GoesOnForeign, GoesOnRepeating, GoesOnReplying, Leads, Opens, WordLeads}
 use Rattle.mdb_bus.specs.inner.Grammar.{Grammar}
 use Rattle.mdb_bus.proofs.Lists.{nothing_after, some_length}
-use Rattle.mdb_bus.specs.Scopes.{Asks, needed_in}
+use Rattle.mdb_bus.specs.Scopes.{Asks, needed_in, profile_of}
 use Rattle.mdb_bus.specs.declared.scope.Scope.{Scope}
+use Rattle.mdb_bus.specs.declared.scope.Profile.{Profile}
 
 -- what mdb_msgs promises of the commands and replies that a block may be
 pub record Readings (scope : Scope) : Type 0 where
@@ -224,24 +225,24 @@ one_answer command from to word (step.ReplyByte byte) other p q = answer_byte co
 one_answer command from to word one other p q = absurd p
 
 -- a reply goes on with one step
-reply_byte : (command : Command) (bytes : List ℕ) (from : Option Event) (levels : Levels)
-    (to : Event) (word byte : ℕ)
-    (other : Step)
-    → GoesOnReplying command bytes from levels to word (step.ReplyByte byte)
-    → GoesOnReplying command bytes from levels to word other → step.ReplyByte byte ≡ other
-reply_byte command bytes from levels to word byte (step.ReplyByte other) p q =
+reply_byte : (profile : Profile) (command : Command) (bytes : List ℕ) (from : Option Event)
+    (levels : Levels) (to : Event) (word byte : ℕ) (other : Step)
+    → GoesOnReplying profile command bytes from levels to word (step.ReplyByte byte)
+    → GoesOnReplying profile command bytes from levels to word other → step.ReplyByte byte ≡ other
+reply_byte profile command bytes from levels to word byte (step.ReplyByte other) p q =
     ap step.ReplyByte (sym p.0 ∙ q.0)
-reply_byte command bytes from levels to word byte (step.Reply reply) p q =
+reply_byte profile command bytes from levels to word byte (step.Reply reply) p q =
     absurd (omega (arith, p.1, q.0))
-reply_byte command bytes from levels to word byte other p q = absurd q
+reply_byte profile command bytes from levels to word byte other p q = absurd q
 
 reply_end : (scope : Scope) (readings : Readings scope) (command : Command) (bytes : List ℕ)
     (from : Option Event)
     (levels : Levels)
     (to : Event) (word : ℕ)
-    (reply : Reply) (other : Step) → GoesOnReplying command bytes from levels to word
-    (step.Reply reply)
-    → GoesOnReplying command bytes from levels to word other → step.Reply reply ≡ other
+    (reply : Reply) (other : Step)
+    → GoesOnReplying (profile_of scope.begins) command bytes from levels to word (step.Reply reply)
+    → GoesOnReplying (profile_of scope.begins) command bytes from levels to word other
+    → step.Reply reply ≡ other
 reply_end scope readings command bytes from levels to word reply (step.ReplyByte byte) p q =
     absurd (omega (arith, q.1, p.0))
 reply_end scope readings command bytes from levels to word reply (step.Reply other) p q =
@@ -252,10 +253,11 @@ one_replying : (scope : Scope) (readings : Readings scope) (command : Command) (
     (from : Option Event)
     (levels : Levels)
     (to : Event) (word : ℕ)
-    (one other : Step) → GoesOnReplying command bytes from levels to word one
-    → GoesOnReplying command bytes from levels to word other → one ≡ other
+    (one other : Step)
+    → GoesOnReplying (profile_of scope.begins) command bytes from levels to word one
+    → GoesOnReplying (profile_of scope.begins) command bytes from levels to word other → one ≡ other
 one_replying scope readings command bytes from levels to word (step.ReplyByte byte) other p q =
-    reply_byte command bytes from levels to word byte other p q
+    reply_byte (profile_of scope.begins) command bytes from levels to word byte other p q
 one_replying scope readings command bytes from levels to word (step.Reply reply) other p q =
     reply_end scope readings command bytes from levels to word reply other p q
 one_replying scope readings command bytes from levels to word one other p q = absurd p

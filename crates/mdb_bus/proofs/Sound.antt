@@ -20,8 +20,8 @@ use Rattle.mdb_bus.specs.declared.scope.Scope.{Scope}
 
 -- a recording begins at a position that is sound, where no reply is open
 first_sound : (scope : Scope) (begins : Beginning) → IsSound scope (first_position begins)
-first_sound scope PowerOn = tt
-first_sound scope (Joined setups) = tt
+first_sound scope (PowerOn profile) = tt
+first_sound scope (Joined setups profile) = tt
 
 -- a reply that was told, or is told again, is one
 abbrev HasReply : Position → Type 0
@@ -31,8 +31,8 @@ HasReply (InRepeat command reply words) = IsReply command reply
 HasReply _ = Unit {0}
 
 first_replied : (begins : Beginning) → HasReply (first_position begins)
-first_replied PowerOn = tt
-first_replied (Joined setups) = tt
+first_replied (PowerOn profile) = tt
+first_replied (Joined setups profile) = tt
 
 -- the position after pieces in order is sound
 pub is_sound : (scope : Scope) (pieces : List Piece) → ArePieces scope pieces

@@ -26,11 +26,11 @@ use Rattle.mdb_bus.specs.declared.levels.Levels.{Levels}
 use Rattle.mdb_bus.specs.inner.Step.{Step}
 use Rattle.mdb_bus.specs.inner.Step as step
 use Rattle.mdb_bus.specs.Acts.{IsForeignOpening, IsForeignWord, IsReply, reply_words}
-use Rattle.mdb_bus.specs.ActLists.{Position, Quiet, InAsk, Asked, InReply, Replied, Returned, InRepeat, InForeign, BlockMayCome, Within, IsAskFront, IsLow, IsRepeatFront, NotBefore, NotAfter, level_for, rest_before_block, rest_before_break, tells_high}
+use Rattle.mdb_bus.specs.ActLists.{Position, Quiet, InAsk, Asked, InReply, Replied, Returned, InRepeat, InForeign, BlockMayCome, Within, IsAskFront, IsRepeatFront, NotBefore, NotAfter, ReplyFits, rest_before_block, rest_before_break}
 use Rattle.mdb_bus.specs.LinkFaults.{HasHighLevels, IsBefore, IsAfter, IsNext, IsOutside, OutOfOrder, RowBreaks, Situation}
 use Rattle.mdb_bus.specs.inner.Steps.{Answers, AnswersReply, BeginsRepeat, GoesOnAsking, GoesOnForeign, GoesOnRepeating, GoesOnReplying, IsSound, Leads, Opens, WordLeads}
 use Rattle.mdb_bus.specs.inner.Grammar.{Grammar}
-use Rattle.mdb_bus.specs.Scopes.{Asks, needed_in}
+use Rattle.mdb_bus.specs.Scopes.{Asks, needed_in, profile_of}
 use Rattle.mdb_bus.specs.declared.scope.Scope.{Scope}
 
 -- a last row that is a break lasts long enough for one
@@ -573,15 +573,15 @@ same_reply scope grammar command bytes one other first is second same =
 not_left_out : (scope : Scope) → Grammar scope
     → (command : Command) (bytes : List ℕ) (reply : Reply) (levels : Levels)
     → IsReply command reply → bytes ≡ reply_bytes reply
-    → (tells_high reply ≡ true → IsLow (level_for command levels))
-    → IsReadFault command bytes reading.Profile ⊎ HasHighLevels command bytes levels → ⊥
+    → ReplyFits (profile_of scope.begins) levels command reply
+    → IsReadFault command bytes reading.Profile
+    ⊎ HasHighLevels (profile_of scope.begins) command bytes levels → ⊥
 not_left_out scope grammar command bytes reply levels good same low (inl bad) =
     none_bad scope grammar command bytes reply reading.Profile good same bad
 not_left_out scope grammar command bytes reply levels good same low (inr high) =
     let one : high.0 ≡ reply =
     same_reply scope grammar command bytes high.0 reply high.1 high.2 good same in
-    let P : Reply → Type 0 = λ r. tells_high r ≡ true in
-    high.4 (low (subst P one high.3))
+    high.3 (subst (ReplyFits (profile_of scope.begins) levels command) (sym one) low)
 
 -- the marked word of a reply
 reply_ends : (scope : Scope) → Grammar scope
@@ -590,7 +590,7 @@ reply_ends : (scope : Scope) → Grammar scope
     (reply : Reply) (broken : Rule)
     → Broken scope (InReply command bytes) from levels (Word at Peripheral word) broken
     → word ≡ 256 + sum bytes % 256 → IsReply command reply → bytes ≡ reply_bytes reply
-    → (tells_high reply ≡ true → IsLow (level_for command levels))
+    → ReplyFits (profile_of scope.begins) levels command reply
     → Within WORD_GAP_MIN BLOCK_GAP_MAX from (Word at Peripheral word) → ⊥
 reply_ends scope grammar command bytes from levels at word reply rule.Order breaks is good same low
     near =
@@ -634,7 +634,8 @@ in_reply : (scope : Scope) → Grammar scope
     (at word : ℕ)
     (broken : Rule) (next : Step)
     → Broken scope (InReply command bytes) from levels (Word at Peripheral word) broken
-    → GoesOnReplying command bytes from levels (Word at Peripheral word) word next → ⊥
+    → GoesOnReplying (profile_of scope.begins) command bytes from levels (Word at Peripheral word)
+    word next → ⊥
 in_reply scope grammar command bytes from levels at word broken (step.ReplyByte byte) breaks leads =
     reply_goes_on scope command bytes from levels at word broken breaks leads.1 leads.2 leads.3
 in_reply scope grammar command bytes from levels at word broken (step.Reply reply) breaks leads =

@@ -42,9 +42,10 @@ use Rattle.mdb_bus.specs.inner.Steps.{Belongs, IsCommandFront, IsGoingOn, IsJudg
 use Rattle.mdb_bus.proofs.Needs.{at_least_two, at_most_32, not_left, stays, narrows}
 use Rattle.mdb_bus.specs.declared.scope.Scope.{Scope}
 use Rattle.mdb_bus.specs.ActLists.{IsAskFront}
-use Rattle.mdb_bus.specs.Scopes.{needed_in}
+use Rattle.mdb_bus.specs.Scopes.{needed_in, profile_of}
 use Rattle.mdb_bus.proofs.Followed.{AreFollowed, FirstTells, ask_front_followed, asks_followed, expansion_opens, front_followed, needed_followed, plain_front, still_followed, within}
 use Rattle.mdb_bus.proofs.Lists.{peripheral_push}
+use Rattle.mdb_bus.specs.declared.scope.Profile.{Profile}
 
 -- it is one of them, and late or in time
 pub in_time : (least : ℕ) (from : Option Event) (to : Event) → (IsBefore least from to → ⊥)
@@ -394,7 +395,7 @@ reply_read : (scope : Scope) → BytesHaveOneFault → ReplyHasNoFault
     → (IsBefore WORD_GAP_MIN from (Word at Peripheral word) → ⊥)
     → (IsAfter BLOCK_GAP_MAX from (Word at Peripheral word) → ⊥)
     → 256 ≤ word → HasDataAnswer command (length bytes) → word ≡ 256 + sum bytes % 256
-    → IsRead command bytes levels result
+    → IsRead (profile_of scope.begins) command bytes levels result
     → IsSettled
     (record { scope = scope; position = InReply command bytes; last = from; levels = levels })
     (Word at Peripheral word)

@@ -23,9 +23,10 @@ use Rattle.mdb_bus.specs.declared.act.Act.TheVariants as acts
 use Rattle.mdb_bus.specs.declared.levels.Levels.{Levels}
 use Rattle.mdb_bus.specs.declared.scope.Beginning.{Beginning}
 use Rattle.mdb_bus.specs.declared.scope.Beginning.TheVariants.{PowerOn, Joined}
+use Rattle.mdb_bus.specs.declared.scope.Profile.{Profile}
 use Rattle.mdb_bus.specs.declared.scope.Scope.{Scope}
 use Rattle.mdb_bus.specs.Acts.{IsAct, IsBlockWord, IsForeignWord, Say, reply_words}
-use Rattle.mdb_bus.specs.Scopes.{Asks}
+use Rattle.mdb_bus.specs.Scopes.{Asks, profile_of}
 
 -- A piece of a transcript with its events: a whole act; or a tail, the words of an act that has
 -- begun and not ended, with the bytes that they have.
@@ -141,8 +142,8 @@ left_by (RepeatTail command reply words events) = InRepeat command reply words
 -- Where the bus is as a recording begins: in mid-session in foreign traffic, so that its first rows
 -- are foreign words, whatever they are, up to a marked word of the controller or a break.
 abbrev pub first_position : Beginning → Position
-first_position PowerOn = Quiet
-first_position (Joined setups) = InForeign
+first_position (PowerOn profile) = Quiet
+first_position (Joined setups profile) = InForeign
 
 -- where the bus is after pieces
 abbrev pub position_of : Scope → List Piece → Position
@@ -241,9 +242,9 @@ events_of (piece ∷ pieces) = events_of pieces ++ piece_events piece
 -- what the controller has last told each reader of its feature level (Y2), once an ask is whole
 abbrev pub levels_after : Command → Levels → Levels
 levels_after (commands.Reader First (readers.SetupConfig level columns rows display)) levels =
-    record levels { first = Some level }
+    record levels { first = record levels.first { asked = Some level } }
 levels_after (commands.Reader Second (readers.SetupConfig level columns rows display)) levels =
-    record levels { second = Some level }
+    record levels { second = record levels.second { asked = Some level } }
 levels_after _ levels = levels
 
 -- the same after pieces: the level of the last whole SETUP config ask to each reader, and what was
@@ -256,8 +257,8 @@ levels_of told (piece ∷ pieces) = levels_of told pieces
 
 -- what was told to the reader of a command
 abbrev pub level_for : Command → Levels → Option ℕ
-level_for (commands.Reader First command) levels = levels.first
-level_for (commands.Reader Second command) levels = levels.second
+level_for (commands.Reader First command) levels = levels.first.asked
+level_for (commands.Reader Second command) levels = levels.second.asked
 level_for _ levels = None
 
 -- whether a message of a reply tells of a feature level of 2 or more
@@ -271,14 +272,15 @@ abbrev pub IsLow : Option ℕ → Type 0
 IsLow None = Unit {0}
 IsLow (Some level) = level < 2
 
-abbrev pub FitsLevels : Levels → Act → Type 0
-FitsLevels levels (acts.Reply command reply) = tells_high reply ≡ true
-    → IsLow (level_for command levels)
-FitsLevels levels _ = Unit {0}
+-- the same of one reply to a command, by either profile
+abbrev pub ReplyFits : Profile → Levels → Command → Reply → Type 0
+ReplyFits profile levels command reply = tells_high reply ≡ true → IsLow (level_for command levels)
 
-abbrev pub PieceFitsLevels : Levels → Piece → Type 0
-PieceFitsLevels levels (Whole act events) = FitsLevels levels act
-PieceFitsLevels levels _ = Unit {0}
+-- a piece fits the levels told before it
+abbrev pub PieceFits : Beginning → Levels → Piece → Type 0
+PieceFits begins levels (Whole (acts.Reply command reply) events) =
+    ReplyFits (profile_of begins) levels command reply
+PieceFits begins levels _ = Unit {0}
 
 -- a piece may stand after the pieces before it
 pub record MayStand (scope : Scope) (pieces : List Piece) (piece : Piece) : Type 0 where
@@ -286,7 +288,7 @@ pub record MayStand (scope : Scope) (pieces : List Piece) (piece : Piece) : Type
   pub others : List Event
   pub begins : piece_events piece ≡ first ∷ others
   pub comes : MayCome piece (position_of scope pieces) (last_of (events_of pieces)) first
-  pub levels : PieceFitsLevels (levels_of scope.levels pieces) piece
+  pub levels : PieceFits scope.begins (levels_of scope.levels pieces) piece
 
 -- pieces, each right by itself and after those before it
 abbrev pub ArePieces : Scope → List Piece → Type 0

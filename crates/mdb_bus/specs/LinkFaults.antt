@@ -25,10 +25,11 @@ use Rattle.mdb_bus.specs.declared.fault.Blame.TheVariants as blame
 use Rattle.mdb_bus.specs.declared.fault.Rule.{Rule}
 use Rattle.mdb_bus.specs.declared.fault.Rule.TheVariants as rule
 use Rattle.mdb_bus.specs.declared.levels.Levels.{Levels}
+use Rattle.mdb_bus.specs.declared.scope.Profile.{Profile}
 use Rattle.mdb_bus.specs.declared.scope.Scope.{Scope}
 use Rattle.mdb_bus.specs.Acts.{IsReply, reply_words}
-use Rattle.mdb_bus.specs.Scopes.{needed_in}
-use Rattle.mdb_bus.specs.ActLists.{Piece, Whole, Position, Quiet, InAsk, Asked, InReply, Replied, Returned, InRepeat, IsLow, events_of, last_of, level_for, levels_of, position_of, rest_before_block, rest_before_break, tells_high}
+use Rattle.mdb_bus.specs.Scopes.{needed_in, profile_of}
+use Rattle.mdb_bus.specs.ActLists.{Piece, Whole, Position, Quiet, InAsk, Asked, InReply, Replied, Returned, InRepeat, ReplyFits, events_of, last_of, levels_of, position_of, rest_before_block, rest_before_break}
 
 -- What the rows so far leave for the next one.
 pub record Situation : Type 0 where
@@ -185,12 +186,12 @@ abbrev pub IsOutside : Scope → ℕ → Type 0
 IsOutside scope word = (byte : ℕ) × (word ≡ 256 + byte)
     × (needed_in scope (byte ∷ []) ≡ need.Outside)
 
--- a reader tells of a feature level of 2 or more, and the controller has last told it so too
-abbrev pub HasHighLevels : Command → List ℕ → Levels → Type 0
-HasHighLevels command bytes levels =
+-- the reply that these bytes are doesn't fit the levels: a reader tells of a feature level of 2 or
+-- more, and the controller has last told it so too
+abbrev pub HasHighLevels : Profile → Command → List ℕ → Levels → Type 0
+HasHighLevels profile command bytes levels =
     (reply : Reply) × IsReply command reply × (bytes ≡ reply_bytes reply)
-    × (tells_high reply ≡ true)
-    × ¬ IsLow (level_for command levels)
+    × ¬ ReplyFits profile levels command reply
 
 -- Profile: what this profile leaves out: commands, messages, and a feature level of 2 or more on
 -- both sides.
@@ -198,7 +199,8 @@ abbrev pub IsBeyondProfile : Scope → Position → Levels → Event → Type 0
 IsBeyondProfile scope (InAsk bytes) levels (Word at Controller word) =
     (needed_in scope bytes ≡ need.More) × (needed_in scope (bytes ++ word ∷ []) ≡ need.Outside)
 IsBeyondProfile scope (InReply command bytes) levels (Word at Peripheral word) =
-    (256 ≤ word) × (IsReadFault command bytes reading.Profile ⊎ HasHighLevels command bytes levels)
+    (256 ≤ word) × (IsReadFault command bytes reading.Profile
+    ⊎ HasHighLevels (profile_of scope.begins) command bytes levels)
 IsBeyondProfile scope (InReply command bytes) levels _ = ⊥
 IsBeyondProfile scope (InRepeat command reply words) levels _ = ⊥
 IsBeyondProfile scope position levels (Word at Controller word) = IsOutside scope word

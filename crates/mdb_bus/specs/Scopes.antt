@@ -11,25 +11,33 @@ use Rattle.mdb_msgs.specs.Needs.{needed_without}
 use Rattle.mdb_msgs.specs.declared.setups.Setups.{Setups}
 use Rattle.mdb_msgs.specs.Setups.{nothing_known}
 use Rattle.mdb_bus.specs.declared.levels.Levels.{Levels}
+use Rattle.mdb_bus.specs.declared.scope.Beginning.{Beginning}
 use Rattle.mdb_bus.specs.declared.scope.Beginning.TheVariants.{PowerOn, Joined}
+use Rattle.mdb_bus.specs.declared.scope.Profile.{Profile}
+use Rattle.mdb_bus.specs.declared.scope.Profile.TheVariants.{Base}
 use Rattle.mdb_bus.specs.declared.scope.Scope.{Scope}
+
+-- what is followed of the protocol
+abbrev pub profile_of : Beginning → Profile
+profile_of (PowerOn profile) = profile
+profile_of (Joined setups profile) = profile
 
 -- no feature level told to a reader
 abbrev pub no_levels : Levels
-no_levels = record { first = None; second = None }
+no_levels = record { first = record { asked = None }; second = record { asked = None } }
 
--- from power-on, with these devices left out
+-- from power-on, by the base profile, with these devices left out
 abbrev pub leaving_out : DeviceSet → Scope
-leaving_out devices = record { begins = PowerOn; without = devices; levels = no_levels }
+leaving_out devices = record { begins = PowerOn Base; without = devices; levels = no_levels }
 
 -- from power-on, with all devices
 abbrev pub power_on : Scope
 power_on = leaving_out NONE
 
--- in mid-session, with these setup data known, and with these devices left out
+-- in mid-session, by the base profile, with these setup data known, with these devices left out
 abbrev pub joined : Setups → DeviceSet → Scope
 joined setups devices =
-    record { begins = Joined setups; without = devices; levels = no_levels }
+    record { begins = Joined setups Base; without = devices; levels = no_levels }
 
 -- in mid-session, with no setup data known, and with all devices
 abbrev pub all_joined : Scope

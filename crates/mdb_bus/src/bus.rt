@@ -2,7 +2,7 @@
 
 ghost use Rattle.std.specs.Prelude.{◌≡◌, ◌≢◌, [], ◌∷◌, ◌++◌, ℕ, List, Some, false, true, IfOk, IfErr, OnErr, Ok, Err};
 ghost use Rattle.mdb_msgs.specs.declared.reply.Reply.{Reply};
-ghost use Rattle.mdb_bus.specs.Scopes.{all_joined, power_on};
+ghost use Rattle.mdb_bus.specs.Scopes.{all_joined, power_on, profile_of};
 ghost use Rattle.mdb_bus.specs.inner.Step.{EachStep};
 
 use super::act::Act;
@@ -64,8 +64,8 @@ impl Bus {
         ensures scope { scope_of result ≡ scope.now }
     {
         let phase = match scope.begins {
-            Beginning::PowerOn => Phase::Quiet,
-            Beginning::Joined(_) => Phase::InForeign,
+            Beginning::PowerOn(_) => Phase::Quiet,
+            Beginning::Joined(_, _) => Phase::InForeign,
         };
         Bus {
             scope: scope.copy(),
@@ -145,10 +145,12 @@ impl Bus {
     fn take_reply(&mut self, event: Event, act: &mut Act) -> Result<bool, LinkFault>
         requires { self.old.place.phase ≡ Phase.InReply }
         ensures taken { IfOk result (λ ended. (reply : Reply)
-            × IsReadAt (position_at self.old.place) self.old.levels (Ok reply)
+            × IsReadAt (profile_of self.old.scope.begins) (position_at self.old.place)
+            self.old.levels (Ok reply)
             × HasGone self.old (step.Reply reply) event self.new (ended_act ended act.new)) }
         ensures rule { IfErr result (λ fault.
-            IsReadAt (position_at self.old.place) self.old.levels (Err fault.rule)) }
+            IsReadAt (profile_of self.old.scope.begins) (position_at self.old.place)
+            self.old.levels (Err fault.rule)) }
         ensures blame { IfErr result (λ fault. fault.blame
             ≡ blame_of (position_at self.old.place) self.old.asked event fault.rule) }
         ensures unchanged { OnErr result (self.new ≡ self.old) }
@@ -156,7 +158,8 @@ impl Bus {
         ensures scope { self.new.scope ≡ self.old.scope }
         ensures untouched { OnErr result (act.new ≡ act.old) }
     {
-        match self.place.end_reply(self.levels, act) {
+        let profile = self.scope.begins.profile();
+        match self.place.end_reply(profile, self.levels, act) {
             Ok(()) => {
                 self.last = Some(event);
                 Ok(true)

@@ -4,9 +4,9 @@
 //! of a peripheral, the bus returns that act. For the first impossible row it returns a
 //! [`LinkFault`]: the [`Rule`] that the row breaks, and who is to blame.
 //!
-//! A [`Scope`] states where the recording begins, which devices are left out, and which feature
-//! levels the readers were told before. The rules are those of MDB/ICP 4.3, bus format and timing,
-//! as this profile follows them. This crate allocates nothing.
+//! A [`Scope`] states where the recording begins, what is followed of it, which devices are left
+//! out, and which feature levels the readers were told before. The rules are those of MDB/ICP 4.3,
+//! bus format and timing, as this profile follows them. This crate allocates nothing.
 #![tactic(auto)]
 
 mod act;
@@ -26,5 +26,5 @@ mod spelled;
 pub use act::Act;
 pub use bus::Bus;
 pub use fault::{Blame, LinkFault, Rule};
-pub use levels::Levels;
-pub use scope::{Beginning, Scope};
+pub use levels::{Levels, ReaderLevels};
+pub use scope::{Beginning, Profile, Scope};

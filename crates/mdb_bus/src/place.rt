@@ -11,6 +11,7 @@ use super::fault::Rule;
 use super::judged::Judged;
 use super::levels::Levels;
 use super::phase::Phase;
+use super::scope::Profile;
 use super::spelled::Spelled;
 use mdb_msgs::{Command, MsgFault, Reply, command_of, laws, polled, reply_of};
 use mdb_words::Event;
@@ -198,12 +199,17 @@ impl Place {
     // Not inlined, so that only rows that end a reply pay for it. What it calls is inlined here, so
     // that a reply is moved less often.
     #[inline(never)]
-    pub(crate) fn end_reply(&mut self, levels: Levels, act: &mut Act) -> Result<(), Rule>
+    pub(crate) fn end_reply(
+        &mut self,
+        profile: Profile,
+        levels: Levels,
+        act: &mut Act,
+    ) -> Result<(), Rule>
         requires { self.old.phase ≡ Phase.InReply }
         ensures taken { IfOk result (λ _.
-            IsTaken (position_at self.old) levels (position_at self.new) (Ok act.new)) }
+            IsTaken profile (position_at self.old) levels (position_at self.new) (Ok act.new)) }
         ensures rule { IfErr result (λ rule.
-            IsTaken (position_at self.old) levels (position_at self.new) (Err rule)) }
+            IsTaken profile (position_at self.old) levels (position_at self.new) (Err rule)) }
         ensures unchanged { OnErr result (self.new ≡ self.old) }
         ensures untouched { OnErr result (act.new ≡ act.old) }
     {
@@ -211,7 +217,7 @@ impl Place {
             Ok(reply) => reply,
             Err(fault) => return Err(rule_of(fault)),
         };
-        if !levels.fit(self.command, &reply) {
+        if !levels.fit(profile, self.command, &reply) {
             return Err(Rule::Profile);
         }
         *act = Act::Reply(self.command, reply.copy());

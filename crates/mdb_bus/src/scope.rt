@@ -1,41 +1,60 @@
 //! The scope of a check.
 
 ghost use Rattle.std.specs.Prelude.{◌≡◌};
-ghost use Rattle.mdb_bus.specs.Scopes.{joined, leaving_out, told};
+ghost use Rattle.mdb_bus.specs.Scopes.{joined, leaving_out, profile_of, told};
 
 use super::levels::Levels;
 use mdb_msgs::{DeviceSet, Setups};
 
-/// Where a recording begins (this profile).
+/// What is followed of the protocol.
+#[derive(Clone, Copy, PartialEq, Eq, Debug)]
+pub enum Profile {
+    /// Changer, validator, and card readers of feature level 1 (this profile).
+    Base,
+    /// The same, and what card readers of feature levels 2 and 3 say. A check follows nothing more
+    /// with it so far.
+    Extended,
+}
+
+/// Where a recording begins, and what is followed of it (this profile).
 #[derive(PartialEq, Eq, Debug, Drop)]
 pub enum Beginning {
     /// At power-on or at a break: nothing was sent before, and each device is in its power-on
     /// state.
-    PowerOn,
+    PowerOn(Profile),
     /// While the machine was running. Nothing is known of what was sent before, and each device may
     /// be in any state. These setup data are known from elsewhere.
-    Joined(Setups),
+    Joined(Setups, Profile),
 }
 
 impl Beginning {
+    /// What is followed of the protocol.
+    pub fn profile(&self) -> Profile
+        ensures { result ≡ profile_of self.now }
+    {
+        match self {
+            Beginning::PowerOn(profile) | Beginning::Joined(_, profile) => *profile,
+        }
+    }
+
     /// A copy.
     pub fn copy(&self) -> Beginning
         ensures { result ≡ self.now }
     {
         match self {
-            Beginning::PowerOn => Beginning::PowerOn,
-            Beginning::Joined(setups) => Beginning::Joined(setups.copy()),
+            Beginning::PowerOn(profile) => Beginning::PowerOn(*profile),
+            Beginning::Joined(setups, profile) => Beginning::Joined(setups.copy(), *profile),
         }
     }
 }
 
-/// The scope of a check: where the recording begins, which devices are left out, and what the
-/// readers were told before (this profile).
+/// The scope of a check: where the recording begins, what is followed of it, which devices are left
+/// out, and what the readers were told before (this profile).
 ///
 /// A device that is left out isn't followed. All words to it and from it are foreign traffic.
 #[derive(PartialEq, Eq, Debug, Drop)]
 pub struct Scope {
-    /// Where the recording begins.
+    /// Where the recording begins, and what is followed of it.
     pub begins: Beginning,
     /// The devices that are left out.
     pub without: DeviceSet,
@@ -45,9 +64,9 @@ pub struct Scope {
 }
 
 impl Scope {
-    /// A recording from power-on, with all devices followed.
+    /// A recording from power-on, with all devices followed, by the base profile.
     pub const POWER_ON: Scope = Scope {
-        begins: Beginning::PowerOn,
+        begins: Beginning::PowerOn(Profile::Base),
         without: DeviceSet::NONE,
         levels: Levels::NONE,
     };
@@ -57,7 +76,7 @@ impl Scope {
         ensures { result ≡ leaving_out devices }
     {
         Scope {
-            begins: Beginning::PowerOn,
+            begins: Beginning::PowerOn(Profile::Base),
             without: devices,
             levels: Levels::NONE,
         }
@@ -69,7 +88,7 @@ impl Scope {
         ensures { result ≡ joined setups without }
     {
         Scope {
-            begins: Beginning::Joined(setups),
+            begins: Beginning::Joined(setups, Profile::Base),
             without,
             levels: Levels::NONE,
         }

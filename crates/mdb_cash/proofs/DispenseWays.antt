@@ -7,6 +7,7 @@ use Rattle.mdb_msgs.specs.declared.setups.Setups.{Setups}
 use Rattle.mdb_bus.specs.declared.act.Act.{Act}
 use Rattle.mdb_bus.specs.declared.act.Act.TheVariants as acts
 use Rattle.mdb_bus.specs.declared.scope.Beginning.TheVariants.{Joined}
+use Rattle.mdb_bus.specs.declared.scope.Profile.{Profile}
 use Rattle.mdb_cash.specs.declared.changer.activity.ChangerActivity.TheVariants.{CashBox}
 use Rattle.mdb_cash.specs.declared.changer.state.ChangerState.{ChangerState}
 use Rattle.mdb_machine.specs.declared.choice.Choice.{Choice}
@@ -34,21 +35,21 @@ still_owed : (before : ChangerState) → before.dispense_owed ≡ true
 still_owed before owed =
     ap (λ o. record { holds = before.holds; dispense_owed = o }) (sym owed)
 
-pub owed_ways : (setups : Setups) (so_far : List Act) (coins : ℕ) (choice : Choice)
-    (before after : ChangerState) (gains : Gains) → AsksNone tables so_far
+pub owed_ways : (setups : Setups) (profile : Profile) (so_far : List Act) (coins : ℕ)
+    (choice : Choice) (before after : ChangerState) (gains : Gains) → AsksNone tables so_far
     → before.dispense_owed ≡ true
-    → (machine (Joined setups)).Step so_far (acts.Ask (Changer (changer.Dispense coins))) choice
-    before after gains
+    → (machine (Joined setups profile)).Step so_far (acts.Ask (Changer (changer.Dispense coins)))
+    choice before after gains
     ↔ (after ≡ before) × ((gains ≡ no_gains)
     ⊎ (gains ≡ controller_gains (in_slots
     (0 ∷ dispensed_value (facts_recorded tables setups so_far).setup coins ∷ []))))
-owed_ways setups so_far coins choice before after gains none owed = (forth, back)
+owed_ways setups profile so_far coins choice before after gains none owed = (forth, back)
   where
     value : ℕ
     value = dispensed_value (facts_recorded tables setups so_far).setup coins
 
-    forth : (machine (Joined setups)).Step so_far (acts.Ask (Changer (changer.Dispense coins)))
-        choice before after gains
+    forth : (machine (Joined setups profile)).Step so_far
+        (acts.Ask (Changer (changer.Dispense coins))) choice before after gains
         → (after ≡ before)
         × ((gains ≡ no_gains) ⊎ (gains ≡ controller_gains (in_slots (0 ∷ value ∷ []))))
     forth step = (
@@ -60,10 +61,10 @@ owed_ways setups so_far coins choice before after gains none owed = (forth, back
 
     by : (asked : Option ℕ) → after ≡ before
         → gains ≡ adds true (is_last asked coins) value
-        → (machine (Joined setups)).Step so_far (acts.Ask (Changer (changer.Dispense coins)))
-        choice before after gains
+        → (machine (Joined setups profile)).Step so_far
+        (acts.Ask (Changer (changer.Dispense coins))) choice before after gains
     by asked same gained =
-        let some = any_asked (CashBox 0) tables setups so_far before.holds asked none in
+        let some = any_asked (CashBox 0) tables setups profile so_far before.holds asked none in
         record {
           facts = some.0;
           allowed = some.1;
@@ -79,8 +80,8 @@ owed_ways setups so_far coins choice before after gains none owed = (forth, back
 
     back : (after ≡ before)
         × ((gains ≡ no_gains) ⊎ (gains ≡ controller_gains (in_slots (0 ∷ value ∷ []))))
-        → (machine (Joined setups)).Step so_far (acts.Ask (Changer (changer.Dispense coins)))
-        choice before after gains
+        → (machine (Joined setups profile)).Step so_far
+        (acts.Ask (Changer (changer.Dispense coins))) choice before after gains
     back (same, inl gained) = by (Some coins) same
         (gained ∙ ap (λ a. adds true a value) (sym (eq-eqb coins coins refl)))
     back (same, inr gained) = by None same gained
@@ -91,14 +92,14 @@ none_again : (owed again : Bool) (value : ℕ) → owed ≡ false
 none_again true again value is = absurd cc
 none_again false again value is = refl
 
-pub free_way : (setups : Setups) (so_far : List Act) (coins : ℕ) (choice : Choice)
-    (before after : ChangerState) (gains : Gains) → before.dispense_owed ≡ false
-    → (machine (Joined setups)).Step so_far (acts.Ask (Changer (changer.Dispense coins))) choice
-    before after gains
+pub free_way : (setups : Setups) (profile : Profile) (so_far : List Act) (coins : ℕ)
+    (choice : Choice) (before after : ChangerState) (gains : Gains) → before.dispense_owed ≡ false
+    → (machine (Joined setups profile)).Step so_far (acts.Ask (Changer (changer.Dispense coins)))
+    choice before after gains
     ↔ (after ≡ record before { dispense_owed = true })
     × (gains ≡ controller_gains (in_slots
     (0 ∷ dispensed_value (facts_recorded tables setups so_far).setup coins ∷ [])))
-free_way setups so_far coins choice before after gains free =
+free_way setups profile so_far coins choice before after gains free =
     let value = dispensed_value (facts_recorded tables setups so_far).setup coins in (
       λ step. (
         step.step.0,
@@ -108,7 +109,7 @@ free_way setups so_far coins choice before after gains free =
             ∙ none_again before.dispense_owed (is_last step.facts.last_asked coins) value free,
       ),
       λ way.
-          let some = some_told (CashBox 0) tables setups so_far before.holds in
+          let some = some_told (CashBox 0) tables setups profile so_far before.holds in
           record {
             facts = some.0;
             allowed = some.1;

@@ -66,8 +66,8 @@ impl Pair for Bill {
 
     fn may_start(begins: &Beginning, state: BillState) -> bool {
         match begins {
-            Beginning::PowerOn => state == BillState::power_on(),
-            Beginning::Joined(_) => true,
+            Beginning::PowerOn(_) => state == BillState::power_on(),
+            Beginning::Joined(_, _) => true,
         }
     }
 

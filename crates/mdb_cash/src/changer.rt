@@ -66,8 +66,8 @@ impl Pair for Changer {
 
     fn may_start(begins: &Beginning, state: ChangerState) -> bool {
         match begins {
-            Beginning::PowerOn => state == ChangerState::power_on(),
-            Beginning::Joined(_) => true,
+            Beginning::PowerOn(_) => state == ChangerState::power_on(),
+            Beginning::Joined(_, _) => true,
         }
     }
 

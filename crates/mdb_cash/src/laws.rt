@@ -15,6 +15,7 @@ ghost use Rattle.mdb_bus.specs.declared.act.Act.{Act};
 ghost use Rattle.mdb_bus.specs.declared.act.Act.TheVariants as acts;
 ghost use Rattle.mdb_bus.specs.declared.scope.Beginning.{Beginning};
 ghost use Rattle.mdb_bus.specs.declared.scope.Beginning.TheVariants.{PowerOn, Joined};
+ghost use Rattle.mdb_bus.specs.declared.scope.Profile.{Profile};
 ghost use Rattle.mdb_cash.specs.declared.bill.state.BillState.{BillState};
 ghost use Rattle.mdb_cash.specs.declared.changer.activity.ChangerActivity.{ChangerActivity};
 ghost use Rattle.mdb_cash.specs.declared.changer.state.ChangerState.{ChangerState};
@@ -90,23 +91,24 @@ pub fn breaks_tell_nothing_of_the_validator()
 /// From power-on all is known of the changer: the facts are those that the acts leave, and each
 /// step is one after them.
 pub fn from_power_on_all_is_known_of_the_changer()
-    ensures facts { (so_far : List Act) (holds : Bool) (facts : changer.Facts)
-        → AllowsFacts (changer.known_of PowerOn so_far) holds facts
+    ensures facts { (profile : Profile) (so_far : List Act) (holds : Bool) (facts : changer.Facts)
+        → AllowsFacts (changer.known_of (PowerOn profile) so_far) holds facts
         ↔ (facts ≡ changer.facts_of so_far) }
-    ensures steps { (so_far : List Act) (act : Act) (choice : Choice) (before after : ChangerState)
-        (gains : Gains)
-        → (changer_machine.machine PowerOn).Step so_far act choice before after gains
+    ensures steps { (profile : Profile) (so_far : List Act) (act : Act) (choice : Choice)
+        (before after : ChangerState) (gains : Gains)
+        → (changer_machine.machine (PowerOn profile)).Step so_far act choice before after gains
         ↔ changer_machine.ChangerStep (changer.facts_of so_far) act choice before after gains }
 {}
 
 /// From power-on all is known of the validator: the facts are those that the acts leave, and each
 /// step is one after them.
 pub fn from_power_on_all_is_known_of_the_validator()
-    ensures facts { (so_far : List Act) (holds : Bool) (facts : bill.Facts)
-        → AllowsFacts (bill.known_of PowerOn so_far) holds facts ↔ (facts ≡ bill.facts_of so_far) }
-    ensures steps { (so_far : List Act) (act : Act) (choice : Choice) (before after : BillState)
-        (gains : Gains)
-        → (bill_machine.machine PowerOn).Step so_far act choice before after gains
+    ensures facts { (profile : Profile) (so_far : List Act) (holds : Bool) (facts : bill.Facts)
+        → AllowsFacts (bill.known_of (PowerOn profile) so_far) holds facts
+        ↔ (facts ≡ bill.facts_of so_far) }
+    ensures steps { (profile : Profile) (so_far : List Act) (act : Act) (choice : Choice)
+        (before after : BillState) (gains : Gains)
+        → (bill_machine.machine (PowerOn profile)).Step so_far act choice before after gains
         ↔ bill_machine.BillStep (bill.facts_of so_far) act choice before after gains }
 {}
 
@@ -117,48 +119,49 @@ pub fn from_power_on_all_is_known_of_the_validator()
 /// another (`owed`); where none is owed it is new (`free`). Any other act leads where it does after
 /// the facts that the acts tell (`settled`).
 pub fn in_mid_session_the_changer_has_these_ways_alone()
-    ensures held { (setups : Setups) (so_far : List Act) (command : ChangerCommand) (reply : Reply)
-        (before after : ChangerState) (gains : Gains)
+    ensures held { (setups : Setups) (profile : Profile) (so_far : List Act)
+        (command : ChangerCommand) (reply : Reply) (before after : ChangerState) (gains : Gains)
         → TellsNone changer.tables so_far → before.holds ≡ true
         → kept_of (changer_messages.parts_of reply) ≢ []
-        → (changer_machine.machine (Joined setups)).Step so_far
+        → (changer_machine.machine (Joined setups profile)).Step so_far
         (acts.Reply (commands.Changer command) reply) Plain before after gains
         ↔ ((count : ℕ) × TellsHeldFirst changer_machine.conduct
         (facts_recorded changer.tables setups so_far) (changer_messages.parts_of reply) count before
         after gains) }
-    ensures poll { (setups : Setups) (so_far : List Act) (reply : Reply)
+    ensures poll { (setups : Setups) (profile : Profile) (so_far : List Act) (reply : Reply)
         (before after : ChangerState) (gains : Gains)
         → TellsNone changer.tables so_far → before.holds ≡ true
         → kept_of (changer_messages.parts_of reply) ≡ []
-        → (changer_machine.machine (Joined setups)).Step so_far
+        → (changer_machine.machine (Joined setups profile)).Step so_far
         (acts.Reply (commands.Changer changer_commands.Poll) reply) Plain before after gains → ⊥ }
-    ensures silent { (setups : Setups) (so_far : List Act) (command : ChangerCommand)
-        (reply : Reply) (before after : ChangerState) (gains : Gains)
+    ensures silent { (setups : Setups) (profile : Profile) (so_far : List Act)
+        (command : ChangerCommand) (reply : Reply) (before after : ChangerState) (gains : Gains)
         → TellsNone changer.tables so_far → before.holds ≡ true
         → changer.is_poll command ≡ false → kept_of (changer_messages.parts_of reply) ≡ []
-        → (changer_machine.machine (Joined setups)).Step so_far
+        → (changer_machine.machine (Joined setups profile)).Step so_far
         (acts.Reply (commands.Changer command) reply) Plain before after gains
         ↔ Stays before after gains }
-    ensures owed { (setups : Setups) (so_far : List Act) (coins : ℕ) (choice : Choice)
-        (before after : ChangerState) (gains : Gains)
+    ensures owed { (setups : Setups) (profile : Profile) (so_far : List Act) (coins : ℕ)
+        (choice : Choice) (before after : ChangerState) (gains : Gains)
         → AsksNone changer.tables so_far → before.dispense_owed ≡ true
-        → (changer_machine.machine (Joined setups)).Step so_far
+        → (changer_machine.machine (Joined setups profile)).Step so_far
         (acts.Ask (commands.Changer (changer_commands.Dispense coins))) choice before after gains
         ↔ (after ≡ before) × ((gains ≡ no_gains) ⊎ (gains ≡ controller_gains (in_slots
         (0 ∷ dispensed_value (facts_recorded changer.tables setups so_far).setup coins
         ∷ [])))) }
-    ensures free { (setups : Setups) (so_far : List Act) (coins : ℕ) (choice : Choice)
-        (before after : ChangerState) (gains : Gains)
+    ensures free { (setups : Setups) (profile : Profile) (so_far : List Act) (coins : ℕ)
+        (choice : Choice) (before after : ChangerState) (gains : Gains)
         → before.dispense_owed ≡ false
-        → (changer_machine.machine (Joined setups)).Step so_far
+        → (changer_machine.machine (Joined setups profile)).Step so_far
         (acts.Ask (commands.Changer (changer_commands.Dispense coins))) choice before after gains
         ↔ (after ≡ record before { dispense_owed = true }) × (gains ≡ controller_gains (in_slots
         (0 ∷ dispensed_value (facts_recorded changer.tables setups so_far).setup coins
         ∷ []))) }
-    ensures settled { (setups : Setups) (so_far : List Act) (act : Act) (choice : Choice)
-        (before after : ChangerState) (gains : Gains)
+    ensures settled { (setups : Setups) (profile : Profile) (so_far : List Act) (act : Act)
+        (choice : Choice) (before after : ChangerState) (gains : Gains)
         → IsSettled changer.tables changer_machine.conduct so_far act choice before
-        → (changer_machine.machine (Joined setups)).Step so_far act choice before after gains
+        → (changer_machine.machine (Joined setups profile)).Step so_far act choice before after
+        gains
         ↔ changer_machine.ChangerStep (facts_recorded changer.tables setups so_far) act choice
         before after gains }
 {}
@@ -169,32 +172,32 @@ pub fn in_mid_session_the_changer_has_these_ways_alone()
 /// and that is no answer to POLL (`poll`). Any other act leads where it does after the facts that
 /// the acts tell (`settled`).
 pub fn in_mid_session_the_validator_has_these_ways_alone()
-    ensures held { (setups : Setups) (so_far : List Act) (command : BillCommand) (reply : Reply)
-        (before after : BillState) (gains : Gains)
+    ensures held { (setups : Setups) (profile : Profile) (so_far : List Act) (command : BillCommand)
+        (reply : Reply) (before after : BillState) (gains : Gains)
         → TellsNone bill.tables so_far → before.holds ≡ true
         → kept_of (bill_messages.parts_of reply) ≢ []
-        → (bill_machine.machine (Joined setups)).Step so_far
+        → (bill_machine.machine (Joined setups profile)).Step so_far
         (acts.Reply (commands.Bill command) reply) Plain before after gains
         ↔ ((count : ℕ) × TellsHeldFirst bill_machine.conduct
         (facts_recorded bill.tables setups so_far) (bill_messages.parts_of reply) count before after
         gains) }
-    ensures poll { (setups : Setups) (so_far : List Act) (reply : Reply)
+    ensures poll { (setups : Setups) (profile : Profile) (so_far : List Act) (reply : Reply)
         (before after : BillState) (gains : Gains)
         → TellsNone bill.tables so_far → before.holds ≡ true
         → kept_of (bill_messages.parts_of reply) ≡ []
-        → (bill_machine.machine (Joined setups)).Step so_far
+        → (bill_machine.machine (Joined setups profile)).Step so_far
         (acts.Reply (commands.Bill bill_commands.Poll) reply) Plain before after gains → ⊥ }
-    ensures silent { (setups : Setups) (so_far : List Act) (command : BillCommand)
-        (reply : Reply) (before after : BillState) (gains : Gains)
+    ensures silent { (setups : Setups) (profile : Profile) (so_far : List Act)
+        (command : BillCommand) (reply : Reply) (before after : BillState) (gains : Gains)
         → TellsNone bill.tables so_far → before.holds ≡ true
         → bill.is_poll command ≡ false → kept_of (bill_messages.parts_of reply) ≡ []
-        → (bill_machine.machine (Joined setups)).Step so_far
+        → (bill_machine.machine (Joined setups profile)).Step so_far
         (acts.Reply (commands.Bill command) reply) Plain before after gains
         ↔ Stays before after gains }
-    ensures settled { (setups : Setups) (so_far : List Act) (act : Act) (choice : Choice)
-        (before after : BillState) (gains : Gains)
+    ensures settled { (setups : Setups) (profile : Profile) (so_far : List Act) (act : Act)
+        (choice : Choice) (before after : BillState) (gains : Gains)
         → IsSettled bill.tables bill_machine.conduct so_far act choice before
-        → (bill_machine.machine (Joined setups)).Step so_far act choice before after gains
+        → (bill_machine.machine (Joined setups profile)).Step so_far act choice before after gains
         ↔ bill_machine.BillStep (facts_recorded bill.tables setups so_far) act choice before after
         gains }
 {}

@@ -107,15 +107,15 @@ pub known_first : (unit : ReaderUnit) (begins : Beginning) (facts : ReaderFacts)
       knows_kept = knows;
     })
     ≡ known_of begins unit []
-known_first unit PowerOn facts knows so config asked taken amount past = same_fields config
-    (ap (λ k. if_known k facts.asked) so ∙ ap (λ a. if_known true a) asked)
+known_first unit (PowerOn profile) facts knows so config asked taken amount past = same_fields
+    config (ap (λ k. if_known k facts.asked) so ∙ ap (λ a. if_known true a) asked)
     (ap (λ k. if_known k facts.taken) so ∙ ap (λ a. if_known true a) taken)
     amount
     (same_known_past (λ kind. ap (λ p. p.enabled kind) past) (ap (λ p. p.reset_owed) past)
     (ap (λ k. if_known k facts.past.last_kept.items) so
     ∙ ap (λ p. if_known true p.last_kept) past))
-known_first unit (Joined setups) facts knows so config asked taken amount past = same_fields config
-    (ap (λ k. if_known k facts.asked) so)
+known_first unit (Joined setups profile) facts knows so config asked taken amount past = same_fields
+    config (ap (λ k. if_known k facts.asked) so)
     (ap (λ k. if_known k facts.taken) so)
     amount
     (same_known_past (λ kind. ap (λ p. p.enabled kind) past) (ap (λ p. p.reset_owed) past)

@@ -14,6 +14,7 @@ use Rattle.mdb_msgs.specs.declared.setups.Setups.{Setups}
 use Rattle.mdb_bus.specs.declared.act.Act.{Act}
 use Rattle.mdb_bus.specs.declared.act.Act.TheVariants as acts
 use Rattle.mdb_bus.specs.declared.scope.Beginning.TheVariants.{Joined}
+use Rattle.mdb_bus.specs.declared.scope.Profile.{Profile}
 use Rattle.mdb_machine.specs.declared.choice.Choice.{Choice}
 use Rattle.mdb_machine.specs.declared.gains.Gains.{Gains}
 use Rattle.mdb_machine.specs.Gains.{device_gains, in_slots}
@@ -103,146 +104,153 @@ is_taken_known unit so_far = by (last_told (taken_told unit) so_far) refl
         let clash : Some t ≡ None = sym is ∙ none_taken unit so_far none in absurd cc)
 
 -- what may have been taken last
-taken_allows : (unit : ReaderUnit) (setups : Setups) (so_far : List Act) (t : Option Transaction)
+taken_allows : (unit : ReaderUnit) (setups : Setups) (profile : Profile) (so_far : List Act)
+    (t : Option Transaction)
     → ((TakesNone unit so_far → ⊥) → t ≡ (facts_of unit so_far).taken)
-    → Allows (known_of (Joined setups) unit so_far).taken t
-taken_allows unit setups so_far t is =
-    allows_if setups None (last_told (taken_told unit) so_far) t
+    → Allows (known_of (Joined setups profile) unit so_far).taken t
+taken_allows unit setups profile so_far t is =
+    allows_if setups profile None (last_told (taken_told unit) so_far) t
     (λ known. is (λ none. known (none_taken unit so_far none)) ∙ last_taken_is unit so_far)
 
-taken_so : (unit : ReaderUnit) (setups : Setups) (so_far : List Act) (t : Option Transaction)
-    → Allows (known_of (Joined setups) unit so_far).taken t → (TakesNone unit so_far → ⊥)
+taken_so : (unit : ReaderUnit) (setups : Setups) (profile : Profile) (so_far : List Act)
+    (t : Option Transaction)
+    → Allows (known_of (Joined setups profile) unit so_far).taken t → (TakesNone unit so_far → ⊥)
     → t ≡ (facts_of unit so_far).taken
-taken_so unit setups so_far t allows known =
-    as_allowed setups None (last_told (taken_told unit) so_far) t allows
+taken_so unit setups profile so_far t allows known =
+    as_allowed setups profile None (last_told (taken_told unit) so_far) t allows
     (λ none. known (taken_by_none unit so_far none)) ∙ sym (last_taken_is unit so_far)
 
 -- and which list kept last
-some_kept : (unit : ReaderUnit) (setups : Setups) (so_far : List Act) (holds : Bool)
-    (last : List ReaderActivity)
-    → AllowsKept (known_of (Joined setups) unit so_far).past.last_kept holds last → holds ≡ true
+some_kept : (unit : ReaderUnit) (setups : Setups) (profile : Profile) (so_far : List Act)
+    (holds : Bool) (last : List ReaderActivity)
+    → AllowsKept (known_of (Joined setups profile) unit so_far).past.last_kept holds last → holds
+    ≡ true
     → last ≢ []
-some_kept unit setups so_far holds last allows held =
+some_kept unit setups profile so_far holds last allows held =
     by (last_list (parts_by unit) so_far) refl allows
   where
     by : (o : Option (List ReaderActivity)) → last_list (parts_by unit) so_far ≡ o
-        → AllowsKept (known_by (Joined setups) [] o) holds last → last ≢ []
+        → AllowsKept (known_by (Joined setups profile) [] o) holds last → last ≢ []
     by None is may = may held
     by (Some list) is may = λ empty.
         list_told (λ act. kept_of (parts_by unit act)) so_far list is (sym may ∙ empty)
 
-same_kept : (unit : ReaderUnit) (setups : Setups) (so_far : List Act) (holds : Bool)
-    (last : List ReaderActivity)
-    → AllowsKept (known_of (Joined setups) unit so_far).past.last_kept holds last
+same_kept : (unit : ReaderUnit) (setups : Setups) (profile : Profile) (so_far : List Act)
+    (holds : Bool) (last : List ReaderActivity)
+    → AllowsKept (known_of (Joined setups profile) unit so_far).past.last_kept holds last
     → (TellsNone unit so_far → ⊥) → last ≡ (facts_of unit so_far).past.last_kept
-same_kept unit setups so_far holds last allows known =
-    kept_so setups holds (last_list (parts_by unit) so_far) last allows
+same_kept unit setups profile so_far holds last allows known =
+    kept_so setups profile holds (last_list (parts_by unit) so_far) last allows
     (λ none. known (kept_by_none unit so_far none))
 
-kept_allows : (unit : ReaderUnit) (setups : Setups) (so_far : List Act) (holds : Bool)
-    (last : List ReaderActivity) → last ≢ []
+kept_allows : (unit : ReaderUnit) (setups : Setups) (profile : Profile) (so_far : List Act)
+    (holds : Bool) (last : List ReaderActivity) → last ≢ []
     → ((TellsNone unit so_far → ⊥) → last ≡ (facts_of unit so_far).past.last_kept)
-    → AllowsKept (known_of (Joined setups) unit so_far).past.last_kept holds last
-kept_allows unit setups so_far holds last some is =
-    keeps_if setups holds (last_list (parts_by unit) so_far) last (λ none. some)
+    → AllowsKept (known_of (Joined setups profile) unit so_far).past.last_kept holds last
+kept_allows unit setups profile so_far holds last some is =
+    keeps_if setups profile holds (last_list (parts_by unit) so_far) last (λ none. some)
     (λ known. is (λ none. known (none_kept unit so_far none)))
 
 -- the facts that acts tell are those that are known
-same_owed : (unit : ReaderUnit) (setups : Setups) (so_far : List Act)
-    → (known_of (Joined setups) unit so_far).past.reset_owed
+same_owed : (unit : ReaderUnit) (setups : Setups) (profile : Profile) (so_far : List Act)
+    → (known_of (Joined setups profile) unit so_far).past.reset_owed
     ≡ (facts_recorded unit setups so_far).past.reset_owed
-same_owed unit setups so_far = not_not (facts_of unit so_far).past.reset_owed
+same_owed unit setups profile so_far = not_not (facts_of unit so_far).past.reset_owed
     (list_any (powers_on (effect_of unit)) so_far)
 
-as_guess : (unit : ReaderUnit) (setups : Setups) (so_far : List Act) (holds : Bool) (facts : Facts)
-    → AllowsFacts (known_of (Joined setups) unit so_far) holds facts
+as_guess : (unit : ReaderUnit) (setups : Setups) (profile : Profile) (so_far : List Act)
+    (holds : Bool) (facts : Facts)
+    → AllowsFacts (known_of (Joined setups profile) unit so_far) holds facts
     → facts ≡ guessing (facts_recorded unit setups so_far) facts.asked facts.taken
     facts.past.last_kept
-as_guess unit setups so_far holds facts is =
+as_guess unit setups profile so_far holds facts is =
     same_facts is.config refl refl is.amount
     (same_past (λ kind. ap (λ e. e kind) is.past.enabled)
-    (is.past.reset_owed ∙ same_owed unit setups so_far) refl)
+    (is.past.reset_owed ∙ same_owed unit setups profile so_far) refl)
 
-guess_allowed : (unit : ReaderUnit) (setups : Setups) (so_far : List Act) (holds : Bool)
-    (a t : Option Transaction) (k : List ReaderActivity)
-    → Allows (known_of (Joined setups) unit so_far).asked a
-    → Allows (known_of (Joined setups) unit so_far).taken t
-    → AllowsKept (known_of (Joined setups) unit so_far).past.last_kept holds k
-    → AllowsFacts (known_of (Joined setups) unit so_far) holds
+guess_allowed : (unit : ReaderUnit) (setups : Setups) (profile : Profile) (so_far : List Act)
+    (holds : Bool) (a t : Option Transaction) (k : List ReaderActivity)
+    → Allows (known_of (Joined setups profile) unit so_far).asked a
+    → Allows (known_of (Joined setups profile) unit so_far).taken t
+    → AllowsKept (known_of (Joined setups profile) unit so_far).past.last_kept holds k
+    → AllowsFacts (known_of (Joined setups profile) unit so_far) holds
     (guessing (facts_recorded unit setups so_far) a t k)
-guess_allowed unit setups so_far holds a t k asked taken kept = record {
+guess_allowed unit setups profile so_far holds a t k asked taken kept = record {
   config = refl;
   asked = asked;
   taken = taken;
   amount = refl;
   past = record {
     enabled = refl;
-    reset_owed = sym (same_owed unit setups so_far);
+    reset_owed = sym (same_owed unit setups profile so_far);
     last_kept = kept;
   };
 }
 
-its_taken : (unit : ReaderUnit) (setups : Setups) (so_far : List Act)
-    → Allows (known_of (Joined setups) unit so_far).taken (facts_of unit so_far).taken
-its_taken unit setups so_far =
-    taken_allows unit setups so_far (facts_of unit so_far).taken (λ known. refl)
+its_taken : (unit : ReaderUnit) (setups : Setups) (profile : Profile) (so_far : List Act)
+    → Allows (known_of (Joined setups profile) unit so_far).taken (facts_of unit so_far).taken
+its_taken unit setups profile so_far =
+    taken_allows unit setups profile so_far (facts_of unit so_far).taken (λ known. refl)
 
-its_asked : (unit : ReaderUnit) (setups : Setups) (so_far : List Act)
-    → Allows (known_of (Joined setups) unit so_far).asked (facts_of unit so_far).asked
-its_asked unit setups so_far = allows_told setups (last_told (asked_by unit) so_far)
+its_asked : (unit : ReaderUnit) (setups : Setups) (profile : Profile) (so_far : List Act)
+    → Allows (known_of (Joined setups profile) unit so_far).asked (facts_of unit so_far).asked
+its_asked unit setups profile so_far = allows_told setups profile (last_told (asked_by unit) so_far)
 
-a_list : (unit : ReaderUnit) (setups : Setups) (so_far : List Act) (holds : Bool)
+a_list : (unit : ReaderUnit) (setups : Setups) (profile : Profile) (so_far : List Act)
+    (holds : Bool)
     → (kept : List ReaderActivity)
-    × AllowsKept (known_of (Joined setups) unit so_far).past.last_kept holds kept
-a_list unit setups so_far holds =
-    let some = kept_told VendDenied setups holds (last_list (parts_by unit) so_far) in
+    × AllowsKept (known_of (Joined setups profile) unit so_far).past.last_kept holds kept
+a_list unit setups profile so_far holds =
+    let some = kept_told VendDenied setups profile holds (last_list (parts_by unit) so_far) in
     (some.0, some.1)
 
 -- an ask of which it isn't known what was sent before it
-pub sent_way : (unit : ReaderUnit) (setups : Setups) (so_far : List Act) (command : ReaderCommand)
-    (before after : ReaderState) (gains : Gains) → SendsNone unit so_far
-    → ((facts : Facts) × AllowsFacts (known_of (Joined setups) unit so_far) before.holds facts
+pub sent_way : (unit : ReaderUnit) (setups : Setups) (profile : Profile) (so_far : List Act)
+    (command : ReaderCommand) (before after : ReaderState) (gains : Gains) → SendsNone unit so_far
+    → ((facts : Facts) × AllowsFacts (known_of (Joined setups profile) unit so_far) before.holds
+    facts
     × AskStep facts command before after gains)
     ↔ AskStep (record (facts_recorded unit setups so_far) { asked = transaction_of command })
     command
     before after gains
-sent_way unit setups so_far command before after gains none =
+sent_way unit setups profile so_far command before after gains none =
     let base = facts_recorded unit setups so_far in
-    let kept = a_list unit setups so_far before.holds in (
+    let kept = a_list unit setups profile so_far before.holds in (
       λ some.
           let facts = some.0 in
           ask_again base facts.asked facts.taken base.taken facts.past.last_kept base.past.last_kept
           command before after gains
           (subst (λ f. AskStep f command before after gains)
-          (as_guess unit setups so_far before.holds facts some.1) some.2),
+          (as_guess unit setups profile so_far before.holds facts some.1) some.2),
       λ step. (
         guessing base (transaction_of command) base.taken kept.0,
-        guess_allowed unit setups so_far before.holds (transaction_of command) base.taken kept.0
-            (subst (λ o. Allows (known_by (Joined setups) None
+        guess_allowed unit setups profile so_far before.holds (transaction_of command) base.taken
+            kept.0 (subst (λ o. Allows (known_by (Joined setups profile) None
             (option_map (λ (t : Transaction). Some t) o)) (transaction_of command))
             (sym (none_asked unit so_far none)) tt)
-            (its_taken unit setups so_far) kept.1,
+            (its_taken unit setups profile so_far) kept.1,
         ask_same base (transaction_of command) (transaction_of command) base.taken base.taken
             base.past.last_kept kept.0 command before after gains (inl refl) step,
       ),
     )
 
-pub sent : (unit : ReaderUnit) (setups : Setups) (so_far : List Act) (command : ReaderCommand)
-    (choice : Choice) (before after : ReaderState) (gains : Gains) → SendsNone unit so_far
-    → (machine unit (Joined setups)).Step so_far (acts.Ask (commands.Reader unit command)) choice
-    before after gains
+pub sent : (unit : ReaderUnit) (setups : Setups) (profile : Profile) (so_far : List Act)
+    (command : ReaderCommand) (choice : Choice) (before after : ReaderState) (gains : Gains)
+    → SendsNone unit so_far
+    → (machine unit (Joined setups profile)).Step so_far (acts.Ask (commands.Reader unit command))
+    choice before after gains
     ↔ AskStep (record (facts_recorded unit setups so_far) { asked = transaction_of command })
     command
     before after gains
-sent First setups so_far command choice before after gains none =
-    let way = sent_way First setups so_far command before after gains none in (
+sent First setups profile so_far command choice before after gains none =
+    let way = sent_way First setups profile so_far command before after gains none in (
       λ step. way.0 (step.facts, step.allowed, step.step),
       λ step.
           let some = way.1 step in
           record { facts = some.0; allowed = some.1; step = some.2 },
     )
-sent Second setups so_far command choice before after gains none =
-    let way = sent_way Second setups so_far command before after gains none in (
+sent Second setups profile so_far command choice before after gains none =
+    let way = sent_way Second setups profile so_far command before after gains none in (
       λ step. way.0 (step.facts, step.allowed, step.step),
       λ step.
           let some = way.1 step in
@@ -320,14 +328,15 @@ taken_anew facts command before is = (
 )
 
 -- a command that is taken after facts that may be is taken in one of the ways
-takes_to : SameFields → (unit : ReaderUnit) (setups : Setups) (so_far : List Act) (facts : Facts)
-    (holds : Bool) → AllowsFacts (known_of (Joined setups) unit so_far) holds facts
+takes_to : SameFields → (unit : ReaderUnit) (setups : Setups) (profile : Profile)
+    (so_far : List Act) (facts : Facts) (holds : Bool) → AllowsFacts
+    (known_of (Joined setups profile) unit so_far) holds facts
     → (its : Option ReaderCommand) (before : ReaderState)
     → Takes unit so_far (facts_recorded unit setups so_far) its before (take_any facts its before)
     (sold_any facts its before)
-takes_to fields unit setups so_far facts holds allowed None before =
+takes_to fields unit setups profile so_far facts holds allowed None before =
     inr (λ t is held known same. absurd cc, refl, refl)
-takes_to fields unit setups so_far facts holds allowed (Some command) before =
+takes_to fields unit setups profile so_far facts holds allowed (Some command) before =
     by (is_repeated facts command before.holds) refl
   where
     base : Facts
@@ -345,7 +354,7 @@ takes_to fields unit setups so_far facts holds allowed (Some command) before =
             is = so.1;
             holds_some = so.2;
             last = λ known.
-                sym (taken_so unit setups so_far facts.taken allowed.taken known) ∙ so.3;
+                sym (taken_so unit setups profile so_far facts.taken allowed.taken known) ∙ so.3;
           },
           to.0,
           to.1,
@@ -354,7 +363,8 @@ takes_to fields unit setups so_far facts holds allowed (Some command) before =
         let to = taken_anew facts command before is in
         inr (
           λ t its held known same.
-              let last = taken_so unit setups so_far facts.taken allowed.taken known ∙ same in
+              let last = taken_so unit setups profile so_far facts.taken allowed.taken known
+              ∙ same in
               let again = repeated fields t (transaction_of command) before.holds its held in
               let clash : false ≡ true =
               sym is ∙ ap (λ l. repeats l (transaction_of command) before.holds) last ∙ again in
@@ -368,11 +378,11 @@ takes_to fields unit setups so_far facts holds allowed (Some command) before =
 
 -- and each way is one after some guess of the last transaction, which may be; where no transaction
 -- is taken, any that may be does
-abbrev TakesAfter : ReaderUnit → Setups → List Act → Option ReaderCommand → ReaderState
+abbrev TakesAfter : ReaderUnit → Setups → Profile → List Act → Option ReaderCommand → ReaderState
     → ReaderState
     → Ended → Option Transaction → Option Transaction → Type 0
-TakesAfter unit setups so_far its before after sold guess t =
-    Allows (known_of (Joined setups) unit so_far).taken t
+TakesAfter unit setups profile so_far its before after sold guess t =
+    Allows (known_of (Joined setups profile) unit so_far).taken t
     × (or_else (own_transaction its) t ≡ or_else (own_transaction its) guess)
     × ((a : Option Transaction) (k : List ReaderActivity)
     → (take_any (guessing (facts_recorded unit setups so_far) a t k) its before ≡ after)
@@ -384,43 +394,45 @@ own_is (Some s) t one other is = refl
 own_is None t one other is = absurd cc
 
 -- a guess with which a command isn't repeated
-another_guess : SameFields → (unit : ReaderUnit) (setups : Setups) (so_far : List Act)
-    (its : Option Transaction) (holds : Bool) (guess : Option Transaction)
-    → Allows (known_of (Joined setups) unit so_far).taken guess
+another_guess : SameFields → (unit : ReaderUnit) (setups : Setups) (profile : Profile)
+    (so_far : List Act) (its : Option Transaction) (holds : Bool) (guess : Option Transaction)
+    → Allows (known_of (Joined setups profile) unit so_far).taken guess
     → ((t : Transaction) → its ≡ Some t → holds ≡ true → (TakesNone unit so_far → ⊥)
     → (facts_of unit so_far).taken ≢ Some t)
-    → (t : Option Transaction) × Allows (known_of (Joined setups) unit so_far).taken t
+    → (t : Option Transaction) × Allows (known_of (Joined setups profile) unit so_far).taken t
     × (or_else its t ≡ or_else its guess) × (repeats t its holds ≡ false)
-another_guess fields unit setups so_far None holds guess may other =
+another_guess fields unit setups profile so_far None holds guess may other =
     (guess, may, refl, not_repeated fields guess None holds (λ t is. absurd cc))
-another_guess fields unit setups so_far (Some s) holds guess may other =
+another_guess fields unit setups profile so_far (Some s) holds guess may other =
     elim (is_taken_known unit so_far) [
       | inl none ↦ (
         None,
-        taken_allows unit setups so_far None (λ known. absurd (known none)),
+        taken_allows unit setups profile so_far None (λ known. absurd (known none)),
         refl,
         not_repeated fields None (Some s) holds (λ t is held same. absurd cc),
       )
       | inr known ↦ (
         (facts_of unit so_far).taken,
-        its_taken unit setups so_far,
+        its_taken unit setups profile so_far,
         refl,
         not_repeated fields (facts_of unit so_far).taken (Some s) holds
             (λ t is held. other t is held known),
       )
     ]
 
-takes_from : SameFields → (unit : ReaderUnit) (setups : Setups) (so_far : List Act)
-    (its : Option ReaderCommand) (before after : ReaderState) (sold : Ended)
-    (guess : Option Transaction) → Allows (known_of (Joined setups) unit so_far).taken guess
+takes_from : SameFields → (unit : ReaderUnit) (setups : Setups) (profile : Profile)
+    (so_far : List Act) (its : Option ReaderCommand) (before after : ReaderState) (sold : Ended)
+    (guess : Option Transaction) → Allows (known_of (Joined setups profile) unit so_far).taken guess
     → Takes unit so_far (facts_recorded unit setups so_far) its before after sold
-    → (t : Option Transaction) × TakesAfter unit setups so_far its before after sold guess t
-takes_from fields unit setups so_far None before after sold guess may (inl again) = absurd cc
-takes_from fields unit setups so_far (Some command) before after sold guess may (inl again) =
+    → (t : Option Transaction) × TakesAfter unit setups profile so_far its before after sold guess t
+takes_from fields unit setups profile so_far None before after sold guess may (inl again) = absurd
+    cc
+takes_from fields unit setups profile so_far (Some command) before after sold guess may
+    (inl again) =
     let t = again.0.transaction in (
       Some t,
       (
-        taken_allows unit setups so_far (Some t) (λ known. sym (again.0.last known)),
+        taken_allows unit setups profile so_far (Some t) (λ known. sym (again.0.last known)),
         own_is (transaction_of command) t (Some t) guess again.0.is,
         λ a k.
             let facts = guessing (facts_recorded unit setups so_far) a (Some t) k in
@@ -430,11 +442,12 @@ takes_from fields unit setups so_far (Some command) before after sold guess may 
             (to.0 ∙ sym again.1, to.1 ∙ sym again.2),
       ),
     )
-takes_from fields unit setups so_far None before after sold guess may (inr another) =
+takes_from fields unit setups profile so_far None before after sold guess may (inr another) =
     (guess, (may, refl, λ a k. (sym another.1, sym another.2)))
-takes_from fields unit setups so_far (Some command) before after sold guess may (inr another) =
+takes_from fields unit setups profile so_far (Some command) before after sold guess may
+    (inr another) =
     let one =
-    another_guess fields unit setups so_far (transaction_of command) before.holds guess may
+    another_guess fields unit setups profile so_far (transaction_of command) before.holds guess may
     another.0 in (
       one.0,
       (
@@ -448,12 +461,14 @@ takes_from fields unit setups so_far (Some command) before after sold guess may 
     )
 
 -- an ACK
-pub ack_ways : SameFields → (unit : ReaderUnit) (setups : Setups) (so_far : List Act)
-    (command : ReaderCommand) (choice : Choice) (before after : ReaderState) (gains : Gains)
-    → ((facts : Facts) × AllowsFacts (known_of (Joined setups) unit so_far) before.holds facts
+pub ack_ways : SameFields → (unit : ReaderUnit) (setups : Setups) (profile : Profile)
+    (so_far : List Act) (command : ReaderCommand) (choice : Choice) (before after : ReaderState)
+    (gains : Gains)
+    → ((facts : Facts) × AllowsFacts (known_of (Joined setups profile) unit so_far) before.holds
+    facts
     × AckStep facts command choice before after gains)
     ↔ AckWay unit so_far (facts_recorded unit setups so_far) command choice before after gains
-ack_ways fields unit setups so_far command choice before after gains = (
+ack_ways fields unit setups profile so_far command choice before after gains = (
   λ some.
       let facts = some.0 in
       let step = some.2 in
@@ -461,19 +476,20 @@ ack_ways fields unit setups so_far command choice before after gains = (
         middle = take_any facts (Some command) before;
         sold = sold_any facts (Some command) before;
         poll = step.poll;
-        takes = takes_to fields unit setups so_far facts before.holds some.1 (Some command) before;
+        takes = takes_to fields unit setups profile so_far facts before.holds some.1 (Some command)
+            before;
         to = step.to;
         gained = step.gained;
       },
   λ way.
       let base = facts_recorded unit setups so_far in
-      let one = takes_from fields unit setups so_far (Some command) before way.middle way.sold
-      base.taken (its_taken unit setups so_far) way.takes in
-      let kept = a_list unit setups so_far before.holds in
+      let one = takes_from fields unit setups profile so_far (Some command) before way.middle
+      way.sold base.taken (its_taken unit setups profile so_far) way.takes in
+      let kept = a_list unit setups profile so_far before.holds in
       let to = one.1.2 base.asked kept.0 in (
         guessing base base.asked one.0 kept.0,
-        guess_allowed unit setups so_far before.holds base.asked one.0 kept.0
-            (its_asked unit setups so_far) one.1.0 kept.1,
+        guess_allowed unit setups profile so_far before.holds base.asked one.0 kept.0
+            (its_asked unit setups profile so_far) one.1.0 kept.1,
         record {
           poll = way.poll;
           to = way.to ∙ ap (λ (m : ReaderState). record m {
@@ -510,38 +526,40 @@ held_to unit so_far poll true (x ∷ last) kept news some known (inl order) =
 held_to unit so_far poll true (x ∷ last) kept news some known (inr none) =
     (0, (inr (none.0, none.1, refl), none.2 ∙ sym none.1))
 
-held_from : (unit : ReaderUnit) (setups : Setups) (so_far : List Act) (poll holds before : Bool)
-    (kept : List ReaderActivity) (count : ℕ) → AreHeld unit so_far poll holds kept count
+held_from : (unit : ReaderUnit) (setups : Setups) (profile : Profile) (so_far : List Act)
+    (poll holds before : Bool) (kept : List ReaderActivity) (count : ℕ) → AreHeld unit so_far poll
+    holds kept count
     → (last : List ReaderActivity)
-    × (AllowsKept (known_of (Joined setups) unit so_far).past.last_kept before last
+    × (AllowsKept (known_of (Joined setups profile) unit so_far).past.last_kept before last
     × IsNew poll (held holds last) kept (drop count kept))
-held_from unit setups so_far poll false before kept count none =
-    let some = a_list unit setups so_far before in
+held_from unit setups profile so_far poll false before kept count none =
+    let some = a_list unit setups profile so_far before in
     (some.0, (some.1, inl (sym (ap (λ n. drop n kept) none))))
-held_from unit setups so_far poll true before kept count (inl first) =
+held_from unit setups profile so_far poll true before kept count (inl first) =
     let size = length-take-le count kept first.1 in
     let some : take count kept ≢ [] = λ empty.
     let none_left = ap length empty in
     omega (arith, size, none_left, first.0) in (
       take count kept,
       (
-        kept_allows unit setups so_far before (take count kept) some first.2,
+        kept_allows unit setups profile so_far before (take count kept) some first.2,
         inl (sym (take-append-drop count kept)),
       ),
     )
-held_from unit setups so_far poll true before kept count (inr none) =
-    let some = a_list unit setups so_far before in
+held_from unit setups profile so_far poll true before kept count (inr none) =
+    let some = a_list unit setups profile so_far before in
     (some.0, (some.1, inr (none.0, none.1, ap (λ n. drop n kept) none.2 ∙ none.1)))
 
 -- a reply
-pub reply_ways : SameFields → (unit : ReaderUnit) (setups : Setups) (so_far : List Act)
-    (command : ReaderCommand) (reply : Reply) (choice : Choice) (before after : ReaderState)
-    (gains : Gains)
-    → ((facts : Facts) × AllowsFacts (known_of (Joined setups) unit so_far) before.holds facts
+pub reply_ways : SameFields → (unit : ReaderUnit) (setups : Setups) (profile : Profile)
+    (so_far : List Act) (command : ReaderCommand) (reply : Reply) (choice : Choice)
+    (before after : ReaderState) (gains : Gains)
+    → ((facts : Facts) × AllowsFacts (known_of (Joined setups profile) unit so_far) before.holds
+    facts
     × ReplyStep facts command reply choice before after gains)
     ↔ ReplyWay unit so_far (facts_recorded unit setups so_far) command reply choice before after
     gains
-reply_ways fields unit setups so_far command reply choice before after gains = (forth, back)
+reply_ways fields unit setups profile so_far command reply choice before after gains = (forth, back)
   where
     base : Facts
     base = facts_recorded unit setups so_far
@@ -555,7 +573,8 @@ reply_ways fields unit setups so_far command reply choice before after gains = (
     config : Option ReaderConfig → Option ReaderConfig
     config known = or_else (last_said config_in (messages_of reply)) known
 
-    forth : (facts : Facts) × AllowsFacts (known_of (Joined setups) unit so_far) before.holds facts
+    forth : (facts : Facts) × AllowsFacts (known_of (Joined setups profile) unit so_far)
+        before.holds facts
         × ReplyStep facts command reply choice before after gains
         → ReplyWay unit so_far base command reply choice before after gains
     forth some =
@@ -565,11 +584,11 @@ reply_ways fields unit setups so_far command reply choice before after gains = (
         let middle = before_messages facts command reply choice before in
         let sold = sold_any facts its (read choice before) in
         let last = facts.past.last_kept in
-        let owed = allowed.past.reset_owed ∙ same_owed unit setups so_far in
+        let owed = allowed.past.reset_owed ∙ same_owed unit setups profile so_far in
         let is = held_to unit so_far (is_poll command) middle.holds last kept step.news
-        (λ holds. some_kept unit setups so_far before.holds last allowed.past.last_kept
+        (λ holds. some_kept unit setups profile so_far before.holds last allowed.past.last_kept
         (held_before facts command reply choice before holds))
-        (same_kept unit setups so_far before.holds last allowed.past.last_kept)
+        (same_kept unit setups profile so_far before.holds last allowed.past.last_kept)
         step.has_news.new in
         record {
           middle = middle;
@@ -577,12 +596,12 @@ reply_ways fields unit setups so_far command reply choice before after gains = (
           count = is.0;
           last = facts.taken;
           may_be_read = step.has_news.read;
-          takes = takes_to fields unit setups so_far facts before.holds allowed its
+          takes = takes_to fields unit setups profile so_far facts before.holds allowed its
               (read choice before);
           held = is.1.0;
           reset = subst (λ b. MayBeKept (resets (effect_of_own its) || b) (parts_of reply)) owed
               step.has_news.reset;
-          known = taken_so unit setups so_far facts.taken allowed.taken;
+          known = taken_so unit setups profile so_far facts.taken allowed.taken;
           told = ap (λ n. all_told (or_else (own_transaction its) facts.taken) n middle.device)
               (sym is.1.1) ∙ step.told;
           view = step.view;
@@ -596,18 +615,19 @@ reply_ways fields unit setups so_far command reply choice before after gains = (
         }
 
     back : ReplyWay unit so_far base command reply choice before after gains
-        → (facts : Facts) × AllowsFacts (known_of (Joined setups) unit so_far) before.holds facts
+        → (facts : Facts) × AllowsFacts (known_of (Joined setups profile) unit so_far) before.holds
+        facts
         × ReplyStep facts command reply choice before after gains
     back way =
-        let one = takes_from fields unit setups so_far its (read choice before) way.middle way.sold
-        way.last (taken_allows unit setups so_far way.last way.known) way.takes in
-        let list = held_from unit setups so_far (is_poll command) way.middle.holds before.holds kept
-        way.count way.held in
+        let one = takes_from fields unit setups profile so_far its (read choice before) way.middle
+        way.sold way.last (taken_allows unit setups profile so_far way.last way.known) way.takes in
+        let list = held_from unit setups profile so_far (is_poll command) way.middle.holds
+        before.holds kept way.count way.held in
         let facts = guessing base base.asked one.0 list.0 in
         let to = one.1.2 base.asked list.0 in (
           facts,
-          guess_allowed unit setups so_far before.holds base.asked one.0 list.0
-              (its_asked unit setups so_far) one.1.0 list.1.0,
+          guess_allowed unit setups profile so_far before.holds base.asked one.0 list.0
+              (its_asked unit setups profile so_far) one.1.0 list.1.0,
           record {
             news = drop way.count kept;
             has_news = record {
@@ -629,28 +649,28 @@ reply_ways fields unit setups so_far command reply choice before after gains = (
         )
 
 -- any other act leads where it does after the facts that were told
-pub settled_way : (unit : ReaderUnit) (setups : Setups) (so_far : List Act) (act : Act)
-    (choice : Choice) (before after : ReaderState) (gains : Gains)
+pub settled_way : (unit : ReaderUnit) (setups : Setups) (profile : Profile) (so_far : List Act)
+    (act : Act) (choice : Choice) (before after : ReaderState) (gains : Gains)
     → IsSettled unit so_far act
-    → StepKnowing unit (known_of (Joined setups) unit so_far) act choice before after gains
+    → StepKnowing unit (known_of (Joined setups profile) unit so_far) act choice before after gains
     ↔ ReaderStep unit (facts_recorded unit setups so_far) act choice before after gains
-settled_way unit setups so_far act choice before after gains settled = (
+settled_way unit setups profile so_far act choice before after gains settled = (
   λ step.
       let facts = step.facts in
       step_same unit base facts.asked base.asked facts.taken base.taken facts.past.last_kept
       base.past.last_kept act choice before after gains
       (same_so act settled facts.asked base.asked facts.taken base.taken facts.past.last_kept
       base.past.last_kept
-      (λ known. sym (asked_so setups (last_told (asked_by unit) so_far) facts.asked
+      (λ known. sym (asked_so setups profile (last_told (asked_by unit) so_far) facts.asked
       step.allowed.asked (λ none. known (asked_by_none unit so_far none)))))
       (subst (λ f. ReaderStep unit f act choice before after gains)
-      (as_guess unit setups so_far before.holds facts step.allowed) step.step),
+      (as_guess unit setups profile so_far before.holds facts step.allowed) step.step),
   λ step.
-      let kept = a_list unit setups so_far before.holds in
+      let kept = a_list unit setups profile so_far before.holds in
       record {
         facts = guessing base base.asked base.taken kept.0;
-        allowed = guess_allowed unit setups so_far before.holds base.asked base.taken kept.0
-            (its_asked unit setups so_far) (its_taken unit setups so_far) kept.1;
+        allowed = guess_allowed unit setups profile so_far before.holds base.asked base.taken kept.0
+            (its_asked unit setups profile so_far) (its_taken unit setups profile so_far) kept.1;
         step = step_same unit base base.asked base.asked base.taken base.taken base.past.last_kept
             kept.0 act choice before after gains
             (same_so act settled base.asked base.asked base.taken base.taken base.past.last_kept
@@ -689,42 +709,45 @@ settled_way unit setups so_far act choice before after gains settled = (
     same_so (acts.Break length) settled a b t u k l known = tt
 
 -- in the machine
-pub acked : SameFields → (unit : ReaderUnit) (setups : Setups) (so_far : List Act)
-    (command : ReaderCommand) (choice : Choice) (before after : ReaderState) (gains : Gains)
-    → (machine unit (Joined setups)).Step so_far (acts.Ack (commands.Reader unit command)) choice
-    before after gains
+pub acked : SameFields → (unit : ReaderUnit) (setups : Setups) (profile : Profile)
+    (so_far : List Act) (command : ReaderCommand) (choice : Choice) (before after : ReaderState)
+    (gains : Gains)
+    → (machine unit (Joined setups profile)).Step so_far (acts.Ack (commands.Reader unit command))
+    choice before after gains
     ↔ AckWay unit so_far (facts_recorded unit setups so_far) command choice before after gains
-acked fields First setups so_far command choice before after gains =
-    let ways = ack_ways fields First setups so_far command choice before after gains in (
+acked fields First setups profile so_far command choice before after gains =
+    let ways = ack_ways fields First setups profile so_far command choice before after gains in (
       λ step. ways.0 (step.facts, step.allowed, step.step),
       λ way.
           let some = ways.1 way in
           record { facts = some.0; allowed = some.1; step = some.2 },
     )
-acked fields Second setups so_far command choice before after gains =
-    let ways = ack_ways fields Second setups so_far command choice before after gains in (
+acked fields Second setups profile so_far command choice before after gains =
+    let ways = ack_ways fields Second setups profile so_far command choice before after gains in (
       λ step. ways.0 (step.facts, step.allowed, step.step),
       λ way.
           let some = ways.1 way in
           record { facts = some.0; allowed = some.1; step = some.2 },
     )
 
-pub replied : SameFields → (unit : ReaderUnit) (setups : Setups) (so_far : List Act)
-    (command : ReaderCommand) (reply : Reply) (choice : Choice) (before after : ReaderState)
-    (gains : Gains)
-    → (machine unit (Joined setups)).Step so_far
+pub replied : SameFields → (unit : ReaderUnit) (setups : Setups) (profile : Profile)
+    (so_far : List Act) (command : ReaderCommand) (reply : Reply) (choice : Choice)
+    (before after : ReaderState) (gains : Gains)
+    → (machine unit (Joined setups profile)).Step so_far
     (acts.Reply (commands.Reader unit command) reply) choice before after gains
     ↔ ReplyWay unit so_far (facts_recorded unit setups so_far) command reply choice before after
     gains
-replied fields First setups so_far command reply choice before after gains =
-    let ways = reply_ways fields First setups so_far command reply choice before after gains in (
+replied fields First setups profile so_far command reply choice before after gains =
+    let ways = reply_ways fields First setups profile so_far command reply choice before after
+    gains in (
       λ step. ways.0 (step.facts, step.allowed, step.step),
       λ way.
           let some = ways.1 way in
           record { facts = some.0; allowed = some.1; step = some.2 },
     )
-replied fields Second setups so_far command reply choice before after gains =
-    let ways = reply_ways fields Second setups so_far command reply choice before after gains in (
+replied fields Second setups profile so_far command reply choice before after gains =
+    let ways = reply_ways fields Second setups profile so_far command reply choice before after
+    gains in (
       λ step. ways.0 (step.facts, step.allowed, step.step),
       λ way.
           let some = ways.1 way in

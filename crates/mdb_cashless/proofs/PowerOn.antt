@@ -4,6 +4,7 @@ use Rattle.mdb_msgs.specs.declared.command.ReaderUnit.{ReaderUnit}
 use Rattle.std.proofs.Math.Path.{fun_ext}
 use Rattle.mdb_bus.specs.declared.act.Act.{Act}
 use Rattle.mdb_bus.specs.declared.scope.Beginning.TheVariants.{PowerOn}
+use Rattle.mdb_bus.specs.declared.scope.Profile.{Profile}
 use Rattle.mdb_machine.specs.Known.{Allows, AllowsKept, known_by}
 use Rattle.mdb_machine.specs.Past.{last_list, last_told, or_else, past_of}
 use Rattle.mdb_machine.specs.shared.PastWays.{same_past}
@@ -17,16 +18,16 @@ use Rattle.mdb_cashless.proofs.Knowing.{same_facts}
 use Rattle.mdb_cashless.proofs.Said.{or_none}
 
 -- what is known of the last transactions
-asked_known : (told asked : Option Transaction)
-    → Allows (known_by PowerOn None (option_map (λ (t : Transaction). Some t) told)) asked
+asked_known : (profile : Profile) (told asked : Option Transaction)
+    → Allows (known_by (PowerOn profile) None (option_map (λ (t : Transaction). Some t) told)) asked
     ↔ (asked ≡ told)
-asked_known None asked = (λ e. e, λ e. e)
-asked_known (Some t) asked = (λ e. e, λ e. e)
+asked_known profile None asked = (λ e. e, λ e. e)
+asked_known profile (Some t) asked = (λ e. e, λ e. e)
 
-taken_known : (told : Option (Option Transaction)) (taken : Option Transaction)
-    → Allows (known_by PowerOn None told) taken ↔ (taken ≡ unwrap_or told None)
-taken_known None taken = (λ e. e, λ e. e)
-taken_known (Some t) taken = (λ e. e, λ e. e)
+taken_known : (profile : Profile) (told : Option (Option Transaction)) (taken : Option Transaction)
+    → Allows (known_by (PowerOn profile) None told) taken ↔ (taken ≡ unwrap_or told None)
+taken_known profile None taken = (λ e. e, λ e. e)
+taken_known profile (Some t) taken = (λ e. e, λ e. e)
 
 one_taken : (ends : Bool) (its last : Option Transaction) (told : Option (Option Transaction))
     → last ≡ unwrap_or told None
@@ -45,10 +46,11 @@ last_taken_is unit (act ∷ acts) = one_taken (ends_transactions unit act)
     (last_taken_is unit acts)
 
 -- and of what counts
-kept_known : {M : Type 0} (told : Option (List M)) (holds : Bool) (kept : List M)
-    → AllowsKept (known_by PowerOn [] told) holds kept ↔ (kept ≡ unwrap_or told [])
-kept_known None holds kept = (λ e. e, λ e. e)
-kept_known (Some list) holds kept = (λ e. e, λ e. e)
+kept_known : {M : Type 0} (profile : Profile) (told : Option (List M)) (holds : Bool)
+    (kept : List M)
+    → AllowsKept (known_by (PowerOn profile) [] told) holds kept ↔ (kept ≡ unwrap_or told [])
+kept_known profile None holds kept = (λ e. e, λ e. e)
+kept_known profile (Some list) holds kept = (λ e. e, λ e. e)
 
 no_more : (a b : Bool) → (a || (false && b)) ≡ a
 no_more true b = refl
@@ -58,14 +60,15 @@ owed_so : (a : Bool) → (a && not false) ≡ a
 owed_so true = refl
 owed_so false = refl
 
-pub power_on_known : (unit : ReaderUnit) (acts : List Act) (holds : Bool) (facts : Facts)
-    → AllowsFacts (known_of PowerOn unit acts) holds facts ↔ (facts ≡ facts_of unit acts)
-power_on_known unit acts holds facts =
+pub power_on_known : (unit : ReaderUnit) (profile : Profile) (acts : List Act) (holds : Bool)
+    (facts : Facts)
+    → AllowsFacts (known_of (PowerOn profile) unit acts) holds facts ↔ (facts ≡ facts_of unit acts)
+power_on_known unit profile acts holds facts =
     let config = or_none (last_told (config_by unit) acts) in
-    let asked = asked_known (last_told (asked_by unit) acts) in
-    let taken = taken_known (last_told (taken_told unit) acts) in
+    let asked = asked_known profile (last_told (asked_by unit) acts) in
+    let taken = taken_known profile (last_told (taken_told unit) acts) in
     let past = past_of (effect_of unit) (parts_by unit) acts in
-    let kept = kept_known (last_list (parts_by unit) acts) holds in (
+    let kept = kept_known profile (last_list (parts_by unit) acts) holds in (
       λ is. same_facts (is.config ∙ config) ((asked facts.asked).0 is.asked)
           ((taken facts.taken).0 is.taken ∙ sym (last_taken_is unit acts)) is.amount
           (same_past
@@ -87,16 +90,16 @@ power_on_known unit acts holds facts =
     )
 
 -- so a step is the one after the facts that the acts leave
-pub power_on_steps : (unit : ReaderUnit) (so_far : List Act) (act : Act) (choice : Choice)
-    (before after : ReaderState) (gains : Gains)
-    → StepKnowing unit (known_of PowerOn unit so_far) act choice before after gains
+pub power_on_steps : (unit : ReaderUnit) (profile : Profile) (so_far : List Act) (act : Act)
+    (choice : Choice) (before after : ReaderState) (gains : Gains)
+    → StepKnowing unit (known_of (PowerOn profile) unit so_far) act choice before after gains
     ↔ ReaderStep unit (facts_of unit so_far) act choice before after gains
-power_on_steps unit so_far act choice before after gains = (
+power_on_steps unit profile so_far act choice before after gains = (
   λ step. subst (λ f. ReaderStep unit f act choice before after gains)
-      ((power_on_known unit so_far before.holds step.facts).0 step.allowed) step.step,
+      ((power_on_known unit profile so_far before.holds step.facts).0 step.allowed) step.step,
   λ step. record {
     facts = facts_of unit so_far;
-    allowed = (power_on_known unit so_far before.holds (facts_of unit so_far)).1 refl;
+    allowed = (power_on_known unit profile so_far before.holds (facts_of unit so_far)).1 refl;
     step = step;
   },
 )

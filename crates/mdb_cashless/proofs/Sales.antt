@@ -761,17 +761,18 @@ steps_may_tell law unit begins so_far act choice before after gains ends (inl te
     inl (steps_tell law unit step.facts so_far act choice before after gains ends
     (last_known begins (last_told (asked_by unit) so_far) step.facts.asked step.allowed.asked) tells
     step.step)
-steps_may_tell law unit PowerOn so_far act choice before after gains ends (inr may) step =
+steps_may_tell law unit (PowerOn profile) so_far act choice before after gains ends (inr may) step =
     absurd may
-steps_may_tell law unit (Joined setups) so_far act choice before after gains ends (inr may) step =
+steps_may_tell law unit (Joined setups profile) so_far act choice before after gains ends (inr may)
+    step =
     anew unit step.facts so_far act choice before after gains may step.step
 
 pub starts_tell : (unit : ReaderUnit) (begins : Beginning) (state : ReaderState)
     → StartsIn power_on begins state
     → MayTellOfSale begins unit state.view []
-starts_tell unit PowerOn state is =
+starts_tell unit (PowerOn profile) state is =
     inl (subst (λ (s : ReaderState). TellsOfSale unit s.view []) (sym is) tt)
-starts_tell unit (Joined setups) state is = inr (λ price item among. omega (arith, among.1))
+starts_tell unit (Joined setups profile) state is = inr (λ price item among. omega (arith, among.1))
 
 sales_approved : SameFields
     → (unit : ReaderUnit) (facts : Facts) (so_far : List Act) (item : ℕ) (choice : Choice)

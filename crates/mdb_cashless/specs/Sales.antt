@@ -72,8 +72,8 @@ IsUnrequested unit so_far = (price item : ℕ)
 -- The controller may have requested a sale before the recording: it begins in mid-session, and no
 -- act so far asks a VEND REQUEST of this reader.
 abbrev pub MayBeRequestedBefore : Beginning → ReaderUnit → List Act → Type 0
-MayBeRequestedBefore PowerOn unit so_far = ⊥
-MayBeRequestedBefore (Joined setups) unit so_far = IsUnrequested unit so_far
+MayBeRequestedBefore (PowerOn profile) unit so_far = ⊥
+MayBeRequestedBefore (Joined setups profile) unit so_far = IsUnrequested unit so_far
 
 -- Each sale at this reader follows its approval: wherever VEND SUCCESS of an item stands among the
 -- acts, it is approved by those before it. In a recording that begins in mid-session one is

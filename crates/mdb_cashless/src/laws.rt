@@ -14,6 +14,7 @@ ghost use Rattle.mdb_bus.specs.declared.act.Act.{Act};
 ghost use Rattle.mdb_bus.specs.declared.act.Act.TheVariants as acts;
 ghost use Rattle.mdb_bus.specs.declared.scope.Beginning.{Beginning};
 ghost use Rattle.mdb_bus.specs.declared.scope.Beginning.TheVariants.{PowerOn, Joined};
+ghost use Rattle.mdb_bus.specs.declared.scope.Profile.{Profile};
 ghost use Rattle.mdb_machine.specs.declared.choice.Choice.{Choice};
 ghost use Rattle.mdb_machine.specs.declared.gains.Gains.{Gains};
 ghost use Rattle.mdb_machine.specs.Pair.{IsBreak, own_acts};
@@ -77,11 +78,13 @@ pub fn views_allow_approved_sales_alone()
 /// From power-on all is known of a reader: the facts are those that the acts leave, and each step
 /// is one after them.
 pub fn from_power_on_all_is_known_of_a_reader()
-    ensures facts { (unit : ReaderUnit) (so_far : List Act) (holds : Bool) (facts : Facts)
-        → AllowsFacts (known_of PowerOn unit so_far) holds facts ↔ (facts ≡ facts_of unit so_far) }
-    ensures steps { (unit : ReaderUnit) (so_far : List Act) (act : Act) (choice : Choice)
-        (before after : ReaderState) (gains : Gains)
-        → (machine unit PowerOn).Step so_far act choice before after gains
+    ensures facts { (unit : ReaderUnit) (profile : Profile) (so_far : List Act) (holds : Bool)
+        (facts : Facts)
+        → AllowsFacts (known_of (PowerOn profile) unit so_far) holds facts
+        ↔ (facts ≡ facts_of unit so_far) }
+    ensures steps { (unit : ReaderUnit) (profile : Profile) (so_far : List Act) (act : Act)
+        (choice : Choice) (before after : ReaderState) (gains : Gains)
+        → (machine unit (PowerOn profile)).Step so_far act choice before after gains
         ↔ ReaderStep unit (facts_of unit so_far) act choice before after gains }
 {}
 
@@ -114,30 +117,30 @@ pub fn breaks_tell_nothing_of_a_reader()
 /// of a reply's kept messages some, from the first on, are those that it holds (`acked`,
 /// `replied`). Any other act leads where it does after the facts that the acts tell (`settled`).
 pub fn in_mid_session_a_reader_has_these_ways_alone()
-    ensures sent { (unit : ReaderUnit) (setups : Setups) (so_far : List Act)
+    ensures sent { (unit : ReaderUnit) (setups : Setups) (profile : Profile) (so_far : List Act)
         (command : ReaderCommand) (choice : Choice) (before after : ReaderState) (gains : Gains)
         → SendsNone unit so_far
-        → (machine unit (Joined setups)).Step so_far (acts.Ask (commands.Reader unit command))
-        choice before after gains
+        → (machine unit (Joined setups profile)).Step so_far
+        (acts.Ask (commands.Reader unit command)) choice before after gains
         ↔ AskStep (record (facts_recorded unit setups so_far) { asked = transaction_of command })
         command before after gains }
-    ensures acked { (unit : ReaderUnit) (setups : Setups) (so_far : List Act)
+    ensures acked { (unit : ReaderUnit) (setups : Setups) (profile : Profile) (so_far : List Act)
         (command : ReaderCommand) (choice : Choice) (before after : ReaderState) (gains : Gains)
-        → (machine unit (Joined setups)).Step so_far (acts.Ack (commands.Reader unit command))
-        choice before after gains
+        → (machine unit (Joined setups profile)).Step so_far
+        (acts.Ack (commands.Reader unit command)) choice before after gains
         ↔ AckWay unit so_far (facts_recorded unit setups so_far) command choice before after
         gains }
-    ensures replied { (unit : ReaderUnit) (setups : Setups) (so_far : List Act)
+    ensures replied { (unit : ReaderUnit) (setups : Setups) (profile : Profile) (so_far : List Act)
         (command : ReaderCommand) (reply : Reply) (choice : Choice) (before after : ReaderState)
         (gains : Gains)
-        → (machine unit (Joined setups)).Step so_far
+        → (machine unit (Joined setups profile)).Step so_far
         (acts.Reply (commands.Reader unit command) reply) choice before after gains
         ↔ ReplyWay unit so_far (facts_recorded unit setups so_far) command reply choice before
         after gains }
-    ensures settled { (unit : ReaderUnit) (setups : Setups) (so_far : List Act) (act : Act)
-        (choice : Choice) (before after : ReaderState) (gains : Gains)
+    ensures settled { (unit : ReaderUnit) (setups : Setups) (profile : Profile) (so_far : List Act)
+        (act : Act) (choice : Choice) (before after : ReaderState) (gains : Gains)
         → IsSettled unit so_far act
-        → (machine unit (Joined setups)).Step so_far act choice before after gains
+        → (machine unit (Joined setups profile)).Step so_far act choice before after gains
         ↔ ReaderStep unit (facts_recorded unit setups so_far) act choice before after gains }
 {
     transactions_with_the_same_fields_are_the_same();

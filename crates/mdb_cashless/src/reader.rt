@@ -79,8 +79,8 @@ impl<const UNIT: usize> Pair for Reader<UNIT> {
 
     fn may_start(begins: &Beginning, state: ReaderState) -> bool {
         match begins {
-            Beginning::PowerOn => state == ReaderState::power_on(),
-            Beginning::Joined(_) => true,
+            Beginning::PowerOn(_) => state == ReaderState::power_on(),
+            Beginning::Joined(_, _) => true,
         }
     }
 

@@ -10,6 +10,7 @@ use Rattle.mdb_msgs.specs.declared.command.Device.TheVariants as devices
 use Rattle.mdb_msgs.specs.declared.command.ReaderUnit.TheVariants.{First, Second}
 use Rattle.mdb_bus.specs.declared.act.Act.{Act}
 use Rattle.mdb_bus.specs.declared.scope.Beginning.TheVariants.{PowerOn}
+use Rattle.mdb_bus.specs.declared.scope.Profile.TheVariants.{Base}
 use Rattle.mdb_bus.specs.ActLists.{Piece, Whole, acts_of, events_of}
 use Rattle.mdb_machine.specs.Pair.{IsActOf}
 use Rattle.mdb_explained_runs.specs.declared.explain.all_paths.AllPaths.{AllPaths}
@@ -56,15 +57,15 @@ on-false false P Q weaker h = weaker h
 abbrev pub PathsAt : (device : Device) → Weight → List Link → List Piece
     → Paths (FactsOf device) (codes_of device) → Type 0
 PathsAt device weight links pieces paths =
-    ArePaths (stands_for PowerOn device) (code_of device) device (machine_of PowerOn device) weight
-    links pieces paths
+    ArePaths (stands_for (PowerOn Base) device) (code_of device) device
+    (machine_of (PowerOn Base) device) weight links pieces paths
 
 relinked : (device : Device) (weight : Weight) (old new : List Link) (pieces : List Piece)
     (paths : Paths (FactsOf device) (codes_of device)) → KeepChains old new
     → PathsAt device weight old pieces paths → PathsAt device weight new pieces paths
 relinked device weight old new pieces paths keep are = record {
   facts = are.facts;
-  best = paths-kept (code_of device) device (machine_of PowerOn device) weight old new pieces
+  best = paths-kept (code_of device) device (machine_of (PowerOn Base) device) weight old new pieces
       paths.entries.items keep are.best;
 }
 
@@ -96,13 +97,13 @@ still-of : (device : Device) (weight : Weight) (old new : List Link) (pieces : L
     → (IsActOf device act → ⊥) → KeepChains old new → PathsAt device weight old pieces paths
     → PathsAt device weight new (Whole act events ∷ pieces) paths
 still-of device weight old new pieces act events paths other keep are = record {
-  facts = unmoved PowerOn device paths.facts (acts_of pieces) act other are.facts;
-  best = paths-kept (code_of device) device (machine_of PowerOn device) weight old new
+  facts = unmoved (PowerOn Base) device paths.facts (acts_of pieces) act other are.facts;
+  best = paths-kept (code_of device) device (machine_of (PowerOn Base) device) weight old new
       (Whole act events ∷ pieces) paths.entries.items keep
-      (paths-still (code_of device) device (machine_of PowerOn device) weight old pieces act events
-      paths.entries.items
+      (paths-still (code_of device) device (machine_of (PowerOn Base) device) weight old pieces act
+      events paths.entries.items
       (λ k d within acts choice before after gains same.
-      (is_machine_of PowerOn device).elsewhere acts act choice before after gains other)
+      (is_machine_of (PowerOn Base) device).elsewhere acts act choice before after gains other)
       are.best);
 }
 
@@ -337,8 +338,8 @@ pub front-stands : (goal : Goal) (act : Act) (row count : ℕ) (old mid : AllPat
     → AreFactsOf acts mid (get_or DEVICES count d)
 front-stands goal act row count old mid d acts within front are =
     let next : Device = get_or DEVICES count d in
-    subst (λ (paths : Paths (FactsOf next) (codes_of next)). stands_for PowerOn next paths.facts
-    acts) (sym (next-waits goal act row count old mid d within front)) (are next)
+    subst (λ (paths : Paths (FactsOf next) (codes_of next)). stands_for (PowerOn Base) next
+    paths.facts acts) (sym (next-waits goal act row count old mid d within front)) (are next)
 
 pub front-fits : (goal : Goal) (act : Act) (row count : ℕ) (old mid : AllPaths) (d : Device)
     (limit : ℕ) → count < 4 → FrontLeads goal act row count old mid → AreAllWithin limit old

@@ -7,6 +7,7 @@ use Rattle.mdb_msgs.specs.declared.command.Device.{Device}
 use Rattle.mdb_msgs.specs.Devices.{same_device}
 use Rattle.mdb_msgs.specs.shared.SameDevices.{is_one, itself}
 use Rattle.mdb_bus.specs.declared.scope.Beginning.TheVariants.{PowerOn}
+use Rattle.mdb_bus.specs.declared.scope.Profile.TheVariants.{Base}
 use Rattle.mdb_bus.specs.ActLists.{Piece, acts_of}
 use Rattle.mdb_follow.specs.declared.account_name.AccountName.{AccountName}
 use Rattle.mdb_explained_runs.specs.declared.explain.best.Weight.{Weight}
@@ -78,8 +79,8 @@ pub farthest-of : (goal : Goal) (pieces : List Piece) (marks : List (ℕ × Mark
     (best : AreBestMarks goal pieces (account_device goal.account) marks) (sums other : AllSums)
     → sums (account_device goal.account) ≡ best.sums
     → (state : StateOf (account_device goal.account)) (choices : Choices (acts_of pieces))
-    → Follows (machine_of PowerOn (account_device goal.account)) (acts_of pieces) choices state
-    (other (account_device goal.account))
+    → Follows (machine_of (PowerOn Base) (account_device goal.account)) (acts_of pieces) choices
+    state (other (account_device goal.account))
     → IsAsFar goal.bound (goal_value goal sums) (goal_value goal other)
 farthest-of goal pieces marks best sums other its state choices way =
     let device = account_device goal.account in
@@ -95,7 +96,7 @@ pub fewest-of : (goal : Goal) (pieces : List Piece) (device : Device) (marks : L
     (best : AreBestMarks goal pieces device marks) (sums other : AllSums)
     → sums device ≡ best.sums → goal_value goal other ≡ goal_value goal sums
     → (state : StateOf device) (choices : Choices (acts_of pieces))
-    → Follows (machine_of PowerOn device) (acts_of pieces) choices state (other device)
+    → Follows (machine_of (PowerOn Base) device) (acts_of pieces) choices state (other device)
     → length marks ≤ length (own_marks device pieces choices)
 fewest-of goal pieces device marks best sums other its same state choices way =
     let weight = weight_for goal device in

@@ -10,6 +10,7 @@ use Rattle.mdb_bus.specs.Loss.{Loss, LossFits}
 use Rattle.mdb_bus.specs.Scopes.{leaving_out}
 use Rattle.mdb_bus.specs.declared.scope.Beginning.{Beginning}
 use Rattle.mdb_bus.specs.declared.scope.Beginning.TheVariants.{PowerOn}
+use Rattle.mdb_bus.specs.declared.scope.Profile.TheVariants.{Base}
 use Rattle.mdb_bus.specs.declared.scope.Scope.{Scope}
 use Rattle.mdb_explained_runs.specs.declared.explain.seeker.Seeker.{Seeker}
 use Rattle.mdb_follow.specs.declared.goal.Goal.{Goal}
@@ -118,9 +119,9 @@ explained laws without events pieces list goal marks best merge is =
     λ device. sym (best device).are in
     let chosen : Choices (acts_of pieces) = merged (acts_of pieces) own in
     let found = laws.joins scope pieces chosen states sums list.in_order
-    (λ device. follows_as device (machine_of PowerOn device) (is_machine_of PowerOn device)
-    (acts_of pieces) (own device) chosen (merged_agrees (acts_of pieces) own device)
-    (states device) (sums device) (best device).way) in
+    (λ device. follows_as device (machine_of (PowerOn Base) device)
+    (is_machine_of (PowerOn Base) device) (acts_of pieces) (own device) chosen
+    (merged_agrees (acts_of pieces) own device) (states device) (sums device) (best device).way) in
     record {
       sums = sums;
       marked = record {
@@ -136,7 +137,7 @@ explained laws without events pieces list goal marks best merge is =
             ∙ merge_is laws.told scope pieces list.in_order own marks same merge is;
       };
       farthest = λ other run.
-          let its = choices_of PowerOn run.loss run.pieces run.states other run.way in
+          let its = choices_of (PowerOn Base) run.loss run.pieces run.states other run.way in
           let ways = ways_with laws scope events pieces list (marks_of run.pieces its) other
           (record { run = run; are = refl }) in
           let device : Device = account_device goal.account in
@@ -231,6 +232,6 @@ has-way without one events pieces list reached device =
     subst (λ ps. HasWay ps device) (one events run.pieces pieces run.act_list list) (
       run.states device,
       reached.0 device,
-      choices_of PowerOn run.loss run.pieces run.states reached.0 run.way,
-      split_with_choices PowerOn run.loss run.pieces run.states reached.0 run.way device,
+      choices_of (PowerOn Base) run.loss run.pieces run.states reached.0 run.way,
+      split_with_choices (PowerOn Base) run.loss run.pieces run.states reached.0 run.way device,
     )

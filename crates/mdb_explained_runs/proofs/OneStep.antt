@@ -15,6 +15,7 @@ use Rattle.mdb_msgs.specs.declared.reply.Reply.{Reply}
 use Rattle.mdb_bus.specs.declared.act.Act.{Act}
 use Rattle.mdb_bus.specs.declared.act.Act.TheVariants as acts
 use Rattle.mdb_bus.specs.declared.scope.Beginning.TheVariants.{PowerOn}
+use Rattle.mdb_bus.specs.declared.scope.Profile.{Profile}
 use Rattle.mdb_cash.specs.declared.bill.activity.BillActivity.{BillActivity}
 use Rattle.mdb_cash.specs.declared.bill.activity.BillActivity.TheVariants as activity
 use Rattle.mdb_cash.specs.declared.bill.state.BillState.{BillState}
@@ -87,18 +88,20 @@ one_new poll held kept one other (inr p) (inr q) = p.2 ∙ sym q.2
 -- Facts that are known.
 
 -- from power-on what counts is known
-allowed_one : {X : Type 0} (none : X) (told : Option X) (one other : X)
-    → Allows (known_by PowerOn none told) one → Allows (known_by PowerOn none told) other
+allowed_one : {X : Type 0} (profile : Profile) (none : X) (told : Option X) (one other : X)
+    → Allows (known_by (PowerOn profile) none told) one → Allows
+    (known_by (PowerOn profile) none told) other
     → one ≡ other
-allowed_one none None one other p q = p ∙ sym q
-allowed_one none (Some x) one other p q = p ∙ sym q
+allowed_one profile none None one other p q = p ∙ sym q
+allowed_one profile none (Some x) one other p q = p ∙ sym q
 
 -- and so is the last kept list
-kept_one : {M : Type 0} (told : Option (List M)) (holds : Bool) (one other : List M)
-    → AllowsKept (known_by PowerOn [] told) holds one
-    → AllowsKept (known_by PowerOn [] told) holds other → one ≡ other
-kept_one None holds one other p q = p ∙ sym q
-kept_one (Some xs) holds one other p q = p ∙ sym q
+kept_one : {M : Type 0} (profile : Profile) (told : Option (List M)) (holds : Bool)
+    (one other : List M)
+    → AllowsKept (known_by (PowerOn profile) [] told) holds one
+    → AllowsKept (known_by (PowerOn profile) [] told) holds other → one ≡ other
+kept_one profile None holds one other p q = p ∙ sym q
+kept_one profile (Some xs) holds one other p q = p ∙ sym q
 
 -- what counts of the acts, where the last kept list is one
 past_alike : {M : Type 0} (one other : PastFacts M) → one.enabled ≡ other.enabled
@@ -107,18 +110,19 @@ past_alike one other enabled owed kept i =
     record { enabled = enabled i; reset_owed = owed i; last_kept = kept i }
 
 -- a device's facts
-facts_one : {Own Setup Asked M : Type 0} (tables : Tables Own Setup Asked M) (so_far : List Act)
-    (holds : Bool) (one other : Facts Setup Asked M)
-    → AllowsFacts (known_of tables PowerOn so_far) holds one
-    → AllowsFacts (known_of tables PowerOn so_far) holds other → one ≡ other
-facts_one tables so_far holds one other p q =
+facts_one : {Own Setup Asked M : Type 0} (tables : Tables Own Setup Asked M)
+    (profile : Profile) (so_far : List Act) (holds : Bool) (one other : Facts Setup Asked M)
+    → AllowsFacts (known_of tables (PowerOn profile) so_far) holds one
+    → AllowsFacts (known_of tables (PowerOn profile) so_far) holds other → one ≡ other
+facts_one tables profile so_far holds one other p q =
     let setup : one.setup ≡ other.setup = p.setup ∙ sym q.setup in
     let asked : one.last_asked ≡ other.last_asked =
-    allowed_one None _ one.last_asked other.last_asked p.last_asked q.last_asked in
+    allowed_one profile None _ one.last_asked other.last_asked p.last_asked q.last_asked in
     let past : one.past ≡ other.past =
     past_alike one.past other.past (p.past.enabled ∙ sym q.past.enabled)
     (p.past.reset_owed ∙ sym q.past.reset_owed)
-    (kept_one _ holds one.past.last_kept other.past.last_kept p.past.last_kept q.past.last_kept) in
+    (kept_one profile _ holds one.past.last_kept other.past.last_kept p.past.last_kept
+    q.past.last_kept) in
     λ i. record { setup = setup i; last_asked = asked i; past = past i }
 
 -- Devices that keep messages: what such a device does of its own is one thing.
@@ -174,12 +178,13 @@ keeper_one tables conduct is facts act choice before = stays_one before
 
 -- so is its step where all is known
 knowing_one : {Own Setup Asked M State : Type 0} (tables : Tables Own Setup Asked M)
-    (conduct : Conduct Own Setup Asked M State) → IsOneConduct conduct → (so_far : List Act)
-    (act : Act) (choice : Choice) (before : State)
-    → IsOneStep (StepKnowing tables conduct (known_of tables PowerOn so_far) act choice before)
-knowing_one tables conduct is so_far act choice before one other gains more p q =
+    (conduct : Conduct Own Setup Asked M State) → IsOneConduct conduct → (profile : Profile)
+    (so_far : List Act) (act : Act) (choice : Choice) (before : State)
+    → IsOneStep (StepKnowing tables conduct (known_of tables (PowerOn profile) so_far) act choice
+    before)
+knowing_one tables conduct is profile so_far act choice before one other gains more p q =
     let same : p.facts ≡ q.facts =
-    facts_one tables so_far (conduct.holds before) p.facts q.facts p.allowed q.allowed in
+    facts_one tables profile so_far (conduct.holds before) p.facts q.facts p.allowed q.allowed in
     keeper_one tables conduct is q.facts act choice before one other gains more
     (subst (λ facts. KeeperStep tables conduct facts act choice before one gains) same p.step)
     q.step
@@ -315,22 +320,23 @@ reader_one unit facts (acts.Break length) choice before =
     λ one other gains more p q. (p.0 ∙ sym q.0, p.1 ∙ sym q.1)
 reader_one unit facts act choice before = stays_one before
 
-reader_facts_one : (unit : ReaderUnit) (so_far : List Act) (holds : Bool)
+reader_facts_one : (unit : ReaderUnit) (profile : Profile) (so_far : List Act) (holds : Bool)
     (one other : reader_facts.Facts)
-    → reader_facts.AllowsFacts (reader_facts.known_of PowerOn unit so_far) holds one
-    → reader_facts.AllowsFacts (reader_facts.known_of PowerOn unit so_far) holds other
+    → reader_facts.AllowsFacts (reader_facts.known_of (PowerOn profile) unit so_far) holds one
+    → reader_facts.AllowsFacts (reader_facts.known_of (PowerOn profile) unit so_far) holds other
     → one ≡ other
-reader_facts_one unit so_far holds one other p q =
+reader_facts_one unit profile so_far holds one other p q =
     let config : one.config ≡ other.config = p.config ∙ sym q.config in
     let asked : one.asked ≡ other.asked =
-    allowed_one None _ one.asked other.asked p.asked q.asked in
+    allowed_one profile None _ one.asked other.asked p.asked q.asked in
     let taken : one.taken ≡ other.taken =
-    allowed_one None _ one.taken other.taken p.taken q.taken in
+    allowed_one profile None _ one.taken other.taken p.taken q.taken in
     let amount : one.amount ≡ other.amount = p.amount ∙ sym q.amount in
     let past : one.past ≡ other.past =
     past_alike one.past other.past (p.past.enabled ∙ sym q.past.enabled)
     (p.past.reset_owed ∙ sym q.past.reset_owed)
-    (kept_one _ holds one.past.last_kept other.past.last_kept p.past.last_kept q.past.last_kept) in
+    (kept_one profile _ holds one.past.last_kept other.past.last_kept p.past.last_kept
+    q.past.last_kept) in
     λ i. record {
       config = config i;
       asked = asked i;
@@ -339,13 +345,13 @@ reader_facts_one unit so_far holds one other p q =
       past = past i;
     }
 
-reader_knowing_one : (unit : ReaderUnit) (so_far : List Act) (act : Act) (choice : Choice)
-    (before : ReaderState)
-    → IsOneStep (reader.StepKnowing unit (reader_facts.known_of PowerOn unit so_far) act choice
-    before)
-reader_knowing_one unit so_far act choice before one other gains more p q =
+reader_knowing_one : (unit : ReaderUnit) (profile : Profile) (so_far : List Act) (act : Act)
+    (choice : Choice) (before : ReaderState)
+    → IsOneStep (reader.StepKnowing unit (reader_facts.known_of (PowerOn profile) unit so_far) act
+    choice before)
+reader_knowing_one unit profile so_far act choice before one other gains more p q =
     let same : p.facts ≡ q.facts =
-    reader_facts_one unit so_far before.holds p.facts q.facts p.allowed q.allowed in
+    reader_facts_one unit profile so_far before.holds p.facts q.facts p.allowed q.allowed in
     reader_one unit q.facts act choice before one other gains more
     (subst (λ facts. reader.ReaderStep unit facts act choice before one gains) same p.step) q.step
 
@@ -357,18 +363,19 @@ pub record IsOneMachine {State : Type 0} (machine : Machine State) : Type 0 wher
   pub steps : (so_far : List Act) (act : Act) (choice : Choice) (before : State)
       → IsOneStep (machine.Step so_far act choice before)
 
-pub machine_is_one : (device : Device) → IsOneMachine (machine_of PowerOn device)
-machine_is_one devices.Changer = record {
+pub machine_is_one : (profile : Profile) (device : Device)
+    → IsOneMachine (machine_of (PowerOn profile) device)
+machine_is_one profile devices.Changer = record {
   starts = λ one other p q. p ∙ sym q;
-  steps = knowing_one changer_facts.tables changer.conduct changer_is_one;
+  steps = knowing_one changer_facts.tables changer.conduct changer_is_one profile;
 }
-machine_is_one devices.Bill = record {
+machine_is_one profile devices.Bill = record {
   starts = λ one other p q. p ∙ sym q;
-  steps = knowing_one bill_facts.tables bill.conduct bill_is_one;
+  steps = knowing_one bill_facts.tables bill.conduct bill_is_one profile;
 }
-machine_is_one (devices.Reader unit) = record {
+machine_is_one profile (devices.Reader unit) = record {
   starts = λ one other p q. p ∙ sym q;
-  steps = reader_knowing_one unit;
+  steps = reader_knowing_one unit profile;
 }
 
 -- so it has one way with given choices

@@ -4,6 +4,7 @@ use Rattle.std.proofs.lemmas.Int.{ints}
 use Rattle.mdb_words.specs.declared.event.Event.{Event}
 use Rattle.mdb_msgs.specs.declared.command.Device.{Device}
 use Rattle.mdb_bus.specs.declared.scope.Beginning.TheVariants.{PowerOn}
+use Rattle.mdb_bus.specs.Scopes.{profile_of}
 use Rattle.mdb_bus.specs.declared.scope.Scope.{Scope}
 use Rattle.mdb_bus.specs.ActLists.{acts_of}
 use Rattle.mdb_follow.specs.declared.account.Account.{Account}
@@ -119,7 +120,8 @@ comes_to_the_end scope rows goal marks checked replayed explains of_runs of_run 
 
 -- from power-on, runs with the same marks come to the same sums
 only_sums : SplitWithChoices → MarksTell → (scope : Scope) → OneActList scope
-    → scope.begins ≡ PowerOn → (rows : List Event) (marks : List (ℕ × Mark)) (sums other : AllSums)
+    → scope.begins ≡ PowerOn (profile_of scope.begins) → (rows : List Event)
+    (marks : List (ℕ × Mark)) (sums other : AllSums)
     → MarkedRun scope rows marks sums → MarkedRun scope rows marks other → (device : Device)
     → other device ≡ sums device
 only_sums splits tell scope one begins rows marks sums other marked also device =
@@ -131,7 +133,8 @@ only_sums splits tell scope one begins rows marks sums other marked also device 
     let others : AllFollow scope.begins (acts_of run.pieces) chosen also.run.states other =
     followed splits tell scope one rows marks run.pieces chosen run.act_list marked.are other also
     in
-    (one_way (machine_of PowerOn device) (machine_is_one device) (acts_of run.pieces) chosen
+    (one_way (machine_of (PowerOn (profile_of scope.begins)) device)
+    (machine_is_one (profile_of scope.begins) device) (acts_of run.pieces) chosen
     (also.run.states device) (run.states device) (other device) (sums device)
     ((subst (λ b. AllFollow b (acts_of run.pieces) chosen also.run.states other) begins others)
     device)
@@ -161,8 +164,8 @@ account_at sums = record {
 
 -- the report on rows that have a run from power-on with given marks
 pub report_of_run : SplitWithChoices → MarksTell → (scope : Scope) → OneActList scope
-    → (rows : List Event) (marks : List (ℕ × Mark)) → scope.begins ≡ PowerOn
-    → HasMarkedRun scope rows marks
+    → (rows : List Event) (marks : List (ℕ × Mark))
+    → scope.begins ≡ PowerOn (profile_of scope.begins) → HasMarkedRun scope rows marks
     → (report : Report) × IsReplayReport scope rows marks report
 report_of_run splits tell scope one rows marks begins reached =
     let sums : AllSums = reached.0 in

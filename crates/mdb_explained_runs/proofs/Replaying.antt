@@ -14,6 +14,7 @@ use Rattle.mdb_bus.specs.declared.fault.Blame.{Blame}
 use Rattle.mdb_bus.specs.declared.fault.LinkFault.{LinkFault}
 use Rattle.mdb_bus.specs.declared.scope.Beginning.{Beginning}
 use Rattle.mdb_bus.specs.declared.scope.Beginning.TheVariants.{PowerOn}
+use Rattle.mdb_bus.specs.declared.scope.Profile.TheVariants.{Base}
 use Rattle.mdb_bus.specs.declared.scope.Scope.{Scope}
 use Rattle.mdb_bus.specs.ActLists.{ArePieces, AskTail, HasActList, IsActList, IsTail, Piece}
 use Rattle.mdb_bus.specs.ActLists.{RepeatTail, ReplyTail, Whole, act_in, acts_of, events_of}
@@ -221,9 +222,9 @@ stands-still old new events marks row on goes same_scope same_tracks same_silenc
       marked = known.marked;
       tracks = known.stand;
       silences = λ device. subst (StandsForAsks (silence_in new.silences device))
-          (sym (asks-stay PowerOn device on.pieces row goes.longer goes.grown))
+          (sym (asks-stay (PowerOn Base) device on.pieces row goes.longer goes.grown))
           (subst (λ silences. StandsForAsks (silence_in silences device)
-          (asks_of PowerOn device on.pieces)) (sym same_silences) (on.silences device));
+          (asks_of (PowerOn Base) device on.pieces)) (sym same_silences) (on.silences device));
     }
 
 -- an act was followed
@@ -264,11 +265,11 @@ stands-on old mid new events marks row act mark on goes old_scope same_tracks sa
       marked = known.marked;
       tracks = known.stand;
       silences = λ device. subst (StandsForAsks (silence_in new.silences device))
-          (asks-go-on PowerOn device on.pieces row act goes.longer first second goes.grown
+          (asks-go-on (PowerOn Base) device on.pieces row act goes.longer first second goes.grown
           (stand (devices.Reader First)).facts (stand (devices.Reader Second)).facts)
-          ((follows device).stands (asks_of PowerOn device on.pieces)
+          ((follows device).stands (asks_of (PowerOn Base) device on.pieces)
           (subst (λ silences. StandsForAsks (silence_in silences device)
-          (asks_of PowerOn device on.pieces)) (sym same_silences) (on.silences device)));
+          (asks_of (PowerOn Base) device on.pieces)) (sym same_silences) (on.silences device)));
     }
 
 -- where no act ended, a mark that may stand is none
@@ -290,7 +291,7 @@ run-of joins replay events marks on =
     let scope : Scope = scope_of replay in
     let states : States = λ device. (track_in replay.tracks device).state in
     let sums : AllSums = λ device. (on.tracks device).sums in
-    let ways : AllFollow PowerOn (acts_of on.pieces) on.chosen states sums =
+    let ways : AllFollow (PowerOn Base) (acts_of on.pieces) on.chosen states sums =
     λ device. (on.tracks device).way in
     let found = joins scope on.pieces on.chosen states sums on.on_bus.in_order
     (subst (λ b. AllFollow b (acts_of on.pieces) on.chosen states sums) (sym on.begins) ways) in
@@ -343,7 +344,7 @@ only-run splits tell one replay events marks on sums marked device =
     let scope : Scope = scope_of replay in
     let ways = followed splits tell scope (one scope) events marks on.pieces on.chosen
     (list-of replay events marks on) on.marked sums marked in
-    let from : AllFollow PowerOn (acts_of on.pieces) on.chosen marked.run.states sums =
+    let from : AllFollow (PowerOn Base) (acts_of on.pieces) on.chosen marked.run.states sums =
     subst (λ b. AllFollow b (acts_of on.pieces) on.chosen marked.run.states sums) on.begins ways in
     (on.tracks device).only (marked.run.states device) (sums device) (from device)
 
@@ -400,7 +401,7 @@ machine-offence joins splits tell one old mid new events marks row act mark faul
     let device : Device = has.none.0 in
     let stops : TrackStops device old.tracks act choice has.rule =
     subst (λ tracks. TrackStops device tracks act choice has.rule) same_tracks has.none.1 in
-    let none : HasNoStepFrom (machine_of PowerOn device) (acts_of grown.earlier) act choice
+    let none : HasNoStepFrom (machine_of (PowerOn Base) device) (acts_of grown.earlier) act choice
     (track_in old.tracks device).state =
     stops.none (acts_of grown.earlier) earlier.chosen (earlier.stand device) in
     let count : length (events_of pieces) ≡ length events + 1 =
@@ -421,7 +422,7 @@ machine-offence joins splits tell one old mid new events marks row act mark faul
           reached.1.run.states reached.0) on.begins ways) device in
           let was = (earlier.stand device).only way.before way.sums_before way.way in
           none (reached.1.run.states device) way.gains
-          (subst (λ s. (machine_of PowerOn device).Step (acts_of grown.earlier) act choice s
+          (subst (λ s. (machine_of (PowerOn Base) device).Step (acts_of grown.earlier) act choice s
           (reached.1.run.states device) way.gains) was.0 way.step);
       number = ap (λ n. n + 1) (same_rows ∙ on.rows);
       why = inr (record {
@@ -436,8 +437,8 @@ machine-offence joins splits tell one old mid new events marks row act mark faul
           none = λ sums marked.
               subst (λ b. HasNoStepFrom (machine_of b device) (acts_of grown.earlier) act choice
               (marked.run.states device)) (sym on.begins)
-              (subst (λ s. HasNoStepFrom (machine_of PowerOn device) (acts_of grown.earlier) act
-              choice s)
+              (subst (λ s. HasNoStepFrom (machine_of (PowerOn Base) device) (acts_of grown.earlier)
+              act choice s)
               (sym (only-run splits tell one old events marks on sums marked device).0) none);
         };
         blame = refl;
@@ -508,7 +509,7 @@ pub reported : JoinWithChoices → SplitWithChoices → MarksTell
     (marks : List (ℕ × Mark)) (report : Report) (on : StandsFor replay events marks)
     (cells : Device → Cell)
     → ((device : Device) → cells device ≡ (track_in replay.tracks device).cell)
-    → report ≡ report_of PowerOn replay.rows on.pieces (account_by cells)
+    → report ≡ report_of (PowerOn Base) replay.rows on.pieces (account_by cells)
     → IsReplayReport (scope_of replay) events marks report
 reported joins splits tell one replay events marks report on cells are telling =
     let scope : Scope = scope_of replay in
@@ -532,7 +533,7 @@ reported joins splits tell one replay events marks report on cells are telling =
           (subst (IsCell (λ other. other ≡ sums device)) (sym (are device))
           (on.tracks device).cell));
       telling = telling
-          ∙ ap (λ rows. report_of PowerOn rows on.pieces (account_by cells)) on.rows
+          ∙ ap (λ rows. report_of (PowerOn Base) rows on.pieces (account_by cells)) on.rows
           ∙ ap (λ begins. report_of begins (length events) on.pieces (account_by cells))
           (sym on.begins);
     }

@@ -11,6 +11,7 @@ use Rattle.mdb_msgs.specs.declared.command.Device.{Device}
 use Rattle.mdb_bus.specs.declared.act.Act.{Act}
 use Rattle.mdb_bus.specs.declared.bus.Bus.{Bus}
 use Rattle.mdb_bus.specs.declared.scope.Beginning.TheVariants.{PowerOn}
+use Rattle.mdb_bus.specs.declared.scope.Profile.TheVariants.{Base}
 use Rattle.mdb_bus.specs.declared.scope.Scope.{Scope}
 use Rattle.mdb_bus.specs.ActLists.{HasActList, IsActList, IsTail, Piece, Whole, AskTail, ReplyTail}
 use Rattle.mdb_bus.specs.ActLists.{RepeatTail, act_in, acts_of, events_of, piece_events}
@@ -58,19 +59,21 @@ acts-tail (RepeatTail command reply words events) pieces tail = refl
 with-tail : (goal : Goal) (tail : Piece) (pieces : List Piece) (all : AllPaths) → IsTail tail
     → AreAllPaths goal pieces all → AreAllPaths goal (tail ∷ pieces) all
 with-tail goal tail pieces all is are device = record {
-  facts = subst (λ acts. stands_for PowerOn device (paths_in all device).facts acts)
+  facts = subst (λ acts. stands_for (PowerOn Base) device (paths_in all device).facts acts)
       (sym (acts-tail tail pieces is)) (are device).facts;
-  best = paths-tail (code_of device) device (machine_of PowerOn device) (weight_for goal device)
-      all.chains.links.items tail pieces (paths_in all device).entries.items is (are device).best;
+  best = paths-tail (code_of device) device (machine_of (PowerOn Base) device)
+      (weight_for goal device) all.chains.links.items tail pieces
+      (paths_in all device).entries.items is (are device).best;
 }
 
 without-tail : (goal : Goal) (tail : Piece) (pieces : List Piece) (all : AllPaths) → IsTail tail
     → AreAllPaths goal (tail ∷ pieces) all → AreAllPaths goal pieces all
 without-tail goal tail pieces all is are device = record {
-  facts = subst (λ acts. stands_for PowerOn device (paths_in all device).facts acts)
+  facts = subst (λ acts. stands_for (PowerOn Base) device (paths_in all device).facts acts)
       (acts-tail tail pieces is) (are device).facts;
-  best = paths-untail (code_of device) device (machine_of PowerOn device) (weight_for goal device)
-      all.chains.links.items tail pieces (paths_in all device).entries.items is (are device).best;
+  best = paths-untail (code_of device) device (machine_of (PowerOn Base) device)
+      (weight_for goal device) all.chains.links.items tail pieces
+      (paths_in all device).entries.items is (are device).best;
 }
 
 -- the paths are those through the pieces that come before the newest of those that have gone on
@@ -113,18 +116,18 @@ row-is pieces row act longer rows events grown more whole counted =
 
 -- reached rows have an act list, and each device has a way through its acts
 
-pub way-of-reached : (scope : Scope) → OneActList scope → scope.begins ≡ PowerOn
+pub way-of-reached : (scope : Scope) → OneActList scope → scope.begins ≡ PowerOn Base
     → (rows : List Event) (act : Act) (events : List Event) (earlier : List Piece)
     → IsActList scope (Whole act events ∷ earlier) rows → IsReached scope rows
     → (device : Device) → HasNoWay earlier act device → ⊥
 way-of-reached scope one begins rows act events earlier list reached device none =
     let run = reached.1 in
-    let ways : EachArrives PowerOn (act ∷ acts_of earlier) run.states reached.0 =
+    let ways : EachArrives (PowerOn Base) (act ∷ acts_of earlier) run.states reached.0 =
     subst (λ b. EachArrives b (act ∷ acts_of earlier) run.states reached.0) begins
     (subst (λ ps. EachArrives scope.begins (acts_of ps) run.states reached.0)
     (one rows run.pieces (Whole act events ∷ earlier) run.act_list list)
     (split scope.begins run.loss run.pieces run.states reached.0 run.way)) in
-    let way = chosen (machine_of PowerOn device) (act ∷ acts_of earlier) (run.states device)
+    let way = chosen (machine_of (PowerOn Base) device) (act ∷ acts_of earlier) (run.states device)
     (reached.0 device) (ways device) in
     none way.0 (run.states device) (reached.0 device) way.1
 
@@ -168,7 +171,7 @@ pub stuck : (goal : Goal) (old : AllPaths) (act : Act) (goes : Bool)
     → OnFalse goes ((pieces : List Piece) → AreAllPaths goal pieces old
     → (device : Device) × HasNoWay pieces act device)
     → goes ≡ false → (bus : Bus) (scope : Scope) → link.scope_of bus ≡ scope → OneActList scope
-    → scope.begins ≡ PowerOn → (pieces : List Piece) (row : Event) (events : List Event)
+    → scope.begins ≡ PowerOn Base → (pieces : List Piece) (row : Event) (events : List Event)
     → GoesOn bus pieces row (Some act) → events_of pieces ≡ events
     → AreAllPaths goal pieces old → IsReached scope (events ++ row ∷ []) → ⊥
 stuck goal old act true none so bus scope same one begins pieces row events on whole are reached =

@@ -9,6 +9,7 @@ use Rattle.mdb_msgs.specs.declared.command.ReaderUnit.TheVariants.{First, Second
 use Rattle.mdb_bus.specs.declared.act.Act.{Act}
 use Rattle.mdb_bus.specs.declared.fault.Rule.{Rule}
 use Rattle.mdb_bus.specs.declared.scope.Beginning.TheVariants.{PowerOn}
+use Rattle.mdb_bus.specs.declared.scope.Profile.TheVariants.{Base}
 use Rattle.mdb_machine.specs.declared.choice.Choice.{Choice}
 use Rattle.mdb_machine.specs.declared.gains.Gains.{Gains}
 use Rattle.mdb_machine.specs.Gains.{IsSmall, no_gains}
@@ -102,10 +103,11 @@ track-within-weaker limit more track le is =
 still : (device : Device) (track : TrackOf device) (act : Act) (choice : Choice)
     → (IsActOf device act → ⊥) → LeadsOf act choice device track track
 still device track act choice other =
-    let is : IsMachineOf device (machine_of PowerOn device) = is_machine_of PowerOn device in
+    let is : IsMachineOf device (machine_of (PowerOn Base) device) = is_machine_of (PowerOn Base)
+    device in
     record {
       stands = λ acts chosen can on. record {
-        facts = unmoved PowerOn device track.facts acts act other on.facts;
+        facts = unmoved (PowerOn Base) device track.facts acts act other on.facts;
         sums = on.sums;
         way = record {
           before = track.state;
@@ -125,7 +127,7 @@ still device track act choice other =
                   ∙ sym (no-gains way.sums_before) ∙ was.1,
             );
         cell = on.cell;
-        counted = on.counted ∙ sym (untold PowerOn device acts act other);
+        counted = on.counted ∙ sym (untold (PowerOn Base) device acts act other);
       };
       within = λ limit. track-within-weaker limit (limit + 2 ^ 32) track (omega arith);
     }
@@ -170,7 +172,7 @@ pub one-stops : {T : Type 0} (r : Result T Rule) (device which : Device) (tracks
     (act : Act) (choice : Choice) → device ≡ which
     → OnErr r ((acts : List Act) (chosen : Choices acts)
     → IsTrackOf which (track_in tracks which) acts chosen
-    → HasNoStepFrom (machine_of PowerOn which) acts act choice (track_in tracks which).state)
+    → HasNoStepFrom (machine_of (PowerOn Base) which) acts act choice (track_in tracks which).state)
     → IfErr r (λ broken. broken ≡ rule_of which)
     → IfErr r (TrackStops device tracks act choice)
 one-stops (Ok x) device which tracks act choice is none its = tt
@@ -219,7 +221,7 @@ front-stops count old act choice mid d broken within front stops =
         rule = stops.rule;
         none = subst (λ (t : TrackOf device). (acts : List Act) (chosen : Choices acts)
             → IsTrackOf device t acts chosen
-            → HasNoStepFrom (machine_of PowerOn device) acts act choice t.state)
+            → HasNoStepFrom (machine_of (PowerOn Base) device) acts act choice t.state)
             (front-next TrackOf (LeadsOf act choice) count (track_in old) (track_in mid) d within
             front)
             stops.none;

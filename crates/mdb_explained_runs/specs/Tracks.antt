@@ -6,6 +6,7 @@ use Rattle.mdb_msgs.specs.declared.command.Device.TheVariants as devices
 use Rattle.mdb_msgs.specs.declared.command.ReaderUnit.TheVariants.{First, Second}
 use Rattle.mdb_bus.specs.declared.act.Act.{Act}
 use Rattle.mdb_bus.specs.declared.scope.Beginning.TheVariants.{PowerOn}
+use Rattle.mdb_bus.specs.declared.scope.Profile.TheVariants.{Base}
 use Rattle.mdb_machine.specs.declared.choice.Choice.{Choice}
 use Rattle.mdb_machine.specs.declared.gains.Gains.{Gains}
 use Rattle.mdb_machine.specs.Choices.{CanStand}
@@ -52,8 +53,8 @@ TrackOf device = Track (FactsOf device) (StateOf device)
 abbrev pub IsTrackOf : (device : Device) → TrackOf device → (acts : List Act) → Choices acts
     → Type 0
 IsTrackOf device track acts chosen =
-    IsTrack (stands_for PowerOn device) (machine_of PowerOn device) (unvalued_of PowerOn device)
-    track acts chosen
+    IsTrack (stands_for (PowerOn Base) device) (machine_of (PowerOn Base) device)
+    (unvalued_of (PowerOn Base) device) track acts chosen
 
 -- the track of a device
 abbrev pub track_in : Tracks → (device : Device) → TrackOf device

@@ -7,6 +7,7 @@ ghost use Rattle.mdb_msgs.specs.declared.command.Device.TheVariants as devices;
 ghost use Rattle.mdb_msgs.specs.declared.command.ReaderUnit.TheVariants.{First, Second};
 ghost use Rattle.mdb_bus.specs.ActLists.{ArePieces, Piece, acts_of, events_of};
 ghost use Rattle.mdb_bus.specs.declared.scope.Beginning.TheVariants.{PowerOn};
+ghost use Rattle.mdb_bus.specs.Scopes.{profile_of};
 ghost use Rattle.mdb_bus.specs.LinkFaults.{blame_on};
 ghost use Rattle.mdb_bus.specs.Scopes.{IsFollowed};
 ghost use Rattle.mdb_bus.specs.declared.scope.Scope.{Scope};
@@ -132,7 +133,7 @@ pub fn rows_have_one_replay_report()
 /// with these.
 pub fn rows_with_a_marked_run_have_a_replay_report()
     ensures { (scope : Scope) (rows : List Event) (marks : List (ℕ × Mark))
-        → scope.begins ≡ PowerOn → HasMarkedRun scope rows marks
+        → scope.begins ≡ PowerOn (profile_of scope.begins) → HasMarkedRun scope rows marks
         → (report : Report) × IsReplayReport scope rows marks report }
 {
     laws::transcripts_have_one_act_list();

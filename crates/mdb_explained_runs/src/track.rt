@@ -3,11 +3,12 @@
 ghost use Rattle.std.specs.Prelude.{◌≡◌, ◌<◌, ◌↔◌, ◌^◌, List, [], IfErr, IfOk, OnErr};
 ghost use Rattle.mdb_bus.specs.declared.act.Act.{Act};
 ghost use Rattle.mdb_bus.specs.declared.scope.Beginning.TheVariants.{PowerOn};
+ghost use Rattle.mdb_bus.specs.declared.scope.Profile.TheVariants.{Base};
 ghost use Rattle.mdb_follow.specs.Choosing.{Choices};
 ghost use Rattle.mdb_explained_runs.specs.Tracks.{HasNoStepFrom, IsTrack};
 ghost use Rattle.mdb_explained_runs.specs.inner.TrackSteps.{IsTrackWithin, Leads};
 
-use mdb_bus::{Act, Beginning, Rule};
+use mdb_bus::{Act, Beginning, Profile, Rule};
 use mdb_follow::Cell;
 use mdb_machine::{Choice, Pair};
 
@@ -26,14 +27,14 @@ pub(crate) struct Track<F: Drop, S: Drop> {
 pub(crate) fn start<P: Pair>() -> Track<P::Facts, P::State>
     requires some { 0 < P.CODES }
     requires starts { (state : P.State)
-        → (P.machine PowerOn).Starts state ↔ (P.code_of state ≡ 0) }
-    requires none { P.unvalued PowerOn [] ≡ 0 }
-    ensures stands { IsTrack (P.stands_for PowerOn) (P.machine PowerOn) (P.unvalued PowerOn)
-        result [] tt }
+        → (P.machine (PowerOn Base)).Starts state ↔ (P.code_of state ≡ 0) }
+    requires none { P.unvalued (PowerOn Base) [] ≡ 0 }
+    ensures stands { IsTrack (P.stands_for (PowerOn Base)) (P.machine (PowerOn Base))
+        (P.unvalued (PowerOn Base)) result [] tt }
     ensures within { IsTrackWithin 0 result }
 {
     Track {
-        facts: P::facts_start(&Beginning::PowerOn),
+        facts: P::facts_start(&Beginning::PowerOn(Profile::Base)),
         state: P::state(0),
         cell: Cell::NOTHING,
         unvalued: 0,
@@ -54,12 +55,13 @@ pub(crate) fn lead<P: Pair>(
     rule: Rule,
 ) -> Result<(), Rule>
     requires { IsTrackWithin (2 ^ 62) track.old }
-    ensures led { IfOk result (λ _. Leads (P.stands_for PowerOn) (P.machine PowerOn)
-        (P.unvalued PowerOn) track.old act.now choice track.new) }
+    ensures led { IfOk result (λ _. Leads (P.stands_for (PowerOn Base)) (P.machine (PowerOn Base))
+        (P.unvalued (PowerOn Base)) track.old act.now choice track.new) }
     ensures its { IfErr result (λ broken. broken ≡ rule) }
     ensures none { OnErr result ((acts : List Act) (chosen : Choices acts)
-        → IsTrack (P.stands_for PowerOn) (P.machine PowerOn) (P.unvalued PowerOn) track.old acts
-        chosen → HasNoStepFrom (P.machine PowerOn) acts act.now choice track.old.state) }
+        → IsTrack (P.stands_for (PowerOn Base)) (P.machine (PowerOn Base))
+        (P.unvalued (PowerOn Base)) track.old acts chosen → HasNoStepFrom (P.machine (PowerOn Base))
+        acts act.now choice track.old.state) }
     ensures same { OnErr result (track.new ≡ track.old) }
 {
     if !P::settles(&track.facts, act) {

@@ -3,6 +3,7 @@
 ghost use Rattle.std.specs.Prelude.{◌≡◌, ◌^◌, List, [], IfErr, IfOk};
 ghost use Rattle.mdb_bus.specs.declared.act.Act.{Act};
 ghost use Rattle.mdb_bus.specs.declared.scope.Beginning.TheVariants.{PowerOn};
+ghost use Rattle.mdb_bus.specs.declared.scope.Profile.TheVariants.{Base};
 ghost use Rattle.mdb_follow.specs.Choosing.{Choices};
 ghost use Rattle.std.specs.Prelude.{map};
 ghost use Rattle.mdb_msgs.specs.declared.command.Device.{Device};
@@ -111,7 +112,7 @@ impl Tracks {
     /// What the acts so far show of each of `Report::DEVICES`.
     pub(crate) fn facts(&self) -> [DeviceFacts; 4]
         ensures { (acts : List Act) (chosen : Choices acts) → AreTracks self.now acts chosen
-            → result ≡ map (λ device. device_facts_of PowerOn device acts) DEVICES }
+            → result ≡ map (λ device. device_facts_of (PowerOn Base) device acts) DEVICES }
     {
         [
             DeviceFacts {

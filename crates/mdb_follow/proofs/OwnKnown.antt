@@ -23,14 +23,14 @@ any_device P changer bill reader (devices.Reader unit) = reader unit
 -- where nothing is known of a device from elsewhere it has no decimal places after no act
 none_before : (begins : Beginning) (device : Device) → IsNotKnown begins device
     → decimals_of begins device [] ≡ None
-none_before PowerOn devices.Changer none = refl
-none_before PowerOn devices.Bill none = refl
-none_before PowerOn (devices.Reader unit) none = refl
-none_before (Joined setups) devices.Changer none =
+none_before (PowerOn profile) devices.Changer none = refl
+none_before (PowerOn profile) devices.Bill none = refl
+none_before (PowerOn profile) (devices.Reader unit) none = refl
+none_before (Joined setups profile) devices.Changer none =
     ap (option_map (λ setup. setup.decimals)) none
-none_before (Joined setups) devices.Bill none =
+none_before (Joined setups profile) devices.Bill none =
     ap (option_map (λ setup. setup.decimals)) none
-none_before (Joined setups) (devices.Reader unit) none =
+none_before (Joined setups profile) (devices.Reader unit) none =
     ap (option_map (λ config. config.decimals)) none
 
 -- So it has none where breaks leave its setup.

@@ -50,10 +50,10 @@ again command reply act so_far of ends = record {
 -- a recording begins with no reply open
 pub first_closed : (command : Command) (reply : Reply) (begins : Beginning)
     → IsOpen command reply (first_position begins) → ⊥
-first_closed command reply PowerOn (inl e) = cc
-first_closed command reply PowerOn (inr e) = cc
-first_closed command reply (Joined setups) (inl e) = cc
-first_closed command reply (Joined setups) (inr e) = cc
+first_closed command reply (PowerOn profile) (inl e) = cc
+first_closed command reply (PowerOn profile) (inr e) = cc
+first_closed command reply (Joined setups profile) (inl e) = cc
+first_closed command reply (Joined setups profile) (inr e) = cc
 
 -- pieces where a reply is open end in it
 pub ends_in : (scope : Scope) (command : Command) (reply : Reply) (pieces : List Piece)

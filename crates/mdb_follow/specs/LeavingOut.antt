@@ -23,10 +23,10 @@ pub record AreSumsWithout (scope : Scope) (sums other : AllSums) : Type 0 where
 
 -- Nothing is known from elsewhere of how a device is set up; from power-on nothing ever is.
 abbrev pub IsNotKnown : Beginning → Device → Type 0
-IsNotKnown PowerOn device = Unit {0}
-IsNotKnown (Joined setups) devices.Changer = setups.changer ≡ None
-IsNotKnown (Joined setups) devices.Bill = setups.bill ≡ None
-IsNotKnown (Joined setups) (devices.Reader unit) = config_known setups unit ≡ None
+IsNotKnown (PowerOn profile) device = Unit {0}
+IsNotKnown (Joined setups profile) devices.Changer = setups.changer ≡ None
+IsNotKnown (Joined setups profile) devices.Bill = setups.bill ≡ None
+IsNotKnown (Joined setups profile) (devices.Reader unit) = config_known setups unit ≡ None
 
 -- A report has nothing of the devices that a scope leaves out, but for decimal places that are
 -- known from elsewhere.

@@ -78,8 +78,8 @@ places_data None = null
 
 -- the devices of whose set-up something is known from elsewhere
 abbrev pub known_in : Beginning → DeviceSet
-known_in PowerOn = NONE
-known_in (Joined setups) = known_devices setups
+known_in (PowerOn profile) = NONE
+known_in (Joined setups profile) = known_devices setups
 
 -- a device: its accounts, the decimal places of their sums, whether something of its set-up is
 -- known from elsewhere, how many silences it had, how many of its amounts have no value, and
@@ -105,8 +105,8 @@ devices_data scope report = object (members (map (device_member scope report) DE
 
 -- whether a recording begins in mid-session
 abbrev pub is_joined : Beginning → Bool
-is_joined PowerOn = false
-is_joined (Joined setups) = true
+is_joined (PowerOn profile) = false
+is_joined (Joined setups profile) = true
 
 -- a yes
 abbrev pub yes_data : Scope → Report → Data

@@ -58,7 +58,7 @@ fn known(begins: &Beginning) -> DeviceSet
     ensures { result ≡ known_in begins.now }
 {
     match begins {
-        Beginning::PowerOn => DeviceSet::NONE,
-        Beginning::Joined(setups) => known_devices(setups),
+        Beginning::PowerOn(_) => DeviceSet::NONE,
+        Beginning::Joined(setups, _) => known_devices(setups),
     }
 }

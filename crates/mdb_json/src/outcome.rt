@@ -64,7 +64,7 @@ pub fn report_value(alloc: Global, scope: &Scope, report: &Report) -> Result<Val
 fn joins(begins: &Beginning) -> bool
     ensures { result ≡ is_joined begins.now }
 {
-    matches!(begins, Beginning::Joined(_))
+    matches!(begins, Beginning::Joined(_, _))
 }
 
 /// A no.

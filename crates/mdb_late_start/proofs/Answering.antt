@@ -13,8 +13,8 @@ use Rattle.mdb_follow.proofs.Sales.{ends_in}
 -- and no ask
 first_unasked : (command : Command) (begins : Beginning)
     → first_position begins ≡ Asked command → ⊥
-first_unasked command PowerOn e = cc
-first_unasked command (Joined setups) e = cc
+first_unasked command (PowerOn profile) e = cc
+first_unasked command (Joined setups profile) e = cc
 
 -- pieces where a command is open end in its ask
 ends_in_ask : (scope : Scope) (command : Command) (pieces : List Piece)

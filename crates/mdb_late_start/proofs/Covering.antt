@@ -11,6 +11,7 @@ use Rattle.mdb_msgs.specs.declared.setups.Setups.{Setups}
 use Rattle.mdb_bus.specs.declared.act.Act.{Act}
 use Rattle.mdb_bus.specs.declared.scope.Beginning.{Beginning}
 use Rattle.mdb_bus.specs.declared.scope.Beginning.TheVariants.{PowerOn, Joined}
+use Rattle.mdb_bus.specs.Scopes.{profile_of}
 use Rattle.mdb_machine.specs.declared.kept.Part.{Part}
 use Rattle.mdb_machine.specs.declared.past.Effect.{Effect}
 use Rattle.mdb_machine.specs.Kept.{has_reset, kept_of}
@@ -48,17 +49,18 @@ asked_over None second = refl
 -- what is told last in the end is told last in the whole
 covers_told : {X : Type 0} (begins : Beginning) (setups : Setups) (none : X)
     (first second : Option X)
-    → Covers (known_by (Joined setups) none first) (known_by begins none (or_else first second))
+    → Covers (known_by (Joined setups (profile_of begins)) none first)
+    (known_by begins none (or_else first second))
 covers_told begins setups none (Some x) second = refl
 covers_told begins setups none None second = tt
 
 -- so it is for the whole by another name
 covers_over : {X : Type 0} (begins : Beginning) (setups : Setups) (none : X)
     (first second whole : Option X) → whole ≡ or_else first second
-    → Covers (known_by (Joined setups) none first) (known_by begins none whole)
+    → Covers (known_by (Joined setups (profile_of begins)) none first) (known_by begins none whole)
 covers_over begins setups none first second whole is =
-    subst (λ w. Covers (known_by (Joined setups) none first) (known_by begins none w)) (sym is)
-    (covers_told begins setups none first second)
+    subst (λ w. Covers (known_by (Joined setups (profile_of begins)) none first)
+    (known_by begins none w)) (sym is) (covers_told begins setups none first second)
 
 -- after a boundary in the end, the acts from the last boundary on are those of the end
 from_end : (powers : Act → Bool) (later front : List Act) → list_any powers later ≡ true
@@ -78,8 +80,8 @@ from_end powers (act ∷ later) front some =
 -- after a boundary in the end, the device of the whole runs on no longer
 runs_no_more : (begins : Beginning) (effect : Command → Effect) (later front : List Act)
     → list_any (powers_on effect) later ≡ true → runs_on begins effect (later ++ front) ≡ false
-runs_no_more PowerOn effect later front some = refl
-runs_no_more (Joined setups) effect later front some =
+runs_no_more (PowerOn profile) effect later front some = refl
+runs_no_more (Joined setups profile) effect later front some =
     ap not (list_any-append (powers_on effect) later front
     ∙ ap (λ b. b || list_any (powers_on effect) front) some)
 
@@ -115,7 +117,7 @@ end_owes true false end true same stops is = let no : true ≡ false = stops ref
 enabled_end : {M : Type 0} (begins : Beginning) (setups : Setups) (effect : Command → Effect)
     (parts : Act → List (Part M)) (later front : List Act) (kind : ℕ) → kind < 16
     → (known_past begins effect parts (later ++ front)).enabled kind ≡ true
-    → (known_past (Joined setups) effect parts later).enabled kind ≡ true
+    → (known_past (Joined setups (profile_of begins)) effect parts later).enabled kind ≡ true
 enabled_end begins setups effect parts later front kind few =
     let powers = powers_on effect in
     end_enables (list_any powers later)
@@ -129,7 +131,7 @@ enabled_end begins setups effect parts later front kind few =
 -- where a reset message is owed in the end, it is in the whole
 owed_end : {M : Type 0} (begins : Beginning) (setups : Setups) (effect : Command → Effect)
     (parts : Act → List (Part M)) (later front : List Act)
-    → (known_past (Joined setups) effect parts later).reset_owed ≡ true
+    → (known_past (Joined setups (profile_of begins)) effect parts later).reset_owed ≡ true
     → (known_past begins effect parts (later ++ front)).reset_owed ≡ true
 owed_end begins setups effect parts later front =
     let powers = powers_on effect in
@@ -162,7 +164,7 @@ pub record IsKnownInEnd {Setup Asked M : Type 0} (whole end : KnownFacts Setup A
 pub known_in_end : {Own Setup Asked M : Type 0} (tables : Tables Own Setup Asked M)
     (begins : Beginning) (setups : Setups) (later front : List Act)
     → IsKnownInEnd (known_of tables begins (later ++ front))
-    (known_of tables (Joined setups) later)
+    (known_of tables (Joined setups (profile_of begins)) later)
 known_in_end {Asked = Asked} tables begins setups later front = record {
   asked = covers_over begins setups None
       (option_map (λ (a : Asked). Some a) (last_told (asked_by tables) later))
@@ -181,7 +183,7 @@ known_in_end {Asked = Asked} tables begins setups later front = record {
 pub known_setup_end : {Own Setup Asked M : Type 0} (tables : Tables Own Setup Asked M)
     (begins : Beginning) (setups : Setups) (later front : List Act) (setup : Setup)
     → IsNothingOr (tables.setup_known setups) (known_of tables begins front).setup
-    → (known_of tables (Joined setups) later).setup ≡ Some setup
+    → (known_of tables (Joined setups (profile_of begins)) later).setup ≡ Some setup
     → (known_of tables begins (later ++ front)).setup ≡ Some setup
 known_setup_end tables begins setups later front setup are is =
     ap (λ o. or_else o (known_before tables.setup_known begins))
@@ -194,8 +196,9 @@ known_setup_end tables begins setups later front setup are is =
 -- a recording from power-on is set up as one in mid-session of which nothing was told
 pub same_setup : {Own Setup Asked M : Type 0} (tables : Tables Own Setup Asked M)
     (begins : Beginning) (setups : Setups) (later front : List Act) → begins ≡ PowerOn
+    (profile_of begins)
     → front ≡ [] → tables.setup_known setups ≡ None
-    → (known_of tables (Joined setups) later).setup
+    → (known_of tables (Joined setups (profile_of begins)) later).setup
     ≡ (known_of tables begins (later ++ front)).setup
 same_setup tables begins setups later front power_on empty none =
     ap (or_else (last_told (setup_by tables) later)) none

@@ -14,12 +14,13 @@ use Rattle.mdb_msgs.specs.declared.command.ReaderUnit.TheVariants.{First, Second
 use Rattle.mdb_msgs.specs.declared.setups.Setups.{Setups}
 use Rattle.mdb_bus.specs.declared.act.Act.TheVariants as acts
 use Rattle.mdb_bus.specs.declared.levels.Levels.{Levels}
+use Rattle.mdb_bus.specs.declared.scope.Beginning.{Beginning}
 use Rattle.mdb_bus.specs.declared.scope.Beginning.TheVariants.{Joined}
 use Rattle.mdb_bus.specs.declared.scope.Scope.{Scope}
 use Rattle.mdb_bus.specs.Acts.{IsBlockWord, IsForeignWord}
-use Rattle.mdb_bus.specs.ActLists.{Piece, Whole, AskTail, ReplyTail, RepeatTail, Position, Quiet, InAsk, Asked, InReply, Replied, Returned, InRepeat, InForeign, ArePieces, AreSpaced, BlockMayCome, ForeignMayCome, IsActList, IsLow, IsPiece, MayCome, MayStand, NotBefore, PieceFitsLevels, events_of, last_of, left_by, level_for, levels_after, levels_of, piece_events, position_of}
+use Rattle.mdb_bus.specs.ActLists.{Piece, Whole, AskTail, ReplyTail, RepeatTail, Position, Quiet, InAsk, Asked, InReply, Replied, Returned, InRepeat, InForeign, ArePieces, AreSpaced, BlockMayCome, ForeignMayCome, IsActList, IsLow, IsPiece, MayCome, MayStand, NotBefore, PieceFits, events_of, last_of, left_by, level_for, levels_after, levels_of, piece_events, position_of}
 use Rattle.mdb_bus.specs.LeavingOut.{with_foreign}
-use Rattle.mdb_bus.specs.Scopes.{no_levels}
+use Rattle.mdb_bus.specs.Scopes.{no_levels, profile_of}
 use Rattle.mdb_late_start.specs.Cuts.{BeginAnew, IsBreakEvent, SplitsAt, joined_with}
 use Rattle.mdb_late_start.specs.MidSession.{IsNothingOr}
 use Rattle.mdb_late_start.specs.Told.{IsLessTold}
@@ -213,17 +214,18 @@ is_low (Some level) other less low = subst IsLow less low
 low_for : (command : Command) (one other : Levels) → IsLessTold one other
     → IsLow (level_for command other) → IsLow (level_for command one)
 low_for (commands.Reader First command) one other less low =
-    is_low one.first other.first less.0 low
+    is_low one.first.asked other.first.asked less.0 low
 low_for (commands.Reader Second command) one other less low =
-    is_low one.second other.second less.1 low
+    is_low one.second.asked other.second.asked less.1 low
 low_for command one other less low = low
 
--- so what a piece says of levels fits as it did
-pub levels_fit : (piece : Piece) (one other : Levels) → IsLessTold one other
-    → PieceFitsLevels other piece → PieceFitsLevels one piece
-levels_fit (Whole (acts.Reply command reply) events) one other less fits =
+-- so what a piece says of levels fits in mid-session as it did
+pub levels_fit : (begins : Beginning) (setups : Setups) (piece : Piece) (one other : Levels)
+    → IsLessTold one other → PieceFits begins other piece
+    → PieceFits (Joined setups (profile_of begins)) one piece
+levels_fit begins setups (Whole (acts.Reply command reply) events) one other less fits =
     λ high. low_for command one other less (fits high)
-levels_fit piece one other less fits = fits
+levels_fit begins setups piece one other less fits = fits
 
 -- What a cut leaves of a transcript, and that what goes on of the pieces in front of it are foreign
 -- words.
@@ -271,7 +273,7 @@ stands_on scope setups front middle end piece pieces is stands ends cut comes =
       rows = cut.rows;
       stand = (
         record {
-          said = said_stays (Joined setups) no_levels scope piece is.said;
+          said = said_stays (Joined setups (profile_of scope.begins)) no_levels scope piece is.said;
           spaced = is.spaced;
         },
         record {
@@ -279,7 +281,8 @@ stands_on scope setups front middle end piece pieces is stands ends cut comes =
           others = stands.others;
           begins = stands.begins;
           comes = comes;
-          levels = levels_fit piece (levels_of no_levels (cut.later ++ with_foreign cut.words []))
+          levels = levels_fit scope.begins setups piece
+              (levels_of no_levels (cut.later ++ with_foreign cut.words []))
               (levels_of scope.levels pieces)
               (subst Told (sym cut.order)
               (less_told no_levels scope.levels cut.later cut.words cut.before (tt, tt)))

@@ -10,7 +10,7 @@ use Rattle.mdb_bus.specs.declared.scope.Beginning.TheVariants.{Joined}
 use Rattle.mdb_bus.specs.declared.scope.Scope.{Scope}
 use Rattle.mdb_bus.specs.ActLists.{Piece, Whole, AskTail, ReplyTail, RepeatTail, ArePieces, IsActList, acts_of}
 use Rattle.mdb_bus.specs.LeavingOut.{with_foreign}
-use Rattle.mdb_bus.specs.Scopes.{no_levels}
+use Rattle.mdb_bus.specs.Scopes.{no_levels, profile_of}
 use Rattle.mdb_follow.specs.Arrivals.{Arrives, EachArrives}
 use Rattle.mdb_follow.specs.Machines.{machine_of}
 use Rattle.mdb_follow.specs.Report.{unvalued_of}
@@ -63,7 +63,7 @@ run_by laws scope rows pieces states sums list ways =
 its_way : EndLaws → (begins : Beginning) (setups : Setups) (device : Device)
     (later before : List Piece) (words : List Event) (states : States) (sums : AllSums)
     → AllName (acts_of later) → EachArrives begins (acts_of (later ++ before)) states sums
-    → (gained : Sums) × Arrives (machine_of (Joined setups) device)
+    → (gained : Sums) × Arrives (machine_of (Joined setups (profile_of begins)) device)
     (acts_of (later ++ with_foreign words [])) (states device) gained
 its_way laws begins setups device later before words states sums name ways =
     let machine = machine_of begins device in
@@ -79,9 +79,10 @@ its_way laws begins setups device later before words states sums name ways =
     in_end begins setups device law (acts_of before) (acts_of later) two.from two.sums_from
     (states device) (sums device) name holds two.onward in (
       end.gained,
-      subst (λ l. Arrives (machine_of (Joined setups) device) l (states device) end.gained)
-          (sym (acts_in_two later (with_foreign words [])))
-          (after_foreign setups device words (acts_of later) (states device) end.gained end.way),
+      subst (λ l. Arrives (machine_of (Joined setups (profile_of begins)) device) l (states device)
+          end.gained) (sym (acts_in_two later (with_foreign words [])))
+          (after_foreign setups (profile_of begins) device words (acts_of later) (states device)
+          end.gained end.way),
     )
 
 -- no levels were told, in front of any end of rows that are reached
@@ -113,8 +114,9 @@ end_reached laws scope setups levels front end reached told =
     name_later (acts_of cut.later) (acts_of foreign)
     (subst AllName (acts_in_two cut.later foreign)
     (all_name laws (told_later setups levels scope) (cut.later ++ foreign) list.in_order)) in
-    let each : (device : Device) → (gained : Sums) × Arrives (machine_of (Joined setups) device)
-    (acts_of (cut.later ++ foreign)) (run.states device) gained =
+    let each : (device : Device) → (gained : Sums) × Arrives
+    (machine_of (Joined setups (profile_of scope.begins)) device) (acts_of (cut.later ++ foreign))
+    (run.states device) gained =
     λ device. its_way laws scope.begins setups device cut.later cut.before cut.words run.states
     reached.0 name ways in (
       (λ device. (each device).0),
@@ -180,7 +182,7 @@ pub gained_there : EndLaws → (scope : Scope) (setups : Setups) (levels : Level
     → AreToldBy scope passes.before levels → (gained : AllSums)
     × Run (told_later setups levels scope) end gained
     × ((device : Device) → TellsOnlyWhatIsSo setups scope.begins device (acts_of passes.before)
-    → unvalued_of (Joined setups) device (acts_of passes.later) ≡ 0
+    → unvalued_of (Joined setups (profile_of scope.begins)) device (acts_of passes.later) ≡ 0
     → sums device ≡ both_sums (passes.sums_then device) (gained device))
 gained_there laws scope setups levels front end sums run anew passes levels_told =
     let begins : Beginning = scope.begins in

@@ -9,6 +9,7 @@ use Rattle.mdb_bus.specs.declared.act.Act.{Act}
 use Rattle.mdb_bus.specs.declared.act.Act.TheVariants as acts
 use Rattle.mdb_bus.specs.declared.scope.Beginning.{Beginning}
 use Rattle.mdb_bus.specs.declared.scope.Beginning.TheVariants.{Joined}
+use Rattle.mdb_bus.specs.declared.scope.Profile.{Profile}
 use Rattle.mdb_bus.specs.ActLists.{Piece, Whole, acts_of}
 use Rattle.mdb_bus.specs.LeavingOut.{has_part, with_foreign}
 use Rattle.mdb_cash.specs.shared.BillWays as bill_ways
@@ -30,11 +31,12 @@ is_machine_of begins devices.Bill = bill_ways.is_machine begins
 is_machine_of begins (devices.Reader unit) = reader_ways.is_machine unit begins
 
 -- in mid-session a machine may start in each state
-pub starts_anywhere : (setups : Setups) (device : Device) (state : StateOf device)
-    → (machine_of (Joined setups) device).Starts state
-starts_anywhere setups devices.Changer state = tt
-starts_anywhere setups devices.Bill state = tt
-starts_anywhere setups (devices.Reader unit) state = tt
+pub starts_anywhere : (setups : Setups) (profile : Profile) (device : Device)
+    (state : StateOf device)
+    → (machine_of (Joined setups profile) device).Starts state
+starts_anywhere setups profile devices.Changer state = tt
+starts_anywhere setups profile devices.Bill state = tt
+starts_anywhere setups profile (devices.Reader unit) state = tt
 
 -- foreign words are acts of no device
 pub none_own : (device : Device) (words : List Event) (pieces : List Piece)
@@ -74,37 +76,38 @@ own_later device (act ∷ later) others none =
 
 -- A way in mid-session leads on where acts stand in front in which the device has no part, and
 -- through which a way leads from each state to the same.
-pub after_others : (setups : Setups) (device : Device) (others : List Act)
+pub after_others : (setups : Setups) (profile : Profile) (device : Device) (others : List Act)
     → own_acts device others ≡ []
     → ((state : StateOf device)
-    → Arrives (machine_of (Joined setups) device) others state no_sums)
+    → Arrives (machine_of (Joined setups profile) device) others state no_sums)
     → (later : List Act) (state : StateOf device) (sums : Sums)
-    → Arrives (machine_of (Joined setups) device) later state sums
-    → Arrives (machine_of (Joined setups) device) (later ++ others) state sums
-after_others setups device others none through [] state sums way =
-    subst (λ u. Arrives (machine_of (Joined setups) device) others state u) (sym way.1)
+    → Arrives (machine_of (Joined setups profile) device) later state sums
+    → Arrives (machine_of (Joined setups profile) device) (later ++ others) state sums
+after_others setups profile device others none through [] state sums way =
+    subst (λ u. Arrives (machine_of (Joined setups profile) device) others state u) (sym way.1)
     (through state)
-after_others setups device others none through (act ∷ later) state sums way =
-    let is = is_machine_of (Joined setups) device in
+after_others setups profile device others none through (act ∷ later) state sums way =
+    let is = is_machine_of (Joined setups profile) device in
     record {
       choice = way.choice;
       stands = way.stands;
       before = way.before;
       sums_before = way.sums_before;
       gains = way.gains;
-      way = after_others setups device others none through later way.before way.sums_before way.way;
+      way = after_others setups profile device others none through later way.before way.sums_before
+          way.way;
       step = is.own later (later ++ others) act way.choice way.before state way.gains
           (sym (own_later device later others none)) way.step;
       adds = way.adds;
     }
 
 -- so where foreign words stand in front
-pub after_foreign : (setups : Setups) (device : Device) (words : List Event) (later : List Act)
-    (state : StateOf device) (sums : Sums)
-    → Arrives (machine_of (Joined setups) device) later state sums
-    → Arrives (machine_of (Joined setups) device) (later ++ acts_of (with_foreign words [])) state
-    sums
-after_foreign setups device words =
-    after_others setups device (acts_of (with_foreign words [])) (none_own device words [])
-    (λ state. through_foreign (Joined setups) device words [] state no_sums
-    (starts_anywhere setups device state, refl))
+pub after_foreign : (setups : Setups) (profile : Profile) (device : Device) (words : List Event)
+    (later : List Act) (state : StateOf device) (sums : Sums)
+    → Arrives (machine_of (Joined setups profile) device) later state sums
+    → Arrives (machine_of (Joined setups profile) device) (later ++ acts_of (with_foreign words []))
+    state sums
+after_foreign setups profile device words =
+    after_others setups profile device (acts_of (with_foreign words [])) (none_own device words [])
+    (λ state. through_foreign (Joined setups profile) device words [] state no_sums
+    (starts_anywhere setups profile device state, refl))

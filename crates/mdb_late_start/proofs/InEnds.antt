@@ -7,7 +7,9 @@ use Rattle.mdb_msgs.specs.declared.setups.Setups.{Setups}
 use Rattle.mdb_bus.specs.declared.act.Act.{Act}
 use Rattle.mdb_bus.specs.declared.scope.Beginning.{Beginning}
 use Rattle.mdb_bus.specs.declared.scope.Beginning.TheVariants.{Joined}
+use Rattle.mdb_bus.specs.declared.scope.Profile.{Profile}
 use Rattle.mdb_bus.specs.Acts.{NamesAReply}
+use Rattle.mdb_bus.specs.Scopes.{profile_of}
 use Rattle.mdb_machine.specs.declared.gains.Gains.{Gains}
 use Rattle.mdb_follow.specs.Arrivals.{Arrives}
 use Rattle.mdb_follow.specs.Machines.{StateOf, machine_of}
@@ -55,21 +57,23 @@ holds_on begins setups device law front (act ∷ later) from sums_from state sum
     way.way) way.step
 
 -- where acts leave no amount without a value, the acts before the last leave none
-valued_before : (setups : Setups) (device : Device) (act : Act) (so_far : List Act)
-    → unvalued_of (Joined setups) device (act ∷ so_far) ≡ 0
-    → unvalued_of (Joined setups) device so_far ≡ 0
-valued_before setups devices.Changer act so_far none = second_none _ _ none
-valued_before setups devices.Bill act so_far none = second_none _ _ none
-valued_before setups (devices.Reader unit) act so_far none = second_none _ _ none
+valued_before : (setups : Setups) (profile : Profile) (device : Device) (act : Act)
+    (so_far : List Act)
+    → unvalued_of (Joined setups profile) device (act ∷ so_far) ≡ 0
+    → unvalued_of (Joined setups profile) device so_far ≡ 0
+valued_before setups profile devices.Changer act so_far none = second_none _ _ none
+valued_before setups profile devices.Bill act so_far none = second_none _ _ none
+valued_before setups profile (devices.Reader unit) act so_far none = second_none _ _ none
 
 -- A way of the end by itself, to the same state; what is gained there is the same where the end
 -- leaves no amount without a value.
 pub record InEnd (begins : Beginning) (setups : Setups) (device : Device) (later front : List Act)
     (sums_from : Sums) (state : StateOf device) (sums : Sums) : Type 0 where
   pub gained : Sums
-  pub way : Arrives (machine_of (Joined setups) device) later state gained
+  pub way : Arrives (machine_of (Joined setups (profile_of begins)) device) later state gained
   pub same : AllAnswer later → TellsOnlyWhatIsSo setups begins device front
-      → unvalued_of (Joined setups) device later ≡ 0 → sums ≡ both_sums sums_from gained
+      → unvalued_of (Joined setups (profile_of begins)) device later ≡ 0 → sums ≡ both_sums
+      sums_from gained
 
 -- one act more gains the same
 gains_more : (sums sums_before sums_from gained : Sums) (gains other : Gains)
@@ -87,7 +91,7 @@ pub in_end : (begins : Beginning) (setups : Setups) (device : Device)
     → InEnd begins setups device later front sums_from state sums
 in_end begins setups device law front [] from sums_from state sums name holds way = record {
   gained = no_sums;
-  way = (starts_anywhere setups device state, refl);
+  way = (starts_anywhere setups (profile_of begins) device state, refl);
   same = λ answer told none. way.1 ∙ and_nothing sums_from;
 }
 in_end begins setups device law front (act ∷ later) from sums_from state sums name holds way =
@@ -112,6 +116,6 @@ in_end begins setups device law front (act ∷ later) from sums_from state sums 
       };
       same = λ answer told none.
           gains_more sums way.sums_before sums_from earlier.gained way.gains goes.other way.adds
-          (earlier.same answer.1 told (valued_before setups device act later none))
-          (goes.valued told answer.0 none);
+          (earlier.same answer.1 told (valued_before setups (profile_of begins) device act later
+          none)) (goes.valued told answer.0 none);
     }

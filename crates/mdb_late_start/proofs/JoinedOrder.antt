@@ -6,8 +6,10 @@ use Rattle.mdb_words.specs.declared.event.Event.{Event}
 use Rattle.mdb_msgs.specs.declared.device_set.DeviceSet.{DeviceSet}
 use Rattle.mdb_msgs.specs.declared.setups.Setups.{Setups}
 use Rattle.mdb_bus.specs.declared.act.Act.TheVariants as acts
-use Rattle.mdb_bus.specs.declared.scope.Beginning.TheVariants.{Joined}
-use Rattle.mdb_bus.specs.ActLists.{Piece, Whole, AskTail, ReplyTail, RepeatTail, Quiet, InForeign, ArePieces, ForeignMayCome, IsActList, MayCome, events_of, last_of, position_of}
+use Rattle.mdb_bus.specs.declared.levels.Levels.{Levels}
+use Rattle.mdb_bus.specs.declared.scope.Beginning.TheVariants.{PowerOn, Joined}
+use Rattle.mdb_bus.specs.declared.scope.Profile.TheVariants.{Base}
+use Rattle.mdb_bus.specs.ActLists.{Piece, Whole, AskTail, ReplyTail, RepeatTail, Quiet, InForeign, ArePieces, ForeignMayCome, IsActList, MayCome, PieceFits, events_of, last_of, levels_of, position_of}
 use Rattle.mdb_bus.specs.Scopes.{joined, leaving_out, no_levels}
 use Rattle.mdb_late_start.proofs.Said.{said_stays}
 
@@ -41,6 +43,12 @@ comes_too : (setups : Setups) (without : DeviceSet) (pieces : List Piece) (piece
 comes_too setups without [] piece to comes = first_too piece to comes
 comes_too setups without (last ∷ pieces) piece to comes = comes
 
+-- what a piece says of levels fits as it did
+fits_too : (setups : Setups) (levels : Levels) (piece : Piece)
+    → PieceFits (PowerOn Base) levels piece → PieceFits (Joined setups Base) levels piece
+fits_too setups levels (Whole (acts.Reply command reply) events) fits = fits
+fits_too setups levels piece fits = fits
+
 -- so pieces in order are in order
 in_order_too : (setups : Setups) (without : DeviceSet) (pieces : List Piece)
     → ArePieces (leaving_out without) pieces → ArePieces (joined setups without) pieces
@@ -48,7 +56,7 @@ in_order_too setups without [] are = tt
 in_order_too setups without (piece ∷ pieces) are =
     let stands = are.1 in (
       record {
-        said = said_stays (Joined setups) no_levels (leaving_out without) piece are.0.said;
+        said = said_stays (Joined setups Base) no_levels (leaving_out without) piece are.0.said;
         spaced = are.0.spaced;
       },
       record {
@@ -56,7 +64,7 @@ in_order_too setups without (piece ∷ pieces) are =
         others = stands.others;
         begins = stands.begins;
         comes = comes_too setups without pieces piece stands.first stands.comes;
-        levels = stands.levels;
+        levels = fits_too setups (levels_of no_levels pieces) piece stands.levels;
       },
       in_order_too setups without pieces are.2,
     )

@@ -13,6 +13,7 @@ use Rattle.mdb_bus.specs.declared.act.Act.{Act}
 use Rattle.mdb_bus.specs.declared.act.Act.TheVariants as acts
 use Rattle.mdb_bus.specs.declared.scope.Beginning.{Beginning}
 use Rattle.mdb_bus.specs.declared.scope.Beginning.TheVariants.{PowerOn, Joined}
+use Rattle.mdb_bus.specs.Scopes.{profile_of}
 use Rattle.mdb_machine.specs.declared.choice.Choice.{Choice}
 use Rattle.mdb_machine.specs.declared.choice.Choice.TheVariants.{Lost, Plain, Restart}
 use Rattle.std.proofs.Math.Path.{fun_ext}
@@ -411,12 +412,14 @@ pub record GoesOn {Own Setup Asked M State : Type 0} (tables : Tables Own Setup 
     (later front : List Act) (act : Act) (choice : Choice) (before after : State) (gains : Gains)
     : Type 0 where
   pub other : Gains
-  pub step : StepKnowing tables conduct (known_of tables (Joined setups) later) act choice before
-      after other
+  pub step : StepKnowing tables conduct (known_of tables (Joined setups (profile_of begins)) later)
+      act choice before after other
   pub valued : IsNothingOr (tables.setup_known setups) (known_of tables begins front).setup
-      → AnswersLast act later → unvalued tables conduct (Joined setups) (act ∷ later) ≡ 0
+      → AnswersLast act later → unvalued tables conduct (Joined setups (profile_of begins))
+      (act ∷ later) ≡ 0
       → other ≡ gains
-  pub alike : begins ≡ PowerOn → front ≡ [] → tables.setup_known setups ≡ None → other ≡ gains
+  pub alike : begins ≡ PowerOn (profile_of begins) → front ≡ [] → tables.setup_known setups ≡ None
+      → other ≡ gains
 
 -- a step in the whole is one in the end
 pub step_in_end : {Own Setup Asked M State : Type 0} (tables : Tables Own Setup Asked M)
@@ -431,7 +434,7 @@ pub step_in_end : {Own Setup Asked M State : Type 0} (tables : Tables Own Setup 
 step_in_end {Setup = Setup} tables conduct Fits steady begins setups later front act choice before
     after gains names told step =
     let whole = known_of tables begins (later ++ front) in
-    let end = known_of tables (Joined setups) later in
+    let end = known_of tables (Joined setups (profile_of begins)) later in
     let knows = known_in_end tables begins setups later front in
     let facts = step.facts in
     let past = step.allowed.past in
@@ -463,15 +466,18 @@ step_in_end {Setup = Setup} tables conduct Fits steady begins setups later front
     }
   where
     either : (setup : Option Setup)
-        → (known_of tables (Joined setups) later).setup ≡ setup
+        → (known_of tables (Joined setups (profile_of begins)) later).setup ≡ setup
         → IsNothingOr (tables.setup_known setups) (known_of tables begins front).setup
-        → AnswersLast act later → unvalued tables conduct (Joined setups) (act ∷ later) ≡ 0
-        → IsSame tables conduct (known_of tables (Joined setups) later) step.facts act
+        → AnswersLast act later → unvalued tables conduct (Joined setups (profile_of begins))
+        (act ∷ later) ≡ 0
+        → IsSame tables conduct (known_of tables (Joined setups (profile_of begins)) later)
+        step.facts act
     either (Some setup) is are answers zero =
         inl (is ∙ sym (known_setup_end tables begins setups later front setup are is)
         ∙ sym step.allowed.setup)
     either None is are answers zero =
-        inr (nothing_told tables conduct (Joined setups) act later is answers zero)
+        inr (nothing_told tables conduct (Joined setups (profile_of begins)) act later is answers
+        zero)
 
 -- A device that holds messages has told some as the recording begins: from power-on it holds none,
 -- and in mid-session it isn't known what it told.
@@ -480,12 +486,12 @@ pub told_first : {Own Setup Asked M State : Type 0} (tables : Tables Own Setup A
     (steady : IsSteady tables conduct Fits) (begins : Beginning) (state : State)
     → StartsIn conduct.power_on begins state
     → HasTold (conduct.holds state) (known_of tables begins []).past.last_kept
-told_first tables conduct Fits steady PowerOn state is =
+told_first tables conduct Fits steady (PowerOn profile) state is =
     λ holding. absurd (no_truth (sym steady.power_on_free ∙ sym (ap conduct.holds is) ∙ holding))
   where
     no_truth : false ≡ true → ⊥
     no_truth same = cc
-told_first tables conduct Fits steady (Joined setups) state is = λ holding same. absurd cc
+told_first tables conduct Fits steady (Joined setups profile) state is = λ holding same. absurd cc
 
 -- And so it is after a reply with kept messages; after any other act it is, if the device holds
 -- none that it didn't hold before.

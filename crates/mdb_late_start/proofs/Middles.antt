@@ -15,6 +15,7 @@ use Rattle.mdb_bus.specs.declared.act.Act.TheVariants as acts
 use Rattle.mdb_bus.specs.declared.levels.Levels.{Levels}
 use Rattle.mdb_bus.specs.declared.scope.Beginning.TheVariants.{Joined}
 use Rattle.mdb_bus.specs.declared.scope.Scope.{Scope}
+use Rattle.mdb_bus.specs.declared.scope.Profile.{Profile}
 use Rattle.mdb_bus.specs.Acts.{IsForeignWord, Say, said_by}
 use Rattle.mdb_bus.specs.ActLists.{Piece, Whole, AskTail, ReplyTail, RepeatTail, Position, InForeign, ArePieces, IsActList, IsSaid, IsTail, MayCome, acts_of, events_of, first_position, last_of, levels_of, piece_events, position_of}
 use Rattle.mdb_bus.specs.LeavingOut.{with_foreign}
@@ -36,6 +37,7 @@ use Rattle.mdb_late_start.proofs.Foreign.{after_others, is_machine_of, own_later
 use Rattle.mdb_late_start.proofs.Onward.{acts_in_two}
 use Rattle.mdb_bus.proofs.Backward.{marked_not_foreign as marked_word}
 use Rattle.mdb_bus.proofs.LeftOutWords.{AreForeignWords}
+use Rattle.mdb_bus.specs.Scopes.{profile_of}
 
 -- pieces are foreign acts, and no others
 abbrev pub AreForeign : List Piece → Type 0
@@ -143,24 +145,26 @@ none_of_its device (Whole acts.Foreign events ∷ pieces) foreign =
 none_of_its device (piece ∷ pieces) foreign = absurd foreign
 
 -- and a way leads through them from each state to the same
-stays_there : (setups : Setups) (device : Device) (pieces : List Piece) → AreForeign pieces
+stays_there : (setups : Setups) (profile : Profile) (device : Device) (pieces : List Piece)
+    → AreForeign pieces
     → (state : StateOf device)
-    → Arrives (machine_of (Joined setups) device) (acts_of pieces) state no_sums
-stays_there setups device [] foreign state = (starts_anywhere setups device state, refl)
-stays_there setups device (Whole acts.Foreign events ∷ pieces) foreign state =
-    let is = is_machine_of (Joined setups) device in
+    → Arrives (machine_of (Joined setups profile) device) (acts_of pieces) state no_sums
+stays_there setups profile device [] foreign state =
+    (starts_anywhere setups profile device state, refl)
+stays_there setups profile device (Whole acts.Foreign events ∷ pieces) foreign state =
+    let is = is_machine_of (Joined setups profile) device in
     record {
       choice = Plain;
       stands = tt;
       before = state;
       sums_before = no_sums;
       gains = no_gains;
-      way = stays_there setups device pieces foreign state;
+      way = stays_there setups profile device pieces foreign state;
       step = (is.elsewhere (acts_of pieces) acts.Foreign Plain state state no_gains
           (λ part. absurd cc)).1 (refl, refl);
       adds = no-gains no_sums;
     }
-stays_there setups device (piece ∷ pieces) foreign state = absurd foreign
+stays_there setups profile device (piece ∷ pieces) foreign state = absurd foreign
 
 -- tails have no acts
 acts_past : (tail pieces : List Piece) → AllByRecursion IsTail tail
@@ -205,7 +209,7 @@ parts laws setups levels scope rows middle has =
     (words_each has.words (recursion_from_All IsForeignWord has.words has.foreign))) in
     let told : AreToldBy mine cut.before levels =
     subst (λ ls. IsLessTold levels ls) (sym (none_told_by levels cut.before foreign))
-    (the_same levels.first, the_same levels.second) in
+    (the_same levels.first.asked, the_same levels.second.asked) in
     let clean : IsActList mine (cut.later ++ []) middle =
     subst (λ ws. IsActList mine (cut.later ++ with_foreign ws []) middle) none
     (laws.told mine setups levels has.words middle has.whole list cut told) in
@@ -237,14 +241,16 @@ run_of_rows laws setups levels scope rows middle has sums run =
     let parted = parts laws setups levels scope rows middle has in
     let same : run.pieces ≡ parted.later =
     laws.one mine middle run.pieces parted.later run.act_list parted.list in
-    let ways : EachArrives (Joined setups) (acts_of parted.later) run.states sums =
-    subst (λ ps. EachArrives (Joined setups) (acts_of ps) run.states sums) same
-    (laws.splits (Joined setups) run.loss run.pieces run.states sums run.way) in
+    let ways : EachArrives (Joined setups (profile_of scope.begins)) (acts_of parted.later)
+    run.states sums =
+    subst (λ ps. EachArrives (Joined setups (profile_of scope.begins)) (acts_of ps) run.states sums)
+    same (laws.splits (Joined setups (profile_of scope.begins)) run.loss run.pieces run.states sums
+    run.way) in
     run_by laws mine rows (has.tail ++ has.whole) run.states sums has.act_list
     (λ device. subst
-    (λ l. Arrives (machine_of (Joined setups) device) l (run.states device) (sums device))
-    (sym parted.acts)
-    (after_others setups device (acts_of parted.before)
+    (λ l. Arrives (machine_of (Joined setups (profile_of scope.begins)) device) l
+    (run.states device) (sums device)) (sym parted.acts)
+    (after_others setups (profile_of scope.begins) device (acts_of parted.before)
     (none_of_its device parted.before parted.foreign)
-    (stays_there setups device parted.before parted.foreign) (acts_of parted.later)
-    (run.states device) (sums device) (ways device)))
+    (stays_there setups (profile_of scope.begins) device parted.before parted.foreign)
+    (acts_of parted.later) (run.states device) (sums device) (ways device)))

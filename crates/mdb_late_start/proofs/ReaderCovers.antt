@@ -7,6 +7,7 @@ use Rattle.mdb_msgs.specs.Setups.{config_known}
 use Rattle.mdb_bus.specs.declared.act.Act.{Act}
 use Rattle.mdb_bus.specs.declared.scope.Beginning.{Beginning}
 use Rattle.mdb_bus.specs.declared.scope.Beginning.TheVariants.{PowerOn, Joined}
+use Rattle.mdb_bus.specs.Scopes.{profile_of}
 use Rattle.mdb_machine.specs.Known.{Allows, AllowsKept, Known, Is, Unknown}
 use Rattle.mdb_machine.specs.Past.{last_told, or_else}
 use Rattle.mdb_machine.specs.PastValues.{known_more}
@@ -60,7 +61,8 @@ covers_more unit act here there covers = record {
 
 -- of no act in mid-session nothing is known that may not be known there
 pub covers : (unit : ReaderUnit) (begins : Beginning) (setups : Setups) (later front : List Act)
-    → Covers (known_of (Joined setups) unit later) (known_of begins unit (later ++ front))
+    → Covers (known_of (Joined setups (profile_of begins)) unit later)
+    (known_of begins unit (later ++ front))
 covers unit begins setups [] front = record {
   asked = tt;
   taken = tt;
@@ -69,10 +71,10 @@ covers unit begins setups [] front = record {
   reset_owed = λ owed. absurd cc;
 }
 covers unit begins setups (act ∷ later) front =
-    let here = known_of (Joined setups) unit later in
+    let here = known_of (Joined setups (profile_of begins)) unit later in
     let there = known_of begins unit (later ++ front) in
     subst (λ (k : KnownFacts). Covers k (known_of begins unit (act ∷ (later ++ front))))
-    (goes_on unit (Joined setups) act later)
+    (goes_on unit (Joined setups (profile_of begins)) act later)
     (subst (λ (k : KnownFacts). Covers (known_with unit act here) k)
     (goes_on unit begins act (later ++ front))
     (covers_more unit act here there (covers unit begins setups later front)))
@@ -81,15 +83,15 @@ covers unit begins setups (act ∷ later) front =
 pub config_covers : (unit : ReaderUnit) (begins : Beginning) (setups : Setups)
     (later front : List Act)
     → IsNothingOr (config_known setups unit) (known_of begins unit front).config
-    → IsNothingOr (known_of (Joined setups) unit later).config
+    → IsNothingOr (known_of (Joined setups (profile_of begins)) unit later).config
     (known_of begins unit (later ++ front)).config
 config_covers unit begins setups [] front are = are
 config_covers unit begins setups (act ∷ later) front are =
-    let here = known_of (Joined setups) unit later in
+    let here = known_of (Joined setups (profile_of begins)) unit later in
     let there = known_of begins unit (later ++ front) in
     subst (λ (k : KnownFacts). IsNothingOr k.config
     (known_of begins unit (act ∷ (later ++ front))).config)
-    (goes_on unit (Joined setups) act later)
+    (goes_on unit (Joined setups (profile_of begins)) act later)
     (subst (λ (k : KnownFacts). IsNothingOr (known_with unit act here).config k.config)
     (goes_on unit begins act (later ++ front))
     (nothing_more (config_by unit act) here.config there.config
@@ -114,16 +116,18 @@ allows_kept_too Unknown (Is k) holds last too told allows =
 -- Where both are one recording from power-on on, and nothing was told from elsewhere, the same
 -- config message and the same amount are known.
 pub same_config : (unit : ReaderUnit) (begins : Beginning) (setups : Setups)
-    (later front : List Act) → begins ≡ PowerOn → front ≡ [] → config_known setups unit ≡ None
-    → (known_of (Joined setups) unit later).config
+    (later front : List Act) → begins ≡ PowerOn (profile_of begins) → front ≡ []
+    → config_known setups unit ≡ None
+    → (known_of (Joined setups (profile_of begins)) unit later).config
     ≡ (known_of begins unit (later ++ front)).config
 same_config unit begins setups [] front power_on empty unknown =
     let nothing : (known_of begins unit front).config ≡ None =
     ap (λ b. (known_of b unit front).config) power_on
-    ∙ ap (λ f. (known_of PowerOn unit f).config) empty in
+    ∙ ap (λ f. (known_of (PowerOn (profile_of begins)) unit f).config) empty in
     unknown ∙ sym nothing
 same_config unit begins setups (act ∷ later) front power_on empty unknown =
-    sym (ap (λ (k : KnownFacts). k.config) (goes_on unit (Joined setups) act later))
+    sym (ap (λ (k : KnownFacts). k.config)
+    (goes_on unit (Joined setups (profile_of begins)) act later))
     ∙ ap (λ c. or_else (config_by unit act) c)
     (same_config unit begins setups later front power_on empty unknown)
     ∙ ap (λ (k : KnownFacts). k.config) (goes_on unit begins act (later ++ front))

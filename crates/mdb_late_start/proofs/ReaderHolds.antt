@@ -30,10 +30,10 @@ use Rattle.mdb_late_start.specs.MidSession.{HasTold}
 pub starts_told : (begins : Beginning) (unit : ReaderUnit) (state : ReaderState)
     → StartsIn power_on begins state
     → HasTold state.holds (known_of begins unit []).past.last_kept
-starts_told PowerOn unit state starts =
+starts_told (PowerOn profile) unit state starts =
     λ held. let clash : false ≡ true = sym (ap (λ (s : ReaderState). s.holds) starts) ∙ held in
     absurd cc
-starts_told (Joined setups) unit state starts = λ held empty. absurd cc
+starts_told (Joined setups profile) unit state starts = λ held empty. absurd cc
 
 -- where a device that holds something held something before, and tells nothing more
 less_told : {M : Type 0} (before after : Bool) (last : Known (List M))

@@ -6,6 +6,7 @@ use Rattle.mdb_msgs.specs.declared.setups.Setups.{Setups}
 use Rattle.mdb_bus.specs.declared.act.Act.{Act}
 use Rattle.mdb_bus.specs.declared.scope.Beginning.{Beginning}
 use Rattle.mdb_bus.specs.declared.scope.Beginning.TheVariants.{Joined}
+use Rattle.mdb_bus.specs.Scopes.{profile_of}
 use Rattle.mdb_machine.specs.declared.choice.Choice.{Choice}
 use Rattle.mdb_machine.specs.declared.gains.Gains.{Gains}
 use Rattle.mdb_cashless.specs.declared.reader.state.ReaderState.{ReaderState}
@@ -50,7 +51,7 @@ step_in_end : (begins : Beginning) (setups : Setups) (unit : ReaderUnit) (later 
     → StepKnowing unit (known_of begins unit (later ++ front)) act choice before after gains
     → GoesOnInEnd begins setups (devices.Reader unit) later front act choice before after gains
 step_in_end begins setups unit later front act choice before after gains told step =
-    let here = known_of (Joined setups) unit later in
+    let here = known_of (Joined setups (profile_of begins)) unit later in
     let there = known_of begins unit (later ++ front) in
     let facts = step.facts in
     let known = covers unit begins setups later front in
@@ -63,7 +64,8 @@ step_in_end begins setups unit later front act choice before after gains told st
         allowed = allowed_otherwise here there before.holds facts known told step.allowed;
         step = other.1;
       };
-      valued = λ are answers none. other.2 (priced unit (Joined setups) later act facts
+      valued = λ are answers none. other.2
+          (priced unit (Joined setups (profile_of begins)) later act facts
           (counts here there before.holds facts known
           (config_covers unit begins setups later front are) step.allowed) answers none);
       alike = λ power_on empty unknown. other.2 (all_priced unit (otherwise facts here) facts act

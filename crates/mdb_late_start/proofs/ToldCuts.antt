@@ -6,38 +6,42 @@ use Rattle.mdb_words.specs.declared.event.Event.{Event}
 use Rattle.mdb_msgs.specs.declared.setups.Setups.{Setups}
 use Rattle.mdb_bus.specs.declared.act.Act.TheVariants as acts
 use Rattle.mdb_bus.specs.declared.levels.Levels.{Levels}
+use Rattle.mdb_bus.specs.declared.scope.Beginning.{Beginning}
+use Rattle.mdb_bus.specs.declared.scope.Beginning.TheVariants.{Joined}
 use Rattle.mdb_bus.specs.declared.scope.Scope.{Scope}
-use Rattle.mdb_bus.specs.ActLists.{ArePieces, HasActList, IsActList, MayCome, Piece, PieceFitsLevels, Position, Whole, events_of, last_of, levels_of, position_of}
+use Rattle.mdb_bus.specs.ActLists.{ArePieces, HasActList, IsActList, MayCome, Piece, PieceFits, Position, Whole, events_of, last_of, levels_of, position_of}
 use Rattle.mdb_bus.specs.LeavingOut.{with_foreign}
-use Rattle.mdb_bus.specs.Scopes.{told}
+use Rattle.mdb_bus.specs.Scopes.{profile_of, told}
 use Rattle.mdb_late_start.specs.Cuts.{BeginAnew, SplitsAt, joined_with}
 use Rattle.mdb_late_start.specs.Told.{AreToldBy, WereTold, told_later}
 use Rattle.mdb_late_start.proofs.Cutting.{less_told, levels_fit}
 use Rattle.mdb_late_start.proofs.Said.{said_stays}
 
 -- what pieces say of levels fits, where these were told before them
-abbrev AllFit : Levels → List Piece → Type 0
-AllFit levels [] = Unit {0}
-AllFit levels (piece ∷ pieces) =
-    PieceFitsLevels (levels_of levels pieces) piece × AllFit levels pieces
+abbrev AllFit : Beginning → Levels → List Piece → Type 0
+AllFit begins levels [] = Unit {0}
+AllFit begins levels (piece ∷ pieces) =
+    PieceFits begins (levels_of levels pieces) piece × AllFit begins levels pieces
 
 -- foreign words say nothing of levels
-foreign_fit : (levels : Levels) (words : List Event) (pieces : List Piece) → AllFit levels pieces
-    → AllFit levels (with_foreign words pieces)
-foreign_fit levels [] pieces fit = fit
-foreign_fit levels (word ∷ words) pieces fit =
-    foreign_fit levels words (Whole acts.Foreign (word ∷ []) ∷ pieces) (tt, fit)
+foreign_fit : (begins : Beginning) (levels : Levels) (words : List Event) (pieces : List Piece)
+    → AllFit begins levels pieces → AllFit begins levels (with_foreign words pieces)
+foreign_fit begins levels [] pieces fit = fit
+foreign_fit begins levels (word ∷ words) pieces fit =
+    foreign_fit begins levels words (Whole acts.Foreign (word ∷ []) ∷ pieces) (tt, fit)
 
 -- what pieces of an end say fits, where less is told than in front of it
-later_fit : (scope : Scope) (levels : Levels) (words : List Event) (before : List Piece)
-    → AreToldBy scope before levels → (later : List Piece) → ArePieces scope (later ++ before)
-    → AllFit levels (later ++ with_foreign words [])
-later_fit scope levels words before less [] are = foreign_fit levels words [] tt
-later_fit scope levels words before less (piece ∷ later) are = (
-  levels_fit piece (levels_of levels (later ++ with_foreign words []))
+later_fit : (scope : Scope) (setups : Setups) (levels : Levels) (words : List Event)
+    (before : List Piece) → AreToldBy scope before levels → (later : List Piece)
+    → ArePieces scope (later ++ before)
+    → AllFit (Joined setups (profile_of scope.begins)) levels (later ++ with_foreign words [])
+later_fit scope setups levels words before less [] are =
+    foreign_fit (Joined setups (profile_of scope.begins)) levels words [] tt
+later_fit scope setups levels words before less (piece ∷ later) are = (
+  levels_fit scope.begins setups piece (levels_of levels (later ++ with_foreign words []))
       (levels_of scope.levels (later ++ before))
       (less_told levels scope.levels later words before less) are.1.levels,
-  later_fit scope levels words before less later are.2,
+  later_fit scope setups levels words before less later are.2,
 )
 
 -- the bus is where it is, whatever was told
@@ -48,7 +52,7 @@ same_position levels scope (piece ∷ pieces) = refl
 
 -- so pieces in order are in order where levels are told that they fit
 told_order : (levels : Levels) (scope : Scope) (pieces : List Piece) → ArePieces scope pieces
-    → AllFit levels pieces → ArePieces (told levels scope) pieces
+    → AllFit scope.begins levels pieces → ArePieces (told levels scope) pieces
 told_order levels scope [] are fit = tt
 told_order levels scope (piece ∷ pieces) are fit =
     let stands = are.1 in
@@ -76,7 +80,7 @@ pub told_list : (scope : Scope) (setups : Setups) (levels : Levels) (front end :
 told_list scope setups levels front end pieces list cut less = record {
   in_order = told_order levels (joined_with setups scope)
       (cut.later ++ with_foreign cut.words []) cut.act_list.in_order
-      (later_fit scope levels cut.words cut.before less cut.later
+      (later_fit scope setups levels cut.words cut.before less cut.later
       (subst (ArePieces scope) cut.order list.in_order));
   whole = cut.act_list.whole;
 }

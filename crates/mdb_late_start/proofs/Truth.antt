@@ -6,11 +6,12 @@ use Rattle.mdb_msgs.specs.declared.setups.Setups.{Setups}
 use Rattle.mdb_bus.specs.declared.act.Act.{Act}
 use Rattle.mdb_bus.specs.ActLists.{IsActList, Piece, acts_of}
 use Rattle.mdb_bus.specs.LeavingOut.{LeavesOutMore, leave_out}
-use Rattle.mdb_bus.specs.Scopes.{IsFollowed}
+use Rattle.mdb_bus.specs.Scopes.{IsFollowed, profile_of}
 use Rattle.mdb_bus.specs.declared.levels.Levels.{Levels}
 use Rattle.mdb_bus.specs.declared.scope.Beginning.{Beginning}
 use Rattle.mdb_bus.specs.declared.scope.Beginning.TheVariants.{Joined}
 use Rattle.mdb_bus.specs.declared.scope.Scope.{Scope}
+use Rattle.mdb_bus.specs.declared.scope.Profile.{Profile}
 use Rattle.mdb_machine.specs.Pair.{own_acts}
 use Rattle.mdb_follow.specs.declared.account.Account.{Account}
 use Rattle.mdb_follow.specs.declared.account_name.AccountName.{AccountName}
@@ -92,7 +93,8 @@ came_within laws reports scope setups levels front end sums run report anew pass
     let there =
     gained_there laws scope setups levels front end sums run anew passes levels_told in
     let device = account_device account in
-    let valued : unvalued_of (Joined setups) device (acts_of passes.later) ≡ 0 =
+    let valued : unvalued_of (Joined setups (profile_of scope.begins)) device (acts_of passes.later)
+    ≡ 0 =
     sym (reports.unvalued end_scope end report passes.later is list device) ∙ none in
     lies_within (Run end_scope end) account (account_of account report)
     (reports.accounts end_scope end report is account) sums passes.sums_then there.0
@@ -127,10 +129,11 @@ came_in_middle laws reports alike scope setups levels front middle rows sums run
     let device = account_device account in
     let same : passes.later ≡ parted.later =
     laws.one mine middle passes.later parted.later list parted.list in
-    let valued : unvalued_of (Joined setups) device (acts_of passes.later) ≡ 0 =
-    ap (λ ps. unvalued_of (Joined setups) device (acts_of ps)) same
-    ∙ sym (alike (Joined setups) device (acts_of (has.tail ++ has.whole)) (acts_of parted.later)
-    (own_in_middle mine rows middle has parted device))
+    let valued : unvalued_of (Joined setups (profile_of scope.begins)) device (acts_of passes.later)
+    ≡ 0 =
+    ap (λ ps. unvalued_of (Joined setups (profile_of scope.begins)) device (acts_of ps)) same
+    ∙ sym (alike (Joined setups (profile_of scope.begins)) device (acts_of (has.tail ++ has.whole))
+    (acts_of parted.later) (own_in_middle mine rows middle has parted device))
     ∙ sym (reports.unvalued mine rows report (has.tail ++ has.whole) is has.act_list device)
     ∙ none in
     lies_within (Run mine rows) account (account_of account report)
@@ -151,14 +154,15 @@ pub record FewerLaws : Type 0 where
       → own_acts device (acts_of (leave_out scope pieces)) ≡ own_acts device (acts_of pieces)
 
 -- a scope that leaves out more is of the same beginning, and of the same levels
-is_told : (setups : Setups) (levels : Levels) (more : Scope) → Joined setups ≡ more.begins
+is_told : (setups : Setups) (profile : Profile) (levels : Levels) (more : Scope) → Joined setups
+    profile ≡ more.begins
     → levels ≡ more.levels → told_later setups levels more ≡ more
-is_told setups levels more begins same =
+is_told setups profile levels more begins same =
     ap (λ (b : Beginning). record {
       begins = b;
       without = more.without;
       levels = levels;
-    }) begins
+    }) (subst (λ (b : Beginning). Joined setups (profile_of b) ≡ b) begins refl)
     ∙ ap (λ (l : Levels). record {
       begins = more.begins;
       without = more.without;
@@ -197,15 +201,17 @@ came_in_fewer laws reports alike fewer scope more setups levels front middle row
     let own : own_acts device (acts_of passes.later) ≡ own_acts device (acts_of parted.later) =
     sym (fewer.followed mine passes.later device followed)
     ∙ ap (λ ps. own_acts device (acts_of ps)) same in
-    let valued : unvalued_of (Joined setups) device (acts_of passes.later) ≡ 0 =
-    alike (Joined setups) device (acts_of passes.later) (acts_of parted.later) own
-    ∙ sym (alike (Joined setups) device (acts_of (has.tail ++ has.whole)) (acts_of parted.later)
+    let valued : unvalued_of mine.begins device (acts_of passes.later) ≡ 0 =
+    alike mine.begins device (acts_of passes.later) (acts_of parted.later) own
+    ∙ sym (alike mine.begins device (acts_of (has.tail ++ has.whole)) (acts_of parted.later)
     (own_in_middle mine rows middle has parted device))
     ∙ sym (reports.unvalued mine rows report (has.tail ++ has.whole) is has.act_list device)
     ∙ none in
+    let valued_there : unvalued_of less.begins device (acts_of passes.later) ≡ 0 =
+    subst (λ b. unvalued_of b device (acts_of passes.later) ≡ 0) (sym leaves.begins) valued in
     lies_within (Run mine rows) account (account_of account report)
     (reports.accounts mine rows report is account) sums passes.sums_then there.0
-    (there.2 device told valued) other.0
+    (there.2 device told valued_there) other.0
     (run_of_rows laws setups levels more rows middle has other.0 other.2)
     (other.1.followed device followed)
 
@@ -224,7 +230,7 @@ pub came_in_less : EndLaws → ReportLaws → UnvaluedAlike → FewerLaws → (s
 came_in_less laws reports alike fewer scope more setups levels front middle rows sums run report
     leaves has is =
     let back : more ≡ told_later setups levels more =
-    sym (is_told setups levels more leaves.begins leaves.levels) in
+    sym (is_told setups (profile_of scope.begins) levels more leaves.begins leaves.levels) in
     came_in_fewer laws reports alike fewer scope more setups levels front middle rows sums run
     report (subst (λ s. LeavesOutMore (told_later setups levels scope) s) back leaves)
     (subst (λ s. HasMiddle s rows middle) back has)

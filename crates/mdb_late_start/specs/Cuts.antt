@@ -5,11 +5,12 @@ use Rattle.std.specs.Prelude.{◌≡◌, ◌⊎◌, List, [], ◌∷◌, ◌++�
 use Rattle.mdb_words.specs.declared.event.Event.{Event}
 use Rattle.mdb_words.specs.declared.event.Event.TheVariants.{Word, Break}
 use Rattle.mdb_msgs.specs.declared.setups.Setups.{Setups}
+use Rattle.mdb_bus.specs.declared.scope.Beginning.TheVariants.{Joined}
 use Rattle.mdb_bus.specs.declared.scope.Scope.{Scope}
 use Rattle.mdb_bus.specs.Acts.{IsBlockWord}
 use Rattle.mdb_bus.specs.ActLists.{ArePieces, IsActList, Piece, events_of}
 use Rattle.mdb_bus.specs.LeavingOut.{with_foreign}
-use Rattle.mdb_bus.specs.Scopes.{joined}
+use Rattle.mdb_bus.specs.Scopes.{no_levels, profile_of}
 
 -- an event is a break
 abbrev pub IsBreakEvent : Event → Type 0
@@ -24,7 +25,11 @@ BeginAnew (event ∷ events) = IsBlockWord event ⊎ IsBreakEvent event
 
 -- the same recording from a later row on, with these setup data known
 abbrev pub joined_with : Setups → Scope → Scope
-joined_with setups scope = joined setups scope.without
+joined_with setups scope = record {
+  begins = Joined setups (profile_of scope.begins);
+  without = scope.without;
+  levels = no_levels;
+}
 
 -- A transcript is cut, and its end is taken as a recording by itself. The pieces that begin in the
 -- end stand there as they stood (`later`). The rows before them (`words`) belong to pieces that

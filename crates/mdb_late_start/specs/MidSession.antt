@@ -10,6 +10,7 @@ use Rattle.mdb_bus.specs.declared.act.Act.TheVariants as acts
 use Rattle.mdb_bus.specs.declared.scope.Beginning.{Beginning}
 use Rattle.mdb_bus.specs.declared.scope.Beginning.TheVariants.{PowerOn, Joined}
 use Rattle.mdb_bus.specs.Acts.{NamesAReply}
+use Rattle.mdb_bus.specs.Scopes.{profile_of}
 use Rattle.mdb_machine.specs.declared.choice.Choice.{Choice}
 use Rattle.mdb_machine.specs.declared.gains.Gains.{Gains}
 use Rattle.mdb_cash.specs.BillFacts as bill
@@ -68,10 +69,12 @@ pub record GoesOnInEnd (begins : Beginning) (setups : Setups) (device : Device)
     (later front : List Act) (act : Act) (choice : Choice) (before after : StateOf device)
     (gains : Gains) : Type 0 where
   pub other : Gains
-  pub step : (machine_of (Joined setups) device).Step later act choice before after other
+  pub step : (machine_of (Joined setups (profile_of begins)) device).Step later act choice before
+      after other
   pub valued : TellsOnlyWhatIsSo setups begins device front → AnswersLast act later
-      → unvalued_of (Joined setups) device (act ∷ later) ≡ 0 → other ≡ gains
-  pub alike : begins ≡ PowerOn → front ≡ [] → IsNotKnown (Joined setups) device → other ≡ gains
+      → unvalued_of (Joined setups (profile_of begins)) device (act ∷ later) ≡ 0 → other ≡ gains
+  pub alike : begins ≡ PowerOn (profile_of begins) → front ≡ []
+      → IsNotKnown (Joined setups (profile_of begins)) device → other ≡ gains
 
 -- A device may do in mid-session what it does: in the end of a recording that begins so each of its
 -- steps is one of that end by itself. For that it has to have told what it holds, and so it has as

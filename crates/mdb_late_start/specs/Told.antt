@@ -17,7 +17,8 @@ told_later setups levels scope = told levels (joined_with setups scope)
 
 -- each reader was told nothing, or the same
 abbrev pub IsLessTold : Levels → Levels → Type 0
-IsLessTold one other = IsNothingOr one.first other.first × IsNothingOr one.second other.second
+IsLessTold one other = IsNothingOr one.first.asked other.first.asked
+    × IsNothingOr one.second.asked other.second.asked
 
 -- Of each reader no level is told, or the one that the controller had last told it in these pieces,
 -- or before them.

@@ -10,10 +10,11 @@ ghost use Rattle.mdb_msgs.specs.declared.device_set.DeviceSet.{DeviceSet};
 ghost use Rattle.mdb_msgs.specs.declared.setups.Setups.{Setups};
 ghost use Rattle.mdb_bus.specs.ActLists.{HasActList, IsActList, Piece, acts_of};
 ghost use Rattle.mdb_bus.specs.LeavingOut.{LeavesOutMore, with_foreign};
-ghost use Rattle.mdb_bus.specs.Scopes.{IsFollowed, joined, leaving_out};
+ghost use Rattle.mdb_bus.specs.Scopes.{IsFollowed, joined, leaving_out, profile_of};
 ghost use Rattle.mdb_bus.specs.declared.levels.Levels.{Levels};
 ghost use Rattle.mdb_bus.specs.declared.scope.Beginning.{Beginning};
 ghost use Rattle.mdb_bus.specs.declared.scope.Beginning.TheVariants.{Joined, PowerOn};
+ghost use Rattle.mdb_bus.specs.declared.scope.Profile.TheVariants.{Base};
 ghost use Rattle.mdb_bus.specs.declared.scope.Scope.{Scope};
 ghost use Rattle.mdb_follow.specs.AccountNames.{account_device, account_of, sums_of};
 ghost use Rattle.mdb_follow.specs.LeavingOut.{IsNotKnown};
@@ -116,10 +117,10 @@ pub fn runs_from_power_on_are_joined_runs()
     ensures { (setups : Setups) (without : DeviceSet) (rows : List Event) (sums : AllSums)
         (run : Run (leaving_out without) rows sums) → (more : AllSums)
         × IsActList (joined setups without) run.pieces rows
-        × (way : IsWay (Joined setups) run.loss run.pieces run.states more)
-        × AreAlike PowerOn (Joined setups) run.loss run.pieces run.states run.states sums more
-        run.way way
-        × ((device : Device) → IsNotKnown (Joined setups) device → more device ≡ sums device) }
+        × (way : IsWay (Joined setups Base) run.loss run.pieces run.states more)
+        × AreAlike (PowerOn Base) (Joined setups Base) run.loss run.pieces run.states run.states
+        sums more run.way way
+        × ((device : Device) → IsNotKnown (Joined setups Base) device → more device ≡ sums device) }
 {
     act_lists_from_power_on_are_joined_ones();
     end_laws();
@@ -162,7 +163,7 @@ pub fn runs_of_ends_gain_what_whole_runs_gain_there()
         → (passes : Passes scope (front ++ end) sums run front) → (gained : AllSums)
         × Run (joined_with setups scope) end gained
         × ((device : Device) → TellsOnlyWhatIsSo setups scope.begins device (acts_of passes.before)
-        → unvalued_of (Joined setups) device (acts_of passes.later) ≡ 0
+        → unvalued_of (Joined setups (profile_of scope.begins)) device (acts_of passes.later) ≡ 0
         → sums device ≡ both_sums (passes.sums_then device) (gained device)) }
 {
     end_laws();
@@ -177,7 +178,7 @@ pub fn runs_of_ends_gain_it_with_the_levels_told_in_front()
         → AreToldBy scope passes.before levels → (gained : AllSums)
         × Run (told_later setups levels scope) end gained
         × ((device : Device) → TellsOnlyWhatIsSo setups scope.begins device (acts_of passes.before)
-        → unvalued_of (Joined setups) device (acts_of passes.later) ≡ 0
+        → unvalued_of (Joined setups (profile_of scope.begins)) device (acts_of passes.later) ≡ 0
         → sums device ≡ both_sums (passes.sums_then device) (gained device)) }
 {
     end_laws();

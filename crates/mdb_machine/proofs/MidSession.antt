@@ -9,6 +9,7 @@ use Rattle.mdb_msgs.specs.declared.setups.Setups.{Setups}
 use Rattle.mdb_bus.specs.declared.act.Act.{Act}
 use Rattle.mdb_bus.specs.declared.act.Act.TheVariants as acts
 use Rattle.mdb_bus.specs.declared.scope.Beginning.TheVariants.{Joined}
+use Rattle.mdb_bus.specs.declared.scope.Profile.{Profile}
 use Rattle.mdb_machine.specs.declared.choice.Choice.{Choice}
 use Rattle.mdb_machine.specs.declared.choice.Choice.TheVariants.{Plain}
 use Rattle.mdb_machine.specs.declared.gains.Gains.{Gains}
@@ -52,22 +53,22 @@ asked_by_none tables so_far none = All-from_recursion (λ act. asked_by tables a
 
 -- facts that may be are those that were told, with a guess
 as_guess : {Own Setup Asked M : Type 0} (tables : Tables Own Setup Asked M) (setups : Setups)
-    (so_far : List Act) (holds : Bool) (facts : Facts Setup Asked M)
-    → AllowsFacts (known_of tables (Joined setups) so_far) holds facts
+    (profile : Profile) (so_far : List Act) (holds : Bool) (facts : Facts Setup Asked M)
+    → AllowsFacts (known_of tables (Joined setups profile) so_far) holds facts
     → facts ≡ guessing (facts_recorded tables setups so_far) facts.last_asked facts.past.last_kept
-as_guess tables setups so_far holds facts allowed =
+as_guess tables setups profile so_far holds facts allowed =
     let powered_on = list_any (powers_on (effect_of tables)) so_far in
     as_guessing (facts_recorded tables setups so_far) facts allowed.setup
     allowed.past.enabled
     (allowed.past.reset_owed ∙ not_not (facts_of tables so_far).past.reset_owed powered_on)
 
 guess_allowed : {Own Setup Asked M : Type 0} (tables : Tables Own Setup Asked M) (setups : Setups)
-    (so_far : List Act) (holds : Bool) (asked : Option Asked) (kept : List M)
-    → Allows (known_of tables (Joined setups) so_far).last_asked asked
-    → AllowsKept (known_of tables (Joined setups) so_far).past.last_kept holds kept
-    → AllowsFacts (known_of tables (Joined setups) so_far) holds
+    (profile : Profile) (so_far : List Act) (holds : Bool) (asked : Option Asked) (kept : List M)
+    → Allows (known_of tables (Joined setups profile) so_far).last_asked asked
+    → AllowsKept (known_of tables (Joined setups profile) so_far).past.last_kept holds kept
+    → AllowsFacts (known_of tables (Joined setups profile) so_far) holds
     (guessing (facts_recorded tables setups so_far) asked kept)
-guess_allowed tables setups so_far holds asked kept asks keeps =
+guess_allowed tables setups profile so_far holds asked kept asks keeps =
     let powered_on = list_any (powers_on (effect_of tables)) so_far in
     record {
       setup = refl;
@@ -122,36 +123,36 @@ may_guess tables conduct so_far facts asked kept (acts.Break n) choice before is
 
 pub settled_steps : {Own Setup Asked M State : Type 0} → M → (tables : Tables Own Setup Asked M)
     (conduct : Conduct Own Setup Asked M State) → Overlooks tables conduct
-    → (setups : Setups) (so_far : List Act) (act : Act) (choice : Choice) (before after : State)
-    (gains : Gains) → IsSettled tables conduct so_far act choice before
-    → StepKnowing tables conduct (known_of tables (Joined setups) so_far) act choice before after
-    gains
+    → (setups : Setups) (profile : Profile) (so_far : List Act) (act : Act) (choice : Choice)
+    (before after : State) (gains : Gains) → IsSettled tables conduct so_far act choice before
+    → StepKnowing tables conduct (known_of tables (Joined setups profile) so_far) act choice before
+    after gains
     ↔ KeeperStep tables conduct (facts_recorded tables setups so_far) act choice before after gains
-settled_steps some tables conduct overlooks setups so_far act choice before after gains is =
+settled_steps some tables conduct overlooks setups profile so_far act choice before after gains is =
     let told = facts_recorded tables setups so_far in
     let holds = conduct.holds before in
     let asked = last_told (asked_by tables) so_far in
     let list = last_list (parts_by tables) so_far in
-    let chosen = kept_told some setups holds list in (
+    let chosen = kept_told some setups profile holds list in (
       λ step.
           let facts = step.facts in
           subst (λ f. KeeperStep tables conduct f act choice before after gains)
-          (sym (and_back told facts (as_guess tables setups so_far holds facts step.allowed)))
-          (step_guessing tables conduct overlooks facts told.last_asked told.past.last_kept act
-          choice
+          (sym (and_back told facts (as_guess tables setups profile so_far holds facts
+          step.allowed))) (step_guessing tables conduct overlooks facts told.last_asked
+          told.past.last_kept act choice
           before after gains
           (may_guess tables conduct so_far facts told.last_asked told.past.last_kept act choice
           before
           is
-          (λ known. sym (asked_so setups asked facts.last_asked step.allowed.last_asked
+          (λ known. sym (asked_so setups profile asked facts.last_asked step.allowed.last_asked
           (λ none. known (asked_by_none tables so_far none))))
-          (λ known. sym (kept_so setups holds list facts.past.last_kept step.allowed.past.last_kept
-          (λ none. known (kept_by_none tables so_far none)))))
+          (λ known. sym (kept_so setups profile holds list facts.past.last_kept
+          step.allowed.past.last_kept (λ none. known (kept_by_none tables so_far none)))))
           step.step),
       λ step. record {
         facts = guessing told told.last_asked chosen.0;
-        allowed = guess_allowed tables setups so_far holds told.last_asked chosen.0
-            (allows_told setups asked) chosen.1;
+        allowed = guess_allowed tables setups profile so_far holds told.last_asked chosen.0
+            (allows_told setups profile asked) chosen.1;
         step =
             step_guessing tables conduct overlooks told told.last_asked chosen.0 act choice before
             after gains
@@ -165,22 +166,26 @@ settled_steps some tables conduct overlooks setups so_far act choice before afte
 -- A reply of a device that holds an unknown list. What holds of the plain steps after facts that
 -- may be:
 abbrev pub RepliesKnowing : {Own Setup Asked M State : Type 0} → Tables Own Setup Asked M
-    → Conduct Own Setup Asked M State → Setups → List Act → Bool → List (Part M) → State → State
+    → Conduct Own Setup Asked M State → Setups → Profile → List Act → Bool → List (Part M) → State
+    → State
     → Gains → Type 0
-RepliesKnowing {Setup = Setup} {Asked = Asked} {M = M} tables conduct setups so_far poll parts
+RepliesKnowing {Setup = Setup} {Asked = Asked} {M = M} tables conduct setups profile so_far poll
+    parts
     before after gains =
     (facts : Facts Setup Asked M)
-    × AllowsFacts (known_of tables (Joined setups) so_far) (conduct.holds before) facts
+    × AllowsFacts (known_of tables (Joined setups profile) so_far) (conduct.holds before) facts
     × ReplyStep conduct facts poll parts Plain before after gains
 
 unknown : {Own Setup Asked M : Type 0} (tables : Tables Own Setup Asked M) (setups : Setups)
-    (so_far : List Act) (holds : Bool) (kept : List M) → TellsNone tables so_far
-    → AllowsKept (known_of tables (Joined setups) so_far).past.last_kept holds kept
+    (profile : Profile) (so_far : List Act) (holds : Bool) (kept : List M) → TellsNone tables so_far
+    → AllowsKept (known_of tables (Joined setups profile) so_far).past.last_kept holds kept
     ↔ (holds ≡ true → kept ≢ [])
-unknown tables setups so_far holds kept none =
+unknown tables setups profile so_far holds kept none =
     let is = none_kept tables so_far none in (
-      λ allows. subst (λ o. AllowsKept (known_by (Joined setups) [] o) holds kept) is allows,
-      λ some. subst (λ o. AllowsKept (known_by (Joined setups) [] o) holds kept) (sym is) some,
+      λ allows. subst (λ o. AllowsKept (known_by (Joined setups profile) [] o) holds kept) is
+          allows,
+      λ some. subst (λ o. AllowsKept (known_by (Joined setups profile) [] o) holds kept) (sym is)
+          some,
     )
 
 -- the list that is held, and what is new
@@ -224,14 +229,14 @@ still_holds conduct kept before holds =
 -- one of k ways, where there are k kept messages
 pub held_ways : {Own Setup Asked M State : Type 0} (tables : Tables Own Setup Asked M)
     (conduct : Conduct Own Setup Asked M State) → Overlooks tables conduct
-    → (setups : Setups) (so_far : List Act) (poll : Bool) (parts : List (Part M))
-    (before after : State) (gains : Gains) → TellsNone tables so_far → conduct.holds before ≡ true
-    → kept_of parts ≢ []
-    → RepliesKnowing tables conduct setups so_far poll parts before after gains
+    → (setups : Setups) (profile : Profile) (so_far : List Act) (poll : Bool)
+    (parts : List (Part M)) (before after : State) (gains : Gains) → TellsNone tables so_far
+    → conduct.holds before ≡ true → kept_of parts ≢ []
+    → RepliesKnowing tables conduct setups profile so_far poll parts before after gains
     ↔ ((count : ℕ) × TellsHeldFirst conduct (facts_recorded tables setups so_far) parts count before
     after gains)
-held_ways {Setup = Setup} {Asked = Asked} {M = M} tables conduct overlooks setups so_far poll parts
-    before after gains none holds more = (forth, back)
+held_ways {Setup = Setup} {Asked = Asked} {M = M} tables conduct overlooks setups profile so_far
+    poll parts before after gains none holds more = (forth, back)
   where
     told : Facts Setup Asked M
     told = facts_recorded tables setups so_far
@@ -239,18 +244,18 @@ held_ways {Setup = Setup} {Asked = Asked} {M = M} tables conduct overlooks setup
     kept : List M
     kept = kept_of parts
 
-    forth : RepliesKnowing tables conduct setups so_far poll parts before after gains
+    forth : RepliesKnowing tables conduct setups profile so_far poll parts before after gains
         → (count : ℕ) × TellsHeldFirst conduct told parts count before after gains
     forth knowing =
         let facts = knowing.0 in
         let step = knowing.2 in
         let last = facts.past.last_kept in
-        let some = (unknown tables setups so_far (conduct.holds before) last none).0
+        let some = (unknown tables setups profile so_far (conduct.holds before) last none).0
         knowing.1.past.last_kept holds in
         let new = rest poll (conduct.holds before) last kept step.news holds some more
         step.has_news.new in
         let is = and_back told facts
-        (as_guess tables setups so_far (conduct.holds before) facts knowing.1) in
+        (as_guess tables setups profile so_far (conduct.holds before) facts knowing.1) in
         let same : conduct.gain facts ≡ conduct.gain told =
         sym (overlooks.gain facts told.last_asked told.past.last_kept)
         ∙ ap conduct.gain (sym is) in (
@@ -274,7 +279,7 @@ held_ways {Setup = Setup} {Asked = Asked} {M = M} tables conduct overlooks setup
         )
 
     back : (count : ℕ) × TellsHeldFirst conduct told parts count before after gains
-        → RepliesKnowing tables conduct setups so_far poll parts before after gains
+        → RepliesKnowing tables conduct setups profile so_far poll parts before after gains
     back way =
         let count = way.0 in
         let tells = way.1 in
@@ -285,9 +290,10 @@ held_ways {Setup = Setup} {Asked = Asked} {M = M} tables conduct overlooks setup
         let none_left = ap length empty in
         omega (arith, size, none_left, tells.some) in (
           facts,
-          guess_allowed tables setups so_far (conduct.holds before) told.last_asked last
-              (allows_told setups (last_told (asked_by tables) so_far))
-              ((unknown tables setups so_far (conduct.holds before) last none).1 (λ h. some)),
+          guess_allowed tables setups profile so_far (conduct.holds before) told.last_asked last
+              (allows_told setups profile (last_told (asked_by tables) so_far))
+              ((unknown tables setups profile so_far (conduct.holds before) last none).1
+              (λ h. some)),
           record {
             news = drop count kept;
             has_news = record {
@@ -308,13 +314,13 @@ held_ways {Setup = Setup} {Asked = Asked} {M = M} tables conduct overlooks setup
 
 -- no way to answer POLL without a kept message, and one to answer another command
 pub no_way : {Own Setup Asked M State : Type 0} (tables : Tables Own Setup Asked M)
-    (conduct : Conduct Own Setup Asked M State) (setups : Setups) (so_far : List Act)
-    (parts : List (Part M)) (before after : State) (gains : Gains) → TellsNone tables so_far
-    → conduct.holds before ≡ true → kept_of parts ≡ []
-    → RepliesKnowing tables conduct setups so_far true parts before after gains → ⊥
-no_way tables conduct setups so_far parts before after gains none holds empty knowing =
+    (conduct : Conduct Own Setup Asked M State) (setups : Setups) (profile : Profile)
+    (so_far : List Act) (parts : List (Part M)) (before after : State) (gains : Gains)
+    → TellsNone tables so_far → conduct.holds before ≡ true → kept_of parts ≡ []
+    → RepliesKnowing tables conduct setups profile so_far true parts before after gains → ⊥
+no_way tables conduct setups profile so_far parts before after gains none holds empty knowing =
     let last = knowing.0.past.last_kept in
-    let some = (unknown tables setups so_far (conduct.holds before) last none).0
+    let some = (unknown tables setups profile so_far (conduct.holds before) last none).0
     knowing.1.past.last_kept holds in
     let left = nothing_left true (conduct.holds before) last (kept_of parts) knowing.2.news holds
     some empty knowing.2.has_news.new in
@@ -329,21 +335,21 @@ early_of_none (part.Kept message ∷ parts) empty = absurd cc
 early_of_none (part.Other ∷ parts) empty = early_of_none parts empty
 
 pub silent_way : {Own Setup Asked M State : Type 0} → M → (tables : Tables Own Setup Asked M)
-    (conduct : Conduct Own Setup Asked M State) (setups : Setups) (so_far : List Act)
-    (parts : List (Part M)) (before after : State) (gains : Gains)
+    (conduct : Conduct Own Setup Asked M State) (setups : Setups) (profile : Profile)
+    (so_far : List Act) (parts : List (Part M)) (before after : State) (gains : Gains)
     → ((facts : Facts Setup Asked M) → conduct.TellsNews facts Plain [] before after
     ↔ (after ≡ before))
     → TellsNone tables so_far → conduct.holds before ≡ true → kept_of parts ≡ []
-    → RepliesKnowing tables conduct setups so_far false parts before after gains
+    → RepliesKnowing tables conduct setups profile so_far false parts before after gains
     ↔ Stays before after gains
-silent_way {Setup = Setup} {Asked = Asked} {M = M} some tables conduct setups so_far parts before
-    after gains quiet none holds empty = (
+silent_way {Setup = Setup} {Asked = Asked} {M = M} some tables conduct setups profile so_far parts
+    before after gains quiet none holds empty = (
       λ knowing.
           let facts = knowing.0 in
           let step = knowing.2 in
           let last = facts.past.last_kept in
           let left = nothing_left false (conduct.holds before) last (kept_of parts) step.news holds
-          ((unknown tables setups so_far (conduct.holds before) last none).0
+          ((unknown tables setups profile so_far (conduct.holds before) last none).0
           knowing.1.past.last_kept holds) empty step.has_news.new in
           let same = still_holds conduct (kept_of parts) before holds in (
             (quiet facts).0 (subst (λ b. conduct.TellsNews facts Plain [] b after) same
@@ -357,9 +363,9 @@ silent_way {Setup = Setup} {Asked = Asked} {M = M} some tables conduct setups so
           let told = facts_recorded tables setups so_far in
           let facts = guessing told told.last_asked (some ∷ []) in (
             facts,
-            guess_allowed tables setups so_far (conduct.holds before) told.last_asked (some ∷ [])
-                (allows_told setups (last_told (asked_by tables) so_far))
-                ((unknown tables setups so_far (conduct.holds before) (some ∷ []) none).1
+            guess_allowed tables setups profile so_far (conduct.holds before) told.last_asked
+                (some ∷ []) (allows_told setups profile (last_told (asked_by tables) so_far))
+                ((unknown tables setups profile so_far (conduct.holds before) (some ∷ []) none).1
                 (λ h is. absurd cc)),
             record {
               news = [];
@@ -377,30 +383,32 @@ silent_way {Setup = Setup} {Asked = Asked} {M = M} some tables conduct setups so
 
 -- facts that may be, where nothing has been asked of what counts: with any guess of that
 pub any_asked : {Own Setup Asked M : Type 0} → M → (tables : Tables Own Setup Asked M)
-    (setups : Setups) (so_far : List Act) (holds : Bool) (asked : Option Asked)
+    (setups : Setups) (profile : Profile) (so_far : List Act) (holds : Bool) (asked : Option Asked)
     → AsksNone tables so_far → (facts : Facts Setup Asked M)
-    × AllowsFacts (known_of tables (Joined setups) so_far) holds facts
+    × AllowsFacts (known_of tables (Joined setups profile) so_far) holds facts
     × (facts.setup ≡ (facts_recorded tables setups so_far).setup) × (facts.last_asked ≡ asked)
-any_asked {Asked = Asked} some tables setups so_far holds asked none =
-    let chosen = kept_told some setups holds (last_list (parts_by tables) so_far) in (
+any_asked {Asked = Asked} some tables setups profile so_far holds asked none =
+    let chosen = kept_told some setups profile holds (last_list (parts_by tables) so_far) in (
       guessing (facts_recorded tables setups so_far) asked chosen.0,
-      guess_allowed tables setups so_far holds asked chosen.0
-          (subst (λ o. Allows (known_by (Joined setups) None (option_map (λ (a : Asked). Some a) o))
-          asked) (sym (none_asked tables so_far none)) tt) chosen.1,
+      guess_allowed tables setups profile so_far holds asked chosen.0
+          (subst (λ o. Allows (known_by (Joined setups profile) None
+          (option_map (λ (a : Asked). Some a) o)) asked) (sym (none_asked tables so_far none)) tt)
+          chosen.1,
       refl,
       refl,
     )
 
 -- and with what was told of it
 pub some_told : {Own Setup Asked M : Type 0} → M → (tables : Tables Own Setup Asked M)
-    (setups : Setups) (so_far : List Act) (holds : Bool) → (facts : Facts Setup Asked M)
-    × AllowsFacts (known_of tables (Joined setups) so_far) holds facts
+    (setups : Setups) (profile : Profile) (so_far : List Act) (holds : Bool)
+    → (facts : Facts Setup Asked M)
+    × AllowsFacts (known_of tables (Joined setups profile) so_far) holds facts
     × (facts.setup ≡ (facts_recorded tables setups so_far).setup)
-some_told some tables setups so_far holds =
+some_told some tables setups profile so_far holds =
     let told = facts_recorded tables setups so_far in
-    let chosen = kept_told some setups holds (last_list (parts_by tables) so_far) in (
+    let chosen = kept_told some setups profile holds (last_list (parts_by tables) so_far) in (
       guessing told told.last_asked chosen.0,
-      guess_allowed tables setups so_far holds told.last_asked chosen.0
-          (allows_told setups (last_told (asked_by tables) so_far)) chosen.1,
+      guess_allowed tables setups profile so_far holds told.last_asked chosen.0
+          (allows_told setups profile (last_told (asked_by tables) so_far)) chosen.1,
       refl,
     )

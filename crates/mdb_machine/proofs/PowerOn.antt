@@ -3,6 +3,7 @@ use Rattle.std.proofs.Common.{◌≡◌, ◌∙◌, ◌↔◌, ◌&&◌, ◌||�
 use Rattle.std.proofs.Math.Path.{fun_ext}
 use Rattle.mdb_bus.specs.declared.act.Act.{Act}
 use Rattle.mdb_bus.specs.declared.scope.Beginning.TheVariants.{PowerOn}
+use Rattle.mdb_bus.specs.declared.scope.Profile.{Profile}
 use Rattle.mdb_machine.specs.declared.choice.Choice.{Choice}
 use Rattle.mdb_machine.specs.declared.gains.Gains.{Gains}
 use Rattle.mdb_machine.specs.Keeper.{AllowsFacts, Facts, Tables, asked_by, effect_of, facts_of, known_of, parts_by, setup_by}
@@ -24,15 +25,17 @@ or_none : {X : Type 0} (told : Option X) → or_else told None ≡ told
 or_none (Some x) = refl
 or_none None = refl
 
-asked_known : {X : Type 0} (told asked : Option X)
-    → Allows (known_by PowerOn None (option_map (λ (x : X). Some x) told)) asked ↔ (asked ≡ told)
-asked_known None asked = (λ e. e, λ e. e)
-asked_known (Some x) asked = (λ e. e, λ e. e)
+asked_known : {X : Type 0} (profile : Profile) (told asked : Option X)
+    → Allows (known_by (PowerOn profile) None (option_map (λ (x : X). Some x) told)) asked
+    ↔ (asked ≡ told)
+asked_known profile None asked = (λ e. e, λ e. e)
+asked_known profile (Some x) asked = (λ e. e, λ e. e)
 
-kept_known : {M : Type 0} (told : Option (List M)) (holds : Bool) (kept : List M)
-    → AllowsKept (known_by PowerOn [] told) holds kept ↔ (kept ≡ unwrap_or told [])
-kept_known None holds kept = (λ e. e, λ e. e)
-kept_known (Some list) holds kept = (λ e. e, λ e. e)
+kept_known : {M : Type 0} (profile : Profile) (told : Option (List M)) (holds : Bool)
+    (kept : List M)
+    → AllowsKept (known_by (PowerOn profile) [] told) holds kept ↔ (kept ≡ unwrap_or told [])
+kept_known profile None holds kept = (λ e. e, λ e. e)
+kept_known profile (Some list) holds kept = (λ e. e, λ e. e)
 
 no_more : (a b : Bool) → (a || (false && b)) ≡ a
 no_more true b = refl
@@ -43,13 +46,14 @@ owed_so true = refl
 owed_so false = refl
 
 pub power_on_known : {Own Setup Asked M : Type 0} (tables : Tables Own Setup Asked M)
-    (so_far : List Act) (holds : Bool) (facts : Facts Setup Asked M)
-    → AllowsFacts (known_of tables PowerOn so_far) holds facts ↔ (facts ≡ facts_of tables so_far)
-power_on_known {Setup = Setup} {Asked = Asked} {M = M} tables so_far holds facts =
+    (profile : Profile) (so_far : List Act) (holds : Bool) (facts : Facts Setup Asked M)
+    → AllowsFacts (known_of tables (PowerOn profile) so_far) holds facts
+    ↔ (facts ≡ facts_of tables so_far)
+power_on_known {Setup = Setup} {Asked = Asked} {M = M} tables profile so_far holds facts =
     let setup = or_none (last_told (setup_by tables) so_far) in
-    let asked = asked_known (last_told (asked_by tables) so_far) in
+    let asked = asked_known profile (last_told (asked_by tables) so_far) in
     let past = past_of (effect_of tables) (parts_by tables) so_far in
-    let kept = kept_known (last_list (parts_by tables) so_far) holds in (
+    let kept = kept_known profile (last_list (parts_by tables) so_far) holds in (
       λ is. same_facts (is.setup ∙ setup) ((asked facts.last_asked).0 is.last_asked)
           (same_past
           (λ kind. ap (λ e. e kind) is.past.enabled ∙ no_more (past.enabled kind) (ltb kind 16))
@@ -72,18 +76,19 @@ power_on_known {Setup = Setup} {Asked = Asked} {M = M} tables so_far holds facts
 
 -- so a step is the one after the facts that the acts leave
 pub power_on_steps : {Own Setup Asked M State : Type 0} (tables : Tables Own Setup Asked M)
-    (conduct : Conduct Own Setup Asked M State) (so_far : List Act) (act : Act) (choice : Choice)
-    (before after : State) (gains : Gains)
-    → StepKnowing tables conduct (known_of tables PowerOn so_far) act choice before after gains
+    (conduct : Conduct Own Setup Asked M State) (profile : Profile) (so_far : List Act) (act : Act)
+    (choice : Choice) (before after : State) (gains : Gains)
+    → StepKnowing tables conduct (known_of tables (PowerOn profile) so_far) act choice before after
+    gains
     ↔ KeeperStep tables conduct (facts_of tables so_far) act choice before after gains
-power_on_steps tables conduct so_far act choice before after gains =
+power_on_steps tables conduct profile so_far act choice before after gains =
     let holds = conduct.holds before in
     let facts = facts_of tables so_far in (
       λ step. subst (λ f. KeeperStep tables conduct f act choice before after gains)
-          ((power_on_known tables so_far holds step.facts).0 step.allowed) step.step,
+          ((power_on_known tables profile so_far holds step.facts).0 step.allowed) step.step,
       λ step. record {
         facts = facts;
-        allowed = (power_on_known tables so_far holds facts).1 refl;
+        allowed = (power_on_known tables profile so_far holds facts).1 refl;
         step = step;
       },
     )

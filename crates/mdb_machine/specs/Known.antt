@@ -24,10 +24,10 @@ AllowsKept (Is known) holds last = last ≡ known
 -- counts of no act, and in a recording that begins in mid-session nothing.
 abbrev pub known_by : {X : Type 0} → Beginning → X → Option X → Known X
 known_by begins none (Some x) = Is x
-known_by PowerOn none None = Is none
-known_by (Joined setups) none None = Unknown
+known_by (PowerOn profile) none None = Is none
+known_by (Joined setups profile) none None = Unknown
 
 -- what is known from elsewhere of how a device is set up
 abbrev pub known_before : {X : Type 0} → (Setups → Option X) → Beginning → Option X
-known_before of PowerOn = None
-known_before of (Joined setups) = of setups
+known_before of (PowerOn profile) = None
+known_before of (Joined setups profile) = of setups

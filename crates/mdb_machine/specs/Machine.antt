@@ -16,5 +16,5 @@ pub record Machine (State : Type 0) : Type 1 where
 -- Where a machine may start: as a recording begins at power-on, in its power-on state, and in
 -- mid-session in any state.
 abbrev pub StartsIn : {State : Type 0} → State → Beginning → State → Type 0
-StartsIn power_on PowerOn state = state ≡ power_on
-StartsIn power_on (Joined setups) state = Unit {0}
+StartsIn power_on (PowerOn profile) state = state ≡ power_on
+StartsIn power_on (Joined setups profile) state = Unit {0}

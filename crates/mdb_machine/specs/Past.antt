@@ -120,8 +120,8 @@ pub record KnownPast (M : Type 0) : Type 0 where
 -- whether a device runs on as it did before a recording in mid-session: no act has put it into its
 -- power-on state since
 abbrev pub runs_on : Beginning → (Command → Effect) → List Act → Bool
-runs_on PowerOn effect_of acts = false
-runs_on (Joined setups) effect_of acts = not (list_any (powers_on effect_of) acts)
+runs_on (PowerOn profile) effect_of acts = false
+runs_on (Joined setups profile) effect_of acts = not (list_any (powers_on effect_of) acts)
 
 -- While the device runs on, all 16 types are enabled, and no reset message is owed. Its last kept
 -- list is known once it has told one.

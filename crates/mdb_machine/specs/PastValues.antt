@@ -28,8 +28,8 @@ running_past = record {
 
 -- and of no act, where a recording begins so
 abbrev pub first_past : {M : Type 0} → Beginning → PastFacts M
-first_past PowerOn = no_past
-first_past (Joined setups) = running_past
+first_past (PowerOn profile) = no_past
+first_past (Joined setups profile) = running_past
 
 -- what is kept
 abbrev pub past_in : {M : Type 0} {CAP : ℕ} → Past M CAP → PastFacts M
@@ -59,8 +59,8 @@ past_with effect_of parts_by act past =
 
 -- whether all is known of no act
 abbrev pub from_power_on : Beginning → Bool
-from_power_on PowerOn = true
-from_power_on (Joined setups) = false
+from_power_on (PowerOn profile) = true
+from_power_on (Joined setups profile) = false
 
 -- what is kept, if it is known
 abbrev pub if_known : {X : Type 0} → Bool → X → Known X

@@ -114,12 +114,12 @@ impl<K: Keeper> KeeperFacts<K> {
         ensures past { past_in result.past ≡ first_past begins.now }
     {
         match begins {
-            Beginning::PowerOn => KeeperFacts {
+            Beginning::PowerOn(_) => KeeperFacts {
                 setup: None,
                 last_asked: None,
                 past: Past::start(),
             },
-            Beginning::Joined(setups) => KeeperFacts {
+            Beginning::Joined(setups, _) => KeeperFacts {
                 setup: K::setup_known(setups),
                 last_asked: None,
                 past: Past::running(),
@@ -346,8 +346,8 @@ fn is_power_on(begins: &Beginning) -> bool
     ensures { result ≡ from_power_on begins.now }
 {
     match begins {
-        Beginning::PowerOn => true,
-        Beginning::Joined(_) => false,
+        Beginning::PowerOn(_) => true,
+        Beginning::Joined(_, _) => false,
     }
 }
 

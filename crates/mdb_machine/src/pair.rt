@@ -6,6 +6,7 @@ ghost use Rattle.mdb_msgs.specs.declared.command.Device.{Device};
 ghost use Rattle.mdb_bus.specs.declared.act.Act.{Act};
 ghost use Rattle.mdb_bus.specs.declared.scope.Beginning.{Beginning};
 ghost use Rattle.mdb_bus.specs.declared.scope.Beginning.TheVariants.{PowerOn};
+ghost use Rattle.mdb_bus.specs.declared.scope.Profile.{Profile};
 ghost use Rattle.mdb_machine.specs.declared.choice.Choice.{Choice};
 ghost use Rattle.mdb_machine.specs.declared.choice.Choice.TheVariants.{Plain};
 ghost use Rattle.mdb_machine.specs.declared.gains.Gains.{Gains};
@@ -179,8 +180,8 @@ pub trait Pair {
     ghost is_machine: { (begins : Beginning) → IsMachineOf device (machine begins) };
 
     /// From power-on the facts settle each act.
-    ghost settled_from_power_on: { (facts : Self.Facts) (acts : List Act) (act : Act)
-        → stands_for PowerOn facts acts → settled facts act ≡ true };
+    ghost settled_from_power_on: { (profile : Profile) (facts : Self.Facts) (acts : List Act)
+        (act : Act) → stands_for (PowerOn profile) facts acts → settled facts act ≡ true };
 
     /// An act that isn't this device's tells no amount.
     ghost untold: { (begins : Beginning) (acts : List Act) (act : Act)

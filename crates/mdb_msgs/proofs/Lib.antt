@@ -16,3 +16,4 @@ pub mod Reading
 pub mod SetupData
 pub mod SomeReading
 pub mod SomeReply
+pub mod Standing

@@ -1,63 +1,34 @@
 -- Bytes have one reading as a reader's answer.
-use Rattle.std.proofs.Common.{◌≡◌, ◌≢◌, ℕ, ◌≤◌, ◌==◌, if◌then◌else◌, ◌⊎◌, inl, inr, false, List, [], ◌∷◌, ◌++◌, length, get_or, refl, sym, ap, ◌∙◌, arith, append_assoc, append-nil, length-append, subst, replicate, Result, Ok, Err, IfOk, IfErr, IfSome, IsNone, Bor}
+use Rattle.std.proofs.Common.{◌≡◌, ◌≢◌, ℕ, ◌≤◌, ◌==◌, if◌then◌else◌, ◌⊎◌, inl, inr, List, [], ◌∷◌, ◌++◌, length, refl, sym, ap, ◌∙◌, arith, append_assoc, append-nil, length-append, subst, Result, Ok, Err, IfOk, IfErr, IfSome, IsNone, Bor}
 use Rattle.std.specs.Result.{result_ok}
-use Rattle.std.specs.List.{flat_map, AllByRecursion}
-use Rattle.std.proofs.lemmas.Grind.{flat_map-append}
-use Rattle.std.proofs.lemmas.List.{append_cancel_left}
+use Rattle.std.specs.List.{flat_map}
 use Rattle.mdb_msgs.specs.declared.fault.MsgFault.{MsgFault}
 use Rattle.mdb_msgs.specs.declared.fault.MsgFault.TheVariants as faults
 use Rattle.mdb_msgs.specs.declared.reply.reader.ReaderMsg.{ReaderMsg}
 use Rattle.mdb_msgs.specs.declared.reply.reader.ReaderMsg.TheVariants.{JustReset, Config, Display, BeginSession, CancelRequest, VendApproved, VendDenied, EndSession, Cancelled, PeripheralId, Malfunction, OutOfSequence}
-use Rattle.mdb_msgs.specs.Reader.{ReaderMessages, head_bytes, is_display, text_of, reader_msg_bytes, reader_list_bytes, IsDisplayLast, IsReaderList, NotDisplay, NoReaderMsg, ReaderStopsAt}
-use Rattle.mdb_msgs.specs.ReaderBytes.{front_message, messages_of}
-use Rattle.mdb_msgs.specs.inner.ReaderSteps.{IsTextOf, IsNextMessage, StandAsMessages}
-use Rattle.mdb_msgs.proofs.OneReading.{NoEnd, Ends, one_list, same_fault}
-use Rattle.mdb_msgs.proofs.ReaderBytes.{front_found, next_is, reads_list, same_fronts}
-
--- the texts of a message that is no display request have one length
-text_lengths : (id text other words : List ℕ) (m : ReaderMsg) → length id ≡ length other
-    → is_display m ≡ false → length (text_of id text m) ≡ length (text_of other words m)
-text_lengths id text other words PeripheralId l h = l
-text_lengths id text other words (Display time) l h = absurd (cc)
-text_lengths id text other words _ l h = refl
-
--- at the front of the same bytes stands one message with one text
-pub one_message : (id text other words : List ℕ) → length id ≡ length other
-    → (a b : ReaderMsg) (x y : List ℕ) → is_display a ≡ false
-    → reader_msg_bytes id text a ++ x ≡ reader_msg_bytes other words b ++ y
-    → (a ≡ b) × (text_of id text a ≡ text_of other words a) × (x ≡ y)
-one_message id text other words l a b x y h e =
-    let ta = text_of id text a in
-    let tb = text_of other words b in
-    let long : head_bytes a ++ (ta ++ x) ≡ head_bytes b ++ (tb ++ y) =
-    sym (append_assoc (head_bytes a) ta x) ∙ e ∙ append_assoc (head_bytes b) tb y in
-    let same : a ≡ b = sym (front_found a (ta ++ x)) ∙ ap front_message long
-    ∙ front_found b (tb ++ y) in
-    let back : ta ++ x ≡ text_of other words a ++ y = append_cancel_left (head_bytes a) (ta ++ x)
-    (text_of other words a ++ y) (long ∙ ap (λ m. head_bytes m ++ (text_of other words m ++ y))
-    (sym same)) in
-    let parts = same_fronts ta (text_of other words a) x y (text_lengths id text other words a l h)
-    back in
-    (same, parts.0, parts.1)
-
--- where messages end: as ever, or at a display request
-abbrev pub ReaderEnds : List ℕ → Type 0
-ReaderEnds rest = Ends NoReaderMsg rest ⊎ ((time : ℕ) × (text : List ℕ) × (rest ≡ 2 ∷ time ∷ text))
+use Rattle.mdb_msgs.specs.Reader.{ReaderMessages, head_bytes, text_of, reader_msg_bytes, reader_list_bytes, AreReaderMsgs, IsReaderList, IsReaderMsg, IsTextOf, NoReaderMsg, ReaderStopsAt}
+use Rattle.mdb_msgs.specs.Lists.{Stand}
+use Rattle.mdb_msgs.specs.ReaderBytes.{messages_of}
+use Rattle.mdb_msgs.specs.inner.ReaderSteps.{IsNextMessage, StandAsMessages}
+use Rattle.mdb_msgs.proofs.OneReading.{Ends, same_fault}
+use Rattle.mdb_msgs.proofs.ReaderBytes.{next_is, one_message, reads_list}
+use Rattle.mdb_msgs.proofs.Standing.{NoEndBefore, one_standing}
 
 -- how many bytes a message has after its first, at least
 abbrev least : ℕ → ℕ
 least first =
     if first == 1 then 7
+    else (if first == 2 then 1
     else (if first == 3 then 2
     else (if first == 5 then 2
     else (if first == 9 then 29
     else (if first == 10 then 1
-    else 0))))
+    else 0)))))
 
--- bytes that a message other than a display request begins
+-- bytes that a message begins
 abbrev IsFront : ℕ → List ℕ → Type 0
 IsFront first further =
-    (first ≤ 11) × (first ≢ 2) × (least first ≤ length further)
+    (first ≤ 11) × ((first ≢ 2) ⊎ (length further ≤ 33)) × (least first ≤ length further)
 
 long : (n first : ℕ) (further : List ℕ) → IsFront first further → first ≡ n
     → least n ≤ length further
@@ -67,7 +38,13 @@ no_fault : (first : ℕ) (further : List ℕ) (fault : MsgFault) → IsFront fir
     → NoReaderMsg (first ∷ further) fault → ⊥
 no_fault first further faults.Message h (inl none) =
     omega (arith, long 1 first further h none.0, none.1)
-no_fault first further faults.Message h (inr (inl none)) = h.1 none.0
+no_fault first further faults.Message h (inr (inl (two, inl none))) = let nothing : length further
+    ≡ 0 = ap length none in omega (arith, long 2 first further h two, nothing)
+no_fault first further faults.Message h (inr (inl (two, inr over))) = too_long h.1
+  where
+    too_long : (first ≢ 2) ⊎ (length further ≤ 33) → ⊥
+    too_long (inl other) = other two
+    too_long (inr few) = omega (arith, few, over)
 no_fault first further faults.Message h (inr (inr (inl (inl three, short)))) =
     omega (arith, long 3 first further h three, short)
 no_fault first further faults.Message h (inr (inr (inl (inr five, short)))) =
@@ -80,93 +57,56 @@ no_fault first further faults.Profile h none = omega (arith, h.0, none)
 no_fault first further faults.Length h none = none
 no_fault first further faults.Answer h none = none
 
-no_end : (first : ℕ) (further : List ℕ) → IsFront first further → ReaderEnds (first ∷ further) → ⊥
-no_end first further h (inl (inl e)) = cc e
-no_end first further h (inl (inr none)) = no_fault first further none.0 h none.1
-no_end first further h (inr shown) = h.1 (ap (λ x. get_or x 0 0) shown.2)
+no_end : (first : ℕ) (further : List ℕ) → IsFront first further
+    → Ends NoReaderMsg (first ∷ further) → ⊥
+no_end first further h (inl e) = cc e
+no_end first further h (inr none) = no_fault first further none.0 h none.1
 
-goes_on : (id text : List ℕ) → length id ≡ 29
-    → NoEnd (reader_msg_bytes id text) NotDisplay ReaderEnds
-goes_on id text l JustReset x h e =
-    no_end 0 x (omega arith, omega arith, omega arith) e
-goes_on id text l (Config level code scale decimals response options) x h e =
-    no_end 1 _ (omega arith, omega arith, omega arith) e
-goes_on id text l (Display time) x h e = cc h
-goes_on id text l (BeginSession funds) x h e =
-    no_end 3 _ (omega arith, omega arith, omega arith) e
-goes_on id text l CancelRequest x h e =
-    no_end 4 x (omega arith, omega arith, omega arith) e
-goes_on id text l (VendApproved amount) x h e =
-    no_end 5 _ (omega arith, omega arith, omega arith) e
-goes_on id text l VendDenied x h e =
-    no_end 6 x (omega arith, omega arith, omega arith) e
-goes_on id text l EndSession x h e =
-    no_end 7 x (omega arith, omega arith, omega arith) e
-goes_on id text l Cancelled x h e =
-    no_end 8 x (omega arith, omega arith, omega arith) e
-goes_on id text l PeripheralId x h e =
+goes_on : (id text : List ℕ)
+    → NoEndBefore (reader_msg_bytes id text) (IsReaderMsg id text) (Ends NoReaderMsg)
+goes_on id text JustReset x h e =
+    no_end 0 x (omega arith, inl (omega arith), omega arith) e
+goes_on id text (Config level code scale decimals response options) x h e =
+    no_end 1 _ (omega arith, inl (omega arith), omega arith) e
+goes_on id text (Display time) x h e =
+    let none : length x ≡ 0 = ap length h.1 in
+    let long = length-append text x in
+    no_end 2 (time ∷ (text ++ x)) (omega arith, inr (omega (arith, h.0)), omega arith) e
+goes_on id text (BeginSession funds) x h e =
+    no_end 3 _ (omega arith, inl (omega arith), omega arith) e
+goes_on id text CancelRequest x h e =
+    no_end 4 x (omega arith, inl (omega arith), omega arith) e
+goes_on id text (VendApproved amount) x h e =
+    no_end 5 _ (omega arith, inl (omega arith), omega arith) e
+goes_on id text VendDenied x h e =
+    no_end 6 x (omega arith, inl (omega arith), omega arith) e
+goes_on id text EndSession x h e =
+    no_end 7 x (omega arith, inl (omega arith), omega arith) e
+goes_on id text Cancelled x h e =
+    no_end 8 x (omega arith, inl (omega arith), omega arith) e
+goes_on id text PeripheralId x h e =
     let long = length-append id x in
-    no_end 9 (id ++ x) (omega arith, omega arith, omega arith) e
-goes_on id text l (Malfunction code) x h e =
-    no_end 10 (code ∷ x) (omega arith, omega arith, omega arith) e
-goes_on id text l OutOfSequence x h e =
-    no_end 11 x (omega arith, omega arith, omega arith) e
+    no_end 9 (id ++ x) (omega arith, inl (omega arith), omega (arith, h)) e
+goes_on id text (Malfunction code) x h e =
+    no_end 10 (code ∷ x) (omega arith, inl (omega arith), omega arith) e
+goes_on id text OutOfSequence x h e =
+    no_end 11 x (omega arith, inl (omega arith), omega arith) e
 
--- two lists of messages that are no display requests, with the same bytes before an end, are one
-pub one_bare : (id text other words : List ℕ) → length id ≡ 29 → length other ≡ 29
-    → (xs ys : List ReaderMsg) (p q : List ℕ) → AllByRecursion NotDisplay xs
-    → AllByRecursion NotDisplay ys → flat_map (reader_msg_bytes id text) xs ++ p
-    ≡ flat_map (reader_msg_bytes other words) ys ++ q → ReaderEnds p → ReaderEnds q
+-- two lists of messages with the same bytes before an end are one
+one_stand : (id text other words : List ℕ) (xs ys : List ReaderMsg) (p q : List ℕ)
+    → Stand (reader_msg_bytes id text) (IsReaderMsg id text) xs p
+    → Stand (reader_msg_bytes other words) (IsReaderMsg other words) ys q
+    → flat_map (reader_msg_bytes id text) xs ++ p
+    ≡ flat_map (reader_msg_bytes other words) ys ++ q → Ends NoReaderMsg p → Ends NoReaderMsg q
     → (xs ≡ ys) × (p ≡ q)
-one_bare id text other words l k =
-    one_list (reader_msg_bytes id text) (reader_msg_bytes other words) NotDisplay ReaderEnds
-    (λ a b x y h i e. let same = one_message id text other words (l ∙ sym k) a b x y h e in
+one_stand id text other words =
+    one_standing (reader_msg_bytes id text) (reader_msg_bytes other words) (IsReaderMsg id text)
+    (IsReaderMsg other words) (Ends NoReaderMsg)
+    (λ a b x y h k e. let s = text_of id text a in let t = text_of other words b in
+    let same = one_message a b s t x y h k
+    (sym (append_assoc (head_bytes a) s x) ∙ e ∙ append_assoc (head_bytes b) t y) in
     (same.0, same.2))
-    (goes_on id text l) (goes_on other words k)
-
--- a list with a display request at most at its end: the messages before it, and it
-pub record Cut (ms : List ReaderMsg) : Type 0 where
-  pub front : List ReaderMsg
-  pub tail : List ReaderMsg
-  pub joined : ms ≡ front ++ tail
-  pub bare : AllByRecursion NotDisplay front
-  pub ends : (tail ≡ []) ⊎ ((time : ℕ) × (tail ≡ Display time ∷ []))
-
-cut_one : (m : ReaderMsg) → Cut (m ∷ [])
-cut_one (Display time) = record {
-  front = [];
-  tail = Display time ∷ [];
-  joined = refl;
-  bare = tt;
-  ends = inr (time, refl);
-}
-cut_one m = record { front = m ∷ []; tail = []; joined = refl; bare = (refl, tt); ends = inl refl }
-
-pub cut : (ms : List ReaderMsg) → IsDisplayLast ms → Cut ms
-cut [] h = record { front = []; tail = []; joined = refl; bare = tt; ends = inl refl }
-cut (m ∷ []) h = cut_one m
-cut (m ∷ n ∷ ms) h =
-    let rest = cut (n ∷ ms) h.1 in
-    record {
-      front = m ∷ rest.front;
-      tail = rest.tail;
-      joined = ap (λ x. m ∷ x) rest.joined;
-      bare = (h.0, rest.bare);
-      ends = rest.ends;
-    }
-
--- what the end of such a list spells is an end
-tail_ends : (id text : List ℕ) (tail : List ReaderMsg)
-    → (tail ≡ []) ⊎ ((time : ℕ) × (tail ≡ Display time ∷ []))
-    → ReaderEnds (flat_map (reader_msg_bytes id text) tail)
-tail_ends id text tail (inl e) = inl (inl (ap (flat_map (reader_msg_bytes id text)) e))
-tail_ends id text tail (inr shown) =
-    inr (
-      shown.0,
-      text,
-      ap (flat_map (reader_msg_bytes id text)) shown.1
-          ∙ append-nil (2 ∷ shown.0 ∷ text),
-    )
+    (goes_on id text) (goes_on other words)
 
 -- two answers of a reader with the same bytes are one
 pub one_reader_list : (a b : ReaderMessages) → IsReaderList a → IsReaderList b
@@ -174,67 +114,30 @@ pub one_reader_list : (a b : ReaderMessages) → IsReaderList a → IsReaderList
 one_reader_list a b ha hb e = sym (reads_list a ha) ∙ ap messages_of e ∙ reads_list b hb
 
 -- messages aren't bytes where reading stops
-messages_no_stop : (a : ReaderMessages) (fault : MsgFault) → length a.id ≡ 29 → length a.text ≤ 32
-    → IsDisplayLast a.messages → ReaderStopsAt (reader_list_bytes a) fault → ⊥
-messages_no_stop a fault id_length text_length last stop =
-    let f = reader_msg_bytes a.id a.text in
-    let g = reader_msg_bytes stop.0 [] in
-    let ca = cut a.messages last in
-    let left : flat_map f a.messages ≡ flat_map f ca.front ++ flat_map f ca.tail =
-    ap (flat_map f) ca.joined ∙ flat_map-append f ca.front ca.tail in
-    let both : flat_map f ca.front ++ flat_map f ca.tail ≡ flat_map g stop.2.0 ++ stop.2.1 =
-    sym left ∙ stop.2.3 in
-    let fronts = one_bare a.id a.text stop.0 [] id_length stop.1 ca.front stop.2.0 _ _ ca.bare
-    stop.2.2 both (tail_ends a.id a.text ca.tail ca.ends) (inl (inr (fault, stop.2.4))) in
-    let none : NoReaderMsg (flat_map f ca.tail) fault = subst (λ x. NoReaderMsg x fault)
-    (sym fronts.1) stop.2.4 in
-    at_tail ca.tail ca.ends none
+messages_no_stop : (a : ReaderMessages) (fault : MsgFault) → AreReaderMsgs a []
+    → ReaderStopsAt (reader_list_bytes a) fault → ⊥
+messages_no_stop a fault stand stop =
+    let one = one_stand a.id a.text stop.0 [] a.messages stop.1.0 [] stop.1.1 stand stop.1.2
+    (append-nil (reader_list_bytes a) ∙ stop.1.3) (inl refl) (inr (fault, stop.1.4)) in
+    nothing fault (subst (λ x. NoReaderMsg x fault) (sym one.1) stop.1.4)
   where
-    shown : (time : ℕ) (fault : MsgFault) → NoReaderMsg (2 ∷ time ∷ (a.text ++ [])) fault → ⊥
-    shown time faults.Message (inl none) = absurd (omega (arith, none.0))
-    shown time faults.Message (inr (inl (e, inl none))) = cc none
-    shown time faults.Message (inr (inl (e, inr none))) =
-        let long : length (a.text ++ []) ≡ length a.text = ap length (append-nil a.text) in
-        let bound = text_length in
-        omega (arith, none)
-    shown time faults.Message (inr (inr (inl (inl three, short)))) = omega (arith, three)
-    shown time faults.Message (inr (inr (inl (inr five, short)))) = omega (arith, five)
-    shown time faults.Message (inr (inr (inr (inl none)))) = omega (arith, none.0)
-    shown time faults.Message (inr (inr (inr (inr none)))) = omega (arith, none.0)
-    shown time faults.Profile none = omega (arith, none)
-    shown time faults.Length none = none
-    shown time faults.Answer none = none
-
-    at_tail : (tail : List ReaderMsg) → (tail ≡ []) ⊎ ((time : ℕ) × (tail ≡ Display time ∷ []))
-        → NoReaderMsg (flat_map (reader_msg_bytes a.id a.text) tail) fault → ⊥
-    at_tail tail (inl e) none =
-        nothing fault
-        (subst (λ x. NoReaderMsg x fault) (ap (flat_map (reader_msg_bytes a.id a.text)) e) none)
-      where
-        nothing : (fault : MsgFault) → NoReaderMsg [] fault → ⊥
-        nothing faults.Message h = h
-        nothing faults.Profile h = h
-        nothing faults.Length h = h
-        nothing faults.Answer h = h
-    at_tail tail (inr e) none =
-        shown e.0 fault
-        (subst (λ x. NoReaderMsg x fault) (ap (flat_map (reader_msg_bytes a.id a.text)) e.1) none)
+    nothing : (fault : MsgFault) → NoReaderMsg [] fault → ⊥
+    nothing faults.Message h = h
+    nothing faults.Profile h = h
+    nothing faults.Length h = h
+    nothing faults.Answer h = h
 
 -- an answer isn't one where reading stops
 pub reader_no_stop : (a : ReaderMessages) (fault : MsgFault) → IsReaderList a
     → ReaderStopsAt (reader_list_bytes a) fault → ⊥
-reader_no_stop a fault ha = messages_no_stop a fault ha.id_length ha.text_length ha.last
+reader_no_stop a fault ha = messages_no_stop a fault ha.stand
 
 -- where messages stand, one stands in front
 pub message_stands : (bytes : List ℕ) (fault : MsgFault) → StandAsMessages bytes
     → NoReaderMsg bytes fault → ⊥
 message_stands bytes fault stand none =
-    messages_no_stop stand.list fault stand.id_length stand.text_length stand.last
-    (subst (λ x. ReaderStopsAt x fault) stand.spelled (
-      replicate 29 0,
-      refl,
-      ([], bytes, tt, refl, none),
-    ))
+    messages_no_stop stand.list fault stand.stand
+    (subst (λ x. ReaderStopsAt x fault) stand.spelled ([], ([], bytes, tt, refl, none)))
 
 -- so what stands after an index is read: the next message, or none where nothing is left
 abbrev NextRead : Type 0
@@ -277,7 +180,7 @@ not_both (first ∷ further) (inr (inr (inr (inr none)))) k = omega (arith, none
 pub one_reader_stop : (bytes : List ℕ) (a b : MsgFault) → ReaderStopsAt bytes a
     → ReaderStopsAt bytes b → a ≡ b
 one_reader_stop bytes a b h k =
-    let fronts = one_bare h.0 [] k.0 [] h.1 k.1 h.2.0 k.2.0 h.2.1 k.2.1 h.2.2 k.2.2 (sym h.2.3
-    ∙ k.2.3) (inl (inr (a, h.2.4))) (inl (inr (b, k.2.4))) in
-    same_fault (NoReaderMsg k.2.1) (no_length k.2.1) (no_answer k.2.1) (not_both k.2.1) a b
-    (subst (λ x. NoReaderMsg x a) fronts.1 h.2.4) k.2.4
+    let fronts = one_stand h.0 [] k.0 [] h.1.0 k.1.0 h.1.1 k.1.1 h.1.2 k.1.2 (sym h.1.3 ∙ k.1.3)
+    (inr (a, h.1.4)) (inr (b, k.1.4)) in
+    same_fault (NoReaderMsg k.1.1) (no_length k.1.1) (no_answer k.1.1) (not_both k.1.1) a b
+    (subst (λ x. NoReaderMsg x a) fronts.1 h.1.4) k.1.4

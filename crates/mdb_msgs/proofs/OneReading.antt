@@ -1,5 +1,5 @@
 -- Bytes have one reading as a list of messages.
-use Rattle.std.proofs.Common.{◌≡◌, ℕ, ◌+◌, ◌*◌, ◌-◌, ◌/◌, ◌%◌, ◌<◌, ◌≤◌, ◌⊎◌, inl, inr, nat_lt, nat_eq, if◌then◌else◌, List, [], ◌∷◌, ◌++◌, length, refl, sym, ap, ◌∙◌, arith, append_assoc, append-nil, subst}
+use Rattle.std.proofs.Common.{◌≡◌, ℕ, ◌+◌, ◌*◌, ◌-◌, ◌/◌, ◌%◌, ◌<◌, ◌≤◌, ◌⊎◌, inl, inr, nat_lt, nat_eq, if◌then◌else◌, List, [], ◌∷◌, ◌++◌, length, refl, sym, ap, ◌∙◌, arith, append-nil, subst}
 use Rattle.std.specs.List.{flat_map, AllByRecursion}
 use Rattle.std.proofs.lemmas.List.{append_cancel_left}
 use Rattle.std.proofs.lemmas.Bool.Decides.{nat_tests}
@@ -12,42 +12,32 @@ use Rattle.mdb_msgs.specs.declared.reply.changer.ChangerMsg.TheVariants as chang
 use Rattle.mdb_msgs.specs.Bill.{bill_msg_bytes, IsBillMsg, NoBillMsg}
 use Rattle.mdb_msgs.specs.Changer.{changer_msg_bytes, IsChangerMsg, NoChangerMsg}
 use Rattle.mdb_msgs.specs.Lists.{StopsAt}
+use Rattle.mdb_msgs.proofs.Standing.{NoEndBefore, OneBefore, one_standing, stand_all}
 
 -- where messages end: nothing is left, or no message stands there
 abbrev pub Ends : (List ℕ → MsgFault → Type 0) → List ℕ → Type 0
 Ends No rest = (rest ≡ []) ⊎ ((fault : MsgFault) × No rest fault)
 
--- two messages at the front of the same bytes are one, also where one is spelled by f and the other
--- by g
-abbrev pub OneFront : {M : Type 0} → (M → List ℕ) → (M → List ℕ) → (M → Type 0) → Type 0
-OneFront {M} f g Is = (a b : M) (x y : List ℕ) → Is a → Is b → f a ++ x ≡ g b ++ y
-    → (a ≡ b) × (x ≡ y)
+-- two messages at the front of the same bytes are one
+abbrev pub OneFront : {M : Type 0} → (M → List ℕ) → (M → Type 0) → Type 0
+OneFront f Is = OneBefore f f (λ m x. Is m) (λ m x. Is m)
 
 -- where a message stands, messages don't end
 abbrev pub NoEnd : {M : Type 0} → (M → List ℕ) → (M → Type 0) → (List ℕ → Type 0) → Type 0
-NoEnd {M} f Is End = (a : M) (x : List ℕ) → Is a → End (f a ++ x) → ⊥
+NoEnd f Is End = NoEndBefore f (λ m x. Is m) End
 
 -- so two lists of messages of the same bytes that both end are one
-pub one_list : {M : Type 0} (f g : M → List ℕ) (Is : M → Type 0) (End : List ℕ → Type 0)
-    → OneFront f g Is → NoEnd f Is End → NoEnd g Is End → (xs ys : List M) (p q : List ℕ)
-    → AllByRecursion Is xs → AllByRecursion Is ys → flat_map f xs ++ p ≡ flat_map g ys ++ q → End p
-    → End q → (xs ≡ ys) × (p ≡ q)
-one_list f g Is End one on_f on_g [] [] p q hs ks e hp hq = (refl, e)
-one_list f g Is End one on_f on_g [] (y ∷ ys) p q hs ks e hp hq =
-    absurd (on_g y (flat_map g ys ++ q) ks.0 (subst End (e ∙ append_assoc (g y) (flat_map g ys) q)
-    hp))
-one_list f g Is End one on_f on_g (x ∷ xs) [] p q hs ks e hp hq =
-    absurd (on_f x (flat_map f xs ++ p) hs.0
-    (subst End (sym e ∙ append_assoc (f x) (flat_map f xs) p) hq))
-one_list f g Is End one on_f on_g (x ∷ xs) (y ∷ ys) p q hs ks e hp hq =
-    let front = one x y (flat_map f xs ++ p) (flat_map g ys ++ q) hs.0 ks.0
-    (sym (append_assoc (f x) (flat_map f xs) p) ∙ e ∙ append_assoc (g y) (flat_map g ys) q) in
-    let back = one_list f g Is End one on_f on_g xs ys p q hs.1 ks.1 front.1 hp hq in
-    (cc, back.1)
+one_list : {M : Type 0} (f : M → List ℕ) (Is : M → Type 0) (End : List ℕ → Type 0)
+    → OneFront f Is → NoEnd f Is End → (xs ys : List M) (p q : List ℕ) → AllByRecursion Is xs
+    → AllByRecursion Is ys → flat_map f xs ++ p ≡ flat_map f ys ++ q → End p → End q
+    → (xs ≡ ys) × (p ≡ q)
+one_list f Is End one on xs ys p q hs ks =
+    one_standing f f (λ m x. Is m) (λ m x. Is m) End one on on xs ys p q (stand_all f Is xs p hs)
+    (stand_all f Is ys q ks)
 
 -- a function that finds the message at the front shows that there is one at most
 pub one_front : {M : Type 0} (f : M → List ℕ) (Is : M → Type 0) (find : List ℕ → M)
-    → ((a : M) (x : List ℕ) → Is a → find (f a ++ x) ≡ a) → OneFront f f Is
+    → ((a : M) (x : List ℕ) → Is a → find (f a ++ x) ≡ a) → OneFront f Is
 one_front f Is find found a b x y ha hb e =
     let same : a ≡ b = sym (found a x ha) ∙ ap find e ∙ found b y hb in
     (same, append_cancel_left (f a) x y (e ∙ ap (λ m. f m ++ y) (sym same)))
@@ -81,7 +71,7 @@ changer_found changer.Reset (c ∷ x) h = refl
 changer_found (changer.Status byte) [] h = grind (arith, nat_tests)
 changer_found (changer.Status byte) (c ∷ x) h = grind (arith, nat_tests)
 
-pub one_changer : OneFront changer_msg_bytes changer_msg_bytes IsChangerMsg
+pub one_changer : OneFront changer_msg_bytes IsChangerMsg
 one_changer = one_front changer_msg_bytes IsChangerMsg changer_find changer_found
 
 -- what a message of the changer begins with
@@ -141,7 +131,7 @@ bill_found (bill.Attempts count) x h = grind (arith, nat_tests)
 bill_found bill.Reset x h = refl
 bill_found (bill.Status byte) x h = grind (arith, nat_tests)
 
-pub one_bill : OneFront bill_msg_bytes bill_msg_bytes IsBillMsg
+pub one_bill : OneFront bill_msg_bytes IsBillMsg
 one_bill = one_front bill_msg_bytes IsBillMsg bill_find bill_found
 
 -- what a message of the validator begins with
@@ -180,14 +170,13 @@ pub one_changer_list : (xs ys : List ChangerMsg) (p q : List ℕ) → AllByRecur
     → AllByRecursion IsChangerMsg ys → flat_map changer_msg_bytes xs ++ p
     ≡ flat_map changer_msg_bytes ys ++ q → Ends NoChangerMsg p → Ends NoChangerMsg q
     → (xs ≡ ys) × (p ≡ q)
-one_changer_list = one_list changer_msg_bytes changer_msg_bytes IsChangerMsg (Ends NoChangerMsg)
-    one_changer changer_goes_on changer_goes_on
+one_changer_list = one_list changer_msg_bytes IsChangerMsg (Ends NoChangerMsg) one_changer
+    changer_goes_on
 
 pub one_bill_list : (xs ys : List BillMsg) (p q : List ℕ) → AllByRecursion IsBillMsg xs
     → AllByRecursion IsBillMsg ys → flat_map bill_msg_bytes xs ++ p ≡ flat_map bill_msg_bytes
     ys ++ q → Ends NoBillMsg p → Ends NoBillMsg q → (xs ≡ ys) × (p ≡ q)
-one_bill_list = one_list bill_msg_bytes bill_msg_bytes IsBillMsg (Ends NoBillMsg) one_bill
-    bill_goes_on bill_goes_on
+one_bill_list = one_list bill_msg_bytes IsBillMsg (Ends NoBillMsg) one_bill bill_goes_on
 
 -- where only Message and Profile may hold, and not both, one fault does
 pub same_fault : (No : MsgFault → Type 0) → (No faults.Length → ⊥) → (No faults.Answer → ⊥)

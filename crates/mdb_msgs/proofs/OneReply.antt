@@ -13,7 +13,7 @@ use Rattle.mdb_msgs.specs.declared.reply.setup.ChangerSetup.{ChangerSetup}
 use Rattle.mdb_msgs.specs.declared.reply.setup.Stacker.{Stacker}
 use Rattle.mdb_msgs.specs.declared.reply.setup.TubeStatus.{TubeStatus}
 use Rattle.mdb_msgs.specs.Answers.{IsDataLength}
-use Rattle.mdb_msgs.specs.Replies.{form_of_reply, reply_bytes, HasFields, tells_of_sales, IsAnswerTo, IsReplyTo, NoReply, IsNoReplyTo, IsReadFault, IsWriteFault, SpellsReply}
+use Rattle.mdb_msgs.specs.Replies.{form_of_reply, reply_bytes, HasFields, tells_of_sales, IsAnswerTo, IsReplyTo, NoReply, IsNoReplyTo, IsReadFault, SpellsReply}
 use Rattle.mdb_msgs.specs.Setup.{changer_setup_bytes, tube_status_bytes, bill_setup_bytes, stacker_bytes, IsStacker}
 use Rattle.mdb_msgs.proofs.OneReader.{one_reader_list, reader_no_stop, one_reader_stop}
 use Rattle.mdb_msgs.proofs.ReaderBytes.{same_fronts}

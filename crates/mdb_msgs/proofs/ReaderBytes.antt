@@ -4,29 +4,31 @@ use Rattle.std.specs.List.{flat_map, list_any}
 use Rattle.std.proofs.lemmas.List.{append_cancel_left}
 use Rattle.mdb_msgs.specs.declared.reply.reader.ReaderMsg.{ReaderMsg}
 use Rattle.mdb_msgs.specs.declared.reply.reader.ReaderMsg.TheVariants.{JustReset, Config, Display, BeginSession, CancelRequest, VendApproved, VendDenied, EndSession, Cancelled, PeripheralId, Malfunction, OutOfSequence}
-use Rattle.mdb_msgs.specs.Reader.{ReaderMessages, head_bytes, is_display, is_id, text_of, reader_msg_bytes, reader_list_bytes, IsDisplayLast, IsReaderList}
+use Rattle.mdb_msgs.specs.Reader.{ReaderMessages, head_bytes, is_display, is_id, text_of, reader_msg_bytes, reader_list_bytes, IsReaderList, IsReaderMsg, IsTextOf}
+use Rattle.mdb_msgs.specs.Lists.{Stand}
 use Rattle.mdb_msgs.specs.ReaderBytes.{number_at, front_message, front_text, no_messages, before_messages, messages_in, messages_of, AreMessages}
-use Rattle.mdb_msgs.specs.inner.ReaderSteps.{IsTextOf, StandAsMessages, IsNextMessage}
+use Rattle.mdb_msgs.specs.inner.ReaderSteps.{StandAsMessages, IsNextMessage}
 
 whole : (n : ℕ) → 256 * (n / 256) + n % 256 ≡ n
 whole n = omega arith
 
 -- the message in front is found
-pub front_found : (m : ReaderMsg) (x : List ℕ) → front_message (head_bytes m ++ x) ≡ m
+pub front_found : (m : ReaderMsg) (text x : List ℕ) → IsTextOf m text x
+    → front_message (head_bytes m ++ (text ++ x)) ≡ m
 unfolding front_message number_at
-front_found JustReset x = refl
-front_found (Config level code scale decimals response options) x =
+front_found JustReset text x h = refl
+front_found (Config level code scale decimals response options) text x h =
     ap (λ n. Config level n scale decimals response options) (whole code)
-front_found (Display time) x = refl
-front_found (BeginSession funds) x = ap BeginSession (whole funds)
-front_found CancelRequest x = refl
-front_found (VendApproved amount) x = ap VendApproved (whole amount)
-front_found VendDenied x = refl
-front_found EndSession x = refl
-front_found Cancelled x = refl
-front_found PeripheralId x = refl
-front_found (Malfunction code) x = refl
-front_found OutOfSequence x = refl
+front_found (Display time) text x h = refl
+front_found (BeginSession funds) text x h = ap BeginSession (whole funds)
+front_found CancelRequest text x h = refl
+front_found (VendApproved amount) text x h = ap VendApproved (whole amount)
+front_found VendDenied text x h = refl
+front_found EndSession text x h = refl
+front_found Cancelled text x h = refl
+front_found PeripheralId text x h = refl
+front_found (Malfunction code) text x h = refl
+front_found OutOfSequence text x h = refl
 
 -- lists of one length are the same where they begin the same bytes
 pub same_fronts : (s t x y : List ℕ) → length s ≡ length t → s ++ x ≡ t ++ y → (s ≡ t) × (x ≡ y)
@@ -94,7 +96,7 @@ reads_front fuel m text further h =
     let long : 0 < length bytes =
     omega (arith, head_counts m, length-append head (text ++ further)) in
     let found : with_front fuel bytes (front_message bytes) ≡ with_front fuel bytes m =
-    ap (with_front fuel bytes) (front_found m (text ++ further)) in
+    ap (with_front fuel bytes) (front_found m text further h) in
     let told : front_text m (drop (length head) bytes) ≡ text =
     ap (front_text m) (drop_front head (text ++ further)) ∙ text_found m text further h in
     let left : drop (length (head ++ text)) bytes ≡ further = ap (drop (length (head ++ text)))
@@ -117,30 +119,19 @@ tidy_more id text PeripheralId ms = refl
 tidy_more id text (Display time) ms = refl
 tidy_more id text _ ms = refl
 
-rest_last : (m : ReaderMsg) (ms : List ReaderMsg) → IsDisplayLast (m ∷ ms) → IsDisplayLast ms
-rest_last m [] h = tt
-rest_last m (n ∷ ms) h = h.1
-
-has_its_text : (id text : List ℕ) (m : ReaderMsg) (ms : List ReaderMsg) → length id ≡ 29
-    → length text ≤ 32 → IsDisplayLast (m ∷ ms)
-    → IsTextOf m (text_of id text m) (flat_map (reader_msg_bytes id text) ms)
-has_its_text id text PeripheralId ms l k h = l
-has_its_text id text (Display time) [] l k h = (k, refl)
-has_its_text id text (Display time) (n ∷ ms) l k h = let no = h.0 in absurd (cc)
-has_its_text id text _ ms l k h = refl
-
-reads_all : (fuel : ℕ) (id text : List ℕ) (ms : List ReaderMsg) → length id ≡ 29 → length text ≤ 32
-    → IsDisplayLast ms → length (flat_map (reader_msg_bytes id text) ms) ≤ fuel
+reads_all : (fuel : ℕ) (id text : List ℕ) (ms : List ReaderMsg)
+    → Stand (reader_msg_bytes id text) (IsReaderMsg id text) ms []
+    → length (flat_map (reader_msg_bytes id text) ms) ≤ fuel
     → messages_in fuel (flat_map (reader_msg_bytes id text) ms) ≡ tidy id text ms
 unfolding messages_in
-reads_all zero id text [] l k h few = refl
-reads_all (suc fuel) id text [] l k h few = refl
-reads_all zero id text (m ∷ ms) l k h few =
+reads_all zero id text [] stand few = refl
+reads_all (suc fuel) id text [] stand few = refl
+reads_all zero id text (m ∷ ms) stand few =
     let one = head_counts m in
     let front = length-append (head_bytes m) (text_of id text m) in
     let all = length-append (reader_msg_bytes id text m) (flat_map (reader_msg_bytes id text) ms) in
     absurd (omega arith)
-reads_all (suc fuel) id text (m ∷ ms) l k h few =
+reads_all (suc fuel) id text (m ∷ ms) stand few =
     let head = head_bytes m in
     let own = text_of id text m in
     let further = flat_map (reader_msg_bytes id text) ms in
@@ -149,15 +140,16 @@ reads_all (suc fuel) id text (m ∷ ms) l k h few =
     let all = length-append (reader_msg_bytes id text m) further in
     let less : length further ≤ fuel = omega arith in
     ap (messages_in (suc fuel)) (append_assoc head own further)
-    ∙ reads_front fuel m own further (has_its_text id text m ms l k h)
-    ∙ ap (before_messages m own) (reads_all fuel id text ms l k (rest_last m ms h) less)
+    ∙ reads_front fuel m own further (subst (IsTextOf m own) (append-nil further) stand.0)
+    ∙ ap (before_messages m own) (reads_all fuel id text ms stand.1 less)
     ∙ tidy_more id text m ms
 
-reads_tidy : (id text : List ℕ) (ms : List ReaderMsg) → length id ≡ 29 → length text ≤ 32
-    → IsDisplayLast ms → messages_of (flat_map (reader_msg_bytes id text) ms) ≡ tidy id text ms
+reads_tidy : (id text : List ℕ) (ms : List ReaderMsg)
+    → Stand (reader_msg_bytes id text) (IsReaderMsg id text) ms []
+    → messages_of (flat_map (reader_msg_bytes id text) ms) ≡ tidy id text ms
 unfolding messages_of
-reads_tidy id text ms l k h = reads_all (length (flat_map (reader_msg_bytes id text) ms)) id text ms
-    l k h (omega arith)
+reads_tidy id text ms stand = reads_all (length (flat_map (reader_msg_bytes id text) ms)) id text ms
+    stand (omega arith)
 
 chosen : {A : Type 0} (b : Bool) (x y : A) → (b ≡ false → x ≡ y) → (if b then x else y) ≡ x
 chosen true x y h = refl
@@ -177,8 +169,7 @@ is_tidy list h =
 -- the bytes of an answer are read as the answer
 pub reads_list : (list : ReaderMessages) → IsReaderList list → messages_of (reader_list_bytes list)
     ≡ list
-reads_list list h = reads_tidy list.id list.text list.messages h.id_length h.text_length h.last
-    ∙ is_tidy list h
+reads_list list h = reads_tidy list.id list.text list.messages h.stand ∙ is_tidy list h
 
 -- no bytes are no messages
 pub nothing_read : (bytes : List ℕ) → length bytes ≡ 0 → messages_of bytes ≡ no_messages
@@ -207,6 +198,18 @@ same_text (Display time) text words x y h k e = (
 )
 same_text _ text words x y h k e = (h ∙ sym k, ap (λ l. l ++ x) (sym h) ∙ e ∙ ap (λ l. l ++ y) k)
 
+-- at the front of the same bytes stands one message with one text
+pub one_message : (a b : ReaderMsg) (text words x y : List ℕ) → IsTextOf a text x
+    → IsTextOf b words y → head_bytes a ++ (text ++ x) ≡ head_bytes b ++ (words ++ y)
+    → (a ≡ b) × (text ≡ words) × (x ≡ y)
+one_message a b text words x y h k e =
+    let same : a ≡ b = sym (front_found a text x h) ∙ ap front_message e
+    ∙ front_found b words y k in
+    let back : text ++ x ≡ words ++ y = append_cancel_left (head_bytes a) (text ++ x) (words ++ y)
+    (e ∙ ap (λ m. head_bytes m ++ (words ++ y)) (sym same)) in
+    let parts = same_text a text words x y h (subst (λ m. IsTextOf m words y) (sym same) k) back in
+    (same, parts.0, parts.1)
+
 -- the message in front is the first of the messages
 pub next_is : (bytes : List ℕ) (m : ReaderMsg) (text further : List ℕ) → StandAsMessages bytes
     → bytes ≡ head_bytes m ++ (text ++ further) → IsTextOf m text further
@@ -234,39 +237,30 @@ next_is bytes m text further stand e is_text = by stand.list.messages refl
     by (n ∷ ms) some =
         let id = stand.list.id in
         let words = stand.list.text in
-        let rest = flat_map (reader_msg_bytes id words) ms in
+        let f = reader_msg_bytes id words in
+        let rest = flat_map f ms in
         let own = text_of id words n in
-        let last : IsDisplayLast (n ∷ ms) = subst IsDisplayLast some stand.last in
-        let spelled : bytes ≡ flat_map (reader_msg_bytes id words) (n ∷ ms) = stand.spelled
-        ∙ ap (flat_map (reader_msg_bytes id words)) some in
-        let there : head_bytes n ++ (own ++ rest) ≡ head_bytes m ++ (text ++ further) =
-        sym (append_assoc (head_bytes n) own rest) ∙ sym spelled ∙ e in
-        let same : n ≡ m = sym (front_found n (own ++ rest)) ∙ ap front_message there
-        ∙ front_found m (text ++ further) in
-        let its : IsTextOf m (text_of id words m) rest =
-        subst (λ x. IsTextOf x (text_of id words x) rest) same
-        (has_its_text id words n ms stand.id_length stand.text_length last) in
-        let back : text_of id words m ++ rest ≡ text ++ further = append_cancel_left (head_bytes m)
-        (text_of id words m ++ rest) (text ++ further)
-        (ap (λ x. head_bytes x ++ (text_of id words x ++ rest)) (sym same) ∙ there) in
-        let parts = same_text m (text_of id words m) text rest further its is_text back in
-        let later = rest_last n ms last in
-        let rest_read : messages_of further ≡ tidy id words ms = ap messages_of (sym parts.1)
-        ∙ reads_tidy id words ms stand.id_length stand.text_length later in
+        let spelled : bytes ≡ flat_map f (n ∷ ms) = stand.spelled ∙ ap (flat_map f) some in
+        let all : Stand f (IsReaderMsg id words) (n ∷ ms) [] =
+        subst (λ x. Stand f (IsReaderMsg id words) x []) some stand.stand in
+        let its : IsTextOf n own rest = subst (IsTextOf n own) (append-nil rest) all.0 in
+        let same = one_message n m own text rest further its is_text
+        (sym (append_assoc (head_bytes n) own rest) ∙ sym spelled ∙ e) in
+        let rest_read : messages_of further ≡ tidy id words ms = ap messages_of (sym same.2)
+        ∙ reads_tidy id words ms all.1 in
         record {
           before =
               ap messages_of spelled
-              ∙ reads_tidy id words (n ∷ ms) stand.id_length stand.text_length last
-              ∙ ap (λ x. tidy id words (x ∷ ms)) same ∙ sym (tidy_more id words m ms)
-              ∙ ap (λ x. before_messages m x (tidy id words ms)) parts.0
+              ∙ reads_tidy id words (n ∷ ms) all
+              ∙ sym (tidy_more id words n ms)
+              ∙ ap (λ x. before_messages x own (tidy id words ms)) same.0
+              ∙ ap (λ x. before_messages m x (tidy id words ms)) same.1
               ∙ ap (before_messages m text) (sym rest_read);
           is_text = is_text;
           stand = record {
             list = record { messages = ms; id = id; text = words };
-            id_length = stand.id_length;
-            text_length = stand.text_length;
-            last = later;
-            spelled = sym parts.1;
+            stand = all.1;
+            spelled = sym same.2;
           };
           shorter = front;
         }
@@ -292,8 +286,6 @@ few_messages bytes = few_in (length bytes) bytes
 pub none_stand : StandAsMessages []
 none_stand = record {
   list = no_messages;
-  id_length = refl;
-  text_length = omega arith;
-  last = tt;
+  stand = tt;
   spelled = refl;
 }

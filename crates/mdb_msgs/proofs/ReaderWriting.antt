@@ -1,47 +1,64 @@
--- A display request at the end.
-use Rattle.std.proofs.Common.{◌≡◌, ◌≤◌, ◌<◌, Bool, true, false, ◌||◌, ◌+◌, not, IsTrue, ℕ, List, [], ◌∷◌, ◌++◌, length, refl, sym, ap, ◌∙◌, arith, subst, take, get_or, replicate}
-use Rattle.std.specs.List.{flat_map, list_any}
+-- Lists of messages that are given: whether they are another list, and whether they fit a block.
+use Rattle.std.proofs.Common.{◌≡◌, ◌<◌, ◌+◌, false, true, ℕ, List, Some, None, Result, Ok, Err, IfOk, IfErr, length, refl, sym, ap, ◌∙◌, arith, subst, take, get_or}
+use Rattle.std.specs.List.{flat_map}
+use Rattle.std.specs.Result.{result_ok}
 use Rattle.std.proofs.lemmas.List.Folds.{length-flat_map-take}
 use Rattle.mdb_msgs.specs.declared.reply.reader.ReaderMsg.{ReaderMsg}
-use Rattle.mdb_msgs.specs.Reader.{ReaderMessages, is_display, is_id, reader_msg_bytes, IsDisplayLast, IsReaderList}
-use Rattle.mdb_msgs.proofs.ReaderReading.{or_parts}
+use Rattle.mdb_msgs.specs.declared.reply.reader.ReaderMsg.TheVariants.{JustReset, Config, Display, BeginSession, CancelRequest, VendApproved, VendDenied, EndSession, Cancelled, PeripheralId, Malfunction, OutOfSequence}
+use Rattle.std.proofs.lemmas.Bool.Decides.{nat_tests}
+use Rattle.mdb_msgs.specs.contracts.reply.reader.ReaderMsgPartialEq.TheImpl.{eq-value}
+use Rattle.mdb_msgs.specs.declared.fault.MsgFault.{MsgFault}
+use Rattle.mdb_msgs.specs.Reader.{ReaderMessages, reader_msg_bytes, reader_list_bytes, IsReaderList, ReaderStopsAt}
+use Rattle.mdb_msgs.proofs.OneReader.{one_reader_list, reader_no_stop}
 
-or_both : (a b : Bool) → a ≡ false → b ≡ false → (a || b) ≡ false
-or_both true b h k = h
-or_both false b h k = k
+never : false ≡ true → ⊥
+never h = cc
 
-true_is_not_false : true ≡ false → ⊥
-true_is_not_false h = cc
+-- `==` of two messages says whether they are one
+pub told_same : (a b : ReaderMsg) → eq-value.it a b ≡ true → a ≡ b
+told_same JustReset JustReset h = refl
+told_same (Config l c s d r o) (Config m k t e q p) h = grind (arith, nat_tests)
+told_same (Display time) (Display other) h = grind (arith, nat_tests)
+told_same (BeginSession funds) (BeginSession other) h = grind (arith, nat_tests)
+told_same CancelRequest CancelRequest h = refl
+told_same (VendApproved amount) (VendApproved other) h = grind (arith, nat_tests)
+told_same VendDenied VendDenied h = refl
+told_same EndSession EndSession h = refl
+told_same Cancelled Cancelled h = refl
+told_same PeripheralId PeripheralId h = refl
+told_same (Malfunction code) (Malfunction other) h = grind (arith, nat_tests)
+told_same OutOfSequence OutOfSequence h = refl
+told_same a b h = absurd (never h)
 
-last_from : (front : List ReaderMsg) (x : ReaderMsg) → list_any is_display front ≡ false
-    → IsDisplayLast (front ++ x ∷ [])
-last_from [] x h = tt
-last_from (y ∷ []) x h = ((or_parts (is_display y) false h).0, tt)
-last_from (y ∷ z ∷ front) x h =
-    let parts = or_parts (is_display y) (list_any is_display (z ∷ front)) h in
-    (parts.0, last_from (z ∷ front) x parts.1)
+is_same : (a : ReaderMsg) → eq-value.it a a ≡ true
+is_same (Config level code scale decimals response options) = grind (arith, nat_tests)
+is_same (Display time) = grind (arith, nat_tests)
+is_same (BeginSession funds) = grind (arith, nat_tests)
+is_same (VendApproved amount) = grind (arith, nat_tests)
+is_same (Malfunction code) = grind (arith, nat_tests)
+is_same _ = refl
 
-last_to : (front : List ReaderMsg) (x : ReaderMsg) → IsDisplayLast (front ++ x ∷ [])
-    → list_any is_display front ≡ false
-last_to [] x h = refl
-last_to (y ∷ []) x h = or_both (is_display y) false h.0 refl
-last_to (y ∷ z ∷ front) x h = or_both (is_display y) (list_any is_display (z ∷ front)) h.0
-    (last_to (z ∷ front) x h.1)
+pub same_again : (a b : ReaderMsg) → a ≡ b → eq-value.it a b ≡ true
+same_again a b e = subst (λ m. eq-value.it a m ≡ true) e (is_same a)
 
--- no display request stands before the last message exactly where the test of the others fails
-pub display_last : (ms front : List ReaderMsg) (x : ReaderMsg) (r : Bool) → ms ≡ front ++ x ∷ []
-    → r ≡ list_any is_display front → (IsTrue (not r) → IsDisplayLast ms)
-    × (IsDisplayLast ms → IsTrue (not r))
-display_last ms front x true e h = (
-  λ t. absurd (cc),
-  λ l. absurd (true_is_not_false (h ∙ last_to front x (subst IsDisplayLast e l))),
-)
-display_last ms front x false e h = (
-  λ t. subst IsDisplayLast (sym e) (last_from front x (sym h)),
-  λ l. refl,
-)
+-- a list's bytes are read, and as the list
+pub never_refused : (given : ReaderMessages) (bytes : List ℕ)
+    (read : Result ReaderMessages MsgFault) → bytes ≡ reader_list_bytes given
+    → IfErr read (ReaderStopsAt bytes) → result_ok read ≡ None → IsReaderList given → ⊥
+never_refused given bytes (Ok list) e err none h = absurd (cc)
+never_refused given bytes (Err fault) e err none h =
+    reader_no_stop given fault h (subst (λ b. ReaderStopsAt b fault) e err)
 
--- and have none where the bytes with them are too many
+pub read_back : (given list : ReaderMessages) (bytes : List ℕ)
+    (read : Result ReaderMessages MsgFault) → bytes ≡ reader_list_bytes given
+    → IfOk read IsReaderList → IfOk read (λ l. bytes ≡ reader_list_bytes l)
+    → result_ok read ≡ Some list → IsReaderList given → list ≡ given
+read_back given list bytes (Ok l) e is spelled some h =
+    let same : l ≡ list = cc in
+    sym same ∙ one_reader_list l given is h (sym spelled ∙ e)
+read_back given list bytes (Err fault) e is spelled some h = absurd (cc)
+
+-- the bytes are too many with all messages, where they are with one more
 pub no_room : (id text : List ℕ) (ms : List ReaderMsg) (i : ℕ) (d : ReaderMsg) (bytes : List ℕ)
     → i < length ms → bytes ≡ flat_map (reader_msg_bytes id text) (take i ms)
     → 35 < length bytes + length (reader_msg_bytes id text (get_or ms i d))

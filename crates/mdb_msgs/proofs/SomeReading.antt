@@ -15,9 +15,9 @@ use Rattle.mdb_msgs.specs.Bill.{bill_msg_bytes, IsBillMsg, NoBillMsg}
 use Rattle.mdb_msgs.specs.Changer.{changer_msg_bytes, IsChangerMsg, NoChangerMsg}
 use Rattle.mdb_msgs.specs.Commands.{IsByte}
 use Rattle.mdb_msgs.specs.Lists.{StopsAt}
-use Rattle.mdb_msgs.specs.Reader.{ReaderMessages, head_bytes, reader_list_bytes, IsReaderList, NoReaderMsg, ReaderStopsAt}
+use Rattle.mdb_msgs.specs.Reader.{ReaderMessages, head_bytes, reader_list_bytes, IsReaderList, IsTextOf, NoReaderMsg, ReaderStopsAt}
 use Rattle.mdb_msgs.specs.ReaderBytes.{no_messages}
-use Rattle.mdb_msgs.specs.inner.ReaderSteps.{IsTextOf, with_message}
+use Rattle.mdb_msgs.specs.inner.ReaderSteps.{with_message}
 use Rattle.mdb_msgs.specs.TwoBytes.{two_bytes}
 use Rattle.mdb_msgs.proofs.ReaderReading.{Taken, nothing_taken, takes_next, stops_next, all_read}
 
@@ -426,8 +426,8 @@ reader_goes_on : (whole : List ℕ) → length whole ≤ 35
 reader_goes_on whole few fuel list [] short low taken =
     inl (record {
       list = list;
-      is_list = taken.is_list;
-      spelled = all_read whole list [] taken refl;
+      is_list = (all_read whole list [] taken refl).1;
+      spelled = (all_read whole list [] taken refl).0;
     })
 reader_goes_on whole few zero list (first ∷ further) short low taken = absurd (omega arith)
 reader_goes_on whole few (suc fuel) list (first ∷ further) short low taken =
@@ -440,7 +440,7 @@ reader_goes_on whole few (suc fuel) list (first ∷ further) short low taken =
         more (with_message list front.message front.text) front.rest (let shorter = front.shorter in
         omega arith) front.low
         (takes_next whole list (first ∷ further) first further front.message front.text front.rest
-        few taken refl front.spelled front.shorter front.is_text)
+        few taken refl front.spelled front.is_text)
     by more (inr (inl none)) =
         inr (inl (stops_next whole list (first ∷ further) first further Message taken refl none))
     by more (inr (inr none)) =

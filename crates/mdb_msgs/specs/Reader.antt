@@ -5,7 +5,7 @@ use Rattle.mdb_msgs.specs.declared.fault.MsgFault.{MsgFault}
 use Rattle.mdb_msgs.specs.declared.fault.MsgFault.TheVariants.{Length, Message, Profile, Answer}
 use Rattle.mdb_msgs.specs.declared.reply.reader.ReaderMsg.{ReaderMsg}
 use Rattle.mdb_msgs.specs.declared.reply.reader.ReaderMsg.TheVariants.{JustReset, Config, Display, BeginSession, CancelRequest, VendApproved, VendDenied, EndSession, Cancelled, PeripheralId, Malfunction, OutOfSequence}
-use Rattle.mdb_msgs.specs.Lists.{StopsAt}
+use Rattle.mdb_msgs.specs.Lists.{Stand, StopsBefore}
 use Rattle.mdb_msgs.specs.TwoBytes.{two_bytes}
 
 -- a reader's answer: its messages in order, and beside them the two long texts, of which a block
@@ -68,19 +68,25 @@ reader_msg_bytes id text message = head_bytes message ++ text_of id text message
 abbrev pub reader_list_bytes : ReaderMessages → List ℕ
 reader_list_bytes list = flat_map (reader_msg_bytes list.id list.text) list.messages
 
--- no display request stands before another message
-abbrev pub IsDisplayLast : List ReaderMsg → Type 0
-IsDisplayLast [] = Unit {0}
-IsDisplayLast (message ∷ []) = Unit {0}
-IsDisplayLast (message ∷ next ∷ messages) =
-    (is_display message ≡ false) × IsDisplayLast (next ∷ messages)
+-- a message may have this text, and these bytes after it: an identification has 29 bytes, and a
+-- display request has at most 32 and is last (this profile)
+abbrev pub IsTextOf : ReaderMsg → List ℕ → List ℕ → Type 0
+IsTextOf PeripheralId text rest = length text ≡ 29
+IsTextOf (Display time) text rest = (length text ≤ 32) × (rest ≡ [])
+IsTextOf _ text rest = text ≡ []
 
--- the texts have their lengths, and are blank where no message has them; a display request is last
--- (this profile)
+-- a message may stand before these bytes, where the identification and the display text are these
+abbrev pub IsReaderMsg : List ℕ → List ℕ → ReaderMsg → List ℕ → Type 0
+IsReaderMsg id text message rest = IsTextOf message (text_of id text message) rest
+
+-- each message of a list may stand before what comes after it: the further messages, then `tail`
+abbrev pub AreReaderMsgs : ReaderMessages → List ℕ → Type 0
+AreReaderMsgs list tail =
+    Stand (reader_msg_bytes list.id list.text) (IsReaderMsg list.id list.text) list.messages tail
+
+-- its messages may stand so, with their texts, which are blank where no message has them
 pub record IsReaderList (list : ReaderMessages) : Type 0 where
-  pub id_length : length list.id ≡ 29
-  pub text_length : length list.text ≤ 32
-  pub last : IsDisplayLast list.messages
+  pub stand : AreReaderMsgs list []
   pub no_id : list_any is_id list.messages ≡ false → list.id ≡ replicate 29 0
   pub no_text : list_any is_display list.messages ≡ false → list.text ≡ []
 
@@ -99,10 +105,6 @@ IsListFault list Message = FitsABlock list × (IsReaderList list → ⊥)
 IsListFault list Profile = ⊥
 IsListFault list Answer = ⊥
 
--- a message that isn't a display request may have messages after it
-abbrev pub NotDisplay : ReaderMsg → Type 0
-NotDisplay message = is_display message ≡ false
-
 -- no message stands at the front of these bytes: they are too few for it, or too many for a display
 -- request, which takes them all; from 0C on the messages are left out of this profile
 abbrev pub NoReaderMsg : List ℕ → MsgFault → Type 0
@@ -118,5 +120,4 @@ NoReaderMsg _ _ = ⊥
 -- in front stand messages, and where they end no message stands, for this reason
 abbrev pub ReaderStopsAt : List ℕ → MsgFault → Type 0
 ReaderStopsAt bytes fault =
-    (id : List ℕ) × (length id ≡ 29)
-    × StopsAt (reader_msg_bytes id []) NotDisplay NoReaderMsg bytes fault
+    (id : List ℕ) × StopsBefore (reader_msg_bytes id []) (IsReaderMsg id []) NoReaderMsg bytes fault

@@ -44,8 +44,10 @@ last_config (first ∷ messages) = or_else (last_config messages) (config_in fir
 
 -- what is known with the config of a reader, where this is known of the others
 abbrev pub with_config : Setups → ReaderUnit → ReaderConfig → Setups
-with_config known First config = record known { first_reader = Some config }
-with_config known Second config = record known { second_reader = Some config }
+with_config known First config =
+    record known { first_reader = record known.first_reader { config = Some config } }
+with_config known Second config =
+    record known { second_reader = record known.second_reader { config = Some config } }
 
 -- what is known with such an answer of the device: its setup table, of a reader what its last
 -- config message says

@@ -37,4 +37,4 @@ pub use reply::changer::ChangerMsg;
 pub use reply::reader::{ReaderIter, ReaderList, ReaderMsg};
 pub use reply::setup::{BillSetup, ChangerSetup, Stacker, TubeStatus};
 pub use reply::{Reply, read_reply, reply_of, write_reply};
-pub use setups::{ReaderConfig, Setups};
+pub use setups::{ReaderConfig, ReaderSetup, Setups};

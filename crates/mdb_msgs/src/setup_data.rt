@@ -81,8 +81,8 @@ fn add_config(setups: &mut Setups, unit: ReaderUnit, config: ReaderConfig)
     ensures { setups.new ≡ spec.with_config setups.old unit config }
 {
     match unit {
-        ReaderUnit::First => setups.first_reader = Some(config),
-        ReaderUnit::Second => setups.second_reader = Some(config),
+        ReaderUnit::First => setups.first_reader.config = Some(config),
+        ReaderUnit::Second => setups.second_reader.config = Some(config),
     }
 }
 

@@ -17,6 +17,18 @@ pub struct ReaderConfig {
     pub response: u8,
 }
 
+/// What is known from elsewhere of how a cashless reader is set up (this profile).
+#[derive(Clone, Copy, PartialEq, Eq, Debug)]
+pub struct ReaderSetup {
+    /// What counts of its answer to SETUP config.
+    pub config: Option<ReaderConfig>,
+}
+
+impl ReaderSetup {
+    /// Nothing is known.
+    pub const NONE: ReaderSetup = ReaderSetup { config: None };
+}
+
 /// Setup data that a recording doesn't show: the devices' answers to SETUP in an earlier recording
 /// of the same machine (this profile).
 #[derive(PartialEq, Eq, Debug, Drop)]
@@ -25,10 +37,10 @@ pub struct Setups {
     pub changer: Option<ChangerSetup>,
     /// The validator's answer.
     pub bill: Option<BillSetup>,
-    /// What counts of the answer of the reader at 10H to SETUP config.
-    pub first_reader: Option<ReaderConfig>,
-    /// The same of the reader at 60H.
-    pub second_reader: Option<ReaderConfig>,
+    /// What is known of the reader at 10H.
+    pub first_reader: ReaderSetup,
+    /// What is known of the reader at 60H.
+    pub second_reader: ReaderSetup,
 }
 
 impl Setups {
@@ -36,8 +48,8 @@ impl Setups {
     pub const NONE: Setups = Setups {
         changer: None,
         bill: None,
-        first_reader: None,
-        second_reader: None,
+        first_reader: ReaderSetup::NONE,
+        second_reader: ReaderSetup::NONE,
     };
 
     /// A copy.
@@ -57,8 +69,8 @@ impl Setups {
         ensures { result ≡ config_known self.now unit }
     {
         match unit {
-            ReaderUnit::First => self.first_reader,
-            ReaderUnit::Second => self.second_reader,
+            ReaderUnit::First => self.first_reader.config,
+            ReaderUnit::Second => self.second_reader.config,
         }
     }
 }

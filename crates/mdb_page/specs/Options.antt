@@ -9,6 +9,7 @@ use Rattle.mdb_msgs.specs.DeviceSets.{has}
 use Rattle.mdb_msgs.specs.SetupData.{IsSetupOf}
 use Rattle.mdb_msgs.specs.Setups.{nothing_known}
 use Rattle.mdb_bus.specs.declared.scope.Beginning.TheVariants.{Joined, PowerOn}
+use Rattle.mdb_bus.specs.declared.scope.Profile.TheVariants.{Base}
 use Rattle.mdb_bus.specs.declared.scope.Scope.{Scope}
 use Rattle.mdb_bus.specs.Scopes.{no_levels}
 use Rattle.mdb_page.specs.declared.options.PageOptions.{PageOptions}
@@ -63,11 +64,11 @@ pub record AreSetups (left_out : DeviceSet) (answers : List PageSetup) (setups :
   pub second : Adds left_out (Reader Second) (given_at answers 3) with_first setups
 
 -- A recording that is taken so begins at power-on, with nothing given, or in mid-session, with the
--- setup data known that the answers tell. The devices are left out that are marked, and no feature
--- level is known that was told before.
+-- setup data known that the answers tell. It is followed by the base profile. The devices are left
+-- out that are marked, and no feature level is known that was told before.
 pub record IsTakenSo (options : PageOptions) (scope : Scope) : Type 0 where
-  pub power_on : options.joined ≡ 0 → (scope.begins ≡ PowerOn) × GivesNone options.setups
-  pub joined : options.joined ≢ 0 → (setups : Setups) × (scope.begins ≡ Joined setups)
+  pub power_on : options.joined ≡ 0 → (scope.begins ≡ PowerOn Base) × GivesNone options.setups
+  pub joined : options.joined ≢ 0 → (setups : Setups) × (scope.begins ≡ Joined setups Base)
       × AreSetups (devices_of options.without) options.setups setups
   pub without : scope.without ≡ devices_of options.without
   pub levels : scope.levels ≡ no_levels

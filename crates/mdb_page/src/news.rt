@@ -260,8 +260,8 @@ impl NewsListing {
             tally: Tally::skipping(skip),
             waiting: 0,
             setups: match begins {
-                Beginning::PowerOn => Setups::NONE,
-                Beginning::Joined(setups) => setups.copy(),
+                Beginning::PowerOn(_) => Setups::NONE,
+                Beginning::Joined(setups, _) => setups.copy(),
             },
             watch: Watch::start(begins),
         }

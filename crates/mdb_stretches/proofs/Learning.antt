@@ -13,7 +13,7 @@ use Rattle.mdb_msgs.specs.declared.setups.Setups.{Setups}
 use Rattle.mdb_msgs.specs.Commands.{device_of}
 use Rattle.mdb_msgs.specs.SetupData as setup
 use Rattle.mdb_msgs.specs.SetupData.{known_with, last_config, with_config}
-use Rattle.mdb_msgs.specs.Setups.{config_known}
+use Rattle.mdb_msgs.specs.Setups.{config_known, nothing_known}
 use Rattle.mdb_bus.specs.declared.act.Act.{Act}
 use Rattle.mdb_bus.specs.declared.act.Act.TheVariants as acts
 use Rattle.mdb_bus.specs.declared.scope.Beginning.{Beginning}
@@ -68,11 +68,11 @@ known_last of tells step begins told is (act ∷ acts) =
     ∙ or_else_both (tells act) (last_told tells acts) (known_before of begins)
 
 -- what is known before
-known_first : {X : Type 0} (of : Setups → Option X) → of (setups_of PowerOn) ≡ None
+known_first : {X : Type 0} (of : Setups → Option X) → of nothing_known ≡ None
     → (begins : Beginning) (told : Told) → told.setups ≡ setups_of begins
     → of told.setups ≡ known_before of begins
-known_first of none PowerOn told is = ap of is ∙ none
-known_first of none (Joined setups) told is = ap of is
+known_first of none (PowerOn profile) told is = ap of is ∙ none
+known_first of none (Joined setups profile) told is = ap of is
 
 -- a reader's answer leaves what is known of changer and validator, and of the other reader
 config_leaves : (unit : ReaderUnit) (config : Option ReaderConfig) (told : Told)
@@ -122,56 +122,49 @@ same_last (message ∷ list) =
     ∙ ap (λ c. or_else (last_config list) c) (same_config message)
     ∙ ap (λ c. or_else c (config_in message)) (same_last list)
 
-first_own : (config : Option ReaderConfig) (told : Told)
-    → (with_answer (devices.Reader First) (option_map (with_config told.setups First) config)
-    told).setups.first_reader ≡ or_else config told.setups.first_reader
-first_own None told = refl
-first_own (Some config) told = refl
+-- a reader's answer tells its config, and leaves that of the other reader
+own_config : (unit : ReaderUnit) (config : Option ReaderConfig) (told : Told)
+    → config_known (with_answer (devices.Reader unit)
+    (option_map (with_config told.setups unit) config) told).setups unit
+    ≡ or_else config (config_known told.setups unit)
+own_config unit None told = refl
+own_config First (Some config) told = refl
+own_config Second (Some config) told = refl
 
-first_other : (config : Option ReaderConfig) (told : Told)
-    → (with_answer (devices.Reader Second) (option_map (with_config told.setups Second) config)
-    told).setups.first_reader ≡ told.setups.first_reader
-first_other None told = refl
-first_other (Some config) told = refl
+other_config : (config : Option ReaderConfig) (told : Told)
+    → ((with_answer (devices.Reader Second) (option_map (with_config told.setups Second) config)
+    told).setups.first_reader ≡ told.setups.first_reader)
+    × ((with_answer (devices.Reader First) (option_map (with_config told.setups First) config)
+    told).setups.second_reader ≡ told.setups.second_reader)
+other_config None told = (refl, refl)
+other_config (Some config) told = (refl, refl)
 
-second_own : (config : Option ReaderConfig) (told : Told)
-    → (with_answer (devices.Reader Second) (option_map (with_config told.setups Second) config)
-    told).setups.second_reader ≡ or_else config told.setups.second_reader
-second_own None told = refl
-second_own (Some config) told = refl
-
-second_other : (config : Option ReaderConfig) (told : Told)
-    → (with_answer (devices.Reader First) (option_map (with_config told.setups First) config)
-    told).setups.second_reader ≡ told.setups.second_reader
-second_other None told = refl
-second_other (Some config) told = refl
-
-first_step : (act : Act) (told : Told) → (learnt_by act told).setups.first_reader
-    ≡ or_else (reader.config_by First act) told.setups.first_reader
+first_step : (act : Act) (told : Told) → (learnt_by act told).setups.first_reader.config
+    ≡ or_else (reader.config_by First act) told.setups.first_reader.config
 first_step (acts.Reply (commands.Changer command) (replies.ChangerSetup table)) told = refl
 first_step (acts.Reply (commands.Changer command) reply) told = refl
 first_step (acts.Reply (commands.Bill command) (replies.BillSetup table)) told = refl
 first_step (acts.Reply (commands.Bill command) reply) told = refl
 first_step (acts.Reply (commands.Reader First command) (replies.Reader list)) told =
-    first_own (last_config list.messages) told
-    ∙ ap (λ c. or_else c told.setups.first_reader) (same_last list.messages)
+    own_config First (last_config list.messages) told
+    ∙ ap (λ c. or_else c told.setups.first_reader.config) (same_last list.messages)
 first_step (acts.Reply (commands.Reader Second command) (replies.Reader list)) told =
-    first_other (last_config list.messages) told
+    ap (λ r. r.config) (other_config (last_config list.messages) told).0
 first_step (acts.Reply (commands.Reader First command) reply) told = refl
 first_step (acts.Reply (commands.Reader Second command) reply) told = refl
 first_step act told = refl
 
-second_step : (act : Act) (told : Told) → (learnt_by act told).setups.second_reader
-    ≡ or_else (reader.config_by Second act) told.setups.second_reader
+second_step : (act : Act) (told : Told) → (learnt_by act told).setups.second_reader.config
+    ≡ or_else (reader.config_by Second act) told.setups.second_reader.config
 second_step (acts.Reply (commands.Changer command) (replies.ChangerSetup table)) told = refl
 second_step (acts.Reply (commands.Changer command) reply) told = refl
 second_step (acts.Reply (commands.Bill command) (replies.BillSetup table)) told = refl
 second_step (acts.Reply (commands.Bill command) reply) told = refl
 second_step (acts.Reply (commands.Reader Second command) (replies.Reader list)) told =
-    second_own (last_config list.messages) told
-    ∙ ap (λ c. or_else c told.setups.second_reader) (same_last list.messages)
+    own_config Second (last_config list.messages) told
+    ∙ ap (λ c. or_else c told.setups.second_reader.config) (same_last list.messages)
 second_step (acts.Reply (commands.Reader First command) (replies.Reader list)) told =
-    second_other (last_config list.messages) told
+    ap (λ r. r.config) (other_config (last_config list.messages) told).1
 second_step (acts.Reply (commands.Reader First command) reply) told = refl
 second_step (acts.Reply (commands.Reader Second command) reply) told = refl
 second_step act told = refl

@@ -193,8 +193,8 @@ pub next_stands : OneActList → (old new : Surveyor) (scope : Scope) (rows : Li
     → ((events : List Event) → follow.HasAccepted old.follower events
     → IsReport (follow.scope_of old.follower) events report)
     → stretch ≡ running_with old report → follow.StandsFor new.follower []
-    → follow.scope_of new.follower ≡ scope_after old.told offence old.scope.without
-    → new.scope ≡ scope_after old.told offence old.scope.without → new.told ≡ old.told
+    → follow.scope_of new.follower ≡ scope_after old.told offence old.scope
+    → new.scope ≡ scope_after old.told offence old.scope → new.told ≡ old.told
     → new.before ≡ old.before + offence.row
     → ((faults : List Offence) → old.faults ≡ counts_of_faults faults
     → new.faults ≡ counts_of_faults (fault_by old.before offence ∷ faults))
@@ -208,9 +208,9 @@ next_stands one old new scope rows row ended offence report stretch on noted rep
     subst (λ s. IsActList s pieces on.running) on.followed_so on.accepted.act_list in
     let known : old.told ≡ told_after on.place.told (acts_of pieces) = on.told pieces list in
     let next : StretchStart = place_after on.place (length on.running) (acts_of pieces) offence in
-    let after : scope_after old.told offence old.scope.without ≡ next.scope =
-    ap (λ (t : Told). scope_after t offence old.scope.without) known
-    ∙ ap (λ (s : Scope). scope_after next.told offence s.without) on.taken_so in
+    let after : scope_after old.told offence old.scope ≡ next.scope =
+    ap (λ (t : Told). scope_after t offence old.scope) known
+    ∙ ap (λ (s : Scope). scope_after next.told offence s) on.taken_so in
     let met : on.offence ≡ offence = some_one on.offence offence (sym on.noted ∙ noted) in
     let is : IsOffence on.place.scope on.running row offence =
     subst (λ o. IsOffence on.place.scope on.running row o) met on.is in

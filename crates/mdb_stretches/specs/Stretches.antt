@@ -15,6 +15,7 @@ use Rattle.mdb_bus.specs.declared.fault.Rule.TheVariants as rules
 use Rattle.mdb_bus.specs.declared.scope.Beginning.TheVariants.{Joined}
 use Rattle.mdb_bus.specs.declared.scope.Scope.{Scope}
 use Rattle.mdb_bus.specs.ActLists.{IsActList, Piece, acts_of}
+use Rattle.mdb_bus.specs.Scopes.{profile_of}
 use Rattle.mdb_follow.specs.declared.offence.Offence.{Offence}
 use Rattle.mdb_follow.specs.declared.report.Report.{Report}
 use Rattle.mdb_follow.specs.Offences.{IsOffence}
@@ -59,12 +60,12 @@ left_out_for broken told blamed without = without
 abbrev pub left_out_after : Told → Offence → DeviceSet → DeviceSet
 left_out_after told offence without = left_out_for offence.rule told offence.blame without
 
--- how the rows after a fault are taken, where so much is told up to it, and these devices were left
--- out: as a recording that begins in mid-session
-abbrev pub scope_after : Told → Offence → DeviceSet → Scope
-scope_after told offence without = record {
-  begins = Joined told.setups;
-  without = left_out_after told offence without;
+-- how the rows after a fault are taken, where so much is told up to it, and those before it were
+-- taken so: as a recording that begins in mid-session, of which the same is followed
+abbrev pub scope_after : Told → Offence → Scope → Scope
+scope_after told offence scope = record {
+  begins = Joined told.setups (profile_of scope.begins);
+  without = left_out_after told offence scope.without;
   levels = told.unanswered;
 }
 
@@ -75,7 +76,7 @@ place_after place rows acts offence =
     record {
       faults = place.faults + 1;
       rows = place.rows + (rows + 1);
-      scope = scope_after told offence place.scope.without;
+      scope = scope_after told offence place.scope;
       told = told;
     }
 

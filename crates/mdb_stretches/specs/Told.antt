@@ -20,8 +20,8 @@ use Rattle.mdb_stretches.specs.declared.told.Told.{Told}
 
 -- the setup data that are known before a recording that begins so
 abbrev pub setups_of : Beginning → Setups
-setups_of PowerOn = nothing_known
-setups_of (Joined setups) = setups
+setups_of (PowerOn profile) = nothing_known
+setups_of (Joined setups profile) = setups
 
 -- before the first row
 abbrev pub told_before : Scope → Told
@@ -33,8 +33,10 @@ told_before scope = record {
 
 -- a config message of a reader answers what the controller told it of its feature level
 abbrev pub answered : Device → Levels → Levels
-answered (devices.Reader First) levels = record levels { first = None }
-answered (devices.Reader Second) levels = record levels { second = None }
+answered (devices.Reader First) levels =
+    record levels { first = record levels.first { asked = None } }
+answered (devices.Reader Second) levels =
+    record levels { second = record levels.second { asked = None } }
 answered device levels = levels
 
 -- what is told once a device's reply tells these setup data, if it tells any
@@ -66,8 +68,8 @@ told_after told (act ∷ acts) = learnt_by act (told_after told acts)
 
 -- what the controller has last told a reader of its feature level
 abbrev pub asked_level : Told → ReaderUnit → Option ℕ
-asked_level told First = told.asked.first
-asked_level told Second = told.asked.second
+asked_level told First = told.asked.first.asked
+asked_level told Second = told.asked.second.asked
 
 -- whether that is a level below 2
 abbrev pub is_told_below_2 : Told → ReaderUnit → Bool

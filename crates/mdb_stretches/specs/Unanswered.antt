@@ -17,8 +17,8 @@ use Rattle.mdb_bus.specs.declared.levels.Levels.{Levels}
 
 -- the level of a reader
 abbrev pub level_of : ReaderUnit → Levels → Option ℕ
-level_of First levels = levels.first
-level_of Second levels = levels.second
+level_of First levels = levels.first.asked
+level_of Second levels = levels.second.asked
 
 -- An act tells this reader this level: it is a whole SETUP config ask.
 pub record TellsLevel (unit : ReaderUnit) (level : ℕ) (act : Act) : Type 0 where

@@ -215,20 +215,20 @@ impl Surveyor {
         self.totals = self.totals.with(&report);
         self.faults.add(&fault);
         self.before = fault.row;
-        self.scope = scope_after(&self.told, &fault, self.scope.without);
+        self.scope = scope_after(&self.told, &fault, &self.scope);
         self.follower = Follower::scoped(&self.scope);
         Ended { stretch, fault }
     }
 }
 
-/// How the rows after a fault are taken, where so much is told up to it, and these devices were
-/// left out.
-fn scope_after(told: &Told, fault: &Offence, without: DeviceSet) -> Scope
-    ensures { result ≡ scope_after told.now fault.now without }
+/// How the rows after a fault are taken, where so much is told up to it, and those before it were
+/// taken so.
+fn scope_after(told: &Told, fault: &Offence, scope: &Scope) -> Scope
+    ensures { result ≡ scope_after told.now fault.now scope.now }
 {
     Scope {
-        begins: Beginning::Joined(told.setups.copy()),
-        without: left_out_after(told, fault, without),
+        begins: Beginning::Joined(told.setups.copy(), scope.begins.profile()),
+        without: left_out_after(told, fault, scope.without),
         levels: told.unanswered,
     }
 }

@@ -7,7 +7,7 @@ ghost use Rattle.mdb_bus.specs.Bus.{ended_act};
 ghost use Rattle.mdb_msgs.specs.SetupData.{known_with};
 ghost use Rattle.mdb_stretches.specs.Told.{answered, is_told_below_2, learnt_by, learnt_if, setups_of, told_before, with_answer};
 
-use mdb_bus::{Act, Beginning, Levels, Scope};
+use mdb_bus::{Act, Beginning, Levels, ReaderLevels, Scope};
 use mdb_msgs::{Command, Device, ReaderCommand, ReaderUnit, Reply, Setups};
 
 /// What the rows so far tell of how the devices are set up, for the next stretch (this profile).
@@ -82,8 +82,8 @@ impl Told {
         ensures { result ≡ is_told_below_2 self.now unit }
     {
         let level = match unit {
-            ReaderUnit::First => self.asked.first,
-            ReaderUnit::Second => self.asked.second,
+            ReaderUnit::First => self.asked.first.asked,
+            ReaderUnit::Second => self.asked.second.asked,
         };
         match level {
             Some(level) => level < 2,
@@ -97,8 +97,8 @@ pub fn setups_of(begins: &Beginning) -> Setups
     ensures { result ≡ setups_of begins.now }
 {
     match begins {
-        Beginning::PowerOn => Setups::NONE,
-        Beginning::Joined(setups) => setups.copy(),
+        Beginning::PowerOn(_) => Setups::NONE,
+        Beginning::Joined(setups, _) => setups.copy(),
     }
 }
 
@@ -108,12 +108,12 @@ fn answered(device: Device, levels: Levels) -> Levels
 {
     match device {
         Device::Reader(ReaderUnit::First) => Levels {
-            first: None,
+            first: ReaderLevels::NONE,
             second: levels.second,
         },
         Device::Reader(ReaderUnit::Second) => Levels {
             first: levels.first,
-            second: None,
+            second: ReaderLevels::NONE,
         },
         _ => levels,
     }

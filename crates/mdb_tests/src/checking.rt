@@ -4,7 +4,7 @@ use super::asserts::{check_gives, same, same_at};
 use super::streams::{ENDED, POLLS, Pieces, ROWS, Sheet, WRONG_SUM, polls};
 use mdb_bus::{Blame, Rule, Scope};
 use mdb_follow::{Account, AskCounts, DeviceFacts, DeviceReport, Offence, Range, Report};
-use mdb_msgs::{Device, DeviceSet, ReaderConfig, Setups};
+use mdb_msgs::{Device, DeviceSet, ReaderConfig, ReaderSetup, Setups};
 use mdb_text::Outcome;
 use mdb_verdict::{RunFault, check, text_of, text_scoped};
 use mdb_words::RowFault;
@@ -150,10 +150,12 @@ const JOINED_TEXT: &[u8] = b"unvalued changer 3 bill 0 cashless 4294967297 cashl
 setup cashless cashless-2\nwithout bill\n";
 
 /// What is known of a reader.
-const CONFIG: ReaderConfig = ReaderConfig {
-    scale: 1,
-    decimals: 2,
-    response: 5,
+const READER: ReaderSetup = ReaderSetup {
+    config: Some(ReaderConfig {
+        scale: 1,
+        decimals: 2,
+        response: 5,
+    }),
 };
 
 /// So do those of a recording that begins in mid-session, and the words of devices after them.
@@ -162,8 +164,8 @@ fn a_joined_report_has_its_further_lines(rt: HostRuntime) {
     let setups = Setups {
         changer: None,
         bill: None,
-        first_reader: Some(CONFIG),
-        second_reader: Some(CONFIG),
+        first_reader: READER,
+        second_reader: READER,
     };
     let scope = Scope::joined(setups, DeviceSet::NONE.with(Device::Bill));
     let text = text_scoped(rt.alloc(), &scope, &each_number()).expect(&rt, "memory");

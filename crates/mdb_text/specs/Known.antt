@@ -8,6 +8,6 @@ abbrev pub known_devices : Setups → DeviceSet
 known_devices setups = record {
   changer = is_some setups.changer;
   bill = is_some setups.bill;
-  first_reader = is_some setups.first_reader;
-  second_reader = is_some setups.second_reader;
+  first_reader = is_some setups.first_reader.config;
+  second_reader = is_some setups.second_reader.config;
 }

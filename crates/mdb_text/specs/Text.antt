@@ -105,8 +105,8 @@ without_line scope = line_of_devices (codes "without") (devices_text scope.witho
 -- what is said of where the recording begins: from power-on on nothing; in mid-session what has no
 -- value, and then the line of the devices of which setup data are known, where there are some
 abbrev pub beginning_text : Beginning → Report → List ℕ
-beginning_text PowerOn report = []
-beginning_text (Joined setups) report =
+beginning_text (PowerOn profile) report = []
+beginning_text (Joined setups profile) report =
     unvalued_line report ++ line_of_devices (codes "setup") (devices_text (known_devices setups))
 
 -- the four lines of a no

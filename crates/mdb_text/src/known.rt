@@ -13,9 +13,9 @@ pub fn known_devices(setups: &Setups) -> DeviceSet
     let first = with_if(DeviceSet::NONE, Device::Changer, setups.changer.is_some());
     let second = with_if(first, Device::Bill, setups.bill.is_some());
     let first_reader = Device::Reader(ReaderUnit::First);
-    let third = with_if(second, first_reader, setups.first_reader.is_some());
+    let third = with_if(second, first_reader, setups.first_reader.config.is_some());
     let second_reader = Device::Reader(ReaderUnit::Second);
-    with_if(third, second_reader, setups.second_reader.is_some())
+    with_if(third, second_reader, setups.second_reader.config.is_some())
 }
 
 /// A set, with a device more where it is known.

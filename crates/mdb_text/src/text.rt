@@ -154,8 +154,8 @@ fn write_beginning<W: Write>(writer: &mut W, begins: &Beginning, report: &Report
         (W.contents writer.new) (beginning_text begins.now report.now)) }
 {
     match begins {
-        Beginning::PowerOn => Ok(()),
-        Beginning::Joined(setups) => {
+        Beginning::PowerOn(_) => Ok(()),
+        Beginning::Joined(setups, _) => {
             write_counts(writer, "unvalued", &report.unvalued())?;
             write_devices(writer, "setup", known_devices(setups))
         }

@@ -4,6 +4,7 @@ use Rattle.mdb_words.specs.declared.event.Event.{Event}
 use Rattle.mdb_words.specs.Row.{IsRefusal, IsRow}
 use Rattle.mdb_bus.specs.declared.levels.Levels.{Levels}
 use Rattle.mdb_bus.specs.declared.scope.Beginning.TheVariants.{PowerOn}
+use Rattle.mdb_bus.specs.declared.scope.Profile.{Profile}
 use Rattle.mdb_bus.specs.declared.scope.Scope.{Scope}
 use Rattle.mdb_bus.specs.ActLists.{acts_of}
 use Rattle.mdb_follow.specs.declared.offence.Offence.{Offence}
@@ -119,8 +120,9 @@ judged_no scope readers limit all met ended =
     }
 
 -- from power-on on each answer is judged
-no_from_power_on : (scope : Scope) (readers : Levels) → scope.begins ≡ PowerOn → (limit : ℕ)
-    (all : List (List (List ℕ))) (offence : Offence) → IsImpossible scope limit all offence
+no_from_power_on : {profile : Profile} (scope : Scope) (readers : Levels)
+    → scope.begins ≡ PowerOn profile → (limit : ℕ) (all : List (List (List ℕ))) (offence : Offence)
+    → IsImpossible scope limit all offence
     → IsJudgedNo scope readers limit all offence None
 no_from_power_on scope readers from limit all offence at =
     let so_far : Reported =
@@ -136,8 +138,9 @@ no_from_power_on scope readers from limit all offence at =
       };
     }
 
-pub from_power_on : (scope : Scope) (readers : Levels) → scope.begins ≡ PowerOn → (limit : ℕ)
-    (all : List (List (List ℕ))) (answer : Result Outcome RunFault)
+pub from_power_on : {profile : Profile} (scope : Scope) (readers : Levels)
+    → scope.begins ≡ PowerOn profile → (limit : ℕ) (all : List (List (List ℕ)))
+    (answer : Result Outcome RunFault)
     → IsAnswer scope limit all answer → IsJudgedAnswer scope readers limit all answer None
 from_power_on scope readers from limit all (Ok (No offence)) is =
     no_from_power_on scope readers from limit all offence is

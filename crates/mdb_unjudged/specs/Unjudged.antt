@@ -76,13 +76,17 @@ reported_by (acts.Ask command) before =
 reported_by (acts.Reply (commands.Reader First command) (replies.Reader list)) before =
     record before {
       by_reader = record before.by_reader {
-        first = option_or (level_told list.messages) before.by_reader.first;
+        first = record before.by_reader.first {
+          asked = option_or (level_told list.messages) before.by_reader.first.asked;
+        };
       };
     }
 reported_by (acts.Reply (commands.Reader Second command) (replies.Reader list)) before =
     record before {
       by_reader = record before.by_reader {
-        second = option_or (level_told list.messages) before.by_reader.second;
+        second = record before.by_reader.second {
+          asked = option_or (level_told list.messages) before.by_reader.second.asked;
+        };
       };
     }
 reported_by act before = before
@@ -109,16 +113,16 @@ abbrev pub known_before : Scope → Levels → Reported
 known_before scope readers = record {
   by_controller = scope.levels;
   by_reader = record {
-    first = level_before scope.without First readers.first;
-    second = level_before scope.without Second readers.second;
+    first = record { asked = level_before scope.without First readers.first.asked };
+    second = record { asked = level_before scope.without Second readers.second.asked };
   };
 }
 
 -- ---- what is judged
 
 abbrev pub level_of : ReaderUnit → Levels → Option ℕ
-level_of First levels = levels.first
-level_of Second levels = levels.second
+level_of First levels = levels.first.asked
+level_of Second levels = levels.second.asked
 
 -- a level is known, and is below 2, or at least 2
 abbrev pub is_low : Option ℕ → Bool
@@ -175,8 +179,8 @@ unjudged true so_far broken blamed (Some begun) =
 
 -- whether a recording begins in mid-session
 abbrev pub is_joined : Beginning → Bool
-is_joined PowerOn = false
-is_joined (Joined setups) = true
+is_joined (PowerOn profile) = false
+is_joined (Joined setups profile) = true
 
 -- The reader of the no at a row after rows, where it isn't judged, or None where it is: by the acts
 -- of the rows before it, by the last block of the controller up to it, and by levels of the readers

@@ -153,7 +153,7 @@ impl TakeRows<Levels> for Judging {
 fn is_joined(begins: &Beginning) -> bool
     ensures { result ≡ spec.is_joined begins.now }
 {
-    matches!(begins, Beginning::Joined(_))
+    matches!(begins, Beginning::Joined(_, _))
 }
 
 /// The byte with which a block of the controller begins, where this row is its word.

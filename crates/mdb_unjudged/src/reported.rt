@@ -8,7 +8,7 @@ ghost use Rattle.mdb_bus.specs.declared.act.Act.TheVariants as acts;
 ghost use Rattle.mdb_bus.specs.Bus.{ended_act};
 ghost use Rattle.mdb_unjudged.specs.Unjudged as spec;
 
-use mdb_bus::{Act, Levels, Scope};
+use mdb_bus::{Act, Levels, ReaderLevels, Scope};
 use mdb_msgs::{Command, Device, DeviceSet, ReaderList, ReaderMsg, ReaderUnit, Reply};
 
 /// The feature levels that were reported last (MDB/ICP 4.3, cashless device). `None` where none is
@@ -17,7 +17,8 @@ use mdb_msgs::{Command, Device, DeviceSet, ReaderList, ReaderMsg, ReaderUnit, Re
 pub struct Reported {
     /// What the controller reported to each reader: Y2 of SETUP config.
     pub by_controller: Levels,
-    /// What each reader reported: Z2 of the config message with which an answer of it begins.
+    /// What each reader reported, as `asked`: Z2 of the config message with which an answer of it
+    /// begins.
     pub by_reader: Levels,
 }
 
@@ -31,8 +32,12 @@ impl Reported {
         Reported {
             by_controller: scope.levels,
             by_reader: Levels {
-                first: level_before(scope.without, ReaderUnit::First, first),
-                second: level_before(scope.without, ReaderUnit::Second, second),
+                first: ReaderLevels {
+                    asked: level_before(scope.without, ReaderUnit::First, first.asked),
+                },
+                second: ReaderLevels {
+                    asked: level_before(scope.without, ReaderUnit::Second, second.asked),
+                },
             },
         }
     }
@@ -67,8 +72,10 @@ impl Reported {
     {
         let level = level_told(list);
         match unit {
-            ReaderUnit::First => self.by_reader.first = level.or(self.by_reader.first),
-            ReaderUnit::Second => self.by_reader.second = level.or(self.by_reader.second),
+            ReaderUnit::First => self.by_reader.first.asked = level.or(self.by_reader.first.asked),
+            ReaderUnit::Second => {
+                self.by_reader.second.asked = level.or(self.by_reader.second.asked)
+            }
         }
     }
 }

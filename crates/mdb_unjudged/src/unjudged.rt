@@ -57,8 +57,8 @@ fn level_of(unit: ReaderUnit, levels: Levels) -> Option<u8>
     ensures { result ≡ spec.level_of unit levels }
 {
     match unit {
-        ReaderUnit::First => levels.first,
-        ReaderUnit::Second => levels.second,
+        ReaderUnit::First => levels.first.asked,
+        ReaderUnit::Second => levels.second.asked,
     }
 }
 

@@ -53,7 +53,7 @@ pub fn judge_records<R: Read + Drop, W: Write>(
     ensures leaves { Leaves W.contents (answer_text form scope.now) RunFault.Write writer.old
         writer.new result.answer }
 {
-    if let Beginning::PowerOn = scope.begins {
+    if let Beginning::PowerOn(_) = scope.begins {
         return Judged {
             answer: check_records(alloc, form, scope, records, writer, rows_max),
             unjudged: None,

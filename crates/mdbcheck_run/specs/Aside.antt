@@ -48,8 +48,8 @@ IsLevelGiven words unit None = HasLevel1 words unit → ⊥
 IsLevelGiven words unit (Some level) = (level ≡ 1) × HasLevel1 words unit
 
 pub record AreLevelsGiven (words : List (List ℕ)) (readers : Levels) : Type 0 where
-  pub first : IsLevelGiven words First readers.first
-  pub second : IsLevelGiven words Second readers.second
+  pub first : IsLevelGiven words First readers.first.asked
+  pub second : IsLevelGiven words Second readers.second.asked
 
 -- The reader of an answer of `check` to a text, with this status: of a no that isn't judged, and of
 -- no other answer.

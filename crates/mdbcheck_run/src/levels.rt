@@ -5,7 +5,7 @@ ghost use Rattle.mdb_msgs.specs.declared.command.Device.TheVariants.{Reader};
 ghost use Rattle.mdbcheck_run.specs.Aside.{AreLevelsGiven, IsLevelGiven};
 ghost use Rattle.mdbcheck_run.specs.Program.{setup_text};
 
-use mdb_bus::Levels;
+use mdb_bus::{Levels, ReaderLevels};
 use mdb_msgs::ReaderUnit;
 
 /// The levels of the readers that the words of a command line give.
@@ -13,8 +13,12 @@ pub(crate) fn levels_given(words: &[String]) -> Levels
     ensures { AreLevelsGiven (map string_bytes words.now) result }
 {
     Levels {
-        first: level_given(words, ReaderUnit::First),
-        second: level_given(words, ReaderUnit::Second),
+        first: ReaderLevels {
+            asked: level_given(words, ReaderUnit::First),
+        },
+        second: ReaderLevels {
+            asked: level_given(words, ReaderUnit::Second),
+        },
     }
 }
 

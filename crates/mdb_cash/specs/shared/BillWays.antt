@@ -9,6 +9,7 @@ use Rattle.mdb_msgs.specs.declared.command.Command.TheVariants.{Changer, Bill, R
 use Rattle.mdb_bus.specs.declared.act.Act.{Act}
 use Rattle.mdb_bus.specs.declared.scope.Beginning.{Beginning}
 use Rattle.mdb_bus.specs.declared.scope.Beginning.TheVariants.{PowerOn}
+use Rattle.mdb_bus.specs.declared.scope.Profile.{Profile}
 use Rattle.mdb_cash.specs.declared.bill.activity.BillActivity.{BillActivity}
 use Rattle.mdb_cash.specs.declared.bill.activity.BillActivity.TheVariants as activity
 use Rattle.mdb_cash.specs.declared.bill.activity.BillActivity.TheVariants.{Stacked}
@@ -107,15 +108,15 @@ known_settles known act asked kept =
     ap (λ a. settled tables a known.knows_kept act) asked
     ∙ ap (λ k. settled tables true k act) kept ∙ all_settled tables act
 
-pub settled_from_power_on : (known : Value) (so_far : List Act) (act : Act)
-    → known_in known ≡ known_of PowerOn so_far
+pub settled_from_power_on : (profile : Profile) (known : Value) (so_far : List Act) (act : Act)
+    → known_in known ≡ known_of (PowerOn profile) so_far
     → settled tables known.knows_asked known.knows_kept act ≡ true
-settled_from_power_on known so_far act is = known_settles known act
+settled_from_power_on profile known so_far act is = known_settles known act
     (knows known.knows_asked known.facts.last_asked _ (ap (λ k. k.last_asked) is)
-    (all_known None
+    (all_known profile None
     (option_map (λ (a : Infallible). Some a) (last_told (asked_by tables) so_far))))
     (knows known.knows_kept known.facts.past.last_kept.items _ (ap (λ k. k.past.last_kept) is)
-    (all_known [] (last_list (parts_by tables) so_far)))
+    (all_known profile [] (last_list (parts_by tables) so_far)))
 
 pub untold : (begins : Beginning) (so_far : List Act) (act : Act)
     → (IsActOf devices.Bill act → ⊥) → unvalued begins (act ∷ so_far) ≡ unvalued begins so_far

@@ -6,6 +6,7 @@ use Rattle.mdb_bus.specs.declared.act.Act.{Act}
 use Rattle.mdb_bus.specs.declared.act.Act.TheVariants as acts
 use Rattle.mdb_bus.specs.declared.scope.Beginning.{Beginning}
 use Rattle.mdb_bus.specs.declared.scope.Beginning.TheVariants.{PowerOn, Joined}
+use Rattle.mdb_bus.specs.declared.scope.Profile.{Profile}
 use Rattle.mdb_machine.specs.declared.choice.Choice.{Choice}
 use Rattle.mdb_machine.specs.declared.gains.Gains.{Gains}
 use Rattle.mdb_machine.specs.Known.{Allows, AllowsKept, Known, Unknown, Is, known_by}
@@ -24,8 +25,8 @@ use Rattle.mdb_cashless.specs.ReaderValues.{known_in, settled}
 -- a reader may start in its power-on state, wherever a recording begins
 pub starts_in : (begins : Beginning) (state : ReaderState) → state ≡ power_on
     → StartsIn power_on begins state
-starts_in PowerOn state is = is
-starts_in (Joined setups) state is = tt
+starts_in (PowerOn profile) state is = is
+starts_in (Joined setups profile) state is = tt
 
 -- there are facts that may be
 some_of : {X : Type 0} (known : Known (Option X)) → (x : Option X) × Allows known x
@@ -87,11 +88,11 @@ as_choice unit known act choice other before after gains each step =
     record { facts = step.facts; allowed = step.allowed; step = each step.facts step.step }
 
 -- from power-on all is known
-all_known : {X : Type 0} (knows : Bool) (x none : X) (told : Option X)
-    → if_known knows x ≡ known_by PowerOn none told → knows ≡ true
-all_known true x none told same = refl
-all_known false x none (Some y) same = absurd cc
-all_known false x none None same = absurd cc
+all_known : {X : Type 0} (profile : Profile) (knows : Bool) (x none : X) (told : Option X)
+    → if_known knows x ≡ known_by (PowerOn profile) none told → knows ≡ true
+all_known profile true x none told same = refl
+all_known profile false x none (Some y) same = absurd cc
+all_known profile false x none None same = absurd cc
 
 settles : (unit : ReaderUnit) (known : ReaderKnown) (act : Act) → known.knows_asked ≡ true
     → known.knows_taken ≡ true → known.knows_kept ≡ true → settled unit known act ≡ true
@@ -100,9 +101,10 @@ settles unit known (acts.Ack command) asked taken kept = rw taken refl
 settles unit known (acts.Reply command reply) asked taken kept = rw (taken, kept) refl
 settles unit known act asked taken kept = refl
 
-pub settled_from_power_on : (unit : ReaderUnit) (known : ReaderKnown) (so_far : List Act)
-    (act : Act) → known_in known ≡ known_of PowerOn unit so_far → settled unit known act ≡ true
-settled_from_power_on unit known so_far act is = settles unit known act
-    (all_known known.knows_asked _ None _ (ap (λ (k : KnownFacts). k.asked) is))
-    (all_known known.knows_taken _ None _ (ap (λ (k : KnownFacts). k.taken) is))
-    (all_known known.knows_kept _ [] _ (ap (λ (k : KnownFacts). k.past.last_kept) is))
+pub settled_from_power_on : (unit : ReaderUnit) (profile : Profile) (known : ReaderKnown)
+    (so_far : List Act) (act : Act) → known_in known ≡ known_of (PowerOn profile) unit so_far
+    → settled unit known act ≡ true
+settled_from_power_on unit profile known so_far act is = settles unit known act
+    (all_known profile known.knows_asked _ None _ (ap (λ (k : KnownFacts). k.asked) is))
+    (all_known profile known.knows_taken _ None _ (ap (λ (k : KnownFacts). k.taken) is))
+    (all_known profile known.knows_kept _ [] _ (ap (λ (k : KnownFacts). k.past.last_kept) is))

@@ -53,14 +53,14 @@ impl ReaderFacts {
         ensures past { past_in result.past ≡ first_past begins.now }
     {
         match begins {
-            Beginning::PowerOn => ReaderFacts {
+            Beginning::PowerOn(_) => ReaderFacts {
                 config: None,
                 asked: None,
                 taken: None,
                 amount: None,
                 past: Past::start(),
             },
-            Beginning::Joined(setups) => ReaderFacts {
+            Beginning::Joined(setups, _) => ReaderFacts {
                 config: setups.config(unit),
                 asked: None,
                 taken: None,

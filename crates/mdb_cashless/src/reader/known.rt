@@ -153,7 +153,7 @@ impl ReaderKnown {
 fn is_power_on(begins: &Beginning) -> bool
     ensures { result ≡ from_power_on begins.now }
 {
-    matches!(begins, Beginning::PowerOn)
+    matches!(begins, Beginning::PowerOn(_))
 }
 
 /// The transaction command to this reader that a command is.

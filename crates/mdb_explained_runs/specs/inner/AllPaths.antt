@@ -6,6 +6,7 @@ use Rattle.mdb_msgs.specs.declared.command.Device.TheVariants as devices
 use Rattle.mdb_msgs.specs.declared.command.ReaderUnit.TheVariants as units
 use Rattle.mdb_bus.specs.declared.act.Act.{Act}
 use Rattle.mdb_bus.specs.declared.scope.Beginning.TheVariants.{PowerOn}
+use Rattle.mdb_bus.specs.declared.scope.Profile.TheVariants.{Base}
 use Rattle.mdb_bus.specs.ActLists.{Piece, Whole, acts_of, events_of}
 use Rattle.mdb_follow.specs.declared.account_name.AccountName.{AccountName}
 use Rattle.mdb_explained_runs.specs.declared.explain.all_paths.AllPaths.{AllPaths}
@@ -50,8 +51,9 @@ paths_in all (devices.Reader units.Second) = all.second_reader
 -- They are those through the acts of pieces.
 abbrev pub ArePathsOf : Goal → List Piece → AllPaths → Device → Type 0
 ArePathsOf goal pieces all device =
-    ArePaths (stands_for PowerOn device) (code_of device) device (machine_of PowerOn device)
-    (weight_for goal device) all.chains.links.items pieces (paths_in all device)
+    ArePaths (stands_for (PowerOn Base) device) (code_of device) device
+    (machine_of (PowerOn Base) device) (weight_for goal device) all.chains.links.items pieces
+    (paths_in all device)
 
 -- and those of each device are
 abbrev pub AreAllPaths : Goal → List Piece → AllPaths → Type 0
@@ -69,7 +71,7 @@ AreAllWithin limit all = (device : Device) → AreWithinOf limit all device
 
 -- what is kept of a device's facts is what is known after acts, and so it is of each device
 abbrev pub AreFactsOf : List Act → AllPaths → Device → Type 0
-AreFactsOf acts all device = stands_for PowerOn device (paths_in all device).facts acts
+AreFactsOf acts all device = stands_for (PowerOn Base) device (paths_in all device).facts acts
 
 abbrev pub AreAllFacts : List Act → AllPaths → Type 0
 AreAllFacts acts all = (device : Device) → AreFactsOf acts all device
@@ -92,13 +94,13 @@ pub record OneLeadsPaths (device : Device) (goal : Goal) (act : Act) (row : ℕ)
 abbrev pub HasNoWay : List Piece → Act → Device → Type 0
 HasNoWay pieces act device =
     (choices : Choices (act ∷ acts_of pieces)) (state : StateOf device) (sums : Sums)
-    → Follows (machine_of PowerOn device) (act ∷ acts_of pieces) choices state sums → ⊥
+    → Follows (machine_of (PowerOn Base) device) (act ∷ acts_of pieces) choices state sums → ⊥
 
 -- a device has a way through the acts of pieces
 abbrev pub HasWay : List Piece → Device → Type 0
 HasWay pieces device =
     (state : StateOf device) × (sums : Sums) × (choices : Choices (acts_of pieces))
-    × Follows (machine_of PowerOn device) (acts_of pieces) choices state sums
+    × Follows (machine_of (PowerOn Base) device) (acts_of pieces) choices state sums
 
 -- Marks are those of a best way of a device through the acts of pieces: each of its ways counts at
 -- least as much for the goal, and where it counts the same it has at least as many marks.
@@ -107,11 +109,11 @@ pub record AreBestMarks (goal : Goal) (pieces : List Piece) (device : Device)
   pub state : StateOf device
   pub sums : Sums
   pub choices : Choices (acts_of pieces)
-  pub way : Follows (machine_of PowerOn device) (acts_of pieces) choices state sums
+  pub way : Follows (machine_of (PowerOn Base) device) (acts_of pieces) choices state sums
   pub are : marks ≡ own_marks device pieces choices
   pub least : (other_state : StateOf device) (other_sums : Sums)
       (other : Choices (acts_of pieces))
-      → Follows (machine_of PowerOn device) (acts_of pieces) other other_state other_sums
+      → Follows (machine_of (PowerOn Base) device) (acts_of pieces) other other_state other_sums
       → IsAsGood (weigh (weight_for goal device) sums) (length marks)
       (weigh (weight_for goal device) other_sums) (length (own_marks device pieces other))
 

@@ -5,6 +5,7 @@ ghost use Rattle.std.specs.Prelude.{Contains, IfOk, IfSome, length};
 ghost use Rattle.std.specs.Bool.{OnFalse, OnTrue};
 ghost use Rattle.mdb_bus.specs.declared.act.Act.{Act};
 ghost use Rattle.mdb_bus.specs.declared.scope.Beginning.TheVariants.{PowerOn};
+ghost use Rattle.mdb_bus.specs.declared.scope.Profile.TheVariants.{Base};
 ghost use Rattle.mdb_bus.specs.ActLists.{Piece, Whole, acts_of, events_of};
 ghost use Rattle.mdb_machine.specs.Choices.{CanStand};
 ghost use Rattle.mdb_machine.specs.Pair.{IsActOf};
@@ -23,7 +24,7 @@ ghost use Rattle.mdb_explained_runs.specs.declared.explain.best.Weight.{Weight};
 
 use super::best::{Best, Weight, marks_of};
 use super::chains::Chains;
-use mdb_bus::{Act, Beginning};
+use mdb_bus::{Act, Beginning, Profile};
 use mdb_machine::{Choice, Pair, other_choice};
 use std::alloc::{AllocError, Global};
 use std::mem;
@@ -59,13 +60,13 @@ pub(crate) fn start<P: Pair, const N: usize>(
 ) -> Result<Paths<P::Facts, N>, AllocError>
     requires { N ≡ P.CODES }
     ensures stands { IfOk result (λ paths. (weight : Weight) (links : List Link)
-        → ArePaths (P.stands_for PowerOn) P.code_of P.device (P.machine PowerOn) weight links []
-        paths) }
+        → ArePaths (P.stands_for (PowerOn Base)) P.code_of P.device (P.machine (PowerOn Base))
+        weight links [] paths) }
     ensures within { IfOk result (λ paths. (links : List Link)
         → AreEntriesWithin P.CODES 0 links paths.entries.items) }
 {
     let entries = starts::<P>(alloc)?;
-    let facts = P::facts_start(&Beginning::PowerOn);
+    let facts = P::facts_start(&Beginning::PowerOn(Profile::Base));
     Ok(Paths {
         facts,
         entries,
@@ -82,12 +83,12 @@ pub(crate) fn start<P: Pair, const N: usize>(
 ///
 /// Memory was refused.
 fn starts<P: Pair>(alloc: Global) -> Result<Vec<(usize, Best)>, AllocError>
-    ensures { IfOk result (λ entries. AreStarts P.CODES P.code_of (P.machine PowerOn) P.CODES
+    ensures { IfOk result (λ entries. AreStarts P.CODES P.code_of (P.machine (PowerOn Base)) P.CODES
         entries.items) }
 {
     let mut entries = Vec::new(alloc);
     for code in 0..P::CODES {
-        if P::may_start(&Beginning::PowerOn, P::state(code)) {
+        if P::may_start(&Beginning::PowerOn(Profile::Base), P::state(code)) {
             entries.push((code, Best::NOTHING))?;
         }
     }
@@ -108,20 +109,20 @@ pub(crate) fn lead<P: Pair, const N: usize>(
     row: u64,
 ) -> Result<bool, AllocError>
     requires size { N ≡ P.CODES }
-    requires stands { (acts : List Act) × P.stands_for PowerOn paths.old.facts acts }
+    requires stands { (acts : List Act) × P.stands_for (PowerOn Base) paths.old.facts acts }
     requires within { AreEntriesWithin P.CODES (2 ^ 62) chains.old.links.items
         paths.old.entries.items }
     ensures led { IfOk result (λ goes. OnTrue goes ((pieces : List Piece) (events : List Event)
         → row ≡ length (events_of pieces ++ events)
-        → ArePaths (P.stands_for PowerOn) P.code_of P.device (P.machine PowerOn) weight.now
-        chains.old.links.items pieces paths.old
-        → ArePaths (P.stands_for PowerOn) P.code_of P.device (P.machine PowerOn) weight.now
-        chains.new.links.items (Whole act.now events ∷ pieces) paths.new)) }
+        → ArePaths (P.stands_for (PowerOn Base)) P.code_of P.device (P.machine (PowerOn Base))
+        weight.now chains.old.links.items pieces paths.old
+        → ArePaths (P.stands_for (PowerOn Base)) P.code_of P.device (P.machine (PowerOn Base))
+        weight.now chains.new.links.items (Whole act.now events ∷ pieces) paths.new)) }
     ensures none { IfOk result (λ goes. OnFalse goes ((pieces : List Piece)
-        → ArePaths (P.stands_for PowerOn) P.code_of P.device (P.machine PowerOn) weight.now
-        chains.old.links.items pieces paths.old
+        → ArePaths (P.stands_for (PowerOn Base)) P.code_of P.device (P.machine (PowerOn Base))
+        weight.now chains.old.links.items pieces paths.old
         → (choices : Choices (act.now ∷ acts_of pieces)) (state : P.State) (sums : Sums)
-        → Follows (P.machine PowerOn) (act.now ∷ acts_of pieces) choices state sums → ⊥)) }
+        → Follows (P.machine (PowerOn Base)) (act.now ∷ acts_of pieces) choices state sums → ⊥)) }
     ensures within { IfOk result (λ _. (limit : ℕ)
         → AreEntriesWithin P.CODES limit chains.old.links.items paths.old.entries.items
         → AreEntriesWithin P.CODES (limit + 2 ^ 32) chains.new.links.items
@@ -153,7 +154,7 @@ pub(crate) fn lead<P: Pair, const N: usize>(
 fn matters<P: Pair, const N: usize>(act: &Act, paths: &Paths<P::Facts, N>) -> bool
     requires { AreBelow P.CODES paths.now.entries.items }
     ensures own { OnTrue result (IsActOf P.device act.now) }
-    ensures still { OnFalse result (AllRest P.code_of (P.machine PowerOn) act.now
+    ensures still { OnFalse result (AllRest P.code_of (P.machine (PowerOn Base)) act.now
         paths.now.entries.items) }
 {
     if !P::concerns(act) {
@@ -168,7 +169,7 @@ fn matters<P: Pair, const N: usize>(act: &Act, paths: &Paths<P::Facts, N>) -> bo
 /// Whether an act leaves the states of all entries, and the sums.
 fn all_rest<P: Pair>(act: &Act, entries: &[(usize, Best)]) -> bool
     requires { AreBelow P.CODES entries.now }
-    ensures { OnTrue result (AllRest P.code_of (P.machine PowerOn) act.now entries.now) }
+    ensures { OnTrue result (AllRest P.code_of (P.machine (PowerOn Base)) act.now entries.now) }
 {
     for (code, _) in entries {
         if !P::rests(act, P::state(*code)) {
@@ -212,8 +213,8 @@ fn fill<P: Pair, const N: usize>(
     requires size { N ≡ P.CODES }
     requires settled { P.settled facts.now act.now ≡ true }
     requires within { AreEntriesWithin P.CODES (2 ^ 62) chains.old.links.items from.now }
-    ensures led { IfOk result (λ _. (acts : List Act) → P.stands_for PowerOn facts.now acts
-        → AreLed P.CODES (CanStand act.now) P.code_of ((P.machine PowerOn).Step acts act.now)
+    ensures led { IfOk result (λ _. (acts : List Act) → P.stands_for (PowerOn Base) facts.now acts
+        → AreLed P.CODES (CanStand act.now) P.code_of ((P.machine (PowerOn Base)).Step acts act.now)
         weight.now row chains.old.links.items chains.new.links.items from.now
         room.new.entries.items) }
     ensures kept { KeepChains chains.old.links.items chains.new.links.items }
@@ -242,10 +243,10 @@ fn take_steps<P: Pair, const N: usize>(
     requires size { N ≡ P.CODES }
     requires settled { P.settled facts.now act.now ≡ true }
     requires within { IsEntryWithin P.CODES (2 ^ 62) chains.old.links.items entry.now }
-    ensures takes { IfOk result (λ _. (acts : List Act) → P.stands_for PowerOn facts.now acts
-        → TakesSteps P.CODES (CanStand act.now) P.code_of ((P.machine PowerOn).Step acts act.now)
-        weight.now row chains.old.links.items chains.new.links.items entry.now
-        room.old.entries.items room.new.entries.items) }
+    ensures takes { IfOk result (λ _. (acts : List Act) → P.stands_for (PowerOn Base) facts.now acts
+        → TakesSteps P.CODES (CanStand act.now) P.code_of
+        ((P.machine (PowerOn Base)).Step acts act.now) weight.now row chains.old.links.items
+        chains.new.links.items entry.now room.old.entries.items room.new.entries.items) }
     ensures kept { KeepChains chains.old.links.items chains.new.links.items }
 {
     take_step::<P, N>(facts, act, row, weight, Choice::Plain, entry, room, chains)?;
@@ -278,9 +279,9 @@ fn take_step<P: Pair, const N: usize>(
     requires settled { P.settled facts.now act.now ≡ true }
     requires can { CanStand act.now choice }
     requires within { IsEntryWithin P.CODES (2 ^ 62) chains.old.links.items entry.now }
-    ensures takes { IfOk result (λ _. (acts : List Act) → P.stands_for PowerOn facts.now acts
+    ensures takes { IfOk result (λ _. (acts : List Act) → P.stands_for (PowerOn Base) facts.now acts
         → TakesSteps P.CODES (λ one. one ≡ choice) P.code_of
-        ((P.machine PowerOn).Step acts act.now) weight.now row chains.old.links.items
+        ((P.machine (PowerOn Base)).Step acts act.now) weight.now row chains.old.links.items
         chains.new.links.items entry.now room.old.entries.items room.new.entries.items) }
     ensures kept { KeepChains chains.old.links.items chains.new.links.items }
 {

@@ -10,6 +10,7 @@ use Rattle.mdb_machine.specs.KeeperSteps.{Conduct, KeeperStep, StepKnowing}
 use Rattle.mdb_bus.specs.declared.act.Act.TheVariants as acts
 use Rattle.mdb_bus.specs.declared.scope.Beginning.{Beginning}
 use Rattle.mdb_bus.specs.declared.scope.Beginning.TheVariants.{PowerOn, Joined}
+use Rattle.mdb_bus.specs.declared.scope.Profile.{Profile}
 use Rattle.mdb_machine.specs.KeeperValues.{settled}
 use Rattle.mdb_machine.specs.PastValues.{if_known}
 use Rattle.mdb_machine.specs.Machine.{StartsIn}
@@ -19,14 +20,14 @@ use Rattle.mdb_machine.specs.Gains.{Stays}
 -- a machine may start in its power-on state, wherever a recording begins
 pub starts_in : {State : Type 0} (power_on : State) (begins : Beginning) (state : State)
     → state ≡ power_on → StartsIn power_on begins state
-starts_in power_on PowerOn state is = is
-starts_in power_on (Joined setups) state is = tt
+starts_in power_on (PowerOn profile) state is = is
+starts_in power_on (Joined setups profile) state is = tt
 
 -- from power-on all is known
-pub all_known : {X : Type 0} (none : X) (told : Option X)
-    → (x : X) × (known_by PowerOn none told ≡ Is x)
-all_known none (Some x) = (x, refl)
-all_known none None = (none, refl)
+pub all_known : {X : Type 0} (profile : Profile) (none : X) (told : Option X)
+    → (x : X) × (known_by (PowerOn profile) none told ≡ Is x)
+all_known profile none (Some x) = (x, refl)
+all_known profile none None = (none, refl)
 
 pub knows : {X : Type 0} (knows : Bool) (x : X) (known : Known X) → if_known knows x ≡ known
     → (y : X) × (known ≡ Is y) → knows ≡ true

@@ -119,12 +119,12 @@ same_known_past {M} {one} {other} enabled reset_owed kept =
 runs_less : (begins : Beginning) (effect_of : Command → Effect) (act : Act) (acts : List Act)
     → runs_on begins effect_of (act ∷ acts)
     ≡ (if powers_on effect_of act then false else runs_on begins effect_of acts)
-runs_less PowerOn effect_of act acts =
+runs_less (PowerOn profile) effect_of act acts =
     elim (powers_on effect_of act) as (λ b. false ≡ (if b then false else false)) [
       | true ↦ refl
       | false ↦ refl
     ]
-runs_less (Joined setups) effect_of act acts =
+runs_less (Joined setups profile) effect_of act acts =
     elim (powers_on effect_of act) as (λ b. not (b || list_any (powers_on effect_of) acts)
     ≡ (if b then false else not (list_any (powers_on effect_of) acts))) [
       | true ↦ refl

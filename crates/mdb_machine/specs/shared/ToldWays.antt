@@ -6,6 +6,7 @@ use Rattle.std.proofs.Common.{ap, ◌∙◌}
 use Rattle.mdb_msgs.specs.declared.setups.Setups.{Setups}
 use Rattle.mdb_bus.specs.declared.act.Act.{Act}
 use Rattle.mdb_bus.specs.declared.scope.Beginning.TheVariants.{Joined}
+use Rattle.mdb_bus.specs.declared.scope.Profile.{Profile}
 use Rattle.mdb_machine.specs.Known.{Allows, AllowsKept, known_by}
 use Rattle.mdb_machine.specs.Past.{last_told, or_else, unless_empty}
 
@@ -57,44 +58,50 @@ not_not a true = refl
 not_not a false = refl
 
 -- what may be is what was told, if something was
-pub allows_if : {X : Type 0} (setups : Setups) (none : X) (told : Option X) (x : X)
+pub allows_if : {X : Type 0} (setups : Setups) (profile : Profile) (none : X) (told : Option X)
+    (x : X)
     → ((told ≡ None → ⊥) → x ≡ unwrap_or told none)
-    → Allows (known_by (Joined setups) none told) x
-allows_if setups none None x is = tt
-allows_if setups none (Some y) x is = is (λ same. absurd cc)
+    → Allows (known_by (Joined setups profile) none told) x
+allows_if setups profile none None x is = tt
+allows_if setups profile none (Some y) x is = is (λ same. absurd cc)
 
-pub as_allowed : {X : Type 0} (setups : Setups) (none : X) (told : Option X) (x : X)
-    → Allows (known_by (Joined setups) none told) x → (told ≡ None → ⊥)
+pub as_allowed : {X : Type 0} (setups : Setups) (profile : Profile) (none : X) (told : Option X)
+    (x : X)
+    → Allows (known_by (Joined setups profile) none told) x → (told ≡ None → ⊥)
     → x ≡ unwrap_or told none
-as_allowed setups none None x allows known = absurd (known refl)
-as_allowed setups none (Some y) x allows known = allows
+as_allowed setups profile none None x allows known = absurd (known refl)
+as_allowed setups profile none (Some y) x allows known = allows
 
-pub allows_told : {X : Type 0} (setups : Setups) (told : Option X)
-    → Allows (known_by (Joined setups) None (option_map (λ (x : X). Some x) told)) told
-allows_told setups None = tt
-allows_told setups (Some x) = refl
+pub allows_told : {X : Type 0} (setups : Setups) (profile : Profile) (told : Option X)
+    → Allows (known_by (Joined setups profile) None (option_map (λ (x : X). Some x) told)) told
+allows_told setups profile None = tt
+allows_told setups profile (Some x) = refl
 
-pub asked_so : {X : Type 0} (setups : Setups) (told asked : Option X)
-    → Allows (known_by (Joined setups) None (option_map (λ (x : X). Some x) told)) asked
+pub asked_so : {X : Type 0} (setups : Setups) (profile : Profile) (told asked : Option X)
+    → Allows (known_by (Joined setups profile) None (option_map (λ (x : X). Some x) told)) asked
     → (told ≡ None → ⊥) → asked ≡ told
-asked_so setups None asked allows known = absurd (known refl)
-asked_so setups (Some x) asked allows known = allows
+asked_so setups profile None asked allows known = absurd (known refl)
+asked_so setups profile (Some x) asked allows known = allows
 
-pub keeps_if : {M : Type 0} (setups : Setups) (holds : Bool) (told : Option (List M))
-    (kept : List M) → (told ≡ None → kept ≢ []) → ((told ≡ None → ⊥) → kept ≡ unwrap_or told [])
-    → AllowsKept (known_by (Joined setups) [] told) holds kept
-keeps_if setups holds None kept some is = λ held. some refl
-keeps_if setups holds (Some list) kept some is = is (λ same. absurd cc)
+pub keeps_if : {M : Type 0} (setups : Setups) (profile : Profile) (holds : Bool)
+    (told : Option (List M)) (kept : List M) → (told ≡ None → kept ≢ [])
+    → ((told ≡ None → ⊥) → kept ≡ unwrap_or told [])
+    → AllowsKept (known_by (Joined setups profile) [] told) holds kept
+keeps_if setups profile holds None kept some is = λ held. some refl
+keeps_if setups profile holds (Some list) kept some is = is (λ same. absurd cc)
 
-pub kept_so : {M : Type 0} (setups : Setups) (holds : Bool) (told : Option (List M)) (kept : List M)
-    → AllowsKept (known_by (Joined setups) [] told) holds kept → (told ≡ None → ⊥)
+pub kept_so : {M : Type 0} (setups : Setups) (profile : Profile) (holds : Bool)
+    (told : Option (List M)) (kept : List M)
+    → AllowsKept (known_by (Joined setups profile) [] told) holds kept → (told ≡ None → ⊥)
     → kept ≡ unwrap_or told []
-kept_so setups holds None kept allows known = absurd (known refl)
-kept_so setups holds (Some list) kept allows known = allows
+kept_so setups profile holds None kept allows known = absurd (known refl)
+kept_so setups profile holds (Some list) kept allows known = allows
 
 -- a last kept list that may be: what was told, and where nothing was, some list
-pub kept_told : {M : Type 0} → M → (setups : Setups) (holds : Bool) (told : Option (List M))
-    → (kept : List M) × AllowsKept (known_by (Joined setups) [] told) holds kept
+pub kept_told : {M : Type 0} → M → (setups : Setups) (profile : Profile) (holds : Bool)
+    (told : Option (List M))
+    → (kept : List M) × AllowsKept (known_by (Joined setups profile) [] told) holds kept
     × ((told ≡ None → ⊥) → kept ≡ unwrap_or told [])
-kept_told some setups holds None = (some ∷ [], λ held empty. absurd cc, λ told. absurd (told refl))
-kept_told some setups holds (Some list) = (list, refl, λ told. refl)
+kept_told some setups profile holds None =
+    (some ∷ [], λ held empty. absurd cc, λ told. absurd (told refl))
+kept_told some setups profile holds (Some list) = (list, refl, λ told. refl)

@@ -5,9 +5,9 @@ ghost use Rattle.std.specs.List.{flat_map, list_any};
 ghost use Rattle.mdb_msgs.specs.declared.fault.MsgFault.{MsgFault as Fault};
 ghost use Rattle.mdb_msgs.specs.declared.fault.MsgFault.TheVariants.{Message};
 ghost use Rattle.mdb_msgs.specs.TwoBytes.{two_bytes};
-ghost use Rattle.mdb_msgs.specs.Reader.{head_bytes, reader_msg_bytes, reader_list_bytes, is_display, is_id, is_kept, tells_level, text_of, IsDisplayLast, IsListFault, IsReaderBlock, IsReaderList, NoReaderMsg, ReaderStopsAt};
+ghost use Rattle.mdb_msgs.specs.Reader.{head_bytes, reader_msg_bytes, reader_list_bytes, is_display, is_id, is_kept, tells_level, text_of, IsListFault, IsReaderBlock, IsReaderList, IsTextOf, NoReaderMsg, ReaderStopsAt};
 ghost use Rattle.mdb_msgs.specs.ReaderBytes.{messages_of, no_messages};
-ghost use Rattle.mdb_msgs.specs.inner.ReaderSteps.{IsTextOf, IsNextMessage, StandAsMessages};
+ghost use Rattle.mdb_msgs.specs.inner.ReaderSteps.{IsNextMessage, StandAsMessages};
 
 use super::list::{Bytes, append, list_of};
 use crate::fault::MsgFault;
@@ -194,10 +194,18 @@ impl ReaderList {
         if bytes.is_empty() {
             return Err(MsgFault::Length);
         }
-        if !are_valid(messages, id, text) {
-            return Err(MsgFault::Message);
+        read_as(bytes.as_slice(), messages, id, text).ok_or(MsgFault::Message)
+    }
+
+    /// Whether it has these messages and texts.
+    fn has(&self, messages: &[ReaderMsg], id: &[u8; 29], text: &[u8]) -> bool
+        ensures { IsTrue result ↔
+            self.now ≡ record { messages = messages.now; id = id.now; text = text.now } }
+    {
+        if !are_same(self.messages().as_slice(), messages) || self.id() != *id {
+            return false;
         }
-        Ok(ReaderList { bytes })
+        self.text() == text
     }
 
     /// The same list again.
@@ -387,51 +395,27 @@ fn bytes_of(messages: &[ReaderMsg], id: &[u8; 29], text: &[u8]) -> Option<Bytes>
     Some(bytes)
 }
 
-/// Whether a display request is last, and each text is blank where no message has it.
-fn are_valid(messages: &[ReaderMsg], id: &[u8; 29], text: &[u8]) -> bool
-    ensures { IsTrue result ↔
+/// Whether these are the same messages in the same order.
+fn are_same(messages: &[ReaderMsg], others: &[ReaderMsg]) -> bool
+    ensures { IsTrue result ↔ messages.now ≡ others.now }
+{
+    messages == others
+}
+
+/// The list of these messages and texts, if it is what their bytes are read as.
+fn read_as(bytes: &[u8], messages: &[ReaderMsg], id: &[u8; 29], text: &[u8]) -> Option<ReaderList>
+    requires few { length bytes.now ≤ 35 }
+    requires bytes { bytes.now ≡ flat_map (reader_msg_bytes id.now text.now) messages.now }
+    ensures exactly { IsSome result ↔
         IsReaderList (record { messages = messages.now; id = id.now; text = text.now }) }
+    ensures list { IfSome result (λ list.
+        list ≡ record { messages = messages.now; id = id.now; text = text.now }) }
 {
-    is_display_last(messages) && has_fitting_id(messages, id) && has_fitting_text(messages, text)
-}
-
-/// Whether the identification is blank where no message has it.
-fn has_fitting_id(messages: &[ReaderMsg], id: &[u8; 29]) -> bool
-    ensures { IsTrue result ↔
-        (list_any is_id messages.now ≡ false → id.now ≡ replicate 29 0) }
-{
-    has_id(messages) || *id == [0; 29]
-}
-
-/// Whether the text fits a block, and is empty where no message has it.
-fn has_fitting_text(messages: &[ReaderMsg], text: &[u8]) -> bool
-    ensures { IsTrue result ↔ (length text.now ≤ 32)
-        × (list_any is_display messages.now ≡ false → text.now ≡ []) }
-{
-    text.len() <= 32 && (has_display(messages) || text.is_empty())
-}
-
-/// Whether one of the messages is a display request.
-fn has_display(messages: &[ReaderMsg]) -> bool
-    ensures { result ≡ list_any is_display messages.now }
-{
-    messages.iter().any(|message| message.is_display())
-}
-
-/// Whether one of the messages is an identification.
-fn has_id(messages: &[ReaderMsg]) -> bool
-    ensures { result ≡ list_any is_id messages.now }
-{
-    messages.iter().any(|message| message.is_id())
-}
-
-/// Whether no display request stands before another message.
-fn is_display_last(messages: &[ReaderMsg]) -> bool
-    ensures { IsTrue result ↔ IsDisplayLast messages.now }
-{
-    match messages.split_last() {
-        Some((_, front)) => !has_display(front),
-        None => true,
+    let list = read_messages(bytes).ok()?;
+    if list.has(messages, id, text) {
+        Some(list)
+    } else {
+        None
     }
 }
 

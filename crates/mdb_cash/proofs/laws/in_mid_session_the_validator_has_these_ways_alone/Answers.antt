@@ -2,6 +2,7 @@ use Rattle.std.proofs.Common.{◌≡◌, Bool, List, ap, subst, sym}
 use Rattle.mdb_msgs.specs.declared.reply.Reply.{Reply}
 use Rattle.mdb_msgs.specs.declared.setups.Setups.{Setups}
 use Rattle.mdb_bus.specs.declared.act.Act.{Act}
+use Rattle.mdb_bus.specs.declared.scope.Profile.{Profile}
 use Rattle.mdb_cash.specs.declared.bill.activity.BillActivity.TheVariants.{Stacked}
 use Rattle.mdb_cash.specs.declared.bill.state.BillState.{BillState}
 use Rattle.mdb_machine.specs.declared.gains.Gains.{Gains}
@@ -13,9 +14,9 @@ use Rattle.mdb_machine.proofs.MidSession.{RepliesKnowing, held_ways, no_way, set
 use Rattle.mdb_cash.proofs.laws.in_mid_session_the_validator_has_these_ways_alone.Goals as goal
 
 pub returns-clause-held : goal.returns-clause-held
-returns-clause-held c setups so_far command reply before after gains none holds more =
-    let ways = held_ways tables conduct overlooks setups so_far (is_poll command) (parts_of reply)
-    before after gains none holds more in (
+returns-clause-held c setups profile so_far command reply before after gains none holds more =
+    let ways = held_ways tables conduct overlooks setups profile so_far (is_poll command)
+    (parts_of reply) before after gains none holds more in (
       λ step. ways.0 (step.facts, step.allowed, step.step),
       λ way.
           let knowing = ways.1 way in
@@ -23,8 +24,8 @@ returns-clause-held c setups so_far command reply before after gains none holds 
     )
 
 pub returns-clause-poll : goal.returns-clause-poll
-returns-clause-poll c setups so_far reply before after gains none holds empty step =
-    no_way tables conduct setups so_far (parts_of reply) before after gains none holds empty
+returns-clause-poll c setups profile so_far reply before after gains none holds empty step =
+    no_way tables conduct setups profile so_far (parts_of reply) before after gains none holds empty
     (step.facts, step.allowed, step.step)
 
 -- a state is the same where its fields are
@@ -36,23 +37,24 @@ same_state {one} {other} escrow holds =
     same
 
 -- a reply that isn't to POLL
-abbrev replies : Setups → List Act → Bool → Reply → BillState → BillState → Gains → Type 0
-replies setups so_far poll reply before after gains =
-    RepliesKnowing tables conduct setups so_far poll (parts_of reply) before after gains
+abbrev replies : Setups → Profile → List Act → Bool → Reply → BillState → BillState → Gains → Type 0
+replies setups profile so_far poll reply before after gains =
+    RepliesKnowing tables conduct setups profile so_far poll (parts_of reply) before after gains
 
 pub returns-clause-silent : goal.returns-clause-silent
-returns-clause-silent c setups so_far command reply before after gains none holds other empty =
+returns-clause-silent c setups profile so_far command reply before after gains none holds other
+    empty =
     let way =
-    silent_way (Stacked 0) tables conduct setups so_far (parts_of reply) before after gains
+    silent_way (Stacked 0) tables conduct setups profile so_far (parts_of reply) before after gains
     (λ facts. (
       λ told. same_state told.0 told.1,
       λ same. (ap (λ s. s.escrow) same, ap (λ s. s.holds) same),
     )) none holds empty in (
-      λ step. way.0 (subst (λ p. replies setups so_far p reply before after gains) other
+      λ step. way.0 (subst (λ p. replies setups profile so_far p reply before after gains) other
           (step.facts, step.allowed, step.step)),
       λ same.
-          let knowing = subst (λ p. replies setups so_far p reply before after gains) (sym other)
-          (way.1 same) in
+          let knowing = subst (λ p. replies setups profile so_far p reply before after gains)
+          (sym other) (way.1 same) in
           record { facts = knowing.0; allowed = knowing.1; step = knowing.2 },
     )
 

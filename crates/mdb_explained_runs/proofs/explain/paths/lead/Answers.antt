@@ -1,5 +1,6 @@
 use Rattle.std.proofs.Common.{arith, rules, ap, sym, subst, ◌∙◌, ◌≡◌, ◌+◌, ◌^◌, ◌∷◌, ℕ, List}
 use Rattle.mdb_bus.specs.declared.scope.Beginning.TheVariants.{PowerOn}
+use Rattle.mdb_bus.specs.declared.scope.Profile.TheVariants.{Base}
 use Rattle.mdb_bus.specs.ActLists.{Whole, acts_of}
 use Rattle.mdb_machine.specs.Choices.{CanStand}
 use Rattle.mdb_machine.specs.shared.OwnWays.{decides}
@@ -21,8 +22,8 @@ fill-requires g c = (
   (
     c.requires.size,
     (
-      g.met.P.Pair.settled_from_power_on c.args.paths.now.facts c.requires.stands.0 c.args.act.now
-          c.requires.stands.1,
+      g.met.P.Pair.settled_from_power_on Base c.args.paths.now.facts c.requires.stands.0
+          c.args.act.now c.requires.stands.1,
       subst (AreEntriesWithin g.P.Pair.CODES (2 ^ 62) c.args.chains.now.links.items)
           (sym c.deref.ensures.value) c.requires.within,
     ),
@@ -32,7 +33,7 @@ fill-requires g c = (
 pub returns-then-is_empty-clause-none : goal.returns-then-is_empty-clause-none
 returns-then-is_empty-clause-none g c pieces are =
     let p = g.P.Pair in
-    let machine = p.machine PowerOn in
+    let machine = p.machine (PowerOn Base) in
     let links = c.args.chains.now.links.items in
     no-way p.CODES p.code_of p.device machine c.args.weight.now links
     c.fill.new.chains.links.items pieces c.args.act.now c.args.row c.deref.result.now
@@ -53,7 +54,7 @@ returns-then-is_empty-clause-within g c limit within =
 pub returns-clause-led : goal.returns-clause-led
 returns-clause-led g c pieces events at are =
     let p = g.P.Pair in
-    let machine = p.machine PowerOn in
+    let machine = p.machine (PowerOn Base) in
     let act = c.args.act.now in
     let weight = c.args.weight.now in
     let links = c.args.chains.now.links.items in
@@ -63,8 +64,8 @@ returns-clause-led g c pieces events at are =
       | else-matters w ↦ ap (λ v. v.facts) w.paths-is
     ] in
     record {
-      facts = c.learn.ensures PowerOn (acts_of pieces)
-          (subst (λ f. p.stands_for PowerOn f (acts_of pieces)) (sym still) are.facts);
+      facts = c.learn.ensures (PowerOn Base) (acts_of pieces)
+          (subst (λ f. p.stands_for (PowerOn Base) f (acts_of pieces)) (sym still) are.facts);
       best = elim c.if-matters.branch [
         | then-matters+in_ok-fill+else-is_empty w ↦
             subst (λ (es : List (ℕ × Best)). IsPaths p.code_of p.device machine weight
@@ -106,8 +107,8 @@ returns-clause-within g c limit within =
           w.fill.new.room.entries.items)
           (sym (ap (λ v. v.links.items) w.chains-is))
           (all-led-within p.CODES limit (CanStand c.args.act.now) p.code_of
-          ((p.machine PowerOn).Step stands.0 c.args.act.now) c.args.weight.now c.args.row links
-          w.fill.new.chains.links.items w.deref.result.now w.fill.new.room.entries.items
+          ((p.machine (PowerOn Base)).Step stands.0 c.args.act.now) c.args.weight.now c.args.row
+          links w.fill.new.chains.links.items w.deref.result.now w.fill.new.room.entries.items
           (w.in_ok-fill.ensures.led stands.0 stands.1)
           (subst (AreEntriesWithin p.CODES limit links) (sym w.deref.ensures.value) within)))
       | else-matters w ↦

@@ -2,6 +2,7 @@ use Rattle.std.proofs.Common.{◌≡◌, ◌∙◌, inl, inr, refl, subst, sym}
 use Rattle.std.proofs.lemmas.Option.{none-some, same_Some}
 use Rattle.mdb_bus.specs.declared.act.Act.{Act}
 use Rattle.mdb_bus.specs.declared.scope.Beginning.TheVariants.{PowerOn}
+use Rattle.mdb_bus.specs.declared.scope.Profile.TheVariants.{Base}
 use Rattle.mdb_machine.specs.Choices.{CanStand}
 use Rattle.mdb_machine.specs.declared.choice.Choice.{Choice}
 use Rattle.mdb_machine.specs.declared.choice.Choice.TheVariants.{Plain}
@@ -13,11 +14,11 @@ pub returns-then-not-heeds_choice-clause-takes : goal.returns-then-not-heeds_cho
 returns-then-not-heeds_choice-clause-takes g c acts stands =
     let p = g.P.Pair in
     let act = c.args.act.now in
-    takes-unheeded p.CODES (CanStand act) p.code_of ((p.machine PowerOn).Step acts act)
+    takes-unheeded p.CODES (CanStand act) p.code_of ((p.machine (PowerOn Base)).Step acts act)
     c.args.weight.now c.args.row c.args.chains.now.links.items c.take_step.new.chains.links.items
     c.args.entry.now c.args.room.now.entries.items c.take_step.new.room.entries.items
     c.state.result g.met.P.Pair.apart c.state.ensures tt
-    (c.if-not-heeds_choice.ensures PowerOn acts)
+    (c.if-not-heeds_choice.ensures (PowerOn Base) acts)
     (c.in_ok-take_step.ensures.takes acts stands)
 
 -- the plain choice can stand on each act
@@ -29,7 +30,7 @@ returns-in_ok-take_step-2-clause-takes g c acts stands =
     let p = g.P.Pair in
     let act = c.args.act.now in
     takes-both p.CODES (λ one. one ≡ Plain) (λ one. one ≡ c.in-Some.choice) (CanStand act)
-    p.code_of ((p.machine PowerOn).Step acts act) c.args.weight.now c.args.row
+    p.code_of ((p.machine (PowerOn Base)).Step acts act) c.args.weight.now c.args.row
     c.args.chains.now.links.items c.take_step.new.chains.links.items
     c.take_step-in-Some.new.chains.links.items c.args.entry.now c.args.room.now.entries.items
     c.take_step.new.room.entries.items c.take_step-in-Some.new.room.entries.items
@@ -49,7 +50,7 @@ returns-in_default-clause-takes g c acts stands =
     let p = g.P.Pair in
     let act = c.args.act.now in
     takes-alone p.CODES (λ one. one ≡ Plain) (CanStand act) p.code_of
-    ((p.machine PowerOn).Step acts act) c.args.weight.now c.args.row
+    ((p.machine (PowerOn Base)).Step acts act) c.args.weight.now c.args.row
     c.args.chains.now.links.items c.take_step.new.chains.links.items c.args.entry.now
     c.args.room.now.entries.items c.take_step.new.room.entries.items
     (plain-stands act)

@@ -19,14 +19,14 @@ pub loop-first-preserved : goal.loop-first-preserved
 loop-first-preserved c = (
   with_message c.loop-first.invariant.0 c.in_ok-after.field-0-0 c.in_ok-after.field-0-1.now,
   takes_next _ _ _ _ _ _ _ _ c.requires c.loop-first.invariant.1 c.in-Some.ensures.cases.0
-      c.in_ok-after.ensures.bytes c.in_ok-after.ensures.rest c.in_ok-after.ensures.text,
+      c.in_ok-after.ensures.bytes c.in_ok-after.ensures.text,
 )
 
 pub invariant_of-result : goal.invariant_of-result
 invariant_of-result c =
     let taken = c.loop-first.invariant in
-    are_messages taken.0 _ taken.1.is_list (c.list_of.ensures
-    ∙ all_read _ _ _ taken.1 c.in_default.ensures.cases)
+    let all = all_read _ _ _ taken.1 c.in_default.ensures.cases in
+    are_messages taken.0 _ all.1 (c.list_of.ensures ∙ all.0)
 
 pub returns-clause-fields : goal.returns-clause-fields
 returns-clause-fields c = (invariant_of-result c).is_list

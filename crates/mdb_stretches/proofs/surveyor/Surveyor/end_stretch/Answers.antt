@@ -16,8 +16,8 @@ pub running-stretch-requires : goal.running-stretch-requires
 running-stretch-requires c =
     omega (arith, c.args.self.now.few, c.report_before-report.ensures.rows)
 
-pub invariant_of-self : goal.invariant_of-self
-invariant_of-self c = record {
+pub invariant_of-self-3 : goal.invariant_of-self-3
+invariant_of-self-3 c = record {
   few = omega (arith, c.scoped.ensures.empty, c.in-Some.ensures.numbered, c.requires.room);
   few_faults =
       few_weaker (c.args.self.now.before + 1) (c.args.self.now.before + c.in-Some.offence.row)
