@@ -79,7 +79,7 @@ const REPLAY_HELP: &[u8] = b"mdbcheck: usage: mdbcheck replay [--without DEVICE]
 < EXPLANATION; all: mdbcheck manual replay\n";
 
 /// What is told of one that asks for the version.
-const VERSION: &[u8] = b"mdbcheck 0.3.0\n";
+const VERSION: &[u8] = b"mdbcheck 0.3.1\n";
 
 /// Runs of the program.
 static RUNS: [Run; 34] = [

@@ -29,7 +29,7 @@ use mdb_text::Form;
 use std::alloc::Global;
 
 /// The program's version.
-pub(crate) const VERSION: &str = "0.3.0";
+pub(crate) const VERSION: &str = "0.3.1";
 
 /// The option that says that the recording begins in mid-session.
 const JOINED: &str = "joined";
