@@ -44,15 +44,16 @@ _mdbcheck() {
         case $command in
             '') words='check survey show explain replay manual' ;;
             manual) [ $goals -gt 0 ] || words='check survey show explain replay manual' ;;
-            check | survey) words='--joined --json --setup --without' ;;
-            show | replay) words='--json --without' ;;
+            check) words='--joined --extended --json --setup --without' ;;
+            survey) words='--joined --json --setup --without' ;;
+            show | replay) words='--extended --json --without' ;;
             explain)
                 case $goals in
                     0) words=$accounts ;;
                     1) words='device controller difference' ;;
                     2) words='least greatest' ;;
                 esac
-                case $current in -*) words='--without' ;; esac
+                case $current in -*) words='--extended --without' ;; esac
                 ;;
         esac
     fi

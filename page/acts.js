@@ -110,9 +110,9 @@ function hasBytes(acts, i, wanted) {
   return false;
 }
 
-// An act's kind, device and bytes, as a text.
+// An act's kind, device, reading and bytes, as a text.
 const toldBy = (acts, i) =>
-    String.fromCharCode(acts.kind(i), acts.device(i)) + String.fromCharCode.apply(null, acts.bytes(i));
+    String.fromCharCode(acts.kind(i), acts.device(i), acts.reading(i)) + String.fromCharCode.apply(null, acts.bytes(i));
 
 // What an act's words depend on, as a text: acts with the same have the same words.
 function wordsKey(acts, i) {

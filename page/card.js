@@ -14,7 +14,9 @@ function wayWords(it) {
   const left = names.filter((_, i) => bytes[layout.options.without + i]),
         given = names.filter((_, i) => bytes[layout.options.setups + layout.setup.size * i]);
   const words =
-      [bytes[0] ? "Read as a recording of a machine that was already running." : "Read as a recording from power-on."];
+      [bytes[0]               ? "Read as a recording of a machine that was already running." :
+           isExtended(it.way) ? "Read as a recording from power-on, by the extended profile." :
+                                "Read as a recording from power-on."];
   if (given.length) words.push(`The values of ${listed(given.map(the))} come from an earlier recording.`);
   words.push(left.length ? `Left out: ${listed(left.map(the))}.` : "All devices are checked.");
   if (it.isKept)
@@ -95,7 +97,30 @@ function answerWord({answer, report, unjudged}) {
   return report.rule === "Profile" ? "not followed" : "no";
 }
 
+// By which profile an answer is, where the other one may say something else, and the way to that.
+function profileNote(it) {
+  const isWide = isExtended(it.way), isBoth = it.plainRow || it.isPlain;
+  if (!isWide && !it.isPlain) return null;
+  const stop = isWide && isBoth ? `Without it the checker stops following at row ${number(it.plainRow)}. ` : "";
+  return h(
+      "p", {id: "profile"}, h("strong", {}, isWide ? WIDER : "Without the extended profile"), " ",
+      h("span", {class: "soft"}, stop), isBoth ? profileButton(isWide) : null);
+}
+
+const WIDER = "With the extended profile: card readers of level 2 and 3";
+
+const profileButton = (isWide) =>
+    h("button", {type: "button", id: "other-profile", class: "noprint", onclick: () => run(null, true, isWide)},
+      isWide ? "Show the answer without it" : "Show the answer with it");
+
+// Fills the card by the answer. Where something isn't followed, it says by which profile.
 function showVerdict(it) {
+  showAnswer(it);
+  const note = profileNote(it);
+  if (note) by("verdict").prepend(note);
+}
+
+function showAnswer(it) {
   switch (it.answer) {
     case ANSWERS.YES:
       return showYes(it);

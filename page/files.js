@@ -51,9 +51,15 @@ function noCells(told) {
   return [isLate ? "no: was the machine already running? Open it" : "no", row, rule, BLAMES[blame]];
 }
 
-// The cells of a verdict.
+// The cells of a verdict. Where the base profile stops following, it is by the extended one.
 function verdictCells(told) {
   if (told instanceof Error) return [`no verdict: ${told.message}`, "", "", ""];
+  const [verdict, ...rest] = answerCells(told), [word, ...more] = verdict.split(": ");
+  const words = told.plainRow ? ["with the extended profile", ...more] : more;
+  return [words.length ? `${word}: ${words.join("; ")}` : word, ...rest];
+}
+
+function answerCells(told) {
   const {answer, row} = told;
   if (answer === ANSWERS.YES) return ["yes", "", "", ""];
   if (answer === ANSWERS.NO) return noCells(told);

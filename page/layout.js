@@ -2,7 +2,7 @@
 // bytes of a number and how many numbers it is, as C lays them out. How large a structure is, the module tells: where
 // the fields don't come to that, nothing is read.
 const STRUCTURES = {
-  options: {joined: [1, 1], without: [1, 4], setups: [1, 4 * 37]},
+  options: {joined: [1, 1], extended: [1, 1], without: [1, 4], setups: [1, 4 * 37]},
   setup: {count: [1, 1], bytes: [1, 36]},
   told: {row: [8, 1], offset: [8, 1], fault: [8, 1], acts: [8, 1], news: [8, 1]},
   answer: {count: [8, 1], bytes: [1, 4096]},
@@ -15,6 +15,7 @@ const STRUCTURES = {
     kind: [1, 1],
     device: [1, 1],
     count: [1, 1],
+    reading: [1, 1],
     bytes: [1, 36]
   },
   news: {

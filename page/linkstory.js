@@ -345,7 +345,8 @@ function unfollowed(it) {
   const rows = block.length ? rowsAt(block[0].row, it.row) : rowsAt(it.row), bytes = bytesOf(block);
   const level = d > 2 && it.report.blame !== "controller" ? greatestLevel(bytes) : 0;
   if (level > 1) return levelWords(it, d, level, rows);
-  const isCommand = it.report.blame === "controller", what = isCommand ? commandNamed(bytes) : messageNamed(d, bytes);
+  const isCommand = it.report.blame === "controller",
+        what = isCommand ? commandNamed(bytes) : messageNamed(d, bytes, isExtended(it.way));
   const who = isCommand ? `the controller sends ${name} ` : `${name} sends `;
   return {
     what: `${who}${what}`,
@@ -358,8 +359,16 @@ function unfollowed(it) {
 // A command that isn't followed: its bytes so far, and what it belongs to.
 function commandNamed(bytes) {
   if (!bytes.length) return "a command that isn't followed";
-  return `the command ${bytes.map(hex).join(" ")}${bytes[0] === 0x0F ? " of alternative payout" : ""}`;
+  const [a, b] = bytes, isReader = a >> 3 === 2 || a >> 3 === 12, isOptions = (a & 7) === 7 && b === ENABLE_OPTIONS;
+  const kind = a === 0x0F                                 ? " of alternative payout" :
+      isReader && (a & 7) === 5                           ? " of revalue" :
+      isReader && isOptions && bytes.length > OPTIONS_END ? `, enable options: ${optionWords(bytes, 2)}` :
+                                                            "";
+  return `the command ${bytes.map(hex).join(" ")}${kind}`;
 }
+
+// So many bytes of ENABLE OPTIONS come before its sum.
+const OPTIONS_END = 6;
 
 // The greatest level that a reader's reply tells.
 function greatestLevel(bytes) {
@@ -367,15 +376,29 @@ function greatestLevel(bytes) {
   return Math.max(0, ...levels);
 }
 
+// The first bytes of the messages of a reply that isn't followed. A reader's are those of the base profile. In which
+// reading the extended profile doesn't follow them isn't told: there the first one is known alone.
+function firstBytes(d, bytes, isWide) {
+  if (d < 3) return bytes.slice(0, -1);
+  return isWide ? bytes.slice(0, 1) : readerMessages(bytes).map(([first]) => first);
+}
+
+const isFile = (b) => b >= 0x1B && b <= 0x1F;
+const isRevalue = (b) => b >= 0x0D && b <= 0x0F;
+
+// Whether a message isn't followed, by its first byte. (The extended profile follows a reader's 11 in one reading.)
+function isLeftAside(d, b, isWide) {
+  if (d > 2) return b > 0x0B && !(isWide && b === 0x11);
+  return isFile(b) || d === 2 && !isWide && (b >> 4 === 0xB || b >= 0xD0);
+}
+
 // The first message of a reply that isn't followed.
-function messageNamed(d, bytes) {
-  const isFile = (b) => b >= 0x1B && b <= 0x1F,
-        messages = d > 2 ? readerMessages(bytes).map((m) => m[0]) : bytes.slice(0, -1);
-  const found = d > 2 ? messages.find((b) => b > 11) :
-      d === 2         ? messages.find((b) => isFile(b) || b >= 0xB0 && b <= 0xBF || b >= 0xD0) :
-                        messages.find(isFile);
+function messageNamed(d, bytes, isWide) {
+  const found = firstBytes(d, bytes, isWide).find((b) => isLeftAside(d, b, isWide));
   if (found === undefined) return "a message that isn't followed";
-  const kind = d === 2 && found >> 4 === 0xB ? " of bill recycling" : d < 3 && isFile(found) ? " of file transfer" : "";
+  const kind = d > 2 ? isRevalue(found) ? " of revalue" : "" :
+      isFile(found)  ? " of file transfer" :
+                       " of bill recycling";
   return `the message ${hex(found)}${kind}`;
 }
 
@@ -389,19 +412,23 @@ function levelWords(it, d, level, rows) {
   facts.push(fact(
       `${capital(the(DEVICE_NAMES[d]))} reports feature level ${level} in its answer to SETUP`, ...inRows(rows),
       ...[asked].flat()));
-  facts.push(fact("From level 2 on the messages of a session have other forms, which the checker doesn't know."));
+  facts.push(fact(
+      "From level 2 on the messages of a session have other forms. The extended profile follows them in a recording from power-on."));
   return {what: `${the(DEVICE_NAMES[d])} uses feature level ${level}`, facts, isLevel: true};
 }
 
 function profileStory(it) {
   if (isDamaged(it)) return damagedStory(it);
   const d = unfollowedDevice(it), name = the(DEVICE_NAMES[d] || "device"), {facts, isLevel} = unfollowed(it);
-  const feature = isLevel ? "set the controller or the reader to level 1, if it can be," : "switch the feature off";
+  const own = !isLevel || it.isTried ? "switch the feature off and record again" :
+      isJoined(it)                   ? "record a start of the machine" :
+                                       "see the answer with the extended profile";
   return [
     ...facts,
+    ...it.isTried ? [fact("The extended profile, for card readers of level 2 and 3, doesn't follow it either.")] : [],
     nextStep(
         d ? `If your question is about another device, leave out ${name} and check again.` :
             "If your question is about another device, leave out the device that this row is of, and check again."),
-    nextStep(`If it is about this device, ${feature} and record again.`)
+    nextStep(`If it is about this device, ${own}.`)
   ];
 }

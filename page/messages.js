@@ -1,12 +1,28 @@
-// The messages of a reader's answer, by their lengths: docs/bench/commands-and-messages.md.
+// The messages of a reader's answer, by their lengths: docs/bench/commands-and-messages.md, extended-profile.md. In
+// which of these readings the answer was taken, the module says of each act (`acts.reading`). What isn't an act of the
+// extended profile is read as the base profile reads it.
+const READING = {
+  BASE: 0,
+  SHORT: 1,
+  LONG: 2
+};
 const READER_LENGTHS = [1, 8, 99, 3, 1, 3, 1, 1, 1, 30, 2, 1];
 const READER_CONFIG = 1;
 
+// The length of the message with a first byte, where so many bytes are left from it on.
+function readerLength(first, left, reading) {
+  if (first === 9 && reading !== READING.BASE && left >= 34) return 34;
+  if (reading === READING.LONG && first === 3) return 10;
+  if (reading === READING.LONG && first === 0x0B) return 2;
+  if (reading === READING.LONG && first === 0x0F) return 3;
+  return READER_LENGTHS[first] ?? 1;
+}
+
 // The block without its sum, cut into messages.
-function readerMessages(bytes) {
+function readerMessages(bytes, reading = READING.BASE) {
   const found = [], n = bytes.length - 1;
   for (let i = 0; i < n;) {
-    const size = READER_LENGTHS[bytes[i]] ?? 1;
+    const size = readerLength(bytes[i], n - i, reading);
     found.push(bytes.slice(i, Math.min(n, i + size)));
     i += size;
   }

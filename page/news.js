@@ -3,7 +3,7 @@
 const NEWS_KINDS = [
   "tube",      "cash box",   "by hand", "ordered", "stacked",   "escrow", "returned", "request",
   "cash sale", "approved",   "denied",  "sold",    "cancelled", "failed", "begun",    "complete",
-  "ended",     "reset told", "reset",   "break",   "silence",   "set-up"
+  "ended",     "reset told", "reset",   "break",   "silence",   "set-up", "recycled"
 ];
 // What an entry is, in words.
 const WHATS = {
@@ -14,6 +14,7 @@ const WHATS = {
   "stacked": "bill stacked",
   "escrow": "bill in escrow",
   "returned": "bill returned",
+  "recycled": "bill to the recycler",
   "request": "vend request",
   "cash sale": "cash sale",
   "approved": "vend approved",
@@ -28,7 +29,7 @@ const WHATS = {
   "reset": "RESET"
 };
 // Kinds of coins and bills, and those of sessions and of resets; the number of a kind of a sale is that of an item.
-const CASH = ["tube", "cash box", "by hand", "ordered", "stacked", "escrow", "returned"];
+const CASH = ["tube", "cash box", "by hand", "ordered", "stacked", "escrow", "returned", "recycled"];
 const OF_SESSIONS = ["begun", "complete", "ended"], OF_RESETS = ["reset told", "reset"];
 const WITH_ITEM = ["request", "cash sale", "sold"];
 const NO_WORTH = 0, KNOWN_WORTH = 2;

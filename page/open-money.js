@@ -237,7 +237,7 @@ class OpenWalk {
     const {acts} = this, isAsked = i > 0 && !this.gaps.has(i) && acts.kind(i - 1) === ASK;
     const command = isAsked ? acts.byte(i - 1, 0) : 0;
     if (device > 2)
-      for (const message of readerMessages(bytes)) this.readerSays(i, device, message);
+      for (const message of readerMessages(bytes, acts.reading(i))) this.readerSays(i, device, message);
     else if (command === STACKER)
       this.trouble(i, device, STACKER, bytes[0] > 0x7F);
     else if (command === POLLS[device])
@@ -283,7 +283,7 @@ class OpenWalk {
     const type = byte & 15, sort = byte >> 4;
     this.trouble(i, 2, byte, TROUBLES[2].includes(byte));
     if (byte === 6) this.endBill("restarted");
-    if (sort < 8 || sort > 0x0A) return;
+    if (sort < 8 || sort > 0x0B) return;
     if (this.bill && this.bill.type !== type) this.endBill("bill");
     if (sort === 9) {
       const setup = this.acts.setupAt(2, i);

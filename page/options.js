@@ -29,12 +29,16 @@ function setupBytes(device) {
   return bytes;
 }
 
-// The options as the module takes them, and as the program's command line has them.
-function optionsAs(joined) {
+// The options as the module takes them, and as the program's command line has them. The extended profile is for
+// recordings from power-on alone.
+function optionsAs(joined, isWide = false) {
   const bytes = new Uint8Array(layout.options.size), words = [], given = [null, null, null, null, null];
   if (joined) {
     bytes[layout.options.joined] = 1;
     words.push("--joined");
+  } else if (isWide) {
+    bytes[layout.options.extended] = 1;
+    words.push("--extended");
   }
   DEVICES.slice(1).forEach((device, i) => {
     const left = by("without-" + device).checked;
@@ -64,10 +68,20 @@ function lateOptions() {
   }
 }
 
-// What the fields say now: the options, and `late`, those of a machine that was running already.
-function options() {
-  const joined = by("joined").checked, way = optionsAs(joined);
-  return {...way, key: wayKey(), late: joined ? null : lateOptions()};
+// Whether a recording is taken by the extended profile.
+const isExtended = ({bytes}) => bytes[layout.options.extended] > 0;
+
+// What the fields say now: the options. Where the fields don't say so, two more ways: `late`, that of a machine that
+// was running already, and `wider`, that of the extended profile. With `isPlain` it is the base profile, whatever they
+// say.
+function options(isPlain = false) {
+  const joined = by("joined").checked, isWide = !joined && !isPlain && by("extended").checked;
+  return {
+    ...optionsAs(joined, isWide),
+    key: wayKey(),
+    late: joined ? null : lateOptions(),
+    wider: joined || isPlain || isWide ? null : optionsAs(false, true)
+  };
 }
 
 // Says beside a field of a set-up what is wrong with its bytes, and goes there. Of the other fields nothing is said.
@@ -84,18 +98,21 @@ function showSetupFault(fault) {
 }
 
 function showWay() {
-  const joined = by("joined").checked;
+  const joined = by("joined").checked, isShown = state !== null && wayKey() === state.key;
+  const isWide = isShown ? isExtended(state.way) : !joined && by("extended").checked;
   const out = DEVICES.slice(1).filter((it) => by("without-" + it).checked);
   by("way").textContent = (joined ? "machine already running" : "from power-on") +
+      (isWide ? ", by the extended profile" : "") +
       (out.length ? `, without ${listed(out.map((it) => the(DEVICE_NAMES[DEVICES.indexOf(it)])))}` : ", all devices") +
       (clock ? `, began at ${by("began").value.trim()}` : "");
   document.body.classList.toggle("open", file !== null);
   by("open-name").textContent = file ? shownName(file.name) : "";
   by("setups").hidden = !joined;
+  by("extended").disabled = joined;
   for (const device of DEVICES.slice(1)) by("setup-" + device).disabled = by("without-" + device).checked;
   by("again").disabled = !file || isWorking;
   by("began").disabled = isWorking;
-  by("stale").hidden = !state || isWorking || wayKey() === state.key;
+  by("stale").hidden = !state || isWorking || isShown;
 }
 
 // What the fields say as a text, to tell whether it is what the shown answer was made with. Bytes of a device that is
@@ -106,5 +123,5 @@ function wayKey() {
     const left = by("without-" + it).checked;
     return [left, joined && !left ? by("setup-" + it).value.trim() : ""];
   });
-  return JSON.stringify([joined, devices]);
+  return JSON.stringify([joined, !joined && by("extended").checked, devices]);
 }

@@ -1,7 +1,7 @@
 // The lines of the verdict's text, as values.
 const ACCOUNTS = {
   "coins-in": {title: "Coins in", device: "changer", owner: "The changer", did: "took", worth: " in coins"},
-  "bills-in": {title: "Bills in", device: "bill", owner: "The validator", did: "stacked", worth: " in bills"},
+  "bills-in": {title: "Bills in", device: "bill", owner: "The validator", did: "took", worth: " in bills"},
   "paid-out": {title: "Coins paid out", device: "changer", owner: "The changer", did: "paid out"},
   approved: {title: "Approved by card reader 1", device: "cashless", owner: "Card reader 1", did: "approved"},
   sold: {title: "Sold by card reader 1", device: "cashless", owner: "Card reader 1", did: "booked"},

@@ -4,7 +4,7 @@ const ACCOUNT_NAMES = Object.keys(ACCOUNTS), RISE_SIDES = ["device", "controller
 // The kinds of entries that are of an account.
 const OF_ACCOUNT = {
   "coins-in": ["tube", "cash box"],
-  "bills-in": ["stacked"],
+  "bills-in": ["stacked", "recycled"],
   "paid-out": ["by hand", "ordered"],
   approved: ["approved"],
   sold: ["sold"],
@@ -15,6 +15,7 @@ const SORTS = {
   tube: "coin",
   "cash box": "coin",
   stacked: "bill",
+  recycled: "bill",
   "by hand": "payout",
   ordered: "order",
   approved: "approval",
@@ -28,6 +29,8 @@ const COUNT_NEXT = {
   "bills-in": "Count the bills in the stacker.",
   "paid-out": "Count the tubes.",
 };
+// Bills may have gone to a recycler too.
+const RECYCLER_NEXT = "Count the bills in the stacker and in the recycler.";
 const SALE_NEXT = "Ask the card company what it booked at that time.";
 
 // Whether an entry of money is of an account.
@@ -123,8 +126,13 @@ function openStory(it, name, a, d) {
   }
   for (const rise of risesOf(it, name).filter(({opened}) => opened < 0n).slice(0, TOLD_ACTS))
     told.push(fact(`${money(-rise.opened, d)} of it was settled by `, rowsAt(rise.row), "."));
-  told.push(...plainStory(it, name, d), nextStep(COUNT_NEXT[name] ?? SALE_NEXT));
+  told.push(...plainStory(it, name, d), nextStep(countNext(it, name)));
   return told;
+}
+
+function countNext({found}, name) {
+  const isRecycled = name === "bills-in" && found.money.some(({kind}) => kind === "recycled");
+  return isRecycled ? RECYCLER_NEXT : COUNT_NEXT[name] ?? SALE_NEXT;
 }
 
 // Further acts: how many, and where the next ones stand.

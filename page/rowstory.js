@@ -76,7 +76,7 @@ function saleEvents(it, k) {
   }
   if (kind !== REPLY) return [];
   const heard = isAcknowledged(acts, k);
-  return readerMessages(bytes).flatMap((m) => {
+  return readerMessages(bytes, acts.reading(k)).flatMap((m) => {
     const what = {0: "restarted", 3: "begun", 4: "asked", 5: "approved", 6: "denied", 7: "ended"}[m[0]];
     return what ? [{what, rows, heard, amount: what === "approved" ? amount(two(m, 1)) : undefined}] : [];
   });
@@ -339,7 +339,8 @@ function noReset(it, i, begin, found, here) {
   return ["It hadn't reported its reset ", ...beginWords(begin), ", which must come first."];
 }
 
-// A bill that was stacked without an order, is of another type than the one in escrow, or is a second one there.
+// A bill that was stacked or went to the recycler without an order, is of another type than the one in escrow, or is a
+// second one there.
 function noOrder(it, found, [r]) {
   const acts = it.list;
   let refused = null;
@@ -360,7 +361,7 @@ function escrowWords(r, earlier, rows, refused) {
   if (r.what === "in escrow") return ["A bill was in escrow already", ...inRows(rows), "."];
   if (r.type !== earlier.type)
     return [`The bill in escrow was ${reportWords(earlier, 2).replace(" in escrow", "")}`, ...inRows(rows), "."];
-  if (r.what !== "stacked") return null;
+  if (r.what === "returned") return null;
   const why = refused ? [", and the validator hadn't taken the order to stack it", ...inRows(refused)] :
                         [", and the controller hadn't ordered to stack it"];
   return ["It was in escrow", ...inRows(rows), ...why, "."];
@@ -374,7 +375,7 @@ function notEnabled(it, device, begin, found, reports) {
   for (const k of found)
     if (acts.kind(k) === ASK && acts.byte(k, 0) === enable && HEARD.includes(answerTo(acts, k)))
       mask |= two(acts.bytes(k), 1);
-  const r = reports.find((e) => !(mask >> e.type & 1) && /deposited|stacked|escrow/.test(e.what));
+  const r = reports.find((e) => !(mask >> e.type & 1) && /deposited|stacked|escrow|recycler/.test(e.what));
   return r ?
       [`No command that ${the(SHORT_NAMES[device])} took has enabled type ${r.type} `, ...beginWords(begin), "."] :
       null;

@@ -91,12 +91,31 @@ class Checker {
   }
 }
 
-// What the module answers to a recording. A no that a late beginning may explain is asked a second time, as of a
-// machine that was running already.
-async function answerOf(checker, way, progress) {
+// Whether an answer ends where the checker stops following.
+const isUnfollowedEnd = ({answer, text}) => answer === ANSWERS.NO && readReport(text).rule === "Profile";
+
+// What the module answers to a recording that is taken in a way. A no that a late beginning may explain is asked a
+// second time, as of a machine that was running already: that is by the base profile, and of no use where this stops
+// following.
+async function answerBy(checker, way, progress) {
   const told = await checker.ask({options: way.bytes}, progress);
   const late = asksLate(told, way) ? await checker.ask({late: way.late.bytes, isDevice: told.row > 1}, progress) : null;
-  return {...told, late, way};
+  return {...told, late: late && isExtended(way) && isUnfollowedEnd(late) ? null : late, way};
+}
+
+// Whether the answer by the extended profile gets further than one that ends where the base profile stops following.
+function isFurther(wide, told) {
+  if (wide.answer === ANSWERS.YES || wide.row > told.row) return true;
+  return wide.row === told.row && !isUnfollowedEnd(wide);
+}
+
+// What the module answers to a recording. Where the base profile stops following, the extended one is asked at once. If
+// that gets further, its answer is taken, with the row at which the base profile stops (`plainRow`).
+async function answerOf(checker, way, progress) {
+  const told = await answerBy(checker, way, progress);
+  if (!way.wider || !isUnfollowedEnd(told)) return told;
+  const wide = await answerBy(checker, {...way, ...way.wider}, progress);
+  return isFurther(wide, told) ? {...wide, plainRow: told.row} : {...told, isTried: true};
 }
 
 // Checks a recording in a worker of its own. Nothing that is shown changes.
@@ -153,7 +172,7 @@ function endChecker() {
 }
 
 // The answer for the file that was chosen, as the fields say; null where a newer run or a stop came in between.
-async function answerNow(isNow) {
+async function answerNow(isNow, isPlain) {
   module ??= await start();
   if (!isNow()) return null;
   const rows = recording ?? await recordingOf(file);
@@ -166,19 +185,19 @@ async function answerNow(isNow) {
   file = recording = rows;
   await fillClock(rows);
   if (!isNow()) return null;
-  const way = options(), isKept = way.words.length > 0 && lastKey === way.key;
+  const way = options(isPlain), isKept = way.words.length > 0 && lastKey === way.key;
   lastKey = way.key;
   checker ??= new Checker(rows);
   const told = await answerOf(checker, way, (it) => {
     if (isNow()) progress(it);
   });
   if (!isNow()) return null;
-  return {...told, file, key: way.key, isKept, name: shownName(file.name), when: new Date(), sum: checker.sum};
+  return {...told, file, key: way.key, isKept, isPlain, name: shownName(file.name), when: new Date(), sum: checker.sum};
 }
 
-// Checks the file that is given, or the last one again if none is, and shows the answer. After a button the card has
-// the focus.
-async function run(given, isButton = !given) {
+// Checks the file that is given, or the last one again if none is, and shows the answer: with `isPlain` that by the
+// base profile. After a button the card has the focus.
+async function run(given, isButton = !given, isPlain = false) {
   if (!given && !file) return null;
   const mine = ++newest, isNow = () => mine === newest, begin = performance.now();
   if (given || isWorking) endChecker();
@@ -191,7 +210,7 @@ async function run(given, isButton = !given) {
   working(true);
   if (isButton) by("work").focus();
   try {
-    const told = await answerNow(isNow);
+    const told = await answerNow(isNow, isPlain);
     if (!told) return null;
     working(false);
     state = {...told, isKept: Boolean(given && told.isKept)};
@@ -212,7 +231,8 @@ async function run(given, isButton = !given) {
 // Adds to an answer with open ranges what opens them, and the sums if nothing was lost. They come after the answer.
 async function addCloser(it) {
   // (where the worker fails, the ranges stand without it)
-  const told = await checker.ask({closer: true}).catch(() => null);
+  const {answer, size, offset, way: {bytes}} = it, length = answer === ANSWERS.YES ? size : offset;
+  const told = await checker.ask({closer: {options: bytes, answer, length}}).catch(() => null);
   if (state !== it) return;
   if (told) showCloser(it, told);
   document.documentElement.dataset.shown = ++times;
@@ -268,7 +288,8 @@ function trouble(words, isButton, ...more) {
 // in sight. `isComing` is whether something is still added to the answer.
 function settle(isButton, isComing = false) {
   showTitle();
-  const said = `${by("verdict").querySelector(".word").textContent}. ${by("lead").textContent}`;
+  const note = by("profile") ? ` ${by("profile").querySelector("strong").textContent}.` : "";
+  const said = `${by("verdict").querySelector(".word").textContent}. ${by("lead").textContent}${note}`;
   announce(file ? `${shownName(file.name)}: ${said}` : said);
   showWay();
   reachCard(isButton);

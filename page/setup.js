@@ -39,7 +39,12 @@ function unreadWords(told) {
   return "it has more than 100,000,000 rows.";
 }
 
-const fromPowerOn = () => ({bytes: new Uint8Array(layout.options.size), words: [], given: [], late: null});
+// A recording of a start, with all devices. Where the base profile stops following, the extended one goes on.
+function fromPowerOn() {
+  const bytes = new Uint8Array(layout.options.size), wider = bytes.slice();
+  wider[layout.options.extended] = 1;
+  return {bytes, words: [], given: [], late: null, wider: {bytes: wider}};
+}
 
 async function readSetups(given) {
   const mine = ++newestSetup, say = (words) => {

@@ -145,6 +145,7 @@ const SUM_OF = {
   "by hand": {sum: "out", by: "device"},
   "ordered": {sum: "out", by: "controller"},
   "stacked": {sum: "bills", by: "device"},
+  "recycled": {sum: "bills", by: "device"},
   "sold": {sum: "sold", by: "controller"},
   "cash sale": {sum: "cash", by: "controller"}
 };

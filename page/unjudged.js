@@ -91,7 +91,7 @@ function unjudgedStory(it, device) {
             reader} reset. Choose that file as the earlier recording. ` +
         `It shows the level in the answer to SETUP (${address}).`),
     nextStep(
-        "If both have level 2 or 3, the checker doesn't follow this reader. Leave it out if your question is about another device."),
+        "If both have level 2 or 3, the checker follows this reader in a recording from power-on alone. Leave it out if your question is about another device."),
   ].filter(Boolean);
 }
 

@@ -1,5 +1,5 @@
 // The acts of a recording in words. It reads the bytes that the module lists, as
-// docs/bench/commands-and-messages.md has them. No verdict and no bound rests on it.
+// docs/bench/commands-and-messages.md and extended-profile.md have them. No verdict and no bound rests on it.
 const DEVICES = ["", "changer", "bill", "cashless", "cashless-2"];
 const DEVICE_NAMES = ["", "coin changer", "bill validator", "card reader 1", "card reader 2"];
 const KINDS = ["ask", "ack", "nak", "reply", "vmc-ack", "vmc-nak", "vmc-ret", "repeat", "foreign", "break", "cut"];
@@ -35,6 +35,12 @@ const BILL_COMMANDS = {
 };
 const VENDS = ["VEND REQUEST", "VEND CANCEL", "VEND SUCCESS", "VEND FAILURE", "SESSION COMPLETE", "CASH SALE"];
 const SWITCHES = ["READER DISABLE", "READER ENABLE", "READER CANCEL"];
+const ENABLE_OPTIONS = 4;
+// The options of a reader, by their bits.
+const OPTIONS =
+    ["file transfer", "money of 32 bits", "several currencies", "negative vend", "data entry", "always idle"];
+// In which state a reader was when a command came out of sequence, by the status of 0B.
+const OUT_OF = ["", "inactive", "disabled", "enabled", "session idle", "vend", "revalue", "negative vend"];
 const CHANGER_STATUS = {
   1: "escrow request",
   2: "payout busy",
@@ -61,6 +67,13 @@ const BILL_STATUS = {
   10: "escrow request that isn't valid",
   11: "bill rejected",
   12: "possible credited bill removal"
+};
+
+// A status of a recycler, by the high half of its byte.
+const RECYCLER = {
+  0x0D: "put into the recycler by hand",
+  0x0E: "taken out of the recycler by hand",
+  0x0F: "from the recycler to the cash box"
 };
 
 const hex = (byte) => byte.toString(16).toUpperCase().padStart(2, "0");
@@ -115,6 +128,10 @@ class Acts {
   }
   device(i) {
     return this.bytes8[i * this.at.size + this.at.device];
+  }
+  // In which reading the messages of a reader's answer were taken (`READING`).
+  reading(i) {
+    return this.bytes8[i * this.at.size + this.at.reading];
   }
   bytes(i) {
     const act = i * this.at.size, from = act + this.at.bytes;
@@ -177,7 +194,7 @@ class Acts {
 }
 
 // What a device's answer to SETUP says of values; null where the bytes are no such answer.
-function readSetup(device, bytes) {
+function readSetup(device, bytes, reading) {
   const n = bytes.length - 1;
   if (device === 1 && n >= 7)
     return {
@@ -197,7 +214,7 @@ function readSetup(device, bytes) {
     };
   if (device > 2) {
     let found = null;
-    for (const m of readerMessages(bytes))
+    for (const m of readerMessages(bytes, reading))
       if (m[0] === 1 && m.length === 8)
         found = {scale: m[4], decimals: m[5], response: m[6], level: m[1], code: hex(m[2]) + hex(m[3])};
     return found;
@@ -223,12 +240,17 @@ function amountWords(setup, raw) {
   return setup ? money(raw * setup.scale, setup.decimals) : `${raw} (value not known)`;
 }
 
+const bitsOf = (mask, count) => Array.from({length: count}, (_, i) => i).filter((i) => mask >>> i & 1);
 const types = (mask) => {
-  const all = [];
-  for (let i = 0; i < 16; i++)
-    if (mask >> i & 1) all.push(i);
+  const all = bitsOf(mask, 16);
   return all.length === 16 ? "all types" : all.length ? "types " + all.join(", ") : "no type";
 };
+
+// The options of four bytes, by their names.
+function optionWords(bytes, i) {
+  const all = bitsOf(two(bytes, i) * 65536 + two(bytes, i + 2), 32);
+  return all.map((bit) => OPTIONS[bit] ?? `bit ${bit}`).join(", ") || "none";
+}
 
 // The name of a command by its first bytes.
 function commandName(bytes) {
@@ -253,7 +275,7 @@ function commandName(bytes) {
     case 4:
       return SWITCHES[b];
     default:
-      return "EXPANSION request ID";
+      return b === ENABLE_OPTIONS ? "EXPANSION enable options" : "EXPANSION request ID";
   }
 }
 
@@ -273,6 +295,7 @@ function askWords(bytes, setup) {
       return `${name}: ${amountWords(setup, two(bytes, 2))} for item ${two(bytes, 4)}`;
     if (bytes[1] === 2) return `${name}: item ${two(bytes, 2)} was sold`;
   }
+  if ((a === 0x17 || a === 0x67) && bytes[1] === ENABLE_OPTIONS) return `${name}: ${optionWords(bytes, 2)}`;
   return name;
 }
 
@@ -289,8 +312,12 @@ function pollMessages(device, bytes, add) {
         add("in escrow", type, 1);
       else if (b >= 0xA0 && b <= 0xAF)
         add("returned", type, 1);
+      else if (b >= 0xB0 && b <= 0xBF)
+        add("to the recycler", type, 1);
       else if (b >= 0xC0 && b <= 0xCF)
         add("rejected, its type is disabled", type, 1);
+      else if (b >= 0xD0)
+        add(`status ${hex(b)}, ${RECYCLER[b >> 4]}`);
       else if (b >= 0x40 && b <= 0x5F)
         add(`${counted(b & 31, "bill")} tried while none was accepted`);
       else if (b === 6)
@@ -314,6 +341,14 @@ function pollMessages(device, bytes, add) {
   }
 }
 
+// What a begin of a session says of the card or other media, in ten bytes.
+function mediaWords(m) {
+  const part = (from, to) => Array.from(m.slice(from, to), hex).join("");
+  return m.length > 3 ? `, media ID ${part(3, 7)}, type ${part(7, 8)}, data ${part(8, 10)}` : "";
+}
+
+const statusWords = (status) => `, status ${hex(status)}${OUT_OF[status] ? ` (${OUT_OF[status]})` : ""}`;
+
 function readerWords(m, setup) {
   switch (m[0]) {
     case 0:
@@ -325,7 +360,8 @@ function readerWords(m, setup) {
       return `display for ${m[1] / 10} s: “${
           Array.from(m.slice(2), (b) => b >= 32 && b < 127 ? String.fromCharCode(b) : "·").join("")}”`;
     case 3:
-      return `begin session, funds ${two(m, 1) === 65535 ? "not given" : amountWords(setup, two(m, 1))}`;
+      return `begin session, funds ${two(m, 1) === 65535 ? "not given" : amountWords(setup, two(m, 1))}${
+          mediaWords(m)}`;
     case 4:
       return "asks to end the session";
     case 5:
@@ -337,20 +373,29 @@ function readerWords(m, setup) {
     case 8:
       return "cancelled";
     case 9:
-      return "peripheral ID";
+      return `peripheral ID${m.length > 30 ? ", options: " + optionWords(m, 30) : ""}`;
     case 10:
       return `malfunction ${hex(m[1])}`;
     case 11:
-      return "command out of sequence";
+      return `command out of sequence${m.length > 1 ? statusWords(m[1]) : ""}`;
+    case 13:
+      return "revalue approved";
+    case 14:
+      return "revalue denied";
+    case 15:
+      return `revalue limit ${amountWords(setup, two(m, 1))}`;
+    case 17:
+      return "asks for time and date";
     default:
       return hex(m[0]);
   }
 }
 
-function replyWords(device, ask, bytes, setup) {
+function replyWords(device, ask, bytes, reading, setup) {
   const name = ask ? commandName(ask) : "", n = bytes.length - 1;
   if (device > 2) {
-    const said = readerMessages(bytes).map((m) => readerWords(m, readSetup(device, bytes) ?? setup)).join("; ");
+    const here = readSetup(device, bytes, reading) ?? setup;
+    const said = readerMessages(bytes, reading).map((m) => readerWords(m, here)).join("; ");
     return `${name}: ${name.endsWith("config data") ? said.replace(/^config: /, "") : said}`;
   }
   if (name === "SETUP") {
@@ -402,9 +447,9 @@ function actWords(acts, i) {
     case NAK:
       return `${ask ? commandName(ask) + ": " : ""}refused (NAK)`;
     case REPLY:
-      return replyWords(device, ask, acts.bytes(i), setup);
+      return replyWords(device, ask, acts.bytes(i), acts.reading(i), setup);
     case REPEAT:
-      return `repeats ${replyWords(device, ask, acts.bytes(i), setup)}`;
+      return `repeats ${replyWords(device, ask, acts.bytes(i), acts.reading(i), setup)}`;
     case VMC_ACK:
       return "received (ACK)";
     case VMC_NAK:
@@ -443,7 +488,7 @@ function setupIn(acts, at) {
   if (acts.kind(at) !== REPLY || !device) return null;
   const ask = acts.askOf(at), command = ask >= 0 ? acts.byte(ask, 0) : 0;
   const isTold = device > 2 || command === (device === 1 ? 0x09 : 0x31);
-  return isTold ? readSetup(device, acts.bytes(at)) : null;
+  return isTold ? readSetup(device, acts.bytes(at), acts.reading(at)) : null;
 }
 
 // Takes note, for the words of the acts, of the set-ups that are told. `given` has what --setup told, and `found` what
@@ -471,9 +516,9 @@ function findSetups(acts) {
     if (acts.kind(i) !== REPLY) continue;
     const d = acts.device(i), at = acts.askOf(i);
     if (at < 0) continue;
-    const ask = acts.bytes(at), bytes = acts.bytes(i);
+    const ask = acts.bytes(at), bytes = acts.bytes(i), isBase = acts.reading(i) === READING.BASE;
     const isSetup = (d === 1 && ask[0] === 9) || (d === 2 && ask[0] === 0x31) ||
-        (d > 2 && readSetup(d, bytes) && readerMessages(bytes).every((m) => ![3, 5, 6, 7].includes(m[0])));
+        (d > 2 && isBase && readSetup(d, bytes) && readerMessages(bytes).every((m) => ![3, 5, 6, 7].includes(m[0])));
     if (isSetup) found[d] = acts.hex(i);
   }
   return found;

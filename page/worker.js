@@ -16,8 +16,6 @@ const PIECE = 1 << 22;
 // So many bytes are checked first, to know how quick this computer is.
 const FRONT = 1 << 20;
 let call, at, size, read, number, last = Promise.resolve();
-// The last check: its options, its report or that of the rows before the one that can't be, and of how many bytes.
-let judged;
 
 // Places in the module's memory, each a multiple of 8 above what the module has for itself. A row has 8 bytes or more,
 // and few recordings have news in more than one of six rows.
@@ -236,7 +234,6 @@ function judge(options) {
   // The rows before one that cannot be are a recording of their own, and its answer is a yes.
   const before = answer === 1 && check(end.offset) === 0 ? answerText() : "";
   const summed = performance.now();
-  judged = {options: options.slice(), report: answer === 1 ? before : text, length: answer === 0 ? size : end.offset, answer};
   const stops = answer === 1 || answer === 2 || answer === 3 || answer === 4;
   const recording = new Uint8Array(call.memory.buffer, at.text, size);
   say({
@@ -244,7 +241,7 @@ function judge(options) {
     answer,
     text,
     before,
-    isOpen: hasOpenRange(judged.report),
+    isOpen: hasOpenRange(answer === 1 ? before : text),
     row: end.row,
     offset: end.offset,
     fault: end.fault,
@@ -260,10 +257,10 @@ function judge(options) {
       [acts]);
 }
 
-// What is told of the ranges that the last answer left open, after that answer: what opens them, and the sums if
-// nothing was lost.
-function lookCloser() {
-  const begin = performance.now(), {options, length, answer} = judged;
+// What is told of the ranges that an answer left open, after that answer: what opens them, and the sums if nothing was
+// lost in so many bytes.
+function lookCloser({options, answer, length}) {
+  const begin = performance.now();
   setOptions(options);
   const replayed = replay(length), rises = answer === 0 ? listRises() : null;
   say({told: "done", replayed, rises, ms: performance.now() - begin});
@@ -462,7 +459,7 @@ async function prepare(module) {
 // Answers what a message asks for. One that asks for nothing has the recording read for its checksum.
 function answer({options, late, isDevice, closer, surveyed, relisted, about}) {
   if (closer)
-    lookCloser();
+    lookCloser(closer);
   else if (surveyed)
     judgeSurvey(surveyed);
   else if (relisted)

@@ -134,8 +134,8 @@ class Case(Rows):
 
     def no(self):
         """The line that `survey` has of a no of `check`, of its row, rule and blame; None where the case
-        is none."""
-        if self.status != 1 or self.words[0] != "check":
+        is none, or has --extended, which `survey` doesn't have."""
+        if self.status != 1 or self.words[0] != "check" or "--extended" in self.words:
             return None
         out = self.output()
         if "--json" in self.words:

@@ -10,16 +10,18 @@ const of = new Function(`"use strict";${sources.join("\n")}
 const SIZE = 80;
 of.layout.act = of.placesOf(of.STRUCTURES.act, SIZE);
 
-// The acts in memory: each has first and last row, the times of these, its kind, its device, and its bytes in hex.
+// The acts in memory: each has first and last row, the times of these, its kind, its device, its bytes in hex, and in which
+// reading its messages were taken.
 function actsOf(acts) {
   const buffer = new ArrayBuffer(acts.length * SIZE), view = new DataView(buffer), {act} = of.layout;
-  acts.forEach(([first, last, start, end, kind, device, hex], i) => {
+  acts.forEach(([first, last, start, end, kind, device, hex, reading], i) => {
     const at = i * SIZE, bytes = hex ? hex.split(" ").map((it) => parseInt(it, 16)) : [];
     [["first", first], ["last", last], ["start", start], ["end", end]].forEach(
         ([field, value]) => view.setBigUint64(at + act[field], BigInt(value), true));
     view.setUint8(at + act.kind, of.KINDS.indexOf(kind));
     view.setUint8(at + act.device, of.DEVICES.indexOf(device));
     view.setUint8(at + act.count, bytes.length);
+    view.setUint8(at + act.reading, reading);
     bytes.forEach((byte, k) => view.setUint8(at + act.bytes + k, byte));
   });
   return new of.Acts(buffer, acts.length);

@@ -58,8 +58,10 @@ async function judged(bytes, options) {
   return {said, state: {found, list: acts && new of.Acts(acts, said.listed)}};
 }
 
-// A survey of the recording that was judged last, so many faults at a time.
-function surveyed(options, most) {
+// A survey of the recording that was judged last, so many faults at a time. None has the extended profile.
+function surveyed(way, most) {
+  const options = way.slice();
+  options[worker.layout.options.extended] = 0;
   const spots = worker.surveyPlaces(), {layout: {fault, lines}} = worker, room = Math.min(most, spots.room), faults = [];
   let end, text = "";
   worker.grow(spots.end);

@@ -1,6 +1,6 @@
 """What tests/page wants of the page's entries: money, sales, sessions, resets, breaks and silences.
 
-A walk over what `show` prints finds the same, by docs/bench/commands-and-messages.md alone. The
+A walk over what `show` prints finds the same, by docs/bench/commands-and-messages.md and extended-profile.md alone. The
 saved CSV of a long recording has every entry. The silences are as many as a report counts, in
 recordings that begin anywhere, and in which readers tell how long they may be silent.
 """
@@ -14,6 +14,7 @@ import subprocess
 import sys
 
 from cases import setups_in
+from reader_formats import Formats
 
 DEVICES = ["changer", "bill", "cashless", "cashless-2"]
 RESETS = {0x08, 0x30, 0x10, 0x60}
@@ -42,24 +43,16 @@ class Setup:
         return 0 if credit == 0xFF else credit * self.scale
 
 
-def messages_of(data):
-    """The messages of a reader's reply, by their lengths."""
-    lengths = {0: 1, 1: 8, 2: len(data), 3: 3, 4: 1, 5: 3, 6: 1, 7: 1, 8: 1, 9: 30, 0x0A: 2, 0x0B: 1}
-    while data:
-        yield data[: lengths[data[0]]]
-        data = data[lengths[data[0]] :]
-
-
-def config_of(data):
+def config_of(messages):
     """What the last config message of a reader's reply tells."""
-    configs = [it for it in messages_of(data) if it[0] == 1]
+    configs = [it for it in messages if it[0] == 1]
     return Setup(configs[-1][4], configs[-1][5]) if configs else None
 
 
-def setup_of(device, command, data):
-    """What a reply tells of its device's values, if it does."""
+def setup_of(device, command, data, messages):
+    """What a reply tells of its device's values, if it does. A reader's has messages."""
     if device >= 3:
-        return config_of(data)
+        return config_of(messages)
     if command[0] == 0x09:
         return Setup(data[3], data[4], data[7:])
     if command[0] == 0x31:
@@ -71,8 +64,9 @@ class Walk:
     """Takes the lines of `show`, and finds entries: lists of first row, last row, device, what, type or item, how
     many, units and decimals or None, and whether it is acknowledged."""
 
-    def __init__(self, setups=()):
+    def __init__(self, setups=(), is_extended=False):
         self.setups = {1: None, 2: None, 3: None, 4: None, **dict(setups)}
+        self.formats, self.messages = Formats(is_extended), []
         self.found = {name: [] for name in LISTS}
         self.command, self.waiting = None, []
 
@@ -109,9 +103,11 @@ class Walk:
         data = [int(it, 16) for it in words[1:]][:-1]
         if kind == "ask":
             self.command = data
+            self.formats.ask(device, data)
             self.ask(rows, device, data)
         elif kind == "reply":
-            self.setups[device] = setup_of(device, self.command, data) or self.setups[device]
+            self.messages = self.formats.reply(device, data) if device >= 3 else []
+            self.setups[device] = setup_of(device, self.command, data, self.messages) or self.setups[device]
             self.reply(rows, device, data)
 
     def ask(self, rows, device, data):
@@ -130,7 +126,7 @@ class Walk:
 
     def reply(self, rows, device, data):
         if device >= 3:
-            for message in messages_of(data):
+            for message in self.messages:
                 self.reader(rows, device, message)
         elif self.command[0] == 0x33:
             for byte in data:
@@ -152,14 +148,14 @@ class Walk:
                 data = data[1:]
 
     def bill(self, rows, byte):
-        whats = {8: "bill stacked", 9: "bill in escrow", 10: "bill returned"}
+        whats = {8: "bill stacked", 9: "bill in escrow", 10: "bill returned", 11: "bill to the recycler"}
         if byte // 16 in whats:
             self.coins(rows, 2, whats[byte // 16], byte % 16, 1)
         elif byte == 6:
             self.add("resets", rows, 2, "was reset")
 
     def reader(self, rows, device, message):
-        raw = number(*message[1:3]) if len(message) == 3 else None
+        raw = number(*message[1:3]) if message[0] in (3, 5) else None
         if message[0] == 0:
             self.add("resets", rows, device, "was reset")
         elif message[0] == 3 and raw == 0xFFFF:
@@ -178,11 +174,12 @@ def setups_of(words):
     """What --setup gives, by device."""
     for _, name, data in setups_in(words):
         device = DEVICES.index(name) + 1
-        yield device, setup_of(device, [{1: 0x09, 2: 0x31}.get(device, 0)], list(data[:-1]))
+        content = list(data[:-1])
+        yield device, setup_of(device, [{1: 0x09, 2: 0x31}.get(device, 0)], content, Formats().reply(device, content) if device >= 3 else [])
 
 
 def walked(text, words=()):
-    walk = Walk(setups_of(words))
+    walk = Walk(setups_of(words), "--extended" in words)
     for line in text.splitlines():
         if not line.startswith("fault "):
             walk.line(line)

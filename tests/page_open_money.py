@@ -108,13 +108,13 @@ class Bus:
         self.ack(0x30).told([0x33], 6).told([0x31], 1, 0x19, 0x78, 1, 0xF4, 2, 2, 0x58, 0, 0, 0xFF, 1, 2)
         return self.told([0x36], 0, 12).ack(0x34, 0, 3, 0, 3)
 
-    def reader(self, base=0x10, level=1, is_late=False):
+    def reader(self, base=0x10, level=1, is_late=False, own=1):
         config = [1, level, 0x19, 0x78, 1, 2, 5, 9]
         self.ack(base).told([base + 2], 0)
         if is_late:
             self.ack(base + 1, 0, 1, 0, 0, 0).told([base + 2], *config)
         else:
-            self.told([base + 1, 0, 1, 0, 0, 0], *config)
+            self.told([base + 1, 0, own, 0, 0, 0], *config)
         return self.ack(base + 4, 1)
 
     def polls(self, count, gap=50_000, device=0x0B):
@@ -125,9 +125,9 @@ class Bus:
     def coin(self, kind, tube=9):
         return self.told([0x0B], 0x50 + kind, tube)
 
-    def approved(self, base=0x10, cents=150, item=7):
+    def approved(self, base=0x10, cents=150, item=7, media=()):
         """A session with a request that the reader approves."""
-        self.told([base + 2], 3, 3, 0xE8).ack(base + 3, 0, 0, cents, 0, item)
+        self.told([base + 2], 3, 3, 0xE8, *media).ack(base + 3, 0, 0, cents, 0, item)
         return self.told([base + 2], 5, 0, cents)
 
     def over(self, base=0x10):
@@ -161,6 +161,17 @@ def scenes():
     sale = card().approved().ack(0x13, 2, 0, 7).over()
     yield Scene("a card sale", sale, GREEN, [])
     yield Scene("a reader of level 3", Bus().changer().reader(level=3).approved().ack(0x13, 2, 0, 7).over(), GREEN, [])
+    # The bytes of its payment media would be an approval of 2.58 in a session of three bytes.
+    media, wide = (5, 1, 2, 6, 0x0A, 0xC0, 4), Bus().changer().reader(level=3, own=3)
+    yield Scene("a card sale at level 3", wide.approved(media=media).ack(0x13, 2, 0, 7).over(), GREEN, [], options=("--extended",))
+    wide = Bus().changer().reader(level=3, own=3).approved(media=media).told([0x12], 0x0B, 5).polls(40)
+    yield Scene("no outcome at level 3", wide, AMBER, [("approved", "1.50", "item 7", "up to the end of the recording")],
+                ("card company",), makers, options=("--extended",))
+    yield Scene("a bill to the recycler", Bus().validator().told([0x33], 0x91).ack(0x35, 1).told([0x33], 0xB1)
+                .told([0x33], 0x90).ack(0x35, 1).told([0x33], 0x80), GREEN, [], options=("--extended",))
+    yield Scene("a bill in escrow, another one to the recycler", Bus().validator().told([0x33], 0x91).polls(40, device=0x33).off().validator()
+                .told([0x33], 0x90).ack(0x35, 1).told([0x33], 0xB0), AMBER,
+                [("escrow", "10.00", "neither as stacked nor as returned", "break")], ("in the validator",), options=("--extended",))
     yield Scene("config in a later POLL", Bus().reader(is_late=True).approved().ack(0x13, 2, 0, 7).over(), GREEN, [])
     yield Scene("a session that is cancelled", card().told([0x12], 3, 3, 0xE8).told([0x12], 4).over(), GREEN, [])
     yield Scene("VEND FAILURE", card().approved().ack(0x13, 3).over(), AMBER,
@@ -232,7 +243,8 @@ def compare(page, name, data, options, without, setups=None):
     """What the page has is what the second reader finds, and its rows are linked."""
     page.give(data, [*options, *(word for it in without for word in ("--without", it))], "scene.csv")
     came = json.loads(page.browser.value(READ))
-    wanted = second_open_money.entries(data, page.show(data, without), setups)
+    is_extended = "--extended" in options
+    wanted = second_open_money.entries(data, page.show(data, without, is_extended), setups, is_extended)
     want(came["entries"] == wanted, f"{name}: the page has {came['entries']}, wanted {wanted}")
     for entry, rows in zip(wanted, came["rows"]):
         named = [tuple(it) for it in rows]
@@ -279,8 +291,9 @@ def main():
             for scene in tried:
                 try_scene(page, scene)
             for i in range(count):
-                data, _, without = generator.recording(random.Random(f"{seed} page {i}"))
-                entries += len(compare(page, f"{seed} {i}", data, (), without)["entries"])
+                is_extended = i % 3 == 2
+                data, _, without = generator.recording(random.Random(f"{seed} page {i}"), is_extended)
+                entries += len(compare(page, f"{seed} {i}", data, ["--extended"] * is_extended, without)["entries"])
         except Wrong as wrong:
             sys.exit(f"page_open_money: {wrong}")
         finally:

@@ -30,6 +30,7 @@ sys.dont_write_bytecode = True
 
 from browser import Browser  # noqa: E402
 from firefox import Firefox  # noqa: E402
+from page_profiles import shown_for  # noqa: E402
 from programs import MDBCHECK as PROGRAM  # noqa: E402
 
 TOP = pathlib.Path(__file__).resolve().parent.parent
@@ -58,7 +59,7 @@ READ = """(() => {
 })()"""
 # Notes what the fields say each time that the page reads them, as words of a command, whatever their bytes are.
 NOTE = """(() => {
-  const read = options, all = ["changer", "bill", "cashless", "cashless-2"];
+  const all = ["changer", "bill", "cashless", "cashless-2"];
   window.fieldsNow = () => {
     const joined = by("joined").checked, words = joined ? ["--joined"] : [];
     for (const it of all) {
@@ -68,9 +69,10 @@ NOTE = """(() => {
     }
     return words;
   };
-  window.options = () => {
+  const read = options;
+  window.options = (...words) => {
     window.noted = fieldsNow();
-    return read();
+    return read(...words);
   };
   return 1;
 })()"""
@@ -253,11 +255,18 @@ class Orders:
         self.compare_answer(came, words, word)
         return word
 
-    def compare_answer(self, came, words, word):
+    def shown_words(self, words):
+        """The words with which the page shows the answer: with the extended profile where that gets further."""
+        if self.value("Boolean(state.isPlain)"):
+            return words
+        return shown_for(lambda _, command, *more: self.program(self.name, list(more), command), None, words)[0]
+
+    def compare_answer(self, came, given, word):
+        words = self.shown_words(given)
         status, text, err = self.program(self.name, words)
         want(shlex.split(came["command"]) == ["mdbcheck", "check", *words, "<", "FILE"], f"the command is {came['command']!r}, wanted {words}")
         want(came["isWay"], f"the card names other settings than {words}: {came['verdict']!r}")
-        want(came["isStale"] == (self.value("fieldsNow()") != words), f"the note on other settings: {came['isStale']}")
+        want(came["isStale"] == (self.value("fieldsNow()") != given), f"the note on other settings: {came['isStale']}")
         if status == 2:
             want(came["badRow"] and came["badRow"] in err, f"{came['verdict']!r}, wanted {err!r}")
         else:
@@ -273,7 +282,7 @@ def button(words):
     return "[...document.querySelectorAll('#main button')].find((it) => it.textContent.startsWith(%s))" % json.dumps(words)
 
 
-STEPS = ("choose", "choose", "drop", "drop", "tick", "tick", "bytes", "again", "again", "stop", "late", "leave", "earlier", "row", "survey", "survey")
+STEPS = ("choose", "choose", "drop", "drop", "tick", "tick", "bytes", "again", "again", "stop", "late", "leave", "profile", "earlier", "row", "survey", "survey")
 
 
 def take_step(page, dice):
@@ -300,7 +309,7 @@ def take_step(page, dice):
     elif kind == "survey":
         page.click("by('survey-go')")
     else:
-        page.press({"again": "by('again')", "late": button("Check as"), "leave": button("Leave out")}[kind])
+        page.press({"again": "by('again')", "late": button("Check as"), "leave": button("Leave out"), "profile": "by('other-profile')"}[kind])
     return kind
 
 
@@ -407,6 +416,8 @@ def try_focus(page):
     page.fresh()
     for name, words in (("level 3.csv", "Leave out card reader"), ("begins late.csv", "Check as already")):
         page.choose(name)
+        page.settled()
+        page.press(button("Show the answer without it"))
         page.settled()
         page.value(f"(() => {{ scrollTo(0, 100000); ({button(words)}).focus(); return 1; }})()")
         page.press(button(words))

@@ -33,6 +33,7 @@ from browser import Browser  # noqa: E402
 from cases import setups_in  # noqa: E402
 from firefox import Firefox  # noqa: E402
 from programs import MDBCHECK as PROGRAM  # noqa: E402
+from reader_formats import Formats  # noqa: E402
 
 TOP = pathlib.Path(__file__).resolve().parent.parent
 NAMES = {"changer": "changer", "validator": "bill", "card reader 1": "cashless", "card reader 2": "cashless-2"}
@@ -50,7 +51,8 @@ EXAMPLES = {
         "The validator reported a bill of 5.00 stacked (rows 40–41).",
         "It was in escrow (rows 35–36), and the controller hadn't ordered to stack it."],
     "bills-beside-alternative-payout": [
-        "The controller sends the coin changer the command 0F 02 of alternative payout (rows 208–209). The checker doesn't follow this command."],
+        "The controller sends the coin changer the command 0F 02 of alternative payout (rows 208–209). The checker doesn't follow this command.",
+        "The extended profile, for card readers of level 2 and 3, doesn't follow it either."],
     "changer-reset-and-poll": ["No money was reported."],
     "coin-behind-a-reset-message": [
         "0.25 isn't certain: a coin of 0.25 was reported in rows 32–34 and again in rows 38–41. It was one coin or two.",
@@ -68,7 +70,7 @@ EXAMPLES = {
         "If nothing was lost, the changer took 0.50 in coins, and the controller counted the same."],
     "coins-beside-a-level-3-reader": [
         "Card reader 1 reports feature level 3 in its answer to SETUP (rows 99–107), and so does the controller, with level 3 (rows 92–98).",
-        "From level 2 on the messages of a session have other forms, which the checker doesn't know."],
+        "From level 2 on the messages of a session have other forms. The extended profile follows them in a recording from power-on."],
     "coins-beside-a-recycler": [
         "The bill validator sends the message B1 of bill recycling (rows 194–195). The checker doesn't follow this message."],
     "four-devices-on-a-bus": ["The controller and the devices agree for certain: 0.25 in coins."],
@@ -117,12 +119,10 @@ def amount(units, places):
 
 
 def messages(device, data):
-    """The messages of a reply, cut: of a reader's list, or of an answer to POLL of the changer or the validator."""
-    sizes = {1: 8, 2: 99, 3: 3, 5: 3, 9: 30, 10: 2}
+    """The messages of an answer to POLL of the changer or the validator, cut."""
     found, i = [], 0
     while i < len(data):
-        b = data[i]
-        size = sizes.get(b, 1) if device.startswith("cashless") else 2 if device == "changer" and (b >= 0x40) else 1
+        size = 2 if device == "changer" and data[i] >= 0x40 else 1
         found.append(data[i:i + size])
         i += size
     return found
@@ -133,7 +133,9 @@ class Recording:
 
     def __init__(self, text, options):
         self.acts, values, ask = [], {}, b""
+        self.formats, self.told = Formats("--extended" in options), []
         for _, device, data in setups_in(options):
+            self.told = self.formats.reply(device, data[:-1]) if device.startswith("cashless") else []
             values[device] = self.values(device, b"", data)
         for line in text.splitlines():
             found = re.fullmatch(r"(\d+)-(\d+) (\S+)((?: [a-z]\S*)?)((?: [0-9A-F]{2})*)(?: \d+)?", line)
@@ -145,27 +147,28 @@ class Recording:
             kind, device, data = found[3], found[4].strip(), bytes.fromhex(found[5].replace(" ", ""))
             if kind == "ask":
                 ask = data
+                self.formats.ask(device, data[:-1])
+            if kind == "reply" and device.startswith("cashless"):
+                self.told = self.formats.reply(device, data[:-1])
             if kind in ("reply", "repeat"):
                 values[device] = self.values(device, ask, data) or values.get(device)
             says = self.says(kind, device, ask, data, values.get(device)) if device else set()
             self.acts.append({"first": int(found[1]), "last": int(found[2]), "kind": kind, "device": device, "data": data, "says": says,
                               "is_poll": ask[:1] in (b"\x0b", b"\x33")})
 
-    @staticmethod
-    def values(device, ask, data):
+    def values(self, device, ask, data):
         """The scale, the decimals and the credits that an answer tells; None where it tells none."""
         if device == "changer" and ask[:1] in (b"\x09", b"") and len(data) >= 8:
             return data[3], data[4], data[7:-1]
         if device == "bill" and ask[:1] in (b"\x31", b"") and len(data) >= 12:
             return data[3] * 256 + data[4], data[5], data[11:-1]
         if device.startswith("cashless"):
-            for m in messages(device, data[:-1]):
-                if m[0] == 1 and len(m) == 8:
+            for m in self.told:
+                if m[0] == 1:
                     return m[4], m[5], b""
         return None
 
-    @staticmethod
-    def says(kind, device, ask, data, values):
+    def says(self, kind, device, ask, data, values):
         """What an act says, as words: items, amounts, and what was done."""
         says = set()
         scale, places, credits = values or (0, 0, b"")
@@ -188,7 +191,7 @@ class Recording:
         if kind == "ask" and data[0] == 0x35 and data[1] & 1:
             says.add("order")
         if kind in ("reply", "repeat"):
-            for m in messages(device, data[:-1]):
+            for m in self.told if device.startswith("cashless") else messages(device, data[:-1]):
                 if device.startswith("cashless"):
                     says.add({0: "reset", 3: "begun", 4: "asked", 5: "approved", 6: "denied", 7: "ended"}.get(m[0], "other"))
                     if m[0] == 5 and len(m) == 3:
@@ -204,8 +207,8 @@ class Recording:
                 elif device == "bill" and ask[:1] == b"\x33":
                     if m[0] == 6:
                         says.add("reset")
-                    if 0x80 <= m[0] < 0xB0:
-                        says.add({8: "stacked", 9: "escrow", 10: "returned"}[m[0] >> 4])
+                    if 0x80 <= m[0] < 0xC0:
+                        says.add({8: "stacked", 9: "escrow", 10: "returned", 11: "recycled"}[m[0] >> 4])
                         coin("money", m[0] & 15)
         return says
 
@@ -233,7 +236,7 @@ PHRASES = [
     (r"item \d+ as sold", "sold"), (r"the sale of", "sold"), (r"(?<!nor )denied (?:it|the request)\b", "denied"),
     (r"card reader \d approved (\d[\d.]*)(?= for| \(|[.,] )", "money {0}"), (r"card reader \d approved \S+(?: for item \d+)? \(", "approved"),
     (r"(?:coin|bill|payout|order to pay out|approval) of (\d[\d.]*)", "money {0}"), (r"a coin of", "coin"),
-    (r"a bill of \S+ stacked", "stacked"), (r"(?-i:escrow) \(rows", "escrow"), (r"began a session", "begun"),
+    (r"a bill of \S+ stacked", "stacked"), (r"a bill of \S+ to the recycler", "recycled"), (r"(?-i:escrow) \(rows", "escrow"), (r"began a session", "begun"),
     (r"card reader \d ended the session", "ended"), (r"the controller ended the session \(", "complete"),
     (r"cancelled its request", "cancel"), (r"didn't come", "failure"), (r"(?:report that it|reported that it) was reset", "reset"),
     (r"(?:coin|bill) of type (\d+)", "type {0}"), (r"taken the order", "order"),
@@ -366,7 +369,7 @@ def compare_openings(sentences, data, options):
 
 
 # What a device did with the money of an account.
-DID = {"coins-in": "the changer took {} in coins", "bills-in": "the validator stacked {} in bills", "paid-out": "the changer paid out {}",
+DID = {"coins-in": "the changer took {} in coins", "bills-in": "the validator took {} in bills", "paid-out": "the changer paid out {}",
        "approved": "card reader 1 approved {}", "sold": "card reader 1 booked {}",
        "approved-2": "card reader 2 approved {}", "sold-2": "card reader 2 booked {}"}
 
@@ -438,7 +441,7 @@ def compare_yes(sentences, recording, report, values):
             continue
         found = re.match(r"(?:Up to )?([−\d.]+) isn't certain", it["text"])
         want(not found or found[1] in widths, f"{found and found[1]} isn't {widths}")
-        for said in re.findall(r"(?:took|stacked|paid out|approved|booked|counted) ([−\d.]+(?: to [−\d.]+)?)[;.]$|; the controller \D+([−\d.]+(?: to [−\d.]+)?)\.", it["text"]):
+        for said in re.findall(r"(?:took|paid out|approved|booked|counted) ([−\d.]+(?: to [−\d.]+)?)[;.]$|; the controller \D+([−\d.]+(?: to [−\d.]+)?)\.", it["text"]):
             want(set(said) - {""} <= ranges, f"{said} isn't among {ranges}: {it['text']}")
         asked = re.search(r"asked (\d+) times? \(rows (\d+)–(\d+)\)", it["text"])
         if asked:
@@ -498,8 +501,8 @@ def compare_story(story, show, check, options, data):
 
 
 def left_out(options):
-    """The options that `show` takes too: those of the devices that are left out."""
-    found = []
+    """The options that `show` takes too: the profile, and the devices that are left out."""
+    found = ["--extended"] * ("--extended" in options)
     for i, word in enumerate(options):
         if word.startswith("--without"):
             found += [word] if "=" in word else [word, options[i + 1]]
@@ -513,11 +516,11 @@ def run(words, data):
 def jobs(module, share):
     """The name, the recording and the options of each that is tried."""
     for path in sorted((TOP / "examples").glob("*.csv")):
-        for way in ([], ["--joined"], *(module.without_words(it) for it in ("cashless", "changer", "bill"))):
+        for way in ([], ["--joined"], ["--extended"], *(module.without_words(it) for it in ("cashless", "changer", "bill"))):
             yield path.stem + " " + " ".join(way), path.read_bytes(), way
     for i, (name, words, data, status, _, _) in enumerate(module.worked_cases()):
         rest = words[1:]
-        is_known = all(re.fullmatch(r"--joined|--without(=.*)?|--setup(=.*)?", it) or before.startswith(("--without", "--setup"))
+        is_known = all(re.fullmatch(r"--joined|--extended|--without(=.*)?|--setup(=.*)?", it) or before.startswith(("--without", "--setup"))
                        for before, it in zip([""] + rest, rest))
         if words[:1] == ["check"] and is_known and status in ("0", "1") and i % share == 0:
             yield name, data, rest

@@ -16,6 +16,7 @@ import sys
 from typing import NamedTuple
 
 from programs import TOP, Runs
+from unjudged import aside
 
 SKIPPED = 77  # the status of a script that can't be run here
 MOST_CALLS = 100_000
@@ -150,10 +151,11 @@ def refuse_each(kind, case, is_told, may_go_on):
     raise Wrong(f"{case.name}: there is always one {kind} more")
 
 
-def of_text(text):
-    """The answer whose standard output is a text: the status is 1 if that reports an impossible row."""
+def of_text(text, line=b""):
+    """The answer whose standard output is a text, and standard error a line: the status is 1 if the text reports
+    an impossible row."""
     is_no = re.search(rb'^(?:verdict no$|fault )|"verdict":"no"|^\{"(?:act":"fault"|fault":)', text, re.M)
-    return Answer(1 if is_no else 0, text, b"")
+    return Answer(1 if is_no else 0, text, line)
 
 
 def on_example(runs, name, *words, wanted=None):
@@ -163,12 +165,13 @@ def on_example(runs, name, *words, wanted=None):
     text = (EXAMPLES / f"{name}.{wanted}").read_bytes() if wanted else runs.answer(words, given).out
     if not text:
         raise Wrong(f"{' '.join(words)} {name}: nothing is wanted")
-    return Case(f"{' '.join(words)} {name}", runs, words, given, of_text(text))
+    return Case(f"{' '.join(words)} {name}", runs, words, given, of_text(text, aside(given, words, text.decode()).encode()))
 
 
 def on_examples(runs):
     """The commands that both scripts run."""
-    for name in ("changer-reset-and-poll", "coin-not-told-again", "bill-stacked-without-an-order", "sale-of-one-item"):
+    for name in ("changer-reset-and-poll", "coin-not-told-again", "bill-stacked-without-an-order", "sale-of-one-item",
+                 "coins-beside-a-recycler"):
         for word in ("check", "show"):
             yield on_example(runs, name, word, wanted=word)
     # (tests/json and tests/show-json, outside the gate, compare the JSON with the text)

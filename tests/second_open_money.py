@@ -1,12 +1,12 @@
 #!/usr/bin/env python3
 """A second reader of open money, written from docs/bench/open-money.md.
 
-    second_open_money.py [--setup 'DEVICE BYTES'].. RECORDING SHOWN
+    second_open_money.py [--extended] [--setup 'DEVICE BYTES'].. RECORDING SHOWN
 
-RECORDING is a file of rows, and SHOWN what `mdbcheck show` prints of it. It writes the entries as JSON, in a
-line each.
+RECORDING is a file of rows, and SHOWN what `mdbcheck show` prints of it, with --extended or without. It writes the
+entries as JSON, in a line each.
 
-    entries(rows, shown, setups) -> list of entries
+    entries(rows, shown, setups, is_extended) -> list of entries
 
 is the same as a function: the bytes of the rows, the lines of `show`, and set-up data by device, as `--setup` has them.
 After a line `fault`, and after a line `gap`, the acts of another part of the recording may follow.
@@ -15,11 +15,12 @@ After a line `fault`, and after a line `gap`, the acts of another part of the re
 import json
 import sys
 
+from reader_formats import Formats
+
 KINDS = ('approved', 'failed', 'escrow', 'lever', 'payout', 'choice', 'trouble')
 READERS = {'cashless': 0, 'cashless-2': 0x50}
 CHANGER_TROUBLE = {0x03, 0x04, 0x06, 0x07, 0x08, 0x09, 0x0C, 0x0D}
 BILL_TROUBLE = {0x01, 0x02, 0x04, 0x05, 0x07, 0x08, 0x0C}
-READER_LENGTH = {1: 8, 3: 3, 5: 3, 9: 30, 0x0A: 2}
 
 
 def acts_of(shown):
@@ -39,19 +40,11 @@ def acts_of(shown):
 
 
 def messages(device, data):
-    """The messages of a reply, without its sum, from left to right."""
+    """The messages of the changer's or the validator's reply to POLL, without its sum, from left to right."""
     at = 0
     found = []
     while at < len(data):
-        first = data[at]
-        if device == 'changer':
-            size = 2 if first >= 0x40 else 1
-        elif device == 'bill':
-            size = 1
-        elif first == 2:
-            size = len(data) - at
-        else:
-            size = READER_LENGTH.get(first, 1)
+        size = 2 if device == 'changer' and data[at] >= 0x40 else 1
         found.append(data[at:at + size])
         at += size
     return found
@@ -102,8 +95,9 @@ class Sum:
 class Reading:
     """One pass over the acts of a recording, or of the parts that gaps leave of it."""
 
-    def __init__(self, times, setups=None):
+    def __init__(self, times, setups=None, is_extended=False):
         self.times = times
+        self.formats = Formats(is_extended)
         self.values = Values()
         self.values.data.update(setups or {})
         self.troubles = {}
@@ -186,6 +180,7 @@ class Reading:
             self.asked_reader(device, act)
 
     def asked_reader(self, device, act):
+        self.formats.ask(device, act[4][:-1])
         data = [act[4][0] - READERS[device]] + act[4][1:]
         if data[0] == 0x10:
             self.unapprove(device, 'reset', act)
@@ -257,7 +252,7 @@ class Reading:
         device, data = act[3], act[4][:-1]
         ask = ask[4] if ask else [0]
         if device in READERS:
-            found = messages(device, data)
+            found = self.formats.reply(device, data)
             for m in found:
                 if m[0] == 1:
                     self.values.data[device] = m[1:]
@@ -308,7 +303,7 @@ class Reading:
             self.trouble('bill', byte, act)
         if byte == 0x06:
             self.unescrow('restarted', act)
-        if not 0x80 <= byte <= 0xAF:
+        if not 0x80 <= byte <= 0xBF:
             return
         kind, group = byte & 15, byte >> 4
         if self.bill and self.bill['kind'] != kind:
@@ -320,7 +315,7 @@ class Reading:
                          'sums': [(amount, self.values.decimals('bill'))]}
         elif group != 9:
             self.bill = None
-        if group == 8 and heard:
+        if group in (8, 11) and heard:
             self.bills.add(self.values.one('bill', kind))
             self.press = None
         if group == 10:
@@ -426,10 +421,10 @@ def parts_of(acts):
     yield part, 'end', None
 
 
-def entries(rows, shown, setups=None):
+def entries(rows, shown, setups=None, is_extended=False):
     """The entries of a recording, from its rows, the lines of `show`, and set-up data."""
     lines = [line.split(',') for line in rows.decode().splitlines() if line]
-    reading = Reading([int(line[0]) for line in lines], given(setups or {}))
+    reading = Reading([int(line[0]) for line in lines], given(setups or {}), is_extended)
     for acts, word, fault in parts_of(acts_of(shown)):
         reading.part(acts, word, fault)
         if fault and fault[3:] == ('controller', 'Profile') and is_choice(lines, fault[0]):
@@ -439,11 +434,13 @@ def entries(rows, shown, setups=None):
 
 def main():
     setups, words = {}, sys.argv[1:]
+    is_extended = words[:1] == ['--extended']
+    words = words[is_extended:]
     while words and words[0] == '--setup':
         device, _, data = words[1].partition(' ')
         setups[device], words = bytes.fromhex(data), words[2:]
     rows, shown = (open(word, 'rb').read() for word in words)
-    for entry in entries(rows, shown.decode().splitlines(), setups):
+    for entry in entries(rows, shown.decode().splitlines(), setups, is_extended):
         print(json.dumps(entry))
 
 

@@ -1,16 +1,19 @@
 #!/usr/bin/env python3
-"""A second `mdbcheck replay`, written from the pages of `docs/` alone.
+"""A second `mdbcheck replay` and `mdbcheck check`, written from the pages of `docs/` alone.
 
-    second_replay.py [--without DEVICE].. < EXPLANATION
+    second_replay.py [--extended] [--without DEVICE].. < EXPLANATION
+    second_replay.py --check [--extended] [--without DEVICE].. < RECORDING
 
-It reads the marks and rows of an explanation, follows the one run that has these marks and no others, and
-prints what `mdbcheck replay` prints: the report of a yes (status 0), the four lines of a no (status 1), or a
-line on standard error (status 2). It shares no code, no tables and no definitions with `mdbcheck`; so where
-both agree, they agree because the pages say so.
+The first reads the marks and rows of an explanation, follows the one run that has these marks and no others,
+and prints what `mdbcheck replay` prints: the report of a yes (status 0), the four lines of a no (status 1),
+or a line on standard error (status 2). The second follows all runs at once, and prints what `mdbcheck check`
+prints. It shares no code, no tables and no definitions with `mdbcheck`; so where both agree, they agree
+because the pages say so.
 
-    replay(text, without) -> (status, out, err)
+    replay(text, without, extended) -> (status, out, err)
+    check(text, without, extended) -> (status, out, err)
 
-is the same as a function. What stands on standard error after the word of a row that isn't one (`wanted ..,
+are the same as functions. What stands on standard error after the word of a row that isn't one (`wanted ..,
 found ..`), and after a fault of the words (`usage: ..`), isn't made here.
 
 The parts, and the page of `docs/` that each follows:
@@ -20,8 +23,11 @@ The parts, and the page of `docs/` that each follows:
     the link                    bus.md, *What a bus may do*, *Times*, *The rules*
     the machines                machines.md
     silences, the report        report.md, *The report*
+    what `--extended` changes   extended-profile.md
 """
 
+import copy
+import functools
 import re
 import sys
 from typing import Iterator, NamedTuple, Optional
@@ -244,13 +250,20 @@ def _changer_and_bill_openings() -> dict:
     }
 
 
-def _reader_openings(device: str, address: int) -> dict:
+#: The option bits that aren't followed, in the last byte of ENABLE OPTIONS.
+_OPTIONS_OF_PROFILE = 0x02 | 0x04 | 0x20
+
+
+def _reader_openings(device: str, address: int, extended: bool) -> dict:
     def reader(name, length):
         return Command(device, name, length, 1, 35)
 
     def rest_is_profile(known):
         return {sub: known.get(sub, PROFILE) for sub in range(0x100)}
 
+    expansions = {0: reader("EXPANSION", 32)}
+    if extended:
+        expansions[4] = reader("ENABLE OPTIONS", 7)
     return {
         address: reader("RESET", 2),
         address + 1: rest_is_profile({0: reader("SETUP config", 7), 1: reader("SETUP prices", 7)}),
@@ -270,17 +283,17 @@ def _reader_openings(device: str, address: int) -> dict:
         }),
         address + 5: PROFILE,
         address + 6: PROFILE,
-        address + 7: {0: reader("EXPANSION", 32)},
+        address + 7: expansions,
     }
 
 
-def openings_without(without: set[str]) -> dict:
+def openings_without(without: set[str], extended: bool) -> dict:
     """What a block to a device that is followed may begin with: by its first byte a command, `PROFILE`, or,
     by its second byte, commands and `PROFILE`. What isn't there is foreign."""
     openings = {
         **_changer_and_bill_openings(),
-        **_reader_openings(CASHLESS, 0x10),
-        **_reader_openings(CASHLESS_2, 0x60),
+        **_reader_openings(CASHLESS, 0x10, extended),
+        **_reader_openings(CASHLESS_2, 0x60, extended),
     }
     addresses = {CHANGER: 0x08, BILL: 0x30, CASHLESS: 0x10, CASHLESS_2: 0x60}
     for device in without:
@@ -303,25 +316,24 @@ def _changer_message_lengths() -> list:
     return lengths
 
 
-def _bill_message_lengths() -> list:
+def _bill_message_lengths(extended: bool) -> list:
     lengths: list = [1] * 0x60 + [NO_MESSAGE] * 0x20 + [1] * 0x80
-    for first, last in ((0x1B, 0x1F), (0xB0, 0xBF), (0xD0, 0xFF)):
-        lengths[first:last + 1] = [PROFILE] * (last + 1 - first)
+    lengths[0x1B:0x20] = [PROFILE] * 5
+    if not extended:
+        lengths[0xB0:0xC0] = [PROFILE] * 0x10
+        lengths[0xD0:] = [PROFILE] * 0x30
     return lengths
 
 
-#: By the first byte of a message how long it is, or the rule that it breaks.
+#: By the first byte of a message how long it is, or the rule that it breaks. Of several lengths it is the
+#: first one for which there are bytes enough, or the last. `None` is a display request.
 _CHANGER_MESSAGES = _changer_message_lengths()
-_BILL_MESSAGES = _bill_message_lengths()
+_BILL_MESSAGES = {extended: _bill_message_lengths(extended) for extended in (False, True)}
 _READER_MESSAGES = [1, 8, None, 3, 1, 3, 1, 1, 1, 30, 2, 1] + [PROFILE] * 0xF4
-
-_DISPLAY = 0x02
-_MESSAGE_LENGTHS = {
-    CHANGER: _CHANGER_MESSAGES,
-    BILL: _BILL_MESSAGES,
-    CASHLESS: _READER_MESSAGES,
-    CASHLESS_2: _READER_MESSAGES,
-}
+#: With the extended profile, in the formats short and long.
+_ID = (34, 30)
+_SHORT_MESSAGES = [1, 8, None, 3, 1, 3, 1, 1, 1, _ID, 2, 1] + [PROFILE] * 0xF4
+_LONG_MESSAGES = [1, 8, None, 10, 1, 3, 1, 1, 1, _ID, 2, (2, 1), PROFILE, 1, 1, 3, PROFILE, 1] + [PROFILE] * 0xEE
 
 
 def read_messages(content: bytes, lengths: list) -> tuple[list[bytes], Optional[str]]:
@@ -336,6 +348,8 @@ def read_messages(content: bytes, lengths: list) -> tuple[list[bytes], Optional[
                 return messages, NO_MESSAGE
         elif isinstance(length, str):
             return messages, length
+        elif isinstance(length, tuple):
+            length = next((one for one in length if at + one <= end), length[-1])
         if at + length > end:
             return messages, NO_MESSAGE
         messages.append(content[at:at + length])
@@ -343,8 +357,10 @@ def read_messages(content: bytes, lengths: list) -> tuple[list[bytes], Optional[
     return messages, None
 
 
-#: The messages of a session and a sale.
+#: The messages of a session and a sale; and those of revalue, the first two of which are of a session too.
 _SESSION_MESSAGES = frozenset((0x03, 0x05, 0x06, 0x07))
+_REVALUE_MESSAGES = frozenset((0x0D, 0x0E, 0x0F))
+_ONLY_IN_SESSIONS = _SESSION_MESSAGES | {0x0D, 0x0E}
 _CONFIG = 0x01
 _OUT_OF_SEQUENCE = 0x0B
 
@@ -383,13 +399,16 @@ class Act(NamedTuple):
     #: Of a reply: its bytes, without the sum, and its messages, if its answer has such.
     content: bytes = b""
     messages: tuple = ()
+    #: Of an ask: whether the format of the reader's messages is long.
+    is_long: bool = False
 
 
 class Link:
     """The bus as the rows so far leave it. `take` judges the next row by the rules of the link."""
 
-    def __init__(self, without: set[str]):
-        self.openings = openings_without(without)
+    def __init__(self, without: set[str], extended: bool):
+        self.extended = extended
+        self.openings = openings_without(without, extended)
         self.position = QUIET
         #: When the last row started, and from when gaps count: that, or the end of a break.
         self.started = -1
@@ -404,8 +423,10 @@ class Link:
         self.asked = bytearray()
         self.words: list[int] = []
         self.repeated = 0
-        #: The level in the last SETUP config data that each reader was sent.
-        self.levels = {CASHLESS: 0, CASHLESS_2: 0}
+        #: The levels that were shown of each reader: in the last SETUP config data that it was sent, and in
+        #: the last config message that it told.
+        self.sent_levels: dict[str, int] = {}
+        self.told_levels: dict[str, int] = {}
 
     def take(self, time: int, line: bytes, value: int) -> Optional[Act]:
         """The act that the row ends, if one."""
@@ -501,9 +522,11 @@ class Link:
             raise Broken("Sum", CONTROLLER)
         self.position = ASKED
         self.device = command.device
+        if command.name == "ENABLE OPTIONS" and asked[-1] & _OPTIONS_OF_PROFILE:
+            raise Broken(PROFILE, CONTROLLER)
         if command.name == "SETUP config":
-            self.levels[command.device] = asked[2]
-        return Act("ask", command, bytes(asked))
+            self.sent_levels[command.device] = asked[2]
+        return Act("ask", command, bytes(asked), is_long=self._formats(command.device)[0] is _LONG_MESSAGES)
 
     def _answer_of_controller(self, word: int) -> Act:
         kind = _VMC_ANSWERS.get(word)
@@ -570,16 +593,41 @@ class Link:
             if device == BILL and command.name == "SETUP" and content[10] not in (0x00, 0xFF):
                 raise Broken("Message", device)
             return []
-        messages, rule = read_messages(content, _MESSAGE_LENGTHS[device])
+        readings = [self._read_list(content, lengths) for lengths in self._formats(device)]
+        messages, rule = next((one for one in readings if one[1] is None), readings[0])
         if rule is not None:
             raise Broken(rule, device)
-        if device in self.levels:
-            session_may_be_told = command.name == "POLL" or command.name in _TRANSACTIONS
-            if not session_may_be_told and any(m[0] in _SESSION_MESSAGES for m in messages):
-                raise Broken("Answer", device)
-            if self.levels[device] >= 2 and any(m[0] == _CONFIG and m[1] >= 2 for m in messages):
-                raise Broken("Profile", device)
+        is_reader = device in (CASHLESS, CASHLESS_2)
+        if is_reader and any(m[0] in _REVALUE_MESSAGES for m in messages):
+            raise Broken(PROFILE, device)
+        levels = [m[1] for m in messages if is_reader and m[0] == _CONFIG]
+        if not self.extended and self.sent_levels.get(device, 0) >= 2 and any(level >= 2 for level in levels):
+            raise Broken(PROFILE, device)
+        if levels:
+            self.told_levels[device] = levels[-1]
         return messages
+
+    def _formats(self, device: str) -> list[list]:
+        """How the next messages of a device may be read: if not in the first way, then in the second."""
+        if device == CHANGER:
+            return [_CHANGER_MESSAGES]
+        if device == BILL:
+            return [_BILL_MESSAGES[self.extended]]
+        if not self.extended:
+            return [_READER_MESSAGES]
+        levels = [known[device] for known in (self.sent_levels, self.told_levels) if device in known]
+        if any(level < 2 for level in levels):
+            return [_SHORT_MESSAGES]
+        return [_LONG_MESSAGES] if len(levels) == 2 else [_SHORT_MESSAGES, _LONG_MESSAGES]
+
+    def _read_list(self, content: bytes, lengths: list) -> tuple[list[bytes], Optional[str]]:
+        """The messages of a data block in one reading, and the rule that they break."""
+        messages, rule = read_messages(content, lengths)
+        if rule is None and self.command.device in (CASHLESS, CASHLESS_2):
+            session_may_be_told = self.command.name == "POLL" or self.command.name in _TRANSACTIONS
+            if not session_may_be_told and any(m[0] in _ONLY_IN_SESSIONS for m in messages):
+                rule = "Answer"
+        return messages, rule
 
     def _word_of_repeat(self, word: int) -> Optional[Act]:
         if word != self.words[self.repeated]:
@@ -616,25 +664,31 @@ class Impossible(Exception):
     """The act can't have been, as it is marked."""
 
 
-class Sum:
-    """An account: what the device's book says, and the controller's."""
+class Sum(NamedTuple):
+    """An account in the runs that come to one state: the least and the greatest that the device's book says,
+    the controller's, and the difference. In one run alone they are equal."""
 
-    def __init__(self):
-        self.device = 0
-        self.controller = 0
+    device: tuple = (0, 0)
+    controller: tuple = (0, 0)
+    difference: tuple = (0, 0)
+
+    def plus(self, device: int = 0, controller: int = 0) -> "Sum":
+        steps = (device, controller, device - controller)
+        return Sum(*((least + step, greatest + step) for (least, greatest), step in zip(self, steps)))
+
+    def joined(self, other: "Sum") -> "Sum":
+        return Sum(*((min(a[0], b[0]), max(a[1], b[1])) for a, b in zip(self, other)))
 
     def line(self, name: str) -> str:
-        device, controller = self.device, self.controller
-        difference = device - controller
-        return (f"{name} device {device}..{device} controller {controller}..{controller} "
-                f"difference {difference}..{difference}")
+        sides = zip(self._fields, self)
+        return name + "".join(f" {side} {least}..{greatest}" for side, (least, greatest) in sides)
 
 
 class Device:
     """A device and the controller's part in its acts (*What was said before*, *What all devices do*).
 
-    `break_off`, `ask`, `ack`, `reply` and `vmc_ack` are the acts; `Impossible` is raised where one can't
-    have been. NAK, RET, repeats and the controller's NAK change nothing.
+    `break_off`, `ask`, `ack`, `nak`, `reply` and `vmc_ack` are the acts; `Impossible` is raised where one
+    can't have been. RET, repeats and the controller's NAK change nothing.
     """
 
     #: The rule of an act that can't have been, and the first byte of the reset message.
@@ -672,7 +726,7 @@ class Device:
     def controller_to_power_on(self):
         """The controller's part, as at power-on."""
 
-    def ask(self, command: Command, asked: bytes):
+    def ask(self, act: Act):
         """The effect of a command that the controller sends."""
 
     def take_command(self, command: Command, asked: bytes):
@@ -694,7 +748,20 @@ class Device:
     def acknowledged(self):
         """What the controller makes of the last reply as it acknowledges it."""
 
+    def nak(self, command: Command):
+        """The device answers with NAK."""
+
     # What is the same for all.
+
+    def joins(self, other: "Device") -> bool:
+        """Whether another run of the device came to the same state; then its sums are joined to these."""
+        ours, theirs = vars(self), vars(other)
+        if any(ours[name] != theirs[name] for name in ours if not isinstance(ours[name], Sum)):
+            return False
+        for name in ours:
+            if isinstance(ours[name], Sum):
+                ours[name] = ours[name].joined(theirs[name])
+        return True
 
     def takes(self, messages: tuple) -> bool:
         """Whether a reply with these messages takes the command."""
@@ -801,13 +868,13 @@ class Changer(Device):
         """What a message 80 to FF tells."""
         return (first >> 4 & 0x07) * self.value(first & 0x0F)
 
-    def ask(self, command, asked):
-        if command.name == "RESET":
+    def ask(self, act):
+        if act.command.name == "RESET":
             self.waits = False
-        elif command.name == "DISPENSE":
-            byte = asked[1]
+        elif act.command.name == "DISPENSE":
+            byte = act.asked[1]
             if not (self.waits and byte == self.last_dispense):
-                self.paid_out.controller += self.dispensed(byte)
+                self.paid_out = self.paid_out.plus(controller=self.dispensed(byte))
                 self.waits = True
             self.last_dispense = byte
 
@@ -818,7 +885,7 @@ class Changer(Device):
         elif command.name == "COIN TYPE":
             self.types |= types_of(asked)
         elif command.name == "DISPENSE":
-            self.paid_out.device += self.dispensed(asked[1])
+            self.paid_out = self.paid_out.plus(device=self.dispensed(asked[1]))
 
     def answer_heard(self, command):
         if command.name == "DISPENSE":
@@ -831,11 +898,11 @@ class Changer(Device):
     def tell(self, message):
         first = message[0]
         if first >= 0x80:
-            self.paid_out.device += self.paid_by_hand(first)
+            self.paid_out = self.paid_out.plus(device=self.paid_by_hand(first))
             return
         if not self.types >> (first & 0x0F) & 1:
             raise Impossible
-        self.coins_in.device += self.value(first & 0x0F)
+        self.coins_in = self.coins_in.plus(device=self.value(first & 0x0F))
 
     def acknowledged(self):
         if self.replied_to.name != "POLL":
@@ -843,9 +910,9 @@ class Changer(Device):
         for message in self.told:
             first = message[0]
             if first >= 0x80:
-                self.paid_out.controller += self.paid_by_hand(first)
+                self.paid_out = self.paid_out.plus(controller=self.paid_by_hand(first))
             elif 0x40 <= first <= 0x5F:
-                self.coins_in.controller += self.value(first & 0x0F)
+                self.coins_in = self.coins_in.plus(controller=self.value(first & 0x0F))
             elif first == self.reset_message:
                 self.waits = False
 
@@ -874,7 +941,7 @@ class Validator(Device):
         return (self.setup[3] << 8 | self.setup[4]) * self.setup[11 + bill]
 
     def is_kept(self, message: bytes) -> bool:
-        return 0x80 <= message[0] <= 0xAF
+        return 0x80 <= message[0] <= 0xBF
 
     def to_power_on(self):
         super().to_power_on()
@@ -900,11 +967,11 @@ class Validator(Device):
     def tell(self, message):
         kind, bill = message[0] & 0xF0, message[0] & 0x0F
         enabled = self.types >> bill & 1
-        if kind == 0x80:  # stacked
+        if kind in (0x80, 0xB0):  # stacked, or to the recycler
             if not enabled or self.escrow is not None and not (self.escrow == bill and self.ordered):
                 raise Impossible
             self.escrow = None
-            self.bills_in.device += self.value(bill)
+            self.bills_in = self.bills_in.plus(device=self.value(bill))
         elif kind == 0x90:  # in escrow
             if not enabled or self.escrow is not None:
                 raise Impossible
@@ -917,8 +984,8 @@ class Validator(Device):
     def acknowledged(self):
         if self.replied_to.name == "POLL":
             for message in self.told:
-                if 0x80 <= message[0] <= 0x8F:
-                    self.bills_in.controller += self.value(message[0] & 0x0F)
+                if message[0] & 0xF0 in (0x80, 0xB0):
+                    self.bills_in = self.bills_in.plus(controller=self.value(message[0] & 0x0F))
 
 
 #: The states of a reader. From IDLE on it is in a session.
@@ -939,6 +1006,8 @@ class Reader(Device):
         #: The last transaction asked, and the last one taken.
         self.last_asked: Optional[bytes] = None
         self.last_taken: Optional[bytes] = None
+        #: Whether the last transaction asked is refused.
+        self.refused = False
         #: The last amount of 05.
         self.amount = 0
         self.view = "no session"
@@ -1010,7 +1079,7 @@ class Reader(Device):
         elif state == APPROVED:
             self.state = IDLE
             if name == "VEND SUCCESS":
-                self.sold.device += self.value(self.amount)
+                self.sold = self.sold.plus(device=self.value(self.amount))
 
     def learn(self, command, content, messages):
         for message in messages:
@@ -1025,7 +1094,7 @@ class Reader(Device):
         elif first == 0x05:
             requested = self.last_taken is not None and self.last_taken[1] == 0x00
             self._go(self.state == VEND and requested, APPROVED)
-            self.approved.device += self.value(amount_of(message))
+            self.approved = self.approved.plus(device=self.value(amount_of(message)))
         elif first == 0x06:
             self._go(self.state == VEND, IDLE)
         else:
@@ -1045,29 +1114,37 @@ class Reader(Device):
 
     # -- the controller
 
-    def ask(self, command, asked):
-        if command.name == "RESET":
+    def ask(self, act):
+        name = act.command.name
+        if name == "RESET":
             self.view = "no session"
-        elif command.name in _TRANSACTIONS:
-            self._ask_transaction(command.name, self.view, asked == self.last_asked)
-            self.last_asked = asked
+        elif name in _TRANSACTIONS:
+            self._ask_transaction(name, self.view, act.asked == self.last_asked, self.refused and act.is_long)
+            self.last_asked = act.asked
+            self.refused = False
 
-    def _ask_transaction(self, name: str, view: str, again: bool):
+    def _ask_transaction(self, name: str, view: str, again: bool, refused: bool):
+        undecided = view in ("Asked", "Waiting", "SuccessOwed", "FailureOwed")
         if name == "VEND REQUEST":
             possible, after = view == "Idle" or view == "Asked" and again, "Asked"
+            possible = possible or refused and (undecided or view == "Ending")
         elif name == "VEND CANCEL":
             possible, after = view in ("Asked", "Waiting"), "Waiting"
         elif name == "VEND SUCCESS":
             possible, after = view == "Approved" or view == "SuccessOwed" and again, "SuccessOwed"
             if view == "Approved":
-                self.sold.controller += self.value(self.amount)
+                self.sold = self.sold.plus(controller=self.value(self.amount))
         elif name == "VEND FAILURE":
             possible, after = view in ("Approved", "FailureOwed"), "FailureOwed"
         else:
-            possible, after = view in ("Idle", "Ending"), "Ending"
+            possible, after = view in ("Idle", "Ending") or refused and undecided, "Ending"
         if not possible:
             raise Impossible
         self.view = after
+
+    def nak(self, command):
+        if command.name in _TRANSACTIONS:
+            self.refused = True
 
     def answer_heard(self, command):
         if command.name in _TRANSACTIONS:
@@ -1080,6 +1157,9 @@ class Reader(Device):
         if self.takes(self.told):
             self.answer_heard(self.replied_to)
         for message in self.told:
+            if message[0] == _OUT_OF_SEQUENCE and (len(message) == 1 or message[1] in (1, 2, 3, 4)):
+                self.refused = True
+        for message in self.told:
             first = message[0]
             awaits = self.view in ("Asked", "Waiting")
             if first == 0x00:
@@ -1088,7 +1168,7 @@ class Reader(Device):
                 self.view = "Idle"
             elif first == 0x05 and awaits:
                 self.view = "Approved"
-                self.approved.controller += self.value(amount_of(message))
+                self.approved = self.approved.plus(controller=self.value(amount_of(message)))
             elif first == 0x06 and awaits:
                 self.view = "Idle"
             elif first == 0x07 and self.view == "Ending":
@@ -1127,72 +1207,89 @@ class Silences:
 
 
 # ------------------------------------------------------------------------------------------------------
-# The replay
+# The replay, and the check
 # ------------------------------------------------------------------------------------------------------
 
 
-class Replay:
-    """The run of the rows so far."""
+class Runs:
+    """The runs of the rows so far: all that are possible, or the one that has the given marks."""
 
-    def __init__(self, without: set[str]):
+    def __init__(self, without: set[str], extended: bool, marks: Optional[Marks]):
         self.without = without
-        self.link = Link(without)
-        self.changer = Changer()
-        self.validator = Validator()
-        self.cashless = Reader()
-        self.cashless_2 = Reader()
-        self.devices: dict[str, Device] = {
-            CHANGER: self.changer,
-            BILL: self.validator,
-            CASHLESS: self.cashless,
-            CASHLESS_2: self.cashless_2,
+        self.link = Link(without, extended)
+        #: The marks of the one run; `None` for all runs.
+        self.marks = marks
+        #: The states that each device can have. The devices don't depend on one another.
+        self.devices: dict[str, list] = {
+            CHANGER: [Changer()],
+            BILL: [Validator()],
+            CASHLESS: [Reader()],
+            CASHLESS_2: [Reader()],
         }
         self.silences = {device: Silences() for device in DEVICES}
         self.rows = 0
 
-    def take_row(self, time: int, line: bytes, value: int, marks: Marks):
+    def take_row(self, time: int, line: bytes, value: int):
         """Judges the next row: the link first, then its mark, and then whether the act is possible."""
         act = self.link.take(time, line, value)
         self.rows += 1
-        mark = None
-        if marks.next_row == self.rows:
-            mark = marks.take_off()
-            if not self._may_have(act, mark):
+        letter = None if act is None else self._letter(act)
+        if self.marks is None:
+            choices = [False, True] if letter else [False]
+        else:
+            choices = [self.marks.next_row == self.rows]
+            if choices[0] and self.marks.take_off() != letter:
                 raise no_such_mark(self.rows)
         if act is not None:
-            self._follow(act, time, mark is not None)
+            self._follow(act, time, choices)
 
-    def _may_have(self, act: Optional[Act], mark: str) -> bool:
-        """Whether the act may have this mark (machines.md, *What is chosen*)."""
-        if act is None:
-            return False
-        if mark == "L":
-            return act.kind in ("ack", "vmc-ack")
-        return act.kind == "reply" and self.devices[act.command.device].may_tell_restart(act.messages)
+    def _letter(self, act: Act) -> Optional[str]:
+        """The mark that the act may have (machines.md, *What is chosen*)."""
+        if act.kind in ("ack", "vmc-ack"):
+            return "L"
+        # A restart may be told or not by what was said alone, so by each state of the device alike.
+        if act.kind == "reply" and self.devices[act.command.device][0].may_tell_restart(act.messages):
+            return "R"
+        return None
 
-    def _follow(self, act: Act, time: int, marked: bool):
-        kind, command = act.kind, act.command
-        if kind == "break":
+    def _follow(self, act: Act, time: int, choices: list[bool]):
+        """Follows an act, without its mark or with it."""
+        if act.kind == "break":
             for device in DEVICES:
-                self.devices[device].break_off()
+                self._step(device, lambda state, _: state.break_off(), choices)
                 self.silences[device].end()
             return
-        device = self.devices[command.device]
-        try:
-            if kind == "ask":
-                self.silences[command.device].ask(time, self._limit(command.device))
-                device.ask(command, act.asked)
-                return
-            if kind in ("ack", "nak", "reply"):
-                self.silences[command.device].end()
-            if kind == "ack":
-                device.ack(command, act.asked, marked)
-            elif kind == "reply":
-                device.reply(act, marked)
-            elif kind == "vmc-ack":
-                device.vmc_ack(marked)
-        except Impossible:
-            raise Broken(device.rule, CONTROLLER if kind == "ask" else command.device) from None
+        device, kind = act.command.device, act.kind
+        if kind == "ask":
+            self.silences[device].ask(time, self._limit(device))
+            self._step(device, lambda state, _: state.ask(act), choices, CONTROLLER)
+            return
+        if kind in ("ack", "nak", "reply"):
+            self.silences[device].end()
+        if kind == "ack":
+            self._step(device, lambda state, lost: state.ack(act.command, act.asked, lost), choices)
+        elif kind == "nak":
+            self._step(device, lambda state, _: state.nak(act.command), choices)
+        elif kind == "reply":
+            self._step(device, lambda state, restarted: state.reply(act, restarted), choices)
+        elif kind == "vmc-ack":
+            self._step(device, lambda state, lost: state.vmc_ack(lost), choices)
+
+    def _step(self, device: str, effect, choices: list[bool], blame: Optional[str] = None):
+        """All states after an act; what is impossible from every state, as it is marked, is a no."""
+        after: list[Device] = []
+        for before in self.devices[device]:
+            for marked in choices:
+                state = copy.copy(before)
+                try:
+                    effect(state, marked)
+                except Impossible:
+                    continue
+                if not any(other.joins(state) for other in after):
+                    after.append(state)
+        if not after:
+            raise Broken(self.devices[device][0].rule, blame or device)
+        self.devices[device] = after
 
     def _limit(self, device: str) -> int:
         """The limit of a silence that begins now."""
@@ -1200,25 +1297,29 @@ class Replay:
             return 2_000_000
         if device == BILL:
             return 5_000_000
-        return max(5_000_000, self.devices[device].response_time())
+        return max(5_000_000, self.devices[device][0].response_time())
 
     def report(self) -> str:
         """The report of a yes."""
         def one_line(name, parts):
             return name + "".join(f" {device} {part}" for device, part in parts)
 
-        decimals = ((d, self.devices[d].decimals()) for d in DEVICES)
+        def account(name, device, attribute):
+            sums = [getattr(state, attribute) for state in self.devices[device]]
+            return functools.reduce(Sum.joined, sums).line(name)
+
+        decimals = ((d, self.devices[d][0].decimals()) for d in DEVICES)
         lines = [
             "verdict yes",
             f"rows {self.rows}",
             one_line("decimals", ((d, "-" if places is None else places) for d, places in decimals)),
-            self.changer.coins_in.line("coins-in"),
-            self.validator.bills_in.line("bills-in"),
-            self.changer.paid_out.line("paid-out"),
-            self.cashless.approved.line("approved"),
-            self.cashless.sold.line("sold"),
-            self.cashless_2.approved.line("approved-2"),
-            self.cashless_2.sold.line("sold-2"),
+            account("coins-in", CHANGER, "coins_in"),
+            account("bills-in", BILL, "bills_in"),
+            account("paid-out", CHANGER, "paid_out"),
+            account("approved", CASHLESS, "approved"),
+            account("sold", CASHLESS, "sold"),
+            account("approved-2", CASHLESS_2, "approved"),
+            account("sold-2", CASHLESS_2, "sold"),
             one_line("silences", ((d, self.silences[d].number) for d in DEVICES)),
         ]
         if self.without:
@@ -1226,32 +1327,53 @@ class Replay:
         return "\n".join(lines) + "\n"
 
 
-def replay(text: bytes, without: set[str]) -> tuple[int, str, str]:
+def replay(text: bytes, without: set[str], extended: bool = False) -> tuple[int, str, str]:
     """Status, standard output and standard error of `mdbcheck replay` for this explanation.
 
     `without` has the words of the devices that are left out.
     """
-    run = Replay(without)
-    marks = Marks()
-    number_of_record = 0
+    return _answer(text, without, extended, Marks())
+
+
+def check(text: bytes, without: set[str], extended: bool = False) -> tuple[int, str, str]:
+    """The same of `mdbcheck check` for this recording."""
+    return _answer(text, without, extended, None)
+
+
+def said(text: bytes, without: set[str], extended: bool) -> Iterator[tuple]:
+    """What the rows say by the rules of the link alone: each act with its row, and perhaps a fault."""
+    link = Link(without, extended)
+    for row, fields in enumerate(records(text), 1):
+        try:
+            act = link.take(*read_row(fields, row))
+        except Broken as broken:
+            yield row, broken.args
+            return
+        if act is not None:
+            yield row, act
+
+
+def _answer(text: bytes, without: set[str], extended: bool, marks: Optional[Marks]) -> tuple[int, str, str]:
+    runs = Runs(without, extended, marks)
+    record = 0
     try:
         for fields in records(text):
-            number_of_record += 1
-            if run.rows == 0 and marks.is_mark(fields):
-                marks.read(fields, number_of_record)
+            record += 1
+            is_mark = marks is not None and marks.is_mark(fields)
+            if runs.rows == 0 and is_mark:
+                marks.read(fields, record)
                 continue
-            if run.rows == MOST_ROWS and not marks.is_mark(fields):
+            if runs.rows == MOST_ROWS and not is_mark:
                 raise NoAnswer(f"more than {MOST_ROWS} rows")
-            time, line, value = read_row(fields, number_of_record)
-            run.take_row(time, line, value, marks)
-        if marks.next_row:
+            runs.take_row(*read_row(fields, record))
+        if marks is not None and marks.next_row:
             raise no_such_mark(marks.next_row)
     except Broken as broken:
-        row = number_of_record - len(marks.marks)
+        row = record - (0 if marks is None else len(marks.marks))
         return 1, f"verdict no\nrow {row}\nrule {broken.rule}\nblame {broken.blame}\n", ""
     except NoAnswer as fault:
         return 2, "", f"mdbcheck: {fault}\n"
-    return 0, run.report(), ""
+    return 0, runs.report(), ""
 
 
 # ------------------------------------------------------------------------------------------------------
@@ -1263,10 +1385,10 @@ class HelpAsked(Exception):
     """The words ask how the program is called: status 2, as for any words that are no command."""
 
 
-def read_words(words: list[str]) -> set[str]:
-    """The devices that the words after the command leave out. Of faults the first by reading is told, but
-    what a value says after all others."""
-    values = []
+def read_words(words: list[str]) -> tuple[set[str], set[str]]:
+    """The devices that the words after the command leave out, and the other options. Of faults the first by
+    reading is told, but what a value says after all others."""
+    values, options = [], set()
     rest = iter(words)
     for word in rest:
         if word == "--without":
@@ -1276,6 +1398,8 @@ def read_words(words: list[str]) -> set[str]:
             values.append(value)
         elif word.startswith("--without="):
             values.append(word[len("--without="):])
+        elif word in ("--check", "--extended"):
+            options.add(word)
         elif word in ("--help", "-h"):
             raise HelpAsked
         elif word == "--" and next(rest, None) is None:
@@ -1285,19 +1409,20 @@ def read_words(words: list[str]) -> set[str]:
     for value in values:
         if value not in DEVICES:
             raise NoAnswer(f"--without {value!r} isn't changer, bill, cashless, cashless-2")
-    return set(values)
+    return set(values), options
 
 
 def main() -> int:
     try:
-        without = read_words(sys.argv[1:])
+        without, options = read_words(sys.argv[1:])
     except HelpAsked:
-        sys.stderr.write("usage: mdbcheck replay [--without DEVICE].. < EXPLANATION\n")
+        sys.stderr.write("usage: second_replay.py [--check] [--extended] [--without DEVICE].. < ROWS\n")
         return 2
     except NoAnswer as fault:
         sys.stderr.write(f"mdbcheck: {fault}\n")
         return 2
-    status, out, err = replay(sys.stdin.buffer.read(), without)
+    answer = check if "--check" in options else replay
+    status, out, err = answer(sys.stdin.buffer.read(), without, "--extended" in options)
     sys.stdout.write(out)
     sys.stderr.write(err)
     return status

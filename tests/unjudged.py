@@ -1,10 +1,16 @@
-"""Whose feature level the rows of a recording don't show, where a no rests on it.
+#!/usr/bin/env python3
+"""What `check` writes to standard error of a no by which nobody did wrong.
 
-Written from docs/bench/recorded-while-it-ran.md (*Feature levels*), apart from the program and the page. Scripts of tests/
-compare both with it.
+Either the no isn't judged, since the rows don't show a reader's feature level, or its rule is Profile. Written from
+docs/bench/recorded-while-it-ran.md (*Feature levels*) and docs/bench/rows-and-command-line.md (*Standard error*), apart from the
+program and the page. Scripts of tests/ compare both with it.
+
+`unjudged.py RECORDING WORDS..` prints the line for the report on standard input, if it has one.
 """
 
+import pathlib
 import re
+import sys
 
 READERS = {2: "cashless", 12: "cashless-2"}
 
@@ -80,3 +86,33 @@ def line_of(reader):
     """The line of the program on such a no."""
     return (f"mdbcheck: not judged: the rows don't show whether {reader} and the controller speak feature level 1; "
             f"a recording of the machine's start would (or leave it out: --without {reader})\n")
+
+
+def beyond(words, row, blame):
+    """The line of the program on a row that isn't followed."""
+    if not {"--extended", "--joined"} & set(words) and blame == "bill":
+        why = "bill reports a recycler or a file transfer: add --extended"
+    elif not {"--extended", "--joined"} & set(words) and blame in READERS.values():
+        why = f"{blame} goes beyond feature level 1: add --extended"
+    elif blame == "controller":
+        why = ("the controller sends a command that isn't followed "
+               "(leave out the device that it is sent to: --without DEVICE)")
+    else:
+        why = f"{blame} sends a message that isn't followed (leave it out: --without {blame})"
+    return f"mdbcheck: row {row}: {why}\n"
+
+
+def aside(data, words, report):
+    """What the program writes to standard error where its report, as text, is this: one line, or nothing."""
+    found = re.match(r"verdict no\nrow (\d+)\nrule (\w+)\nblame (\S+)\n", report)
+    if not found or words[0] != "check":
+        return ""
+    row, rule, blame = int(found[1]), found[2], found[3]
+    reader = unjudged(data, words, row, rule, blame)
+    if reader:
+        return line_of(reader)
+    return beyond(words, row, blame) if rule == "Profile" else ""
+
+
+if __name__ == "__main__":
+    sys.stdout.write(aside(pathlib.Path(sys.argv[1]).read_bytes(), sys.argv[2:], sys.stdin.read()))

@@ -33,6 +33,7 @@ extern "C" {
 #define MDBCHECK_WITHOUT_BILL 4u       /* check --without bill: the validator */
 #define MDBCHECK_WITHOUT_CASHLESS 8u   /* check --without cashless: the reader at 10H */
 #define MDBCHECK_WITHOUT_CASHLESS_2 16u /* check --without cashless-2: the reader at 60H */
+#define MDBCHECK_EXTENDED 32u          /* check --extended; not with MDBCHECK_JOINED */
 
 /* The codes that are returned. The report is written for YES and NO only. With any other code its
  * bytes stay as they were. */
@@ -43,7 +44,7 @@ extern "C" {
 #define MDBCHECK_UNREAD 4u      /* more than 6,400,000,000 bytes */
 #define MDBCHECK_NO_MEMORY 5u   /* memory was refused */
 #define MDBCHECK_NO_ROOM 6u     /* there is a verdict, and its report is longer than `room` */
-#define MDBCHECK_BAD_OPTIONS 7u /* a bit is set that is no option */
+#define MDBCHECK_BAD_OPTIONS 7u /* a bit is set that is no option, or EXTENDED with JOINED */
 
 /* Why a record is no row: TIME,LINE,VALUE is expected (docs/bench/rows-and-command-line.md). */
 #define MDBCHECK_FIELD_COUNT 1u /* it hasn't three fields */

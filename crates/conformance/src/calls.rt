@@ -5,14 +5,14 @@
 use super::cuts::told_twice;
 use arrayvec::ArrayVec;
 use mdb_blocks::{Answer, Block, BlockFault, seal, unseal};
-use mdb_bus::Scope;
+use mdb_bus::{Profile, Scope};
 use mdb_explain::{explain, explain_scoped, replay, replay_scoped};
 use mdb_explained_runs::{Mark, Replay, explain_run};
 use mdb_follow::{AccountName, AccountSide, Bound, Goal, ROWS_MAX};
 use mdb_msgs::{
     BillCommand, BillMsg, ChangerCommand, ChangerMsg, ChangerSetup, Command, Device, DeviceSet,
-    MsgFault, Need, ReaderCommand, ReaderList, ReaderMsg, ReaderSetup, ReaderUnit, Reply, Setups,
-    need_of, read_command, read_reply, write_command, write_reply,
+    MsgFault, Need, ReaderCommand, ReaderList, ReaderMsg, ReaderSetup, ReaderUnit, Reading, Reply,
+    Setups, need_of, read_command, read_reply, write_command, write_reply,
 };
 use mdb_show::show_scoped;
 use mdb_text::Outcome;
@@ -228,9 +228,10 @@ fn commands(rt: &HostRuntime, calls: &mut Calls) -> io::Result<()> {
     Ok(())
 }
 
-/// What reading data bytes as the answer to a command gives, or None where they are no block.
+/// What reading data bytes as the answer to a command gives by the base profile, or None where they
+/// are no block.
 fn reply_to(command: &Command, data: &[u8]) -> Option<Result<Reply, MsgFault>> {
-    Some(read_reply(command, &seal(data).ok()?))
+    Some(read_reply(Reading::Base, command, &seal(data).ok()?))
 }
 
 /// Commands, data bytes that answer none of them rightly, and the faults.
@@ -508,7 +509,14 @@ fn explanations(rt: &HostRuntime, calls: &mut Calls) -> io::Result<()> {
     let is_explained = is_yes_of(&answer, 8) && out.as_slice() == RESET_AND_POLL;
     calls.count(rt, "explain", is_explained)?;
     let mut scoped = Vec::new(alloc);
-    let left_out = explain_scoped(alloc, without, RESET_AND_POLL, &mut scoped, &LEAST_COINS);
+    let left_out = explain_scoped(
+        alloc,
+        Profile::Base,
+        without,
+        RESET_AND_POLL,
+        &mut scoped,
+        &LEAST_COINS,
+    );
     let is_scoped = is_yes_of(&left_out, 8) && scoped.as_slice() == RESET_AND_POLL;
     calls.count(rt, "explain_scoped", is_scoped)?;
     let mut report = Vec::new(alloc);
@@ -518,7 +526,13 @@ fn explanations(rt: &HostRuntime, calls: &mut Calls) -> io::Result<()> {
     calls.count(rt, "replay", is_replayed)?;
     let mut scoped_report = Vec::new(alloc);
     let scope = Scope::leaving_out(without);
-    let other = replay_scoped(alloc, without, scoped.as_slice(), &mut scoped_report);
+    let other = replay_scoped(
+        alloc,
+        Profile::Base,
+        without,
+        scoped.as_slice(),
+        &mut scoped_report,
+    );
     let is_other = is_yes_of(&other, 8) && is_text(alloc, &scope, &other, scoped_report.as_slice());
     calls.count(rt, "replay_scoped", is_other)
 }
@@ -533,7 +547,13 @@ fn explained_run(rt: &HostRuntime, calls: &mut Calls) -> io::Result<()> {
     if events.len() != 41 {
         return calls.count(rt, "told_twice", false);
     }
-    let answer = explain_run(rt.alloc(), DeviceSet::NONE, events.as_slice(), &LEAST_COINS);
+    let answer = explain_run(
+        rt.alloc(),
+        Profile::Base,
+        DeviceSet::NONE,
+        events.as_slice(),
+        &LEAST_COINS,
+    );
     let is_explained = matches!(&answer, Ok(marks) if marks.as_slice() == LOST_ACK.as_slice());
     calls.count(rt, "explain_run", is_explained)?;
     let mut run = Replay::new();

@@ -13,7 +13,7 @@ use std::io::Write;
 use std::{fs, io};
 
 /// The files of cases, one for each subject.
-static FILES: [&str; 24] = [
+static FILES: [&str; 26] = [
     "rows.cases",
     "times.cases",
     "commands.cases",
@@ -34,6 +34,8 @@ static FILES: [&str; 24] = [
     "without.cases",
     "joined.cases",
     "joined-levels.cases",
+    "extended.cases",
+    "asides.cases",
     "surveys.cases",
     "json.cases",
     "worked.cases",
@@ -196,10 +198,8 @@ impl Shared {
 
     /// The lines of a report at their defaults, of a command line with these words.
     fn report_for(&self, words: &str) -> &str {
-        for word in words.split(' ') {
-            if word == "--joined" {
-                return self.joined.as_str();
-            }
+        if has_word(words, "--joined") {
+            return self.joined.as_str();
         }
         self.report.as_str()
     }
@@ -291,9 +291,11 @@ impl<'a> Case<'a> {
         Ok(())
     }
 
-    /// Whether the case is a no of `check`.
+    /// Whether the case is a no of `check` with options that `survey` has too.
     fn is_no(&self) -> bool {
-        self.status == "1" && first_word(self.words) == "check"
+        self.status == "1"
+            && first_word(self.words) == "check"
+            && !has_word(self.words, "--extended")
     }
 
     /// Surveys the rows of a no of `check`, and answers whether the first fault is that no.
@@ -406,6 +408,16 @@ fn add_line(text: &mut String, line: &str) -> Result<(), AllocError> {
 /// The first word of a line.
 fn first_word(line: &str) -> &str {
     line.split_once(' ').unwrap_or((line, "")).0
+}
+
+/// Whether one of the words of a command line is this one.
+fn has_word(words: &str, wanted: &str) -> bool {
+    for word in words.split(' ') {
+        if word == wanted {
+            return true;
+        }
+    }
+    false
 }
 
 /// The lines of a report at their defaults, but each line that a case gives in the place of the one

@@ -1,5 +1,5 @@
 -- The bytes of commands.
-use Rattle.std.proofs.Common.{arith, refl, ◌≡◌, ◌<◌, ◌≤◌, ℕ, [], ◌∷◌, Option, Some, None, length}
+use Rattle.std.proofs.Common.{arith, refl, sym, ◌∙◌, ◌≡◌, ◌<◌, ◌≤◌, ℕ, [], ◌∷◌, Option, Some, None, length}
 use Rattle.mdb_msgs.specs.declared.command.Command.{Command}
 use Rattle.mdb_msgs.specs.declared.command.Command.TheVariants.{Changer, Bill, Reader}
 use Rattle.mdb_msgs.specs.declared.command.ChangerCommand.{ChangerCommand}
@@ -14,7 +14,8 @@ use Rattle.mdb_msgs.specs.Commands.{bill_bytes, changer_bytes, command_bytes, re
 use Rattle.mdb_msgs.specs.Needs.{device_at, need_for}
 use Rattle.mdb_msgs.proofs.Addresses.{low}
 use Rattle.mdb_bus.specs.declared.scope.Scope.{Scope}
-use Rattle.mdb_bus.specs.Scopes.{needed_in}
+use Rattle.mdb_bus.specs.Scopes.{needed_in, profile_of}
+use Rattle.mdb_bus.proofs.Masked.{one_need}
 use Rattle.mdb_bus.proofs.Followed.{within}
 
 -- a command has bytes
@@ -44,4 +45,5 @@ by_device first None at more = cc more
 pub more_low : (scope : Scope) (first : ℕ) → needed_in scope (first ∷ []) ≡ More → first < 256
 more_low scope first more =
     by_device first (device_at first) refl
-    (within scope (first ∷ []) More more (λ same. cc same)).1
+    (sym (one_need (profile_of scope.begins) first)
+    ∙ (within scope (first ∷ []) More more (λ same. cc same)).1)

@@ -16,13 +16,13 @@ use Rattle.mdb_bus.specs.declared.levels.Levels.{Levels}
 use Rattle.mdb_bus.specs.declared.place.Place.{Place}
 use Rattle.mdb_bus.specs.inner.Step.{Step}
 use Rattle.mdb_bus.specs.inner.Step as step
-use Rattle.mdb_bus.specs.ActLists.{ArePieces, HasActList, Piece, Position, Quiet, InAsk, Asked, InReply, Replied, Returned, InRepeat, InForeign, IsRepeatFront, acts_of, with_act, events_of, last_of, levels_after, levels_of, position_of}
+use Rattle.mdb_bus.specs.ActLists.{ArePieces, HasActList, Piece, Position, Quiet, InAsk, Asked, InReply, Replied, Returned, InRepeat, InForeign, IsRepeatFront, acts_of, with_act, events_of, last_of, levels_after, levels_if, levels_of, position_of}
 use Rattle.mdb_bus.specs.Bus.{GoesOn, Grown, StandsFor, ended_act, position_at}
 use Rattle.mdb_bus.specs.inner.Gone.{HasGone}
 use Rattle.mdb_bus.specs.LinkFaults.{IsFirstBroken, IsLinkFault, RowBreaks, Situation, asked_device, blame_of, situation_of}
 use Rattle.mdb_bus.specs.inner.RulePlaces.{IsFirstByPlace}
 use Rattle.mdb_bus.proofs.Decided.{by_place}
-use Rattle.mdb_bus.specs.inner.Steps.{HasAdvanced, IsAt, IsEnded, IsJudged, IsReadAt, IsSound, Leads, WordLeads, act_after, asked_after, levels_after_step, pieces_after, position_after}
+use Rattle.mdb_bus.specs.inner.Steps.{HasAdvanced, IsAt, IsEnded, IsJudged, IsReadAt, IsSound, Leads, WordLeads, act_after, asked_after, pieces_after, position_after}
 use Rattle.mdb_bus.specs.declared.judged.Judged.{Judged}
 use Rattle.mdb_bus.specs.declared.judged.Judged.TheVariants as judged
 use Rattle.mdb_msgs.specs.declared.reply.Reply.{Reply}
@@ -34,6 +34,7 @@ use Rattle.mdb_bus.proofs.Lists.{last_push}
 use Rattle.mdb_bus.proofs.Sound.{is_sound}
 use Rattle.mdb_bus.specs.declared.scope.Scope.{Scope}
 use Rattle.mdb_bus.specs.Scopes.{profile_of}
+use Rattle.mdb_bus.specs.declared.scope.Profile.{Profile}
 
 -- the situation that a bus is in
 abbrev pub situation_at : Bus → Situation
@@ -55,9 +56,11 @@ same_situation bus pieces stands =
       last = l;
       levels = v;
     } in
-    ap (λ p. make p (last_of (events_of pieces)) (levels_of bus.scope.levels pieces))
+    ap (λ p. make p (last_of (events_of pieces))
+    (levels_of (profile_of bus.scope.begins) bus.scope.levels pieces))
     stands.position
-    ∙ (ap (λ l. make (position_at bus.place) l (levels_of bus.scope.levels pieces)) stands.last
+    ∙ (ap (λ l. make (position_at bus.place) l
+    (levels_of (profile_of bus.scope.begins) bus.scope.levels pieces)) stands.last
     ∙ ap (λ v. make (position_at bus.place) bus.last v) stands.levels)
 
 -- and its position is sound
@@ -126,6 +129,7 @@ stands_by : (old new : Bus) (pieces : List Piece) (row : Event) (next : Step) (a
 stands_by old new pieces row next act stands leads gone =
     let went : HasGone old next row new act = gone (leads_at (situation_at old) row next leads) in
     let There : Situation → Type 0 = λ s. Leads s row next in
+    let profile = profile_of old.scope.begins in
     let more = forward old.scope pieces row next stands.in_order
     (subst There (sym (same_situation old pieces stands)) leads) in
     record {
@@ -136,9 +140,12 @@ stands_by old new pieces row next act stands leads gone =
             ∙ more.position ∙ (ap (λ p. position_after p next) stands.position
             ∙ sym went.advanced.position);
         last = ap last_of more.rows ∙ (last_push (events_of pieces) row ∙ sym went.last);
-        levels = ap (λ (s : Scope). levels_of s.levels (pieces_after old.scope pieces row next))
-            went.scope
-            ∙ (more.levels ∙ (ap (λ l. levels_after_step l next) stands.levels ∙ sym went.levels));
+        levels = ap (λ (s : Scope). levels_of (profile_of s.begins) s.levels
+            (pieces_after old.scope pieces row next)) went.scope
+            ∙ (more.levels
+            ∙ (ap (λ a. levels_if profile a (levels_of profile old.scope.levels pieces))
+            (ended stands.position went.advanced.act)
+            ∙ (ap (levels_if profile act) stands.levels ∙ sym went.levels)));
         asked = more.asked ∙ (ap (λ a. asked_after a next) stands.asked ∙ sym went.asked);
       };
       rows = more.rows;
@@ -298,10 +305,69 @@ gone_ask old new place row judged.Ask ended act is there scope last levels asked
       scope = scope;
       advanced = has;
       last = last;
-      levels = levels command told;
+      levels = levels command told
+          ∙ ap (λ a. levels_if (profile_of old.scope.begins) a old.levels)
+          (sym (asks (position_at old.place) command at) ∙ sym has.act);
       asked = asked command told;
     }
 gone_ask old new place row found ended act is there scope last levels asked advanced = absurd (cc)
+
+-- a step that ends neither an ask nor a reply
+abbrev IsQuiet : Step → Type 0
+IsQuiet (step.Ask command) = ⊥
+IsQuiet (step.Reply reply) = ⊥
+IsQuiet next = Unit {0}
+
+-- tells no level
+tells_none : (profile : Profile) (at : Position) (next : Step) (levels : Levels) → IsQuiet next
+    → levels_if profile (act_after at next) levels ≡ levels
+tells_none profile at (step.Ask command) levels quiet = absurd quiet
+tells_none profile at (step.Reply reply) levels quiet = absurd quiet
+tells_none profile (InAsk bytes) (step.AskByte byte) levels quiet = refl
+tells_none profile at (step.AskByte byte) levels quiet = refl
+tells_none profile (InAsk bytes) step.Foreign levels quiet = refl
+tells_none profile at step.Foreign levels quiet = refl
+tells_none profile (InAsk bytes) (step.Break length) levels quiet = refl
+tells_none profile at (step.Break length) levels quiet = refl
+tells_none profile (Asked command) step.Ack levels quiet = refl
+tells_none profile at step.Ack levels quiet = refl
+tells_none profile (Asked command) step.Nak levels quiet = refl
+tells_none profile at step.Nak levels quiet = refl
+tells_none profile (Asked command) (step.ReplyByte byte) levels quiet = refl
+tells_none profile at (step.ReplyByte byte) levels quiet = refl
+tells_none profile (Replied command reply) step.VmcAck levels quiet = refl
+tells_none profile at step.VmcAck levels quiet = refl
+tells_none profile (Replied command reply) step.VmcNak levels quiet = refl
+tells_none profile at step.VmcNak levels quiet = refl
+tells_none profile (Replied command reply) step.VmcRet levels quiet = refl
+tells_none profile at step.VmcRet levels quiet = refl
+tells_none profile (Returned command reply) (step.RepeatWord word) levels quiet = refl
+tells_none profile at (step.RepeatWord word) levels quiet = refl
+tells_none profile (InRepeat command reply words) step.Repeat levels quiet = refl
+tells_none profile at step.Repeat levels quiet = refl
+
+-- so levels that stay are those after it
+stay : (old new : Bus) (next : Step) (act : Option Act) → new.levels ≡ old.levels
+    → IsQuiet next → act ≡ act_after (position_at old.place) next
+    → new.levels ≡ levels_if (profile_of old.scope.begins) act old.levels
+stay old new next act same quiet is =
+    let profile = profile_of old.scope.begins in
+    same ∙ sym (ap (λ a. levels_if profile a old.levels) is
+    ∙ tells_none profile (position_at old.place) next old.levels quiet)
+
+-- a bus has gone by a step that tells no level
+gone_quiet : (old new : Bus) (row : Event) (next : Step) (act : Option Act)
+    → new.scope ≡ old.scope → new.last ≡ Some row → new.levels ≡ old.levels
+    → new.asked ≡ asked_after old.asked next → IsQuiet next
+    → HasAdvanced (position_at old.place) next (position_at new.place) act
+    → HasGone old next row new act
+gone_quiet old new row next act scope last levels asked quiet advanced = record {
+  scope = scope;
+  advanced = advanced;
+  last = last;
+  levels = stay old new next act levels quiet advanced.act;
+  asked = asked;
+}
 
 -- a bus has gone by the foreign word or the break that its place has advanced by
 pub gone_off : (old new : Bus) (row : Event) (found : Judged) (act : Option Act)
@@ -311,9 +377,9 @@ pub gone_off : (old new : Bus) (row : Event) (found : Judged) (act : Option Act)
     → HasAdvanced (position_at old.place) next (position_at new.place) act)
     → EachStep found row (λ next. IsAt (position_at old.place) next → HasGone old next row new act)
 gone_off old new row judged.Foreign act is scope last levels asked advanced = λ at.
-    record { scope = scope; advanced = advanced at; last = last; levels = levels; asked = asked }
+    gone_quiet old new row _ act scope last levels asked tt (advanced at)
 gone_off old new (Break start length) judged.Break act is scope last levels asked advanced = λ at.
-    record { scope = scope; advanced = advanced at; last = last; levels = levels; asked = asked }
+    gone_quiet old new (Break start length) _ act scope last levels asked tt (advanced at)
 gone_off old new (Word at line word) judged.Break act is scope last levels asked advanced = tt
 gone_off old new row found act (inl is) scope last levels asked advanced = absurd (cc)
 gone_off old new row found act (inr is) scope last levels asked advanced = absurd (cc)
@@ -334,20 +400,20 @@ gone_on old new row judged.Break act ask foreign pause scope last levels asked a
     absurd (pause refl)
 gone_on old new row judged.Reply act ask foreign pause scope last levels asked advanced = tt
 gone_on old new row judged.AskByte act ask foreign pause scope last levels asked advanced = λ at.
-    record { scope = scope; advanced = advanced at; last = last; levels = levels; asked = asked }
+    gone_quiet old new row _ act scope last levels asked tt (advanced at)
 gone_on old new row judged.Ack act ask foreign pause scope last levels asked advanced = λ at.
-    record { scope = scope; advanced = advanced at; last = last; levels = levels; asked = asked }
+    gone_quiet old new row _ act scope last levels asked tt (advanced at)
 gone_on old new row judged.Nak act ask foreign pause scope last levels asked advanced = λ at.
-    record { scope = scope; advanced = advanced at; last = last; levels = levels; asked = asked }
+    gone_quiet old new row _ act scope last levels asked tt (advanced at)
 gone_on old new row judged.ReplyByte act ask foreign pause scope last levels asked advanced = λ at.
-    record { scope = scope; advanced = advanced at; last = last; levels = levels; asked = asked }
+    gone_quiet old new row _ act scope last levels asked tt (advanced at)
 gone_on old new row judged.VmcAck act ask foreign pause scope last levels asked advanced = λ at.
-    record { scope = scope; advanced = advanced at; last = last; levels = levels; asked = asked }
+    gone_quiet old new row _ act scope last levels asked tt (advanced at)
 gone_on old new row judged.VmcNak act ask foreign pause scope last levels asked advanced = λ at.
-    record { scope = scope; advanced = advanced at; last = last; levels = levels; asked = asked }
+    gone_quiet old new row _ act scope last levels asked tt (advanced at)
 gone_on old new row judged.VmcRet act ask foreign pause scope last levels asked advanced = λ at.
-    record { scope = scope; advanced = advanced at; last = last; levels = levels; asked = asked }
+    gone_quiet old new row _ act scope last levels asked tt (advanced at)
 gone_on old new row judged.RepeatWord act ask foreign pause scope last levels asked advanced = λ at.
-    record { scope = scope; advanced = advanced at; last = last; levels = levels; asked = asked }
+    gone_quiet old new row _ act scope last levels asked tt (advanced at)
 gone_on old new row judged.Repeat act ask foreign pause scope last levels asked advanced = λ at.
-    record { scope = scope; advanced = advanced at; last = last; levels = levels; asked = asked }
+    gone_quiet old new row _ act scope last levels asked tt (advanced at)

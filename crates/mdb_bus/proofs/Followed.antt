@@ -6,11 +6,12 @@ use Rattle.mdb_msgs.specs.declared.need.Need.{Need}
 use Rattle.mdb_msgs.specs.declared.need.Need.TheVariants.{Foreign}
 use Rattle.mdb_msgs.specs.Commands.{Spells, device_of}
 use Rattle.mdb_msgs.specs.DeviceSets.{has}
-use Rattle.mdb_msgs.specs.Needs.{is_to_one_of, needed}
+use Rattle.mdb_msgs.specs.Needs.{is_to_one_of}
 use Rattle.mdb_bus.specs.declared.scope.Scope.{Scope}
 use Rattle.mdb_bus.specs.Acts.{IsForeignOpening}
 use Rattle.mdb_bus.specs.ActLists.{IsAskFront}
-use Rattle.mdb_bus.specs.Scopes.{Asks, needed_in}
+use Rattle.mdb_bus.specs.Scopes.{Asks, HasCommand, needed_by, needed_in, profile_of}
+use Rattle.mdb_bus.proofs.Masked.{one_need}
 use Rattle.mdb_bus.specs.inner.Steps.{IsCommandFront, IsUnknownExpansion}
 
 -- a law of mdb_msgs: the first byte of a command's block is to its device
@@ -24,9 +25,10 @@ AreFollowed scope bytes = is_to_one_of scope.without (slice_index bytes 0) ≡ f
 
 -- they need what they need of anybody
 pub needed_followed : (scope : Scope) (bytes : List ℕ) → AreFollowed scope bytes
-    → needed_in scope bytes ≡ needed bytes
+    → needed_in scope bytes ≡ needed_by (profile_of scope.begins) bytes
 needed_followed scope bytes followed =
-    ap (λ (left_out : Bool). if left_out then Foreign else needed bytes) followed
+    ap (λ (left_out : Bool). if left_out then Foreign else needed_by (profile_of scope.begins)
+    bytes) followed
 
 -- what needs anything that isn't foreign is to a device that is followed
 otherwise : (left_out : Bool) (need told : Need) → (if left_out then Foreign else need) ≡ told
@@ -35,9 +37,11 @@ otherwise true need told is other = absurd (other (sym is))
 otherwise false need told is other = (refl, is)
 
 pub within : (scope : Scope) (bytes : List ℕ) (told : Need) → needed_in scope bytes ≡ told
-    → told ≢ Foreign → AreFollowed scope bytes × (needed bytes ≡ told)
+    → told ≢ Foreign
+    → AreFollowed scope bytes × (needed_by (profile_of scope.begins) bytes ≡ told)
 within scope bytes told is other =
-    otherwise (is_to_one_of scope.without (slice_index bytes 0)) (needed bytes) told is other
+    otherwise (is_to_one_of scope.without (slice_index bytes 0))
+    (needed_by (profile_of scope.begins) bytes) told is other
 
 -- more bytes are to whom the first is
 pub first_stays : (bytes rest : List ℕ) → bytes ≢ []
@@ -62,9 +66,11 @@ block_followed law scope command block asks =
     law block command asks.spells scope.without ∙ asks.followed
 
 pub asks_followed : FirstTells → (scope : Scope) (command : Command) (block : List ℕ)
-    → Spells command block → AreFollowed scope block → Asks scope command block
-asks_followed law scope command block spells followed = record {
+    → Spells command block → HasCommand (profile_of scope.begins) command
+    → AreFollowed scope block → Asks scope command block
+asks_followed law scope command block spells known followed = record {
   spells = spells;
+  known = known;
   followed = sym (law block command spells scope.without) ∙ followed;
 }
 
@@ -76,33 +82,38 @@ ask_front_followed law scope bytes front =
     (block_followed law scope front.command (bytes ++ front.rest) front.spelled)
 
 -- and the front of a command to such a device is one of an ask
-pub front_followed : FirstTells → (scope : Scope) (bytes : List ℕ) → IsCommandFront bytes
+pub front_followed : FirstTells → (scope : Scope) (bytes : List ℕ)
+    → IsCommandFront (profile_of scope.begins) bytes
     → AreFollowed scope bytes → IsAskFront scope bytes
 front_followed law scope bytes front followed = record {
   some = front.some;
   command = front.command;
   rest = front.rest;
   open_end = front.open_end;
-  spelled = asks_followed law scope front.command (bytes ++ front.rest) front.spelled
+  spelled = asks_followed law scope front.command (bytes ++ front.rest) front.spelled front.known
       (still_followed scope bytes front.rest front.some followed);
 }
 
-pub plain_front : (scope : Scope) (bytes : List ℕ) → IsAskFront scope bytes → IsCommandFront bytes
+pub plain_front : (scope : Scope) (bytes : List ℕ) → IsAskFront scope bytes
+    → IsCommandFront (profile_of scope.begins) bytes
 plain_front scope bytes front = record {
   some = front.some;
   command = front.command;
+  known = front.spelled.known;
   rest = front.rest;
   open_end = front.open_end;
   spelled = front.spelled.spells;
 }
 
--- an EXPANSION to such a device that this profile doesn't know opens a foreign block
-pub expansion_opens : (scope : Scope) (bytes : List ℕ) → IsUnknownExpansion bytes
+-- an EXPANSION to such a device that the profile doesn't know opens a foreign block
+pub expansion_opens : (scope : Scope) (bytes : List ℕ)
+    → IsUnknownExpansion (profile_of scope.begins) bytes
     → AreFollowed scope bytes → IsForeignOpening scope bytes
 expansion_opens scope [] unknown followed = absurd unknown
 expansion_opens scope (first ∷ []) unknown followed = absurd unknown
 expansion_opens scope (first ∷ second ∷ []) unknown followed = (
-  needed_followed scope (first ∷ []) followed ∙ unknown.0,
+  needed_followed scope (first ∷ []) followed
+      ∙ (one_need (profile_of scope.begins) first ∙ unknown.0),
   needed_followed scope (first ∷ second ∷ []) followed ∙ unknown.1,
   unknown.2,
 )

@@ -15,10 +15,10 @@ use Rattle.mdb_bus.specs.declared.act.Act.TheVariants as acts
 use Rattle.mdb_bus.specs.inner.Step.{Step}
 use Rattle.mdb_bus.specs.inner.Step as step
 use Rattle.mdb_bus.specs.Acts.{Say}
-use Rattle.mdb_bus.specs.ActLists.{Piece, Whole, AskTail, ReplyTail, RepeatTail, Position, Quiet, InAsk, Asked, InReply, Replied, Returned, InRepeat, InForeign, ArePieces, AreSpaced, Within, IsPiece, IsReplyFront, IsSaid, IsTail, MayCome, MayStand, PieceFits, act_in, acts_of, events_of, first_position, last_of, left_open, levels_of, piece_events, position_of, with_act}
+use Rattle.mdb_bus.specs.ActLists.{Piece, Whole, AskTail, ReplyTail, RepeatTail, Position, Quiet, InAsk, Asked, InReply, Replied, Returned, InRepeat, InForeign, ArePieces, AreSpaced, Within, IsPiece, IsReplyFront, IsSaid, IsTail, MayCome, MayStand, PieceFits, act_in, acts_of, events_of, first_position, last_of, left_open, levels_if, levels_of, piece_events, position_of, with_act}
 use Rattle.mdb_bus.specs.Bus.{Grown}
 use Rattle.mdb_bus.specs.LinkFaults.{asked_device, situation_of}
-use Rattle.mdb_bus.specs.inner.Steps.{Answers, AnswersReply, BeginsRepeat, GoesOnAsking, GoesOnRepeating, GoesOnReplying, Leads, Opens, WordLeads, act_after, asked_after, grown, levels_after_step, piece_after, pieces_after, position_after}
+use Rattle.mdb_bus.specs.inner.Steps.{Answers, AnswersReply, BeginsRepeat, GoesOnAsking, GoesOnRepeating, GoesOnReplying, Leads, Opens, WordLeads, act_after, asked_after, grown, piece_after, pieces_after, position_after}
 use Rattle.mdb_bus.proofs.Rows.{begins_block, say_byte, say_sum, say_word, spaced_more}
 use Rattle.mdb_bus.specs.Scopes.{Asks}
 use Rattle.mdb_bus.specs.declared.scope.Beginning.{Beginning}
@@ -26,6 +26,7 @@ use Rattle.mdb_bus.specs.declared.levels.Levels.{Levels}
 use Rattle.mdb_bus.specs.declared.scope.Beginning.TheVariants.{PowerOn, Joined}
 use Rattle.mdb_bus.specs.declared.scope.Scope.{Scope}
 use Rattle.mdb_bus.specs.Scopes.{profile_of}
+use Rattle.mdb_bus.specs.declared.scope.Profile.{Profile}
 
 -- what a step makes of pieces
 pub record Extended (scope : Scope) (pieces : List Piece) (row : Event) (next : Step) : Type 0 where
@@ -37,8 +38,9 @@ pub record Extended (scope : Scope) (pieces : List Piece) (row : Event) (next : 
   pub position : position_of scope (pieces_after scope pieces row next)
       ≡ position_after (position_of scope pieces)
       next
-  pub levels : levels_of scope.levels (pieces_after scope pieces row next)
-      ≡ levels_after_step (levels_of scope.levels pieces) next
+  pub levels : levels_of (profile_of scope.begins) scope.levels (pieces_after scope pieces row next)
+      ≡ levels_if (profile_of scope.begins) (act_after (position_of scope pieces) next)
+      (levels_of (profile_of scope.begins) scope.levels pieces)
   pub asked : asked_device (pieces_after scope pieces row next)
       ≡ asked_after (asked_device pieces) next
   pub grown : Grown pieces row (act_after (position_of scope pieces) next)
@@ -53,8 +55,9 @@ record Adds (scope : Scope) (next : Step) (piece : List Event → Piece) : Type 
   position : (events : List Event) (pieces : List Piece)
       → position_of scope (piece events ∷ pieces) ≡ position_of scope (piece [] ∷ [])
   levels : (events : List Event) (pieces : List Piece)
-      → levels_of scope.levels (piece events ∷ pieces)
-      ≡ levels_after_step (levels_of scope.levels pieces) next
+      → levels_of (profile_of scope.begins) scope.levels (piece events ∷ pieces)
+      ≡ levels_if (profile_of scope.begins) (act_in (piece []))
+      (levels_of (profile_of scope.begins) scope.levels pieces)
   asked : (events : List Event) (pieces : List Piece)
       → asked_device (piece events ∷ pieces) ≡ asked_after (asked_device pieces) next
 
@@ -212,7 +215,8 @@ extended : (scope : Scope) (pieces rest : List Piece) (begun events : List Event
     → pieces_after scope pieces row next ≡ piece events ∷ rest
     → ArePieces scope (piece events ∷ rest)
     → events_of rest ++ events ≡ events_of pieces ++ row ∷ [] → acts_of pieces ≡ acts_of rest
-    → levels_of scope.levels pieces ≡ levels_of scope.levels rest
+    → levels_of (profile_of scope.begins) scope.levels pieces
+    ≡ levels_of (profile_of scope.begins) scope.levels rest
     → asked_device pieces ≡ asked_device rest
     → events ≡ begun ++ row ∷ [] → GoesOnFromPieces pieces begun rest
     → Extended scope pieces row next
@@ -220,6 +224,7 @@ extended scope pieces rest begun events row next piece adds added made are rows 
     same_levels
     same_asked begins from =
     let Right : List Piece → Type 0 = λ ps. ArePieces scope ps in
+    let profile = profile_of scope.begins in
     let act : act_in (piece []) ≡ act_after (position_of scope pieces) next =
     ap (λ (p : List Event → Piece). act_in (p [])) (sym added) in
     let acts : acts_of (piece events ∷ rest) ≡ with_act (act_after (position_of scope pieces) next)
@@ -233,8 +238,10 @@ extended scope pieces rest begun events row next piece adds added made are rows 
       position = ap (position_of scope) made
           ∙ (adds.position events rest
           ∙ ap (λ (p : List Event → Piece). (position_of scope) (p [] ∷ [])) (sym added));
-      levels = ap (levels_of scope.levels) made
-          ∙ (adds.levels events rest ∙ ap (λ ls. levels_after_step ls next) (sym same_levels));
+      levels = ap (levels_of profile scope.levels) made
+          ∙ (adds.levels events rest
+          ∙ (ap (λ a. levels_if profile a (levels_of profile scope.levels rest)) act
+          ∙ ap (levels_if profile (act_after (position_of scope pieces) next)) (sym same_levels)));
       asked = ap asked_device made
           ∙ (adds.asked events rest ∙ ap (λ a. asked_after a next) (sym same_asked));
       grown = record {
@@ -255,7 +262,8 @@ fresh : (scope : Scope) (pieces : List Piece) (row : Event) (next : Step)
     → pieces_after scope pieces row next ≡ piece (row ∷ []) ∷ pieces → ArePieces scope pieces
     → IsSaid scope (piece (row ∷ []))
     → MayCome (piece (row ∷ [])) (position_of scope pieces) (last_of (events_of pieces)) row
-    → PieceFits scope.begins (levels_of scope.levels pieces) (piece (row ∷ []))
+    → PieceFits scope.begins (levels_of (profile_of scope.begins) scope.levels pieces)
+    (piece (row ∷ []))
     → Extended scope pieces row next
 fresh scope pieces row next piece adds added made are said comes levels =
     let Spaced : List Event → Type 0 = λ es. AreSpaced es in
@@ -278,8 +286,8 @@ fresh scope pieces row next piece adds added made are said comes levels =
 record HasNoEffect (tail : Piece) : Type 0 where
   open_end : IsTail tail
   acts : (pieces : List Piece) → acts_of (tail ∷ pieces) ≡ acts_of pieces
-  levels : (told : Levels) (pieces : List Piece)
-      → levels_of told (tail ∷ pieces) ≡ levels_of told pieces
+  levels : (profile : Profile) (told : Levels) (pieces : List Piece)
+      → levels_of profile told (tail ∷ pieces) ≡ levels_of profile told pieces
   asked : (pieces : List Piece) → asked_device (tail ∷ pieces) ≡ asked_device pieces
 
 -- a tail at the head goes on, or ends
@@ -293,11 +301,13 @@ longer : (scope : Scope) (tail : Piece) (pieces : List Piece) (row : Event) (nex
     → MayCome tail (position_of scope pieces) (last_of (events_of pieces)) first
     → MayCome (piece (piece_events tail ++ row ∷ [])) (position_of scope pieces)
     (last_of (events_of pieces)) first)
-    → PieceFits scope.begins (levels_of scope.levels pieces) (piece (piece_events tail ++ row ∷ []))
+    → PieceFits scope.begins (levels_of (profile_of scope.begins) scope.levels pieces)
+    (piece (piece_events tail ++ row ∷ []))
     → Within WORD_GAP_MIN BLOCK_GAP_MAX (last_of (events_of (tail ∷ pieces))) row
     → Extended scope (tail ∷ pieces) row next
 longer scope tail pieces row next piece is_tail adds added made are said comes levels gap =
     let stood = are.1 in
+    let profile = profile_of scope.begins in
     let old = piece_events tail in
     let Timed : List Event → Type 0 =
     λ es. Within WORD_GAP_MIN BLOCK_GAP_MAX (last_of (events_of pieces ++ es)) row in
@@ -319,7 +329,7 @@ longer scope tail pieces row next piece is_tail adds added made are said comes l
     extended scope (tail ∷ pieces) pieces old (old ++ row ∷ []) row next piece adds added made
     (right, stands, are.2)
     (sym (append_assoc (events_of pieces) old (row ∷ []))) (is_tail.acts pieces)
-    (is_tail.levels scope.levels pieces)
+    (is_tail.levels profile scope.levels pieces)
     (is_tail.asked pieces) refl (inr (tail, is_tail.open_end, refl, refl))
 
 -- a position where no tail is open
@@ -416,7 +426,8 @@ begun : (scope : Scope) (position : Position) (pieces : List Piece) (row : Event
     ≡ grown pieces row (piece_after (position_of scope pieces) next)
     → piece_after position next ≡ piece → IsSaid scope (piece (row ∷ []))
     → MayCome (piece (row ∷ [])) (position_of scope pieces) (last_of (events_of pieces)) row
-    → PieceFits scope.begins (levels_of scope.levels pieces) (piece (row ∷ []))
+    → PieceFits scope.begins (levels_of (profile_of scope.begins) scope.levels pieces)
+    (piece (row ∷ []))
     → Extended scope pieces row next
 begun scope position pieces row next piece adds are closed here grows gives said comes levels =
     let added : piece_after (position_of scope pieces) next ≡ piece =
@@ -510,7 +521,8 @@ returned scope command reply pieces at word next are closed here leads = absurd 
 foreign_word : (scope : Scope) (pieces : List Piece) (at : ℕ) (line : Line) (word : ℕ) (next : Step)
     → ArePieces scope pieces
     → AreClosed pieces → position_of scope pieces ≡ InForeign
-    → WordLeads scope InForeign (last_of (events_of pieces)) (levels_of scope.levels pieces)
+    → WordLeads scope InForeign (last_of (events_of pieces))
+    (levels_of (profile_of scope.begins) scope.levels pieces)
     (Word at line word) line word next
     → Extended scope pieces (Word at line word) next
 foreign_word scope pieces at Controller word next are closed here (inl leads) =
@@ -534,7 +546,8 @@ after_closed : (scope : Scope) (position : Position) (pieces : List Piece) (at :
     (next : Step)
     → ArePieces scope pieces → AreClosed pieces → position_of scope pieces ≡ position
     → IsFree position
-    → WordLeads scope position (last_of (events_of pieces)) (levels_of scope.levels pieces)
+    → WordLeads scope position (last_of (events_of pieces))
+    (levels_of (profile_of scope.begins) scope.levels pieces)
     (Word at line word) line word next
     → Extended scope pieces (Word at line word) next
 after_closed scope Quiet pieces at Controller word next are closed here is leads =
@@ -579,8 +592,12 @@ in_ask scope bytes events pieces at word (step.AskByte byte) are leads =
     subst Spoken leads.0 (say_byte bytes events at word said.0.some said.1) in
     longer scope (AskTail bytes events) pieces row (step.AskByte byte)
     (AskTail (bytes ++ byte ∷ []))
-    (record { open_end = tt; acts = λ ps. refl; levels = λ told ps. refl; asked = λ ps. refl })
-    (adds_ask_byte scope byte (bytes ++ byte ∷ [])) refl refl are (leads.2, says)
+    (record {
+      open_end = tt;
+      acts = λ ps. refl;
+      levels = λ profile told ps. refl;
+      asked = λ ps. refl;
+    }) (adds_ask_byte scope byte (bytes ++ byte ∷ [])) refl refl are (leads.2, says)
     (λ first others is comes. comes) tt leads.3
 in_ask scope bytes events pieces at word (step.Ask command) are leads =
     let said = are.0.said in
@@ -593,9 +610,13 @@ in_ask scope bytes events pieces at word (step.Ask command) are leads =
     (events ++ row ∷ []) =
     subst Spoken spells.spells.bytes (say_byte bytes events at word said.0.some said.1) in
     longer scope (AskTail bytes events) pieces row (step.Ask command) (Whole (acts.Ask command))
-    (record { open_end = tt; acts = λ ps. refl; levels = λ told ps. refl; asked = λ ps. refl })
-    (adds_ask scope command) refl refl are (subst Spelled spells.spells.bytes spells, says)
-    (λ first others is comes. comes) tt leads.2
+    (record {
+      open_end = tt;
+      acts = λ ps. refl;
+      levels = λ profile told ps. refl;
+      asked = λ ps. refl;
+    }) (adds_ask scope command) refl refl are (subst Spelled spells.spells.bytes spells, says)
+    (λ first others is comes. comes) leads.2 leads.3
 in_ask scope bytes events pieces at word step.Foreign are leads =
     let said = are.0.said in
     let row = Word at Controller word in
@@ -603,8 +624,12 @@ in_ask scope bytes events pieces at word step.Foreign are leads =
     say_byte bytes events at word said.0.some said.1 in
     let Spoken : List Event → Type 0 = λ es. Say Controller (controller_words bytes) es in
     longer scope (AskTail bytes events) pieces row step.Foreign (Whole acts.Foreign)
-    (record { open_end = tt; acts = λ ps. refl; levels = λ told ps. refl; asked = λ ps. refl })
-    (adds_foreign scope) refl refl are (inl (bytes ++ word ∷ [], leads.1, says))
+    (record {
+      open_end = tt;
+      acts = λ ps. refl;
+      levels = λ profile told ps. refl;
+      asked = λ ps. refl;
+    }) (adds_foreign scope) refl refl are (inl (bytes ++ word ∷ [], leads.1, says))
     (λ first others is comes. inl
     (begins_block bytes first others said.0.some (subst Spoken is said.1), comes))
     tt leads.2
@@ -616,7 +641,7 @@ in_reply : (scope : Scope) (command : Command) (bytes : List ℕ) (events : List
     (at word : ℕ) (next : Step)
     → ArePieces scope (ReplyTail command bytes events ∷ pieces)
     → GoesOnReplying (profile_of scope.begins) command bytes (last_of (events_of pieces ++ events))
-    (levels_of scope.levels pieces) (Word at Peripheral word) word next
+    (levels_of (profile_of scope.begins) scope.levels pieces) (Word at Peripheral word) word next
     → Extended scope (ReplyTail command bytes events ∷ pieces) (Word at Peripheral word) next
 in_reply scope command bytes events pieces at word (step.ReplyByte byte) are leads =
     let said = are.0.said in
@@ -632,8 +657,12 @@ in_reply scope command bytes events pieces at word (step.ReplyByte byte) are lea
     let Spoken : ℕ → Type 0 = λ w. Say Peripheral (bytes ++ w ∷ []) (events ++ row ∷ []) in
     longer scope (ReplyTail command bytes events) pieces row (step.ReplyByte byte)
     (ReplyTail command (bytes ++ byte ∷ []))
-    (record { open_end = tt; acts = λ ps. refl; levels = λ told ps. refl; asked = λ ps. refl })
-    (adds_reply_byte scope command byte (bytes ++ byte ∷ [])) refl refl are
+    (record {
+      open_end = tt;
+      acts = λ ps. refl;
+      levels = λ profile told ps. refl;
+      asked = λ ps. refl;
+    }) (adds_reply_byte scope command byte (bytes ++ byte ∷ [])) refl refl are
     (front, subst Spoken leads.0 (say_word Peripheral bytes events at word said.1))
     (λ first others is comes. comes) tt leads.3
 in_reply scope command bytes events pieces at word (step.Reply reply) are leads =
@@ -643,8 +672,12 @@ in_reply scope command bytes events pieces at word (step.Reply reply) are leads 
     (events ++ row ∷ []) in
     longer scope (ReplyTail command bytes events) pieces row (step.Reply reply)
     (Whole (acts.Reply command reply))
-    (record { open_end = tt; acts = λ ps. refl; levels = λ told ps. refl; asked = λ ps. refl })
-    (adds_reply scope command reply) refl refl are
+    (record {
+      open_end = tt;
+      acts = λ ps. refl;
+      levels = λ profile told ps. refl;
+      asked = λ ps. refl;
+    }) (adds_reply scope command reply) refl refl are
     (leads.1, subst Spoken leads.2 (say_sum bytes events at word leads.0 said.1))
     (λ first others is comes. comes) leads.3 leads.4
 in_reply scope command bytes events pieces at word next are leads = absurd leads
@@ -664,8 +697,12 @@ in_repeat scope command reply words events pieces at word (step.RepeatWord told)
     λ w. IsSaid scope (RepeatTail command reply (words ++ w ∷ []) (events ++ row ∷ [])) in
     longer scope (RepeatTail command reply words events) pieces row (step.RepeatWord told)
     (RepeatTail command reply (words ++ told ∷ []))
-    (record { open_end = tt; acts = λ ps. refl; levels = λ told ps. refl; asked = λ ps. refl })
-    (adds_repeat_word scope command reply told (words ++ told ∷ [])) refl refl are
+    (record {
+      open_end = tt;
+      acts = λ ps. refl;
+      levels = λ profile told ps. refl;
+      asked = λ ps. refl;
+    }) (adds_repeat_word scope command reply told (words ++ told ∷ [])) refl refl are
     (subst Front leads.0 (leads.1, say_word Peripheral words events at word are.0.said.1))
     (λ first others is comes. comes) tt leads.2
 in_repeat scope command reply words events pieces at word step.Repeat are leads =
@@ -673,8 +710,12 @@ in_repeat scope command reply words events pieces at word step.Repeat are leads 
     let Spoken : List ℕ → Type 0 = λ ws. Say Peripheral ws (events ++ row ∷ []) in
     longer scope (RepeatTail command reply words events) pieces row step.Repeat
     (Whole (acts.Repeat command reply))
-    (record { open_end = tt; acts = λ ps. refl; levels = λ told ps. refl; asked = λ ps. refl })
-    (adds_repeat scope command reply) refl refl are
+    (record {
+      open_end = tt;
+      acts = λ ps. refl;
+      levels = λ profile told ps. refl;
+      asked = λ ps. refl;
+    }) (adds_repeat scope command reply) refl refl are
     (subst Spoken leads.0 (say_word Peripheral words events at word are.0.said.1))
     (λ first others is comes. comes) tt leads.1
 in_repeat scope command reply words events pieces at word next are leads = absurd leads

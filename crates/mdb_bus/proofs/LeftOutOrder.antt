@@ -21,15 +21,21 @@ use Rattle.mdb_msgs.specs.Commands.{IsByte, command_bytes, device_of}
 use Rattle.mdb_msgs.specs.DeviceSets.{has}
 use Rattle.mdb_bus.specs.declared.act.Act.TheVariants as acts
 use Rattle.mdb_bus.specs.declared.levels.Levels.{Levels}
+use Rattle.mdb_bus.specs.declared.levels.ReaderLevels.{ReaderLevels}
 use Rattle.mdb_msgs.specs.declared.reply.Reply.{Reply}
+use Rattle.mdb_msgs.specs.declared.reply.Reply.TheVariants as replies
+use Rattle.std.specs.Option.{option_or}
 use Rattle.mdb_bus.specs.declared.scope.Beginning.{Beginning}
 use Rattle.mdb_bus.specs.declared.scope.Beginning.TheVariants.{PowerOn, Joined}
 use Rattle.mdb_bus.specs.declared.scope.Profile.{Profile}
+use Rattle.mdb_bus.specs.declared.scope.Profile.TheVariants as profiles
+use Rattle.mdb_bus.specs.Formats.{IsReadAs, format_at, levels_for}
 use Rattle.mdb_bus.specs.declared.scope.Scope.{Scope}
 use Rattle.mdb_bus.specs.Acts.{IsForeign, Say, reply_words}
-use Rattle.mdb_bus.specs.ActLists.{Piece, Whole, AskTail, ReplyTail, RepeatTail, Position, Quiet, InAsk, Asked, InReply, Replied, Returned, InRepeat, InForeign, ArePieces, AreSpaced, BlockMayCome, ForeignMayCome, IsLow, IsPiece, IsSaid, MayCome, MayStand, NotBefore, PieceFits, ReplyFits, events_of, first_position, last_of, left_by, level_for, levels_after, levels_of, piece_events, position_of}
+use Rattle.mdb_bus.specs.ActLists.{Piece, Whole, AskTail, ReplyTail, RepeatTail, Position, Quiet, InAsk, Asked, InReply, Replied, Returned, InRepeat, InForeign, ArePieces, AreSpaced, BlockMayCome, ForeignMayCome, IsLow, IsPiece, IsSaid, MayCome, MayStand, NotBefore, PieceFits, ReplyFits, events_of, first_position, last_of, left_by, last_level, levels_after, levels_of, levels_told, piece_events, position_of}
 use Rattle.mdb_bus.specs.LeavingOut.{LeavesOutMore, begin_left_out, is_left_out, is_one_left_out, leave_out, position_without, with_foreign}
-use Rattle.mdb_bus.specs.Scopes.{IsFollowed, IsLeftOut, profile_of}
+use Rattle.mdb_bus.specs.Scopes.{HasCommand, IsFollowed, IsLeftOut, profile_of}
+use Rattle.mdb_bus.specs.inner.Steps.{IsCommandFront}
 use Rattle.mdb_msgs.proofs.CommandBytes.{spelled_low}
 use Rattle.mdb_bus.proofs.Followed.{FirstTells, front_followed, plain_front}
 use Rattle.mdb_bus.proofs.LeftOutWords.{AreForeignWords, Becomes, answer_foreign, as_block, as_foreign, as_words, foreign_stays, peripheral_foreign}
@@ -180,12 +186,22 @@ foreign_moves scope position without from to moved (inr further) =
 -- what stays says what it said
 said_stays : FirstTells → (less more : Scope) → LeavesOutMore less more → (piece : Piece)
     → is_left_out more piece ≡ false → IsSaid less piece → IsSaid more piece
-said_stays law less more wider (Whole (acts.Ask command) events) kept said =
-    (record { spells = said.0.spells; followed = kept }, said.1)
+said_stays law less more wider (Whole (acts.Ask command) events) kept said = (
+  record {
+    spells = said.0.spells;
+    known = subst (λ begins. HasCommand (profile_of begins) command) wider.begins said.0.known;
+    followed = kept;
+  },
+  said.1,
+)
 said_stays law less more wider (Whole acts.Foreign events) kept said =
     foreign_stays less more wider events kept said
-said_stays law less more wider (AskTail bytes events) kept said =
-    (front_followed law more bytes (plain_front less bytes said.0) kept, said.1)
+said_stays law less more wider (AskTail bytes events) kept said = (
+  front_followed law more bytes
+      (subst (λ begins. IsCommandFront (profile_of begins) bytes) wider.begins
+      (plain_front less bytes said.0)) kept,
+  said.1,
+)
 said_stays law less more wider piece kept said = said
 
 -- and it may come where it came
@@ -351,18 +367,18 @@ all_stand scope first others pieces are become spaced =
 
 -- a command tells its own reader a level, and not the other
 first_alone : (asked : ReaderCommand) (levels : Levels)
-    → (levels_after (commands.Reader Second asked) levels).first.asked ≡ levels.first.asked
+    → (levels_after (commands.Reader Second asked) levels).first ≡ levels.first
 first_alone (readers.SetupConfig level columns rows display) levels = refl
 first_alone asked levels = refl
 
 second_alone : (asked : ReaderCommand) (levels : Levels)
-    → (levels_after (commands.Reader First asked) levels).second.asked ≡ levels.second.asked
+    → (levels_after (commands.Reader First asked) levels).second ≡ levels.second
 second_alone (readers.SetupConfig level columns rows display) levels = refl
 second_alone asked levels = refl
 
 told_another : (set : DeviceSet) (command asked : Command) (levels : Levels)
     → has set (device_of command) ≡ false → has set (device_of asked) ≡ true
-    → level_for command (levels_after asked levels) ≡ level_for command levels
+    → levels_for command (levels_after asked levels) ≡ levels_for command levels
 told_another set (commands.Changer command) asked levels followed out = refl
 told_another set (commands.Bill command) asked levels followed out = refl
 told_another set (commands.Reader First command) (commands.Reader First asked) levels followed out =
@@ -375,75 +391,155 @@ told_another set (commands.Reader Second command) (commands.Reader Second asked)
     out = cc
 told_another set (commands.Reader unit command) asked levels followed out = refl
 
+-- nor does a reply tell the level of another reader
+first_telling : (profile : Profile) (asked : ReaderCommand) (reply : Reply) (levels : Levels)
+    → (levels_told profile (commands.Reader Second asked) reply levels).first ≡ levels.first
+first_telling profiles.Extended asked (replies.Reader list) levels = refl
+first_telling profile asked reply levels = refl
+
+second_telling : (profile : Profile) (asked : ReaderCommand) (reply : Reply) (levels : Levels)
+    → (levels_told profile (commands.Reader First asked) reply levels).second ≡ levels.second
+second_telling profiles.Extended asked (replies.Reader list) levels = refl
+second_telling profile asked reply levels = refl
+
+told_by_another : (profile : Profile) (set : DeviceSet) (command asked : Command) (reply : Reply)
+    (levels : Levels)
+    → has set (device_of command) ≡ false → has set (device_of asked) ≡ true
+    → levels_for command (levels_told profile asked reply levels) ≡ levels_for command levels
+told_by_another profile set (commands.Changer command) asked reply levels followed out = refl
+told_by_another profile set (commands.Bill command) asked reply levels followed out = refl
+told_by_another profile set (commands.Reader First command) (commands.Reader First asked) reply
+    levels followed out = cc
+told_by_another profile set (commands.Reader First command) (commands.Reader Second asked) reply
+    levels followed out = first_telling profile asked reply levels
+told_by_another profile set (commands.Reader Second command) (commands.Reader First asked) reply
+    levels followed out = second_telling profile asked reply levels
+told_by_another profile set (commands.Reader Second command) (commands.Reader Second asked) reply
+    levels followed out = cc
+told_by_another profiles.Base set (commands.Reader unit command) asked reply levels followed out =
+    refl
+told_by_another profiles.Extended set (commands.Reader unit command) asked reply levels followed
+    out = refl
+
 -- after a command, levels are the same for a reader if they were before it
 same_after : (command asked : Command) (one other : Levels)
-    → level_for command one ≡ level_for command other
-    → level_for command (levels_after asked one) ≡ level_for command (levels_after asked other)
+    → levels_for command one ≡ levels_for command other
+    → levels_for command (levels_after asked one) ≡ levels_for command (levels_after asked other)
 same_after (commands.Changer command) asked one other same = refl
 same_after (commands.Bill command) asked one other same = refl
 same_after (commands.Reader First command)
-    (commands.Reader First (readers.SetupConfig level columns rows display)) one other same = refl
+    (commands.Reader First (readers.SetupConfig level columns rows display)) one other same =
+    ap (λ (levels : ReaderLevels). record levels { asked = Some level }) same
 same_after (commands.Reader First command) (commands.Reader Second asked) one other same =
     first_alone asked one ∙ (same ∙ sym (first_alone asked other))
 same_after (commands.Reader Second command)
-    (commands.Reader Second (readers.SetupConfig level columns rows display)) one other same = refl
+    (commands.Reader Second (readers.SetupConfig level columns rows display)) one other same =
+    ap (λ (levels : ReaderLevels). record levels { asked = Some level }) same
 same_after (commands.Reader Second command) (commands.Reader First asked) one other same =
     second_alone asked one ∙ (same ∙ sym (second_alone asked other))
 same_after (commands.Reader unit command) asked one other same = same
 
+-- and after a reply
+same_telling : (profile : Profile) (command asked : Command) (reply : Reply) (one other : Levels)
+    → levels_for command one ≡ levels_for command other
+    → levels_for command (levels_told profile asked reply one)
+    ≡ levels_for command (levels_told profile asked reply other)
+same_telling profiles.Base command asked reply one other same = same
+same_telling profiles.Extended (commands.Changer command) asked reply one other same = refl
+same_telling profiles.Extended (commands.Bill command) asked reply one other same = refl
+same_telling profiles.Extended (commands.Reader First command) (commands.Reader First asked)
+    (replies.Reader list) one other same =
+    ap (λ (levels : ReaderLevels).
+    record levels { told = option_or (last_level list.messages) levels.told }) same
+same_telling profiles.Extended (commands.Reader First command) (commands.Reader Second asked) reply
+    one other same =
+    first_telling profiles.Extended asked reply one
+    ∙ (same ∙ sym (first_telling profiles.Extended asked reply other))
+same_telling profiles.Extended (commands.Reader Second command) (commands.Reader Second asked)
+    (replies.Reader list) one other same =
+    ap (λ (levels : ReaderLevels).
+    record levels { told = option_or (last_level list.messages) levels.told }) same
+same_telling profiles.Extended (commands.Reader Second command) (commands.Reader First asked) reply
+    one other same =
+    second_telling profiles.Extended asked reply one
+    ∙ (same ∙ sym (second_telling profiles.Extended asked reply other))
+same_telling profiles.Extended (commands.Reader unit command) asked reply one other same = same
+
 -- foreign acts tell no level
-pub foreign_levels : (told : Levels) (events : List Event) (pieces : List Piece)
-    → levels_of told (with_foreign events pieces) ≡ levels_of told pieces
-foreign_levels told [] pieces = refl
-foreign_levels told (event ∷ events) pieces =
-    foreign_levels told events (Whole acts.Foreign (event ∷ []) ∷ pieces)
+pub foreign_levels : (profile : Profile) (told : Levels) (events : List Event)
+    (pieces : List Piece)
+    → levels_of profile told (with_foreign events pieces) ≡ levels_of profile told pieces
+foreign_levels profile told [] pieces = refl
+foreign_levels profile told (event ∷ events) pieces =
+    foreign_levels profile told events (Whole acts.Foreign (event ∷ []) ∷ pieces)
 
 -- a piece goes on from levels that are the same for a command
-levels_go_on : (told : Levels) (command : Command) (piece : Piece) (one other : List Piece)
-    → level_for command (levels_of told one) ≡ level_for command (levels_of told other)
-    → level_for command (levels_of told (piece ∷ one))
-    ≡ level_for command (levels_of told (piece ∷ other))
-levels_go_on told command (Whole (acts.Ask asked) events) one other same =
-    same_after command asked (levels_of told one) (levels_of told other) same
-levels_go_on told command piece one other same = same
+levels_go_on : (profile : Profile) (told : Levels) (command : Command) (piece : Piece)
+    (one other : List Piece)
+    → levels_for command (levels_of profile told one)
+    ≡ levels_for command (levels_of profile told other)
+    → levels_for command (levels_of profile told (piece ∷ one))
+    ≡ levels_for command (levels_of profile told (piece ∷ other))
+levels_go_on profile told command (Whole (acts.Ask asked) events) one other same =
+    same_after command asked (levels_of profile told one) (levels_of profile told other) same
+levels_go_on profile told command (Whole (acts.Reply asked reply) events) one other same =
+    same_telling profile command asked reply (levels_of profile told one)
+    (levels_of profile told other) same
+levels_go_on profile told command (Whole act events) one other same = same
+levels_go_on profile told command piece one other same = same
 
--- a piece of a device that is left out tells another reader nothing
+-- a piece of a device that is left out tells another reader nothing, and of it nothing
 levels_stay : (scope : Scope) (command : Command) (piece : Piece) (pieces : List Piece)
     → IsFollowed scope (device_of command) → is_left_out scope piece ≡ true
-    → level_for command (levels_of scope.levels (piece ∷ pieces))
-    ≡ level_for command (levels_of scope.levels pieces)
+    → levels_for command (levels_of (profile_of scope.begins) scope.levels (piece ∷ pieces))
+    ≡ levels_for command (levels_of (profile_of scope.begins) scope.levels pieces)
 levels_stay scope command (Whole (acts.Ask asked) events) pieces followed out =
-    told_another scope.without command asked (levels_of scope.levels pieces) followed out
+    told_another scope.without command asked
+    (levels_of (profile_of scope.begins) scope.levels pieces) followed out
+levels_stay scope command (Whole (acts.Reply asked reply) events) pieces followed out =
+    told_by_another (profile_of scope.begins) scope.without command asked reply
+    (levels_of (profile_of scope.begins) scope.levels pieces) followed out
+levels_stay scope command (Whole act events) pieces followed out = refl
 levels_stay scope command piece pieces followed out = refl
 
 -- so a reader that is followed was told the same
 same_level : (scope : Scope) (command : Command) (pieces : List Piece)
     → IsFollowed scope (device_of command)
-    → level_for command (levels_of scope.levels (leave_out scope pieces))
-    ≡ level_for command (levels_of scope.levels pieces)
+    → levels_for command
+    (levels_of (profile_of scope.begins) scope.levels (leave_out scope pieces))
+    ≡ levels_for command (levels_of (profile_of scope.begins) scope.levels pieces)
 same_level scope command [] followed = refl
 same_level scope command (piece ∷ pieces) followed =
+    let profile = profile_of scope.begins in
     let same = same_level scope command pieces followed in
     cond_both (is_left_out scope piece)
     (with_foreign (piece_events piece) (leave_out scope pieces)) (piece ∷ leave_out scope pieces)
-    (λ ps. level_for command (levels_of scope.levels ps)
-    ≡ level_for command (levels_of scope.levels (piece ∷ pieces)))
-    (λ out. ap (level_for command)
-    (foreign_levels scope.levels (piece_events piece) (leave_out scope pieces))
+    (λ ps. levels_for command (levels_of profile scope.levels ps)
+    ≡ levels_for command (levels_of profile scope.levels (piece ∷ pieces)))
+    (λ out. ap (levels_for command)
+    (foreign_levels profile scope.levels (piece_events piece) (leave_out scope pieces))
     ∙ (same ∙ sym (levels_stay scope command piece pieces followed out)))
-    (λ kept. levels_go_on scope.levels command piece (leave_out scope pieces) pieces same)
+    (λ kept. levels_go_on profile scope.levels command piece (leave_out scope pieces) pieces same)
 
 -- a reply fits levels that are the same for its command
 fits_alike : (profile : Profile) (one other : Levels) (command : Command) (reply : Reply)
-    → level_for command one ≡ level_for command other → ReplyFits profile other command reply
+    → levels_for command one ≡ levels_for command other → ReplyFits profile other command reply
     → ReplyFits profile one command reply
-fits_alike profile one other command reply same fits = λ high. subst IsLow (sym same) (fits high)
+fits_alike profiles.Base one other command reply same fits =
+    let Low : ReaderLevels → Type 0 = λ levels. IsLow levels.asked in
+    (fits.0, λ high. subst Low (sym same) (fits.1 high))
+fits_alike profiles.Extended one other (commands.Reader unit command) reply same fits =
+    let Read : ReaderLevels → Type 0 = λ levels.
+    IsReadAs (format_at levels.asked levels.told) (commands.Reader unit command) reply in
+    (subst Read (sym same) fits.0, fits.1)
+fits_alike profiles.Extended one other command reply same fits = fits
 
 -- so a piece that stays fits the levels of the pieces that stay
 levels_fit : (scope : Scope) (piece : Piece) (pieces : List Piece)
     → is_left_out scope piece ≡ false
-    → PieceFits scope.begins (levels_of scope.levels pieces) piece
-    → PieceFits scope.begins (levels_of scope.levels (leave_out scope pieces)) piece
+    → PieceFits scope.begins (levels_of (profile_of scope.begins) scope.levels pieces) piece
+    → PieceFits scope.begins
+    (levels_of (profile_of scope.begins) scope.levels (leave_out scope pieces)) piece
 levels_fit scope (Whole (acts.Reply command reply) events) pieces kept fits =
     fits_alike (profile_of scope.begins) _ _ command reply (same_level scope command pieces kept)
     fits
@@ -467,7 +563,7 @@ in_order law less more wider (piece ∷ pieces) order =
     λ from. Becomes more (position_of more rest) from stands.first stands.others in
     let Pieces : List Event → Type 0 = λ events. ArePieces more (with_foreign events rest) in
     let Fits : Beginning → Levels → Type 0 =
-    λ begins told. PieceFits begins (levels_of told pieces) piece in
+    λ begins told. PieceFits begins (levels_of (profile_of begins) told pieces) piece in
     cond_both (is_left_out more piece) (with_foreign (piece_events piece) rest) (piece ∷ rest)
     (ArePieces more)
     (λ out. subst Pieces (sym stands.begins)

@@ -13,13 +13,13 @@ use Rattle.mdb_msgs.specs.declared.command.Device.{Device}
 use Rattle.mdb_msgs.specs.declared.need.Need.TheVariants.{Foreign}
 use Rattle.mdb_msgs.specs.Commands.{IsByte}
 use Rattle.mdb_msgs.specs.DeviceSets.{has}
-use Rattle.mdb_msgs.specs.Needs.{device_at, is_to_one_of, needed}
+use Rattle.mdb_msgs.specs.Needs.{device_at, is_to_one_of}
 use Rattle.mdb_bus.specs.declared.scope.Scope.{Scope}
 use Rattle.mdb_words.specs.declared.limits.TheConstants.{WORD_GAP_MIN}
 use Rattle.mdb_bus.specs.ActLists.{Position, InForeign, BlockMayCome, ForeignMayCome, NotBefore}
 use Rattle.mdb_bus.specs.Acts.{IsForeign, IsForeignOpening, IsForeignWord, Say, said_by}
 use Rattle.mdb_bus.specs.LeavingOut.{LeavesOutMore, begin_left_out}
-use Rattle.mdb_bus.specs.Scopes.{IsFollowed, needed_in}
+use Rattle.mdb_bus.specs.Scopes.{IsFollowed, needed_by, needed_in, profile_of}
 use Rattle.mdb_bus.proofs.Followed.{AreFollowed, needed_followed}
 use Rattle.mdb_bus.proofs.Rows.{begins_block}
 
@@ -47,7 +47,8 @@ same_need : (less more : Scope) → LeavesOutMore less more → (bytes : List �
     → AreFollowed more bytes → needed_in less bytes ≡ needed_in more bytes
 same_need less more wider bytes followed =
     needed_followed less bytes (to_more less more wider (slice_index bytes 0) followed)
-    ∙ sym (needed_followed more bytes followed)
+    ∙ (ap (λ begins. needed_by (profile_of begins) bytes) wider.begins
+    ∙ sym (needed_followed more bytes followed))
 
 -- so what opened a foreign block opens one
 opening_stays : (less more : Scope) → LeavesOutMore less more → (bytes : List ℕ)
@@ -66,7 +67,8 @@ opening_stays less more wider (first ∷ second ∷ third ∷ bytes) followed op
 left_out_opens : (scope : Scope) (byte : ℕ) → is_to_one_of scope.without byte ≡ true
     → IsForeignOpening scope (byte ∷ [])
 left_out_opens scope byte out =
-    ap (λ (left_out : Bool). if left_out then Foreign else needed (byte ∷ [])) out
+    ap (λ (left_out : Bool).
+    if left_out then Foreign else needed_by (profile_of scope.begins) (byte ∷ [])) out
 
 -- events are foreign words
 abbrev pub AreForeignWords : List Event → Type 0

@@ -5,12 +5,15 @@ pub mod EachSteps
 pub mod Feed
 pub mod Fitting
 pub mod Followed
+pub mod FormatLaws
 pub mod Forward
 pub mod Verdicts
+pub mod LastLevels
 pub mod LeftOutActs
 pub mod LeftOutOrder
 pub mod LeftOutWords
 pub mod Lists
+pub mod Masked
 pub mod Named
 pub mod Needs
 pub mod OneActList

@@ -2,11 +2,6 @@
 use Rattle.std.proofs.Common.{refl, ap, sym, subst, ◌∙◌, ◌≡◌, List, [], ◌∷◌, ◌++◌, append_assoc}
 use Rattle.std.proofs.lemmas.List.{append-nil}
 use Rattle.mdb_words.specs.declared.event.Event.{Event}
-use Rattle.mdb_msgs.specs.Laws.{BlockHasOneReply}
-use Rattle.mdb_msgs.specs.declared.command.Command.{Command}
-use Rattle.mdb_msgs.specs.declared.reply.Reply.{Reply}
-use Rattle.mdb_msgs.specs.Replies.{IsReplyTo, reply_bytes}
-use Rattle.mdb_blocks.specs.Block.{block_of}
 use Rattle.mdb_bus.specs.ActLists.{GoesOnFrom, HasActList, IsActList, Piece, acts_of, events_of, piece_events, position_of}
 use Rattle.mdb_bus.specs.LinkFaults.{situation_of}
 use Rattle.mdb_bus.specs.inner.Steps.{Leads, act_after, pieces_after}

@@ -19,6 +19,8 @@ use Rattle.mdb_bus.specs.LinkFaults.{Situation}
 use Rattle.mdb_bus.specs.inner.Steps.{Answers, AnswersReply, BeginsRepeat, GoesOnAsking, GoesOnForeign, GoesOnRepeating, GoesOnReplying, Leads, Opens, WordLeads}
 use Rattle.mdb_bus.specs.inner.Grammar.{Grammar}
 use Rattle.mdb_bus.proofs.Lists.{nothing_after, some_length}
+use Rattle.mdb_bus.specs.declared.format.Format.{Format}
+use Rattle.mdb_bus.specs.Formats.{IsReadAs, format_for}
 use Rattle.mdb_bus.specs.Scopes.{Asks, needed_in, profile_of}
 use Rattle.mdb_bus.specs.declared.scope.Scope.{Scope}
 use Rattle.mdb_bus.specs.declared.scope.Profile.{Profile}
@@ -33,7 +35,8 @@ pub record Readings (scope : Scope) : Type 0 where
   pub tells : (prefix rest : List ℕ) (command : Command) → 0 < length prefix
       → Asks scope command (prefix ++ rest)
       → IsTold (needed_in scope prefix) (length prefix) (length (prefix ++ rest))
-  pub one_reply : (command : Command) (one other : Reply) → IsReplyTo command one
+  pub one_reply : (format : Format) (command : Command) (one other : Reply)
+      → IsReadAs format command one → IsReadAs format command other → IsReplyTo command one
       → IsReplyTo command other
       → reply_bytes one ≡ reply_bytes other → one ≡ other
 
@@ -246,7 +249,8 @@ reply_end : (scope : Scope) (readings : Readings scope) (command : Command) (byt
 reply_end scope readings command bytes from levels to word reply (step.ReplyByte byte) p q =
     absurd (omega (arith, q.1, p.0))
 reply_end scope readings command bytes from levels to word reply (step.Reply other) p q =
-    ap step.Reply (readings.one_reply command reply other p.1.answers q.1.answers (sym p.2 ∙ q.2))
+    ap step.Reply (readings.one_reply (format_for (profile_of scope.begins) levels command) command
+    reply other p.3.0 q.3.0 p.1.answers q.1.answers (sym p.2 ∙ q.2))
 reply_end scope readings command bytes from levels to word reply other p q = absurd q
 
 one_replying : (scope : Scope) (readings : Readings scope) (command : Command) (bytes : List ℕ)

@@ -1,16 +1,18 @@
 -- The laws of mdb_msgs, put together, of the devices that are followed.
-use Rattle.std.proofs.Common.{arith, refl, ap, ◌∙◌, ◌∷◌, ◌≡◌, ◌≢◌, ◌<◌, ℕ, List, [], ◌++◌, length, sym, subst}
+use Rattle.std.proofs.Common.{arith, refl, ap, ◌∙◌, ◌∷◌, ◌≡◌, ◌≢◌, ◌<◌, ℕ, List, [], ◌++◌, length, sym, subst, ◌&&◌, ◌%◌, Bool, true, false, All, sum, length-append}
 use Rattle.mdb_blocks.specs.Block.{block_of}
 use Rattle.mdb_msgs.specs.declared.command.Command.{Command}
 use Rattle.mdb_msgs.specs.declared.need.Need.{Need}
 use Rattle.mdb_msgs.specs.declared.need.Need.TheVariants.{Exactly, Foreign, More, Outside}
+use Rattle.mdb_msgs.specs.declared.reading.Reading.{Reading}
 use Rattle.mdb_msgs.specs.declared.reply.Reply.{Reply}
-use Rattle.mdb_msgs.specs.Commands.{Spells}
-use Rattle.mdb_msgs.specs.Laws.{BlockHasOneReply, OpenIsAFront as PlainOpenIsAFront}
-use Rattle.mdb_msgs.specs.Needs.{IsShort, IsTold, TellsLength, needed}
-use Rattle.mdb_msgs.specs.Replies.{IsReplyTo, reply_bytes}
+use Rattle.mdb_msgs.specs.Commands.{IsByte, Spells, command_bytes, is_enable_options}
+use Rattle.mdb_msgs.specs.Laws.{BlockHasOneReply, OpenIsAFront as PlainOpenIsAFront, OpenIsAnothersFront}
+use Rattle.mdb_msgs.specs.Needs.{IsOpen, IsShort, begins_options, IsTold, TellsLength, needed}
+use Rattle.mdb_msgs.specs.Replies.{IsIn, IsReplyTo, reply_bytes}
 use Rattle.mdb_bus.specs.declared.scope.Scope.{Scope}
-use Rattle.mdb_bus.specs.Scopes.{Asks, needed_in}
+use Rattle.mdb_bus.specs.Scopes.{Asks, leaves_options, needed_in, profile_of}
+use Rattle.mdb_bus.proofs.Masked.{TwoTell, block_known, front_known, known_need, unmasked}
 use Rattle.mdb_bus.specs.inner.Grammar.{OpenIsAFront}
 use Rattle.mdb_bus.proofs.Followed.{AreFollowed, FirstTells, asks_followed, block_followed, needed_followed, still_followed, was_followed, within}
 
@@ -27,42 +29,72 @@ pub one_command : (scope : Scope)
 one_command scope law block one other first second = law block one other first.spells second.spells
 
 -- the first two bytes of a command's block tell its length
-pub needs : FirstTells
+pub needs : FirstTells → TwoTell
     → ((block : List ℕ) (command : Command) → Spells command block
     → needed block ≡ Exactly (length block))
     → (scope : Scope) (block : List ℕ) (command : Command) → Asks scope command block
     → needed_in scope block ≡ Exactly (length block)
-needs first law scope block command asks =
+needs first two law scope block command asks =
     needed_followed scope block (block_followed first scope command block asks)
-    ∙ law block command asks.spells
+    ∙ (known_need (profile_of scope.begins) block
+    (block_known two (profile_of scope.begins) block command (has_bytes block asks.spells.bytes)
+    asks.spells asks.known)
+    ∙ law block command asks.spells)
+  where
+    has_bytes : (block : List ℕ) → block ≡ block_of (command_bytes command) → block ≢ []
+    has_bytes [] is none =
+        omega (
+          arith,
+          ap length is,
+          length-append (command_bytes command) ((sum (command_bytes command) % 256) ∷ []),
+        )
+    has_bytes (byte ∷ block) is none = cc none
 
 -- its first bytes tell it, or leave it to the second
-pub tells : FirstTells
+pub tells : FirstTells → TwoTell
     → ((prefix rest : List ℕ) (command : Command) → 0 < length prefix
     → Spells command (prefix ++ rest) → TellsLength prefix (length (prefix ++ rest)))
     → (scope : Scope) (prefix rest : List ℕ) (command : Command) → 0 < length prefix
     → Asks scope command (prefix ++ rest)
     → IsTold (needed_in scope prefix) (length prefix) (length (prefix ++ rest))
-tells first law scope prefix rest command some asks =
+tells first two law scope prefix rest command some asks =
     let Told : Need → Type 0 = λ n. IsTold n (length prefix) (length (prefix ++ rest)) in
     let followed : AreFollowed scope prefix =
     was_followed scope prefix rest (not_empty prefix some)
     (block_followed first scope command (prefix ++ rest) asks) in
-    subst Told (sym (needed_followed scope prefix followed))
+    let known = front_known two (profile_of scope.begins) prefix rest command
+    (not_empty prefix some) asks.spells asks.known in
+    subst Told
+    (sym (needed_followed scope prefix followed
+    ∙ known_need (profile_of scope.begins) prefix known))
     (law prefix rest command some asks.spells)
 
+-- open bytes are the front of the block of a command that is had
+open_one : PlainOpenIsAFront → OpenIsAnothersFront → (leaves : Bool) (bytes : List ℕ)
+    → All IsByte bytes → IsOpen bytes → (leaves && begins_options bytes) ≡ false
+    → (command : Command) × (rest : List ℕ) × (rest ≢ []) × Spells command (bytes ++ rest)
+    × ((leaves && is_enable_options command) ≡ false)
+open_one law another true bytes all short known = another bytes all short known
+open_one law another false bytes all short known =
+    let found = law bytes all short in (found.0, found.1, found.2, found.3, refl)
+
 -- open bytes are the front of a command's block
-pub open_front : FirstTells → PlainOpenIsAFront → (scope : Scope) → OpenIsAFront scope
-open_front first law scope bytes all wanting =
-    let plain =
+pub open_front : FirstTells → PlainOpenIsAFront → OpenIsAnothersFront → (scope : Scope)
+    → OpenIsAFront scope
+open_front first law another scope bytes all wanting =
+    let profile = profile_of scope.begins in
+    let there =
     within scope bytes (needed_in scope bytes) refl (is_some (needed_in scope bytes) wanting) in
+    let plain = unmasked profile bytes (needed_in scope bytes) there.1
+    (is_some (needed_in scope bytes) wanting) in
     let Short : Need → Type 0 = λ n. IsShort n (length bytes) in
-    let found = law bytes all (subst Short (sym plain.1) wanting) in (
+    let found = open_one law another (leaves_options profile) bytes all
+    (subst Short (sym plain.1) wanting) plain.0 in (
       found.0,
       found.1,
       found.2,
-      asks_followed first scope found.0 (bytes ++ found.1) found.3
-          (still_followed scope bytes found.1 (some_there bytes plain.1 wanting) plain.0),
+      asks_followed first scope found.0 (bytes ++ found.1) found.3 found.4
+          (still_followed scope bytes found.1 (some_there bytes plain.1 wanting) there.0),
     )
   where
     is_some : (n : Need) → IsShort n (length bytes) → n ≢ Foreign
@@ -78,10 +110,11 @@ open_front first law scope bytes all wanting =
         let Short : Need → Type 0 = λ n. IsShort n 0 in subst Short (sym is) short
     some_there (byte ∷ bs) is short none = cc none
 
--- for a command, data bytes have at most one reply
-pub one_reply : BlockHasOneReply → (command : Command) (one other : Reply) → IsReplyTo command one
-    → IsReplyTo command other
+-- for a command and a reading, data bytes have at most one reply
+pub one_reply : BlockHasOneReply → (reading : Reading) (command : Command) (one other : Reply)
+    → IsIn reading one → IsIn reading other → IsReplyTo command one → IsReplyTo command other
     → reply_bytes one ≡ reply_bytes other → one ≡ other
-one_reply law command one other first second same =
-    law command (block_of (reply_bytes one)) one other (record { answers = first; bytes = refl })
+one_reply law reading command one other one_in other_in first second same =
+    law reading command (block_of (reply_bytes one)) one other one_in other_in
+    (record { answers = first; bytes = refl })
     (record { answers = second; bytes = ap block_of same })

@@ -1,6 +1,5 @@
 -- A row that breaks a rule leads nowhere.
-use Rattle.std.proofs.Common.{arith, refl, ap, sym, subst, ◌∙◌, ◌≡◌, ◌≢◌, ◌+◌, ◌%◌, ◌<◌, ◌≤◌, ℕ, true, List, [], ◌∷◌, ◌++◌, ◌⊎◌, inl, inr, Option, Some, None, length, length-append, append_assoc, sum}
-use Rattle.std.proofs.lemmas.List.{same_from_push}
+use Rattle.std.proofs.Common.{arith, refl, sym, subst, ◌∙◌, ◌≡◌, ◌≢◌, ◌+◌, ◌%◌, ◌<◌, ◌≤◌, ℕ, List, [], ◌∷◌, ◌++◌, ◌⊎◌, inl, inr, Option, Some, None, length, length-append, append_assoc, sum}
 use Rattle.mdb_words.specs.declared.event.Event.{Event}
 use Rattle.mdb_words.specs.declared.event.Event.TheVariants.{Word, Break}
 use Rattle.mdb_words.specs.declared.limits.TheConstants.{WORD_GAP_MIN, BLOCK_GAP_MAX, ANSWER_GAP_MAX, NEW_BLOCK_GAP_MIN, BREAK_LENGTH_MIN}
@@ -16,9 +15,9 @@ use Rattle.mdb_msgs.specs.declared.fault.MsgFault.TheVariants as reading
 use Rattle.mdb_msgs.specs.declared.need.Need.{Need}
 use Rattle.mdb_msgs.specs.declared.need.Need.TheVariants as need
 use Rattle.mdb_msgs.specs.declared.reply.Reply.{Reply}
-use Rattle.mdb_msgs.specs.Commands.{command_bytes}
+use Rattle.mdb_msgs.specs.Commands.{EnablesMore}
 use Rattle.mdb_msgs.specs.Needs.{IsTold}
-use Rattle.mdb_msgs.specs.Replies.{IsReadFault, reply_bytes}
+use Rattle.mdb_msgs.specs.Replies.{reply_bytes}
 use Rattle.mdb_msgs.specs.Answers.{HasDataAnswer, MayHaveData}
 use Rattle.mdb_bus.specs.declared.fault.Rule.{Rule}
 use Rattle.mdb_bus.specs.declared.fault.Rule.TheVariants as rule
@@ -26,10 +25,13 @@ use Rattle.mdb_bus.specs.declared.levels.Levels.{Levels}
 use Rattle.mdb_bus.specs.inner.Step.{Step}
 use Rattle.mdb_bus.specs.inner.Step as step
 use Rattle.mdb_bus.specs.Acts.{IsForeignOpening, IsForeignWord, IsReply, reply_words}
-use Rattle.mdb_bus.specs.ActLists.{Position, Quiet, InAsk, Asked, InReply, Replied, Returned, InRepeat, InForeign, BlockMayCome, Within, IsAskFront, IsRepeatFront, NotBefore, NotAfter, ReplyFits, rest_before_block, rest_before_break}
-use Rattle.mdb_bus.specs.LinkFaults.{HasHighLevels, IsBefore, IsAfter, IsNext, IsOutside, OutOfOrder, RowBreaks, Situation}
+use Rattle.mdb_bus.specs.ActLists.{Position, Quiet, InAsk, Asked, InReply, Replied, Returned, InRepeat, InForeign, BlockMayCome, Within, IsAskFront, IsInProfile, IsRepeatFront, NotBefore, NotAfter, ReplyFits, rest_before_block, rest_before_break}
+use Rattle.mdb_bus.specs.LinkFaults.{IsBefore, IsAfter, IsNext, IsOutside, LeavesProfile, OutOfOrder, RowBreaks, Situation}
 use Rattle.mdb_bus.specs.inner.Steps.{Answers, AnswersReply, BeginsRepeat, GoesOnAsking, GoesOnForeign, GoesOnRepeating, GoesOnReplying, IsSound, Leads, Opens, WordLeads}
 use Rattle.mdb_bus.specs.inner.Grammar.{Grammar}
+use Rattle.mdb_bus.proofs.Verdicts.{last_is_sum}
+use Rattle.mdb_bus.specs.declared.format.Format.{Format}
+use Rattle.mdb_bus.specs.Formats.{HasFault, IsReadAs, format_for}
 use Rattle.mdb_bus.specs.Scopes.{Asks, needed_in, profile_of}
 use Rattle.mdb_bus.specs.declared.scope.Scope.{Scope}
 
@@ -87,6 +89,16 @@ front_inside : (scope : Scope) → Grammar scope → (bytes : List ℕ) → IsAs
 front_inside scope grammar bytes front outside =
     not_told (needed_in scope bytes) (length bytes) (length (bytes ++ front.rest)) outside
     (grammar.tells bytes front.rest front.command (some_long bytes front.some) front.spelled)
+
+-- nor is it a command
+front_short : (scope : Scope) → Grammar scope → (bytes : List ℕ) → IsAskFront scope bytes
+    → (command : Command) → Asks scope command bytes → ⊥
+front_short scope grammar bytes front command asks =
+    let Told : Need → Type 0 = λ n. IsTold n (length bytes) (length (bytes ++ front.rest)) in
+    let same : length bytes ≡ length (bytes ++ front.rest) =
+    subst Told (grammar.needs bytes command asks)
+    (grammar.tells bytes front.rest front.command (some_long bytes front.some) front.spelled) in
+    omega (arith, same, some_long front.rest front.open_end, length-append bytes front.rest)
 
 -- the front of a longer front needs more than one byte
 front_open : (scope : Scope) → Grammar scope → (bytes : List ℕ) (byte : ℕ) → bytes ≢ []
@@ -373,21 +385,16 @@ ask_goes_on scope grammar bytes from levels at word byte rule.Spacing some break
     not_late BLOCK_GAP_MAX from (Word at Controller word) breaks near.1
 ask_goes_on scope grammar bytes from levels at word byte rule.Sum some breaks is low front near =
     front_open scope grammar bytes byte some front breaks.0
-ask_goes_on scope grammar bytes from levels at word byte rule.Profile some breaks is low front
+ask_goes_on scope grammar bytes from levels at word byte rule.Profile some (inl breaks) is low front
     near =
     let P : ℕ → Type 0 = λ b. needed_in scope (bytes ++ b ∷ []) ≡ need.Outside in
     front_inside scope grammar (bytes ++ byte ∷ []) front (subst P is breaks.1)
+ask_goes_on scope grammar bytes from levels at word byte rule.Profile some (inr more) is low front
+    near =
+    let P : ℕ → Type 0 = λ b. Asks scope more.0 (bytes ++ b ∷ []) in
+    front_short scope grammar (bytes ++ byte ∷ []) front more.0 (subst P is more.1)
 ask_goes_on scope grammar bytes from levels at word byte other some breaks is low front near =
     breaks
-
--- the last byte of a command's block is its sum
-last_is_sum : (scope : Scope) (bytes : List ℕ) (word : ℕ) (command : Command)
-    → Asks scope command (bytes ++ word ∷ [])
-    → word ≡ sum bytes % 256
-last_is_sum scope bytes word command spelled =
-    let content = command_bytes command in
-    let same = same_from_push bytes content word (sum content % 256) spelled.spells.bytes in
-    same.1 ∙ ap (λ bs. sum bs % 256) (sym same.0)
 
 -- the last word of an ask
 ask_ends : (scope : Scope) → Grammar scope
@@ -395,23 +402,29 @@ ask_ends : (scope : Scope) → Grammar scope
     (command : Command)
     (broken : Rule)
     → Broken scope (InAsk bytes) from levels (Word at Controller word) broken
-    → word < 256 → Asks scope command (bytes ++ word ∷ [])
+    → word < 256 → Asks scope command (bytes ++ word ∷ []) → ¬ EnablesMore command
     → Within WORD_GAP_MIN BLOCK_GAP_MAX from (Word at Controller word) → ⊥
-ask_ends scope grammar bytes from levels at word command rule.Order breaks low spelled near =
+ask_ends scope grammar bytes from levels at word command rule.Order breaks low spelled less near =
     in_order WORD_GAP_MIN from (Word at Controller word) (omega arith) breaks near.0
-ask_ends scope grammar bytes from levels at word command rule.Mode breaks low spelled near =
+ask_ends scope grammar bytes from levels at word command rule.Mode breaks low spelled less near =
     absurd (omega (arith, breaks, low))
-ask_ends scope grammar bytes from levels at word command rule.Early breaks low spelled near =
+ask_ends scope grammar bytes from levels at word command rule.Early breaks low spelled less near =
     not_early WORD_GAP_MIN from (Word at Controller word) breaks near.0
-ask_ends scope grammar bytes from levels at word command rule.Spacing breaks low spelled near =
+ask_ends scope grammar bytes from levels at word command rule.Spacing breaks low spelled less near =
     not_late BLOCK_GAP_MAX from (Word at Controller word) breaks near.1
-ask_ends scope grammar bytes from levels at word command rule.Sum breaks low spelled near =
-    breaks.1 (last_is_sum scope bytes word command spelled)
-ask_ends scope grammar bytes from levels at word command rule.Profile breaks low spelled near =
+ask_ends scope grammar bytes from levels at word command rule.Sum breaks low spelled less near =
+    breaks.1 (last_is_sum bytes word command spelled.spells)
+ask_ends scope grammar bytes from levels at word command rule.Profile (inl breaks) low spelled less
+    near =
     let whole = grammar.needs (bytes ++ word ∷ []) command spelled in
     let clash : need.Exactly (length (bytes ++ word ∷ [])) ≡ need.Outside = sym whole ∙ breaks.1 in
     cc
-ask_ends scope grammar bytes from levels at word command other breaks low spelled near = breaks
+ask_ends scope grammar bytes from levels at word command rule.Profile (inr more) low spelled less
+    near =
+    let same : more.0 ≡ command =
+    grammar.one_command (bytes ++ word ∷ []) more.0 command more.1 spelled in
+    less (subst EnablesMore same more.2)
+ask_ends scope grammar bytes from levels at word command other breaks low spelled less near = breaks
 
 -- a foreign opening of two bytes comes where the first leaves it to the second
 foreign_opening : (scope : Scope) (bytes : List ℕ) (word : ℕ) → bytes ≢ []
@@ -423,29 +436,35 @@ foreign_opening scope (first ∷ second ∷ []) word some opening = absurd openi
 foreign_opening scope (first ∷ second ∷ third ∷ bytes) word some opening = absurd opening
 
 -- the second word of a foreign opening
-foreign_begins : (scope : Scope) (bytes : List ℕ) (from : Option Event) (levels : Levels)
-    (at word : ℕ)
-    (broken : Rule)
+foreign_begins : (scope : Scope) → Grammar scope
+    → (bytes : List ℕ) (from : Option Event) (levels : Levels) (at word : ℕ) (broken : Rule)
     → bytes ≢ [] → Broken scope (InAsk bytes) from levels (Word at Controller word) broken
     → word < 256 → IsForeignOpening scope (bytes ++ word ∷ [])
     → Within WORD_GAP_MIN BLOCK_GAP_MAX from (Word at Controller word) → ⊥
-foreign_begins scope bytes from levels at word rule.Order some breaks low opening near =
+foreign_begins scope grammar bytes from levels at word rule.Order some breaks low opening near =
     in_order WORD_GAP_MIN from (Word at Controller word) (omega arith) breaks near.0
-foreign_begins scope bytes from levels at word rule.Mode some breaks low opening near =
+foreign_begins scope grammar bytes from levels at word rule.Mode some breaks low opening near =
     absurd (omega (arith, breaks, low))
-foreign_begins scope bytes from levels at word rule.Early some breaks low opening near =
+foreign_begins scope grammar bytes from levels at word rule.Early some breaks low opening near =
     not_early WORD_GAP_MIN from (Word at Controller word) breaks near.0
-foreign_begins scope bytes from levels at word rule.Spacing some breaks low opening near =
+foreign_begins scope grammar bytes from levels at word rule.Spacing some breaks low opening near =
     not_late BLOCK_GAP_MAX from (Word at Controller word) breaks near.1
-foreign_begins scope bytes from levels at word rule.Sum some breaks low opening near =
+foreign_begins scope grammar bytes from levels at word rule.Sum some breaks low opening near =
     let told = foreign_opening scope bytes word some opening in
     let clash : need.More ≡ need.Exactly (length bytes + 1) = sym told.0 ∙ breaks.0 in
     cc
-foreign_begins scope bytes from levels at word rule.Profile some breaks low opening near =
+foreign_begins scope grammar bytes from levels at word rule.Profile some (inl breaks) low opening
+    near =
     let told = foreign_opening scope bytes word some opening in
     let clash : need.Foreign ≡ need.Outside = sym told.1 ∙ breaks.1 in
     cc
-foreign_begins scope bytes from levels at word other some breaks low opening near = breaks
+foreign_begins scope grammar bytes from levels at word rule.Profile some (inr more) low opening
+    near =
+    let told = foreign_opening scope bytes word some opening in
+    let clash : need.Foreign ≡ need.Exactly (length (bytes ++ word ∷ [])) =
+    sym told.1 ∙ grammar.needs (bytes ++ word ∷ []) more.0 more.1 in
+    cc
+foreign_begins scope grammar bytes from levels at word other some breaks low opening near = breaks
 
 -- a word inside an ask
 in_ask : (scope : Scope) → Grammar scope
@@ -459,8 +478,10 @@ in_ask scope grammar bytes from levels at word broken (step.AskByte byte) some b
     leads.3
 in_ask scope grammar bytes from levels at word broken (step.Ask command) some breaks leads =
     ask_ends scope grammar bytes from levels at word command broken breaks leads.0 leads.1 leads.2
+    leads.3
 in_ask scope grammar bytes from levels at word broken step.Foreign some breaks leads =
-    foreign_begins scope bytes from levels at word broken some breaks leads.0 leads.1 leads.2
+    foreign_begins scope grammar bytes from levels at word broken some breaks leads.0 leads.1
+    leads.2
 in_ask scope grammar bytes from levels at word broken next some breaks leads = leads
 
 -- a peripheral's ACK or NAK
@@ -545,12 +566,13 @@ reply_goes_on scope command bytes from levels at word rule.Profile breaks low sh
 reply_goes_on scope command bytes from levels at word other breaks low short near = breaks
 
 -- a reply has no fault
-pub none_bad : (scope : Scope) → Grammar scope
-    → (command : Command) (bytes : List ℕ) (reply : Reply) (fault : MsgFault)
-    → IsReply command reply → bytes ≡ reply_bytes reply → IsReadFault command bytes fault → ⊥
-none_bad scope grammar command bytes reply fault good same bad =
-    let P : List ℕ → Type 0 = λ bs. IsReadFault command bs fault in
-    grammar.no_fault command reply fault good.answers (subst P same bad)
+pub none_bad : (scope : Scope) → Grammar scope → (format : Format)
+    (command : Command) (bytes : List ℕ) (reply : Reply) (fault : MsgFault)
+    → IsReply command reply → bytes ≡ reply_bytes reply → IsReadAs format command reply
+    → HasFault format command bytes fault → ⊥
+none_bad scope grammar format command bytes reply fault good same read bad =
+    let P : List ℕ → Type 0 = λ bs. HasFault format command bs fault in
+    grammar.no_fault format command reply fault good.answers read (subst P same bad)
 
 -- a reply has a number of bytes that the command allows
 pub right_count : (scope : Scope) → Grammar scope
@@ -561,27 +583,30 @@ right_count scope grammar command bytes reply good same =
     subst P (sym same) (grammar.counted command reply good.answers)
 
 -- bytes are at most one reply
-pub same_reply : (scope : Scope) → Grammar scope
-    → (command : Command) (bytes : List ℕ) (one other : Reply)
-    → IsReply command one
-    → bytes ≡ reply_bytes one
-    → IsReply command other → bytes ≡ reply_bytes other → one ≡ other
-same_reply scope grammar command bytes one other first is second same =
-    grammar.one_reply command one other first.answers second.answers (sym is ∙ same)
+pub same_reply : (scope : Scope) → Grammar scope → (format : Format)
+    (command : Command) (bytes : List ℕ) (one other : Reply)
+    → IsReply command one → bytes ≡ reply_bytes one → IsReadAs format command one
+    → IsReply command other → bytes ≡ reply_bytes other → IsReadAs format command other
+    → one ≡ other
+same_reply scope grammar format command bytes one other first is read second same also =
+    grammar.one_reply format command one other read also first.answers second.answers
+    (sym is ∙ same)
 
--- a reply of the right level isn't left out
+-- a reply that fits isn't left out
 not_left_out : (scope : Scope) → Grammar scope
     → (command : Command) (bytes : List ℕ) (reply : Reply) (levels : Levels)
     → IsReply command reply → bytes ≡ reply_bytes reply
     → ReplyFits (profile_of scope.begins) levels command reply
-    → IsReadFault command bytes reading.Profile
-    ⊎ HasHighLevels (profile_of scope.begins) command bytes levels → ⊥
-not_left_out scope grammar command bytes reply levels good same low (inl bad) =
-    none_bad scope grammar command bytes reply reading.Profile good same bad
-not_left_out scope grammar command bytes reply levels good same low (inr high) =
-    let one : high.0 ≡ reply =
-    same_reply scope grammar command bytes high.0 reply high.1 high.2 good same in
-    high.3 (subst (ReplyFits (profile_of scope.begins) levels command) (sym one) low)
+    → HasFault (format_for (profile_of scope.begins) levels command) command bytes reading.Profile
+    ⊎ LeavesProfile (profile_of scope.begins) command bytes levels → ⊥
+not_left_out scope grammar command bytes reply levels good same fits (inl bad) =
+    none_bad scope grammar (format_for (profile_of scope.begins) levels command) command bytes reply
+    reading.Profile good same fits.0 bad
+not_left_out scope grammar command bytes reply levels good same fits (inr leaves) =
+    let one : leaves.0 ≡ reply =
+    same_reply scope grammar (format_for (profile_of scope.begins) levels command) command bytes
+    leaves.0 reply leaves.1 leaves.2 leaves.3 good same fits.0 in
+    leaves.4 (subst (IsInProfile (profile_of scope.begins) levels command) (sym one) fits.1)
 
 -- the marked word of a reply
 reply_ends : (scope : Scope) → Grammar scope
@@ -615,11 +640,13 @@ reply_ends scope grammar command bytes from levels at word reply rule.Sum breaks
     breaks.1 is
 reply_ends scope grammar command bytes from levels at word reply rule.Answer breaks is good same low
     near =
-    none_bad scope grammar command bytes reply reading.Answer good same breaks.1
+    none_bad scope grammar (format_for (profile_of scope.begins) levels command) command bytes reply
+    reading.Answer good same low.0 breaks.1
 reply_ends scope grammar command bytes from levels at word reply rule.Message breaks is good same
     low
     near =
-    none_bad scope grammar command bytes reply reading.Message good same breaks.1
+    none_bad scope grammar (format_for (profile_of scope.begins) levels command) command bytes reply
+    reading.Message good same low.0 breaks.1
 reply_ends scope grammar command bytes from levels at word reply rule.Profile breaks is good same
     low
     near =

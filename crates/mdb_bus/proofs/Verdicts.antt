@@ -1,9 +1,8 @@
 -- What is made of a word, position by position.
-use Rattle.std.proofs.Common.{rules, arith, refl, ap, sym, subst, ◌∙◌, ◌≡◌, ◌≢◌, ◌+◌, ◌<◌, ◌≤◌, ◌%◌, ◌⊎◌, inl, inr, ℕ, zero, suc, List, [], ◌∷◌, ◌++◌, length, take, drop, slice_index, slice_get, sum, Option, Some, None, Result, Ok, Err, IfOk, get_or, append_assoc, length-append, length-drop, Fits, w8}
+use Rattle.std.proofs.Common.{rules, arith, refl, ap, sym, subst, ◌∙◌, ◌≡◌, ◌≢◌, ◌+◌, ◌<◌, ◌≤◌, ◌%◌, ◌⊎◌, inl, inr, ℕ, zero, suc, List, [], ◌∷◌, ◌++◌, length, take, drop, slice_index, slice_get, sum, Option, Some, None, Result, Ok, Err, IfOk, get_or, append_assoc, length-append, length-drop, Fits, w8, ◌&&◌, ◌↔◌, Bool, true, false, IsTrue}
 use Rattle.std.proofs.lemmas.List.{same_from_push}
 use Rattle.std.proofs.lemmas.List.Elements.{All-append, All-from_get_or, All-from_recursion}
 use Rattle.std.proofs.lemmas.Option.{slice_get-get_or, slice_get_past, slice_get_within}
-use Rattle.std.proofs.Math.Seq.{get_or-append_seam}
 use Rattle.std.specs.List.{All}
 use Rattle.mdb_words.specs.declared.limits.TheConstants.{ANSWER_GAP_MAX, WORD_GAP_MIN, BLOCK_GAP_MAX}
 use Rattle.mdb_words.specs.declared.event.Event.{Event}
@@ -21,10 +20,9 @@ use Rattle.mdb_msgs.specs.declared.need.Need.TheVariants.{More, Exactly, Foreign
 use Rattle.mdb_msgs.specs.declared.reply.Reply.{Reply}
 use Rattle.mdb_msgs.specs.declared.answer.DataForm.{DataForm}
 use Rattle.mdb_msgs.specs.Answers.{HasDataAnswer, IsDataLength}
-use Rattle.mdb_msgs.specs.Commands.{IsByte, Spells, command_bytes}
-use Rattle.mdb_msgs.specs.Laws.{BytesHaveOneFault, FrontIsOpen, OpenIsAFront, ReplyHasNoFault}
-use Rattle.mdb_msgs.specs.Needs.{IsOpen, IsShort, needed}
-use Rattle.mdb_msgs.specs.Replies.{IsReadFault, form_of_reply}
+use Rattle.mdb_msgs.specs.Commands.{EnablesMore, IsByte, Spells, command_bytes}
+use Rattle.mdb_msgs.specs.Laws.{BytesHaveOneFault, FrontIsOpen, OpenIsAFront, OpenIsAnothersFront, ReplyHasNoFault}
+use Rattle.mdb_msgs.specs.Needs.{IsOpen, IsShort, begins_options, needed}
 use Rattle.mdb_bus.specs.declared.fault.Rule.{Rule}
 use Rattle.mdb_bus.specs.declared.fault.Rule.TheVariants as rule
 use Rattle.mdb_bus.specs.declared.levels.Levels.{Levels}
@@ -42,10 +40,14 @@ use Rattle.mdb_bus.specs.inner.Steps.{Belongs, IsCommandFront, IsGoingOn, IsJudg
 use Rattle.mdb_bus.proofs.Needs.{at_least_two, at_most_32, not_left, stays, narrows}
 use Rattle.mdb_bus.specs.declared.scope.Scope.{Scope}
 use Rattle.mdb_bus.specs.ActLists.{IsAskFront}
-use Rattle.mdb_bus.specs.Scopes.{needed_in, profile_of}
+use Rattle.mdb_bus.specs.declared.format.Format.{Format}
+use Rattle.mdb_bus.specs.Formats.{HasFault, format_for}
+use Rattle.mdb_bus.proofs.FormatLaws.{none_as, one_bad, some_bad}
+use Rattle.mdb_bus.specs.declared.scope.Profile.{Profile}
+use Rattle.mdb_bus.specs.Scopes.{HasCommand, leaves_options, needed_by, needed_in, profile_of}
+use Rattle.mdb_bus.proofs.Masked.{AreKnown, TwoTell, another_known, begins_one, content_tells, front_known, known_front, known_need, more_known, none_of_both, one_need, options_more, unmasked}
 use Rattle.mdb_bus.proofs.Followed.{AreFollowed, FirstTells, ask_front_followed, asks_followed, expansion_opens, front_followed, needed_followed, plain_front, still_followed, within}
 use Rattle.mdb_bus.proofs.Lists.{peripheral_push}
-use Rattle.mdb_bus.specs.declared.scope.Profile.{Profile}
 
 -- it is one of them, and late or in time
 pub in_time : (least : ℕ) (from : Option Event) (to : Event) → (IsBefore least from to → ⊥)
@@ -69,13 +71,29 @@ WhatItNeeds = (content : List ℕ) → All IsByte content
     → (command : Command) × Spells command (block_of content)
 
 -- what is open is the front of an ask, and the front of an ask is open
-pub front_of : OpenIsAFront → (bytes : List ℕ) → 0 < length bytes → All IsByte bytes → IsOpen bytes
-    → IsCommandFront bytes
-front_of law bytes some low wanting =
+pub front_of : OpenIsAFront → TwoTell → (profile : Profile) (bytes : List ℕ) → 2 ≤ length bytes
+    → All IsByte bytes → IsOpen bytes → AreKnown profile bytes → IsCommandFront profile bytes
+front_of law tell profile bytes two low wanting known =
     let found = law bytes low wanting in
     record {
       some = λ none. let e : length bytes ≡ 0 = ap length none in omega arith;
       command = found.0;
+      known = known_front tell profile bytes found.1 found.0 two found.3 known;
+      rest = found.1;
+      open_end = found.2;
+      spelled = found.3;
+    }
+
+-- of one byte, of another ask than ENABLE OPTIONS
+one_front : OpenIsAnothersFront → (profile : Profile) (byte : ℕ) → IsByte byte
+    → IsOpen (byte ∷ []) → IsCommandFront profile (byte ∷ [])
+one_front law profile byte low wanting =
+    let found = law (byte ∷ []) (All-from_recursion IsByte (byte ∷ []) (low, tt)) wanting
+    (begins_one byte) in
+    record {
+      some = λ none. cc none;
+      command = found.0;
+      known = another_known profile found.0 found.4;
       rest = found.1;
       open_end = found.2;
       spelled = found.3;
@@ -85,44 +103,46 @@ some_long : (bytes : List ℕ) → bytes ≢ [] → 0 < length bytes
 some_long [] some = absurd (some refl)
 some_long (byte ∷ bytes) some = omega arith
 
-pub open_front : FrontIsOpen → (bytes : List ℕ) → IsCommandFront bytes → IsOpen bytes
-open_front law bytes front =
+pub open_front : FrontIsOpen → (profile : Profile) (bytes : List ℕ) → IsCommandFront profile bytes
+    → IsOpen bytes
+open_front law profile bytes front =
     law bytes front.rest front.command (some_long bytes front.some) front.open_end front.spelled
 
 -- a first byte that leaves a command open begins an ask
-pub begins : OpenIsAFront → (word one byte : ℕ) (told : Need) → one ≡ word % 256 → byte ≡ word % 256
-    → told ≡ needed (one ∷ [])
-    → (told ≡ More) ⊎ ((n : ℕ) × (told ≡ Exactly n)) → IsCommandFront (byte ∷ [])
-begins law word one byte told same again is wanting =
-    let P : ℕ → Type 0 = λ b. IsCommandFront (b ∷ []) in
+begins : OpenIsAnothersFront → (profile : Profile) (word one byte : ℕ) (told : Need)
+    → one ≡ word % 256 → byte ≡ word % 256 → needed (one ∷ []) ≡ told
+    → (told ≡ More) ⊎ ((n : ℕ) × (told ≡ Exactly n)) → IsCommandFront profile (byte ∷ [])
+begins law profile word one byte told same again is wanting =
+    let P : ℕ → Type 0 = λ b. IsCommandFront profile (b ∷ []) in
     subst P (same ∙ sym again)
-    (front_of law (one ∷ []) (omega arith)
-    (All-from_recursion IsByte (one ∷ []) (omega (arith, same), tt))
-    (short wanting))
+    (one_front law profile one (omega (arith, same)) (short wanting))
   where
     short : (told ≡ More) ⊎ ((n : ℕ) × (told ≡ Exactly n)) → IsOpen (one ∷ [])
     short (inl more) = let P : Need → Type 0 = λ need. IsShort need 1 in
-        subst P (sym more ∙ is) refl
+        subst P (sym (is ∙ more)) refl
     short (inr exact) =
         let P : Need → Type 0 = λ need. IsShort need 1 in
-        let two : 2 ≤ exact.0 = at_least_two (one ∷ []) exact.0 (omega arith) (sym is ∙ exact.1) in
-        subst P (sym exact.1 ∙ is) (omega arith)
+        let two : 2 ≤ exact.0 = at_least_two (one ∷ []) exact.0 (omega arith) (is ∙ exact.1) in
+        subst P (sym (is ∙ exact.1)) (omega arith)
+
+-- what leaves a command open isn't foreign
+not_foreign : (told : Need) → (told ≡ More) ⊎ ((n : ℕ) × (told ≡ Exactly n)) → told ≢ Foreign
+not_foreign told (inl more) foreign = let clash : More ≡ Foreign = sym more ∙ foreign in cc clash
+not_foreign told (inr exact) foreign =
+    let clash : Exactly exact.0 ≡ Foreign = sym exact.1 ∙ foreign in cc clash
 
 -- the same of a byte that is no address of a device that is left out
-pub begins_followed : FirstTells → OpenIsAFront → (scope : Scope) (word one byte : ℕ) (told : Need)
+pub begins_followed : FirstTells → OpenIsAnothersFront
+    → (scope : Scope) (word one byte : ℕ) (told : Need)
     → one ≡ word % 256 → byte ≡ word % 256 → told ≡ needed_in scope (one ∷ [])
     → (told ≡ More) ⊎ ((n : ℕ) × (told ≡ Exactly n)) → IsAskFront scope (byte ∷ [])
 begins_followed first law scope word one byte told same again is wanting =
-    let plain = within scope (one ∷ []) told (sym is) (not_foreign wanting) in
+    let plain = within scope (one ∷ []) told (sym is) (not_foreign told wanting) in
     let There : ℕ → Type 0 = λ b. AreFollowed scope (b ∷ []) in
     front_followed first scope (byte ∷ [])
-    (begins law word one byte told same again (sym plain.1) wanting)
+    (begins law (profile_of scope.begins) word one byte told same again
+    (sym (one_need (profile_of scope.begins) one) ∙ plain.1) wanting)
     (subst There (same ∙ sym again) plain.0)
-  where
-    not_foreign : (told ≡ More) ⊎ ((n : ℕ) × (told ≡ Exactly n)) → told ≢ Foreign
-    not_foreign (inl more) foreign = let clash : More ≡ Foreign = sym more ∙ foreign in cc clash
-    not_foreign (inr exact) foreign =
-        let clash : Exactly exact.0 ≡ Foreign = sym exact.1 ∙ foreign in cc clash
 
 -- what two bytes don't tell a length of, the first leaves to the second
 left_by : (first word : ℕ) (told : Need) → needed (first ∷ []) ≡ told → IsShort told 1
@@ -147,27 +167,57 @@ second_other bytes first byte word told other is low small tell out unsaid begun
     → ⊥ = λ n exact. unsaid n (sym two ∙ exact) in
     (left_by first word (needed (first ∷ [])) refl alone none, two)
 
+-- what two bytes make foreign, the first leaves to the second
+left_foreign : (profile : Profile) (first word : ℕ) → IsOpen (first ∷ [])
+    → needed_by profile (first ∷ word ∷ []) ≡ Foreign → needed (first ∷ []) ≡ More
+left_foreign profile first word alone foreign =
+    by (begins_options (first ∷ word ∷ [])) refl
+  where
+    plain : begins_options (first ∷ word ∷ []) ≡ false
+        → needed (first ∷ word ∷ []) ≡ needed_by profile (first ∷ word ∷ [])
+    plain none =
+        sym (known_need profile (first ∷ word ∷ [])
+        (none_of_both (leaves_options profile) (begins_options (first ∷ word ∷ [])) none))
+
+    by : (begins : Bool) → begins_options (first ∷ word ∷ []) ≡ begins → needed (first ∷ []) ≡ More
+    by true begins = options_more first word begins
+    by false none =
+        left_by first word (needed (first ∷ [])) refl alone
+        (λ n exact. let clash : Exactly n ≡ Foreign = sym exact
+        ∙ (plain none ∙ foreign) in cc clash)
+
 -- a second byte that this profile leaves out
-pub second_outside : (bytes : List ℕ) (first byte word : ℕ) (told : Need) → bytes ≡ first ∷ []
-    → byte ≡ word % 256 → word < 256 → told ≡ needed (first ∷ byte ∷ []) → told ≡ Outside
-    → IsOpen bytes
-    → (needed bytes ≡ More) × (needed (bytes ++ word ∷ []) ≡ Outside)
-second_outside bytes first byte word told is low small tell out begun =
-    let P : List ℕ → Type 0 = λ bs. (needed bs ≡ More) × (needed (bs ++ word ∷ []) ≡ Outside) in
+pub second_outside : (profile : Profile) (bytes : List ℕ) (first byte word : ℕ) (told : Need)
+    → bytes ≡ first ∷ [] → byte ≡ word % 256 → word < 256
+    → told ≡ needed_by profile (first ∷ byte ∷ []) → told ≡ Outside → IsOpen bytes
+    → (needed_by profile bytes ≡ More) × (needed_by profile (bytes ++ word ∷ []) ≡ Outside)
+second_outside profile bytes first byte word told is low small tell out begun =
+    let P : List ℕ → Type 0 = λ bs. (needed_by profile bs ≡ More)
+    × (needed_by profile (bs ++ word ∷ []) ≡ Outside) in
     let unsaid : (n : ℕ) → Outside ≡ Exactly n → ⊥ = λ n same. cc same in
-    subst P (sym is) (second_other bytes first byte word told Outside is low small tell out unsaid
-    begun)
+    let plain = unmasked profile (first ∷ byte ∷ []) told (sym tell)
+    (λ foreign. let clash : Outside ≡ Foreign = sym out ∙ foreign in cc clash) in
+    let both = second_other bytes first byte word told Outside is low small (sym plain.1) out unsaid
+    begun in
+    let same : byte ≡ word = omega (arith, low, small) in
+    subst P (sym is) (
+      one_need profile first ∙ both.0,
+      ap (λ b. needed_by profile (first ∷ b ∷ [])) (sym same) ∙ (sym tell ∙ out),
+    )
 
 -- a second byte that makes the block foreign
-pub second_foreign : (bytes : List ℕ) (first byte word : ℕ) (told : Need) → bytes ≡ first ∷ []
-    → byte ≡ word % 256 → word < 256 → told ≡ needed (first ∷ byte ∷ []) → told ≡ Foreign
-    → IsOpen bytes
-    → IsUnknownExpansion (bytes ++ word ∷ [])
-second_foreign bytes first byte word told is low small tell out begun =
-    let P : List ℕ → Type 0 = λ bs. IsUnknownExpansion (bs ++ word ∷ []) in
-    let unsaid : (n : ℕ) → Foreign ≡ Exactly n → ⊥ = λ n same. cc same in
-    let both = second_other bytes first byte word told Foreign is low small tell out unsaid begun in
-    subst P (sym is) (both.0, both.1, small)
+pub second_foreign : (profile : Profile) (bytes : List ℕ) (first byte word : ℕ) (told : Need)
+    → bytes ≡ first ∷ [] → byte ≡ word % 256 → word < 256
+    → told ≡ needed_by profile (first ∷ byte ∷ []) → told ≡ Foreign → IsOpen bytes
+    → IsUnknownExpansion profile (bytes ++ word ∷ [])
+second_foreign profile bytes first byte word told is low small tell out begun =
+    let P : List ℕ → Type 0 = λ bs. IsUnknownExpansion profile (bs ++ word ∷ []) in
+    let same : byte ≡ word = omega (arith, low, small) in
+    let Open : List ℕ → Type 0 = λ bs. IsOpen bs in
+    let alone : IsOpen (first ∷ []) = subst Open is begun in
+    let foreign : needed_by profile (first ∷ word ∷ []) ≡ Foreign =
+    ap (λ b. needed_by profile (first ∷ b ∷ [])) (sym same) ∙ (sym tell ∙ out) in
+    subst P (sym is) (left_foreign profile first word alone foreign, foreign, small)
 
 -- a second byte with which a command is open still
 second_short : (first byte : ℕ) (alone told : Need) → needed (first ∷ []) ≡ alone
@@ -191,39 +241,43 @@ second_short first byte (Exactly m) told is tell short other (inr exact) =
 second_short first byte Foreign told is tell short other (inr exact) = absurd short
 second_short first byte Outside told is tell short other (inr exact) = absurd short
 
-pub second_front : OpenIsAFront → (bytes : List ℕ) (first one byte word : ℕ) (alone told : Need)
+pub second_front : OpenIsAFront → TwoTell → (profile : Profile) (bytes : List ℕ)
+    (first one byte word : ℕ) (alone told : Need)
     → bytes ≡ first ∷ [] → first < 256
     → alone ≡ needed (first ∷ []) → (alone ≡ Exactly 2 → ⊥) → one ≡ word % 256 → byte ≡ word % 256
     → word < 256
-    → told ≡ needed (first ∷ one ∷ [])
+    → told ≡ needed_by profile (first ∷ one ∷ [])
     → (told ≡ More) ⊎ ((n : ℕ) × (told ≡ Exactly n)) → IsOpen bytes
-    → (word ≡ byte) × IsCommandFront (bytes ++ byte ∷ [])
-second_front opens bytes first one byte word alone told is low lone other same again small tell
-    wanting begun =
-    let P : List ℕ → Type 0 = λ bs. IsOpen bs → IsCommandFront (bs ++ byte ∷ []) in
+    → (word ≡ byte) × IsCommandFront profile (bytes ++ byte ∷ [])
+second_front opens tells profile bytes first one byte word alone told is low lone other same again
+    small tell wanting begun =
+    let P : List ℕ → Type 0 = λ bs. IsOpen bs → IsCommandFront profile (bs ++ byte ∷ []) in
     let fits : one ≡ byte = omega (arith, same, again) in
     let byte_low : byte < 256 = omega (arith, again) in
-    let both : told ≡ needed (first ∷ byte ∷ []) = tell ∙ ap (λ b. needed (first ∷ b ∷ [])) fits in
+    let by_profile : needed_by profile (first ∷ byte ∷ []) ≡ told =
+    ap (λ b. needed_by profile (first ∷ b ∷ [])) (sym fits) ∙ sym tell in
+    let plain = unmasked profile (first ∷ byte ∷ []) told by_profile (not_foreign told wanting) in
+    let both : told ≡ needed (first ∷ byte ∷ []) = sym plain.1 in
     let Q : Need → Type 0 = λ need. IsShort need 2 in
-    let go : IsOpen (first ∷ []) → IsCommandFront (first ∷ byte ∷ []) = λ alone_open.
-    front_of opens (first ∷ byte ∷ []) (omega arith)
+    let go : IsOpen (first ∷ []) → IsCommandFront profile (first ∷ byte ∷ []) = λ alone_open.
+    front_of opens tells profile (first ∷ byte ∷ []) (omega arith)
     (All-from_recursion IsByte (first ∷ byte ∷ []) (low, (byte_low, tt)))
     (subst Q both (second_short first byte (needed (first ∷ [])) told refl (sym both)
-    alone_open (λ two. other (lone ∙ two)) wanting)) in
+    alone_open (λ two. other (lone ∙ two)) wanting)) plain.0 in
     (omega (arith, again), subst P (sym is) go begun)
 
 -- a further byte with which a command is open still
-pub further_front : OpenIsAFront → (bytes : List ℕ) (byte n : ℕ) → 2 ≤ length bytes
-    → All IsByte bytes → byte < 256
+pub further_front : OpenIsAFront → TwoTell → (profile : Profile) (bytes : List ℕ) (byte n : ℕ)
+    → 2 ≤ length bytes → All IsByte bytes → byte < 256 → AreKnown profile bytes
     → needed bytes ≡ Exactly n
-    → length bytes + 1 < n → IsCommandFront (bytes ++ byte ∷ [])
-further_front opens bytes byte n two low byte_low told short =
+    → length bytes + 1 < n → IsCommandFront profile (bytes ++ byte ∷ [])
+further_front opens tells profile bytes byte n two low byte_low known told short =
     let long : length (bytes ++ byte ∷ []) ≡ length bytes + 1 = length-append bytes (byte ∷ []) in
     let P : Need → Type 0 = λ need. IsShort need (length (bytes ++ byte ∷ [])) in
     let still : needed (bytes ++ byte ∷ []) ≡ Exactly n = stays bytes (byte ∷ []) two ∙ told in
-    front_of opens (bytes ++ byte ∷ []) (omega arith)
+    front_of opens tells profile (bytes ++ byte ∷ []) (omega (arith, long, two))
     (All-append IsByte bytes (byte ∷ []) low (All-from_recursion IsByte (byte ∷ []) (byte_low, tt)))
-    (subst P (sym still) (omega arith))
+    (subst P (sym still) (omega arith)) (more_known profile bytes (byte ∷ []) two known)
 
 -- where no further byte leaves a command open, the next one is its last
 ended : (bytes : List ℕ) (told : Need) → 2 ≤ length bytes → needed bytes ≡ told
@@ -244,13 +298,55 @@ further_end bytes told two is most begun =
     ended bytes (needed bytes) two refl begun (λ n exact. most n (is ∙ exact))
 
 -- bytes that need their sum alone are with it the block of a command
-pub ask_whole : WhatItNeeds → (bytes : List ℕ) (word : ℕ) → All IsByte bytes
-    → needed bytes ≡ Exactly (length bytes + 1)
-    → word ≡ sum bytes % 256 → (command : Command) × Spells command (bytes ++ word ∷ [])
-ask_whole law bytes word low told total =
+ask_whole : WhatItNeeds → TwoTell → (bytes : List ℕ) (word : ℕ) → 1 ≤ length bytes
+    → All IsByte bytes → needed bytes ≡ Exactly (length bytes + 1) → word ≡ sum bytes % 256
+    → (profile : Profile) → AreKnown profile bytes
+    → (command : Command) × Spells command (block_of bytes) × Spells command (bytes ++ word ∷ [])
+    × HasCommand profile command
+ask_whole law tell bytes word some low told total profile known =
     let found = law bytes low told in
-    let P : List ℕ → Type 0 = λ b. Spells found.0 b in
-    (found.0, subst P (ap (λ w. bytes ++ w ∷ []) (sym total)) found.1)
+    let there : bytes ≢ [] = λ none. let e : length bytes ≡ 0 = ap length none in omega arith in
+    let P : List ℕ → Type 0 = λ b. Spells found.0 b in (
+      found.0,
+      found.1,
+      subst P (ap (λ w. bytes ++ w ∷ []) (sym total)) found.1,
+      ap (λ b. leaves_options profile && b) (sym (content_tells tell bytes found.0 there found.1))
+          ∙ known,
+    )
+
+-- which asks for more than is followed, or doesn't
+pub ask_more : WhatItNeeds → TwoTell → (bytes : List ℕ) (word : ℕ) → 1 ≤ length bytes
+    → All IsByte bytes → needed bytes ≡ Exactly (length bytes + 1) → word ≡ sum bytes % 256
+    → (more : Bool)
+    → ((command : Command) → Spells command (block_of bytes) → IsTrue more ↔ EnablesMore command)
+    → more ≡ true → (profile : Profile) → AreKnown profile bytes
+    → IsGoingOn profile bytes word (Err rule.Profile)
+ask_more law tell bytes word some low told total more means is profile known =
+    let ask = ask_whole law tell bytes word some low told total profile known in
+    inr (ask.0, ask.2, ask.3, (means ask.0 ask.1).0 is)
+
+pub ask_ends : WhatItNeeds → TwoTell → (bytes : List ℕ) (word : ℕ) → 1 ≤ length bytes
+    → All IsByte bytes → needed bytes ≡ Exactly (length bytes + 1) → word ≡ sum bytes % 256
+    → (more : Bool)
+    → ((command : Command) → Spells command (block_of bytes) → IsTrue more ↔ EnablesMore command)
+    → more ≡ false → (profile : Profile) → AreKnown profile bytes
+    → IsGoingOn profile bytes word (Ok judged.Ask)
+ask_ends law tell bytes word some low told total more means is profile known =
+    let ask = ask_whole law tell bytes word some low told total profile known in (
+      ask.0,
+      ask.2,
+      ask.3,
+      λ enables.
+          let clash : true ≡ false = sym ((means ask.0 ask.1).1 enables) ∙ is in cc clash,
+    )
+
+-- the last byte of a command's block is its sum
+pub last_is_sum : (bytes : List ℕ) (word : ℕ) (command : Command)
+    → Spells command (bytes ++ word ∷ []) → word ≡ sum bytes % 256
+last_is_sum bytes word command spelled =
+    let content = command_bytes command in
+    let same = same_from_push bytes content word (sum content % 256) spelled.bytes in
+    same.1 ∙ ap (λ bs. sum bs % 256) (sym same.0)
 
 -- a controller's word inside its block breaks a rule
 abbrev AskBreaks : (scope : Scope) → List ℕ → Option Event → ℕ → ℕ → Levels → Rule → Type 0
@@ -270,7 +366,8 @@ pub going_on : (scope : Scope) (bytes : List ℕ) (from : Option Event) (at word
     → (OutOfOrder from (Word at Controller word) → ⊥)
     → (IsBefore WORD_GAP_MIN from (Word at Controller word) → ⊥)
     → (IsAfter BLOCK_GAP_MAX from (Word at Controller word) → ⊥) → word < 256
-    → FirstTells → bytes ≢ [] → AreFollowed scope bytes → IsGoingOn bytes word result
+    → FirstTells → bytes ≢ [] → AreFollowed scope bytes
+    → IsGoingOn (profile_of scope.begins) bytes word result
     → IsJudged (record { scope = scope; position = InAsk bytes; last = from; levels = levels })
     (Word at Controller word) result
 going_on scope bytes from at word levels (Ok judged.AskByte) order early late small law some
@@ -284,9 +381,9 @@ going_on scope bytes from at word levels (Ok judged.Ask) order early late small 
     followed h =
     let soon = in_time WORD_GAP_MIN from (Word at Controller word) early in
     let near = not_late BLOCK_GAP_MAX from (Word at Controller word) late in
-    let asks = asks_followed law scope h.0 (bytes ++ word ∷ []) h.1
+    let asks = asks_followed law scope h.0 (bytes ++ word ∷ []) h.1 h.2
     (still_followed scope bytes (word ∷ []) some followed) in
-    (h.0, (small, asks, (soon, near)))
+    (h.0, (small, asks, h.3, (soon, near)))
 going_on scope bytes from at word levels (Ok judged.Foreign) order early late small law some
     followed h =
     let soon = in_time WORD_GAP_MIN from (Word at Controller word) early in
@@ -308,9 +405,9 @@ going_on scope bytes from at word levels (Err rule.Sum) order early late small l
     first rule.Spacing b = absurd (late b)
     first other b = search rules
 going_on scope bytes from at word levels (Err rule.Profile) order early late small law some
-    followed h =
+    followed (inl h) =
     record {
-      breaks = (
+      breaks = inl (
         needed_followed scope bytes followed ∙ h.0,
         needed_followed scope (bytes ++ word ∷ [])
             (still_followed scope bytes (word ∷ []) some followed) ∙ h.1,
@@ -329,13 +426,34 @@ going_on scope bytes from at word levels (Err rule.Profile) order early late sma
         sym h.0 ∙ (sym (needed_followed scope bytes followed) ∙ b.0) in
         absurd (cc)
     first other b = search rules
+going_on scope bytes from at word levels (Err rule.Profile) order early late small law some
+    followed (inr h) =
+    record {
+      breaks = inr (
+        h.0,
+        asks_followed law scope h.0 (bytes ++ word ∷ []) h.1 h.2
+            (still_followed scope bytes (word ∷ []) some followed),
+        h.3,
+      );
+      first = first;
+    }
+  where
+    first : (other : Rule) → AskBreaks scope bytes from at word levels other
+        → place_of rule.Profile ≤ place_of other
+    first rule.Order b = absurd (order b)
+    first rule.Mode b = absurd (omega (arith, b))
+    first rule.Early b = absurd (early b)
+    first rule.Spacing b = absurd (late b)
+    first rule.Sum b = absurd (b.1 (last_is_sum bytes word h.0 h.1))
+    first other b = search rules
 going_on scope bytes from at word levels (Err other) order early late small law some
     followed h = absurd h
 
 -- what isn't read of an allowed number of bytes has no fault in that number
-length_read : (command : Command) (bytes : List ℕ) → HasDataAnswer command (length bytes)
-    → IsReadFault command bytes reading.Length → ⊥
-length_read command bytes has bad =
+length_read : (format : Format) (command : Command) (bytes : List ℕ)
+    → HasDataAnswer command (length bytes) → HasFault format command bytes reading.Length → ⊥
+length_read format command bytes has faulty =
+    let bad = (some_bad format command bytes reading.Length faulty).1 in
     let both : Some bad.0 ≡ Some has.0 = sym bad.1 ∙ has.1 in
     let same : has.0 ≡ bad.0 = cc in
     let P : DataForm → Type 0 = λ form. IsDataLength form (length bytes) in
@@ -409,7 +527,7 @@ reply_read scope one none command bytes from at word levels (Ok reply) order ear
 reply_read scope one none command bytes from at word levels (Err rule.Length) order early late
     marked has
     total h =
-    absurd (length_read command bytes has h)
+    absurd (length_read (format_for (profile_of scope.begins) levels command) command bytes has h)
 reply_read scope one none command bytes from at word levels (Err rule.Answer) order early late
     marked has
     total h =
@@ -436,8 +554,9 @@ reply_read scope one none command bytes from at word levels (Err rule.Message) o
     first rule.Length b = absurd (length_right command bytes at word marked has b)
     first rule.Sum b = absurd (b.1 total)
     first rule.Answer b =
-        let clash : reading.Answer ≡ reading.Message = one command bytes reading.Answer
-        reading.Message b.1 h in
+        let clash : reading.Answer ≡ reading.Message =
+        one_bad one (format_for (profile_of scope.begins) levels command) command bytes
+        reading.Answer reading.Message b.1 h in
         absurd (cc)
     first other b = search rules
 reply_read scope one none command bytes from at word levels (Err rule.Profile) order early late
@@ -453,12 +572,14 @@ reply_read scope one none command bytes from at word levels (Err rule.Profile) o
     first rule.Length b = absurd (length_right command bytes at word marked has b)
     first rule.Sum b = absurd (b.1 total)
     first rule.Answer b =
-        let clash : reading.Answer ≡ reading.Profile = one command bytes reading.Answer
-        reading.Profile b.1 h in
+        let clash : reading.Answer ≡ reading.Profile =
+        one_bad one (format_for (profile_of scope.begins) levels command) command bytes
+        reading.Answer reading.Profile b.1 h in
         absurd (cc)
     first rule.Message b =
-        let clash : reading.Message ≡ reading.Profile = one command bytes reading.Message
-        reading.Profile b.1 h in
+        let clash : reading.Message ≡ reading.Profile =
+        one_bad one (format_for (profile_of scope.begins) levels command) command bytes
+        reading.Message reading.Profile b.1 h in
         absurd (cc)
     first other b = search rules
 reply_read scope one none command bytes from at word levels (Err rule.Profile) order early late
@@ -466,10 +587,12 @@ reply_read scope one none command bytes from at word levels (Err rule.Profile) o
     total (inr h) =
     record { breaks = (marked, inr h); first = first }
   where
-    faultless : (fault : MsgFault) → IsReadFault command bytes fault → ⊥
+    faultless : (fault : MsgFault)
+        → HasFault (format_for (profile_of scope.begins) levels command) command bytes fault → ⊥
     faultless fault bad =
-        let P : List ℕ → Type 0 = λ bs. IsReadFault command bs fault in
-        none command h.0 fault h.1.answers (subst P h.2 bad)
+        let format = format_for (profile_of scope.begins) levels command in
+        let P : List ℕ → Type 0 = λ bs. HasFault format command bs fault in
+        none_as none format command h.0 fault h.1.answers h.3 (subst P h.2 bad)
 
     first : (other : Rule) → Breaks scope command bytes from at word levels other
         → place_of rule.Profile ≤ place_of other
@@ -621,13 +744,27 @@ judged_at scope place other from levels row result is judged =
     }) row result in
     subst P (sym is) judged
 
--- inside a block of the controller, the bytes so far are to a device that is followed
+-- inside a block of the controller, the bytes so far begin an ask
+asking_front : (scope : Scope) (place : Place) → place.phase ≡ phase.InAsk
+    → IsSound scope (position_at place) → IsAskFront scope place.bytes
+asking_front scope place asking sound =
+    let Sound : Phase → Type 0 = λ p.
+    IsSound scope (position_in p place.bytes place.command place.last_reply.reply) in
+    subst Sound asking sound
+
+-- the bytes so far are to a device that is followed
 pub asking_followed : FirstTells → (scope : Scope) (place : Place) → place.phase ≡ phase.InAsk
     → IsSound scope (position_at place) → AreFollowed scope place.bytes
 asking_followed law scope place asking sound =
-    let Sound : Phase → Type 0 = λ p.
-    IsSound scope (position_in p place.bytes place.command place.last_reply.reply) in
-    ask_front_followed law scope place.bytes (subst Sound asking sound)
+    ask_front_followed law scope place.bytes (asking_front scope place asking sound)
+
+-- and of a command that the profile has
+pub asking_known : TwoTell → (scope : Scope) (place : Place) → place.phase ≡ phase.InAsk
+    → IsSound scope (position_at place) → AreKnown (profile_of scope.begins) place.bytes
+asking_known law scope place asking sound =
+    let front = asking_front scope place asking sound in
+    front_known law (profile_of scope.begins) place.bytes front.rest front.command front.some
+    front.spelled.spells front.spelled.known
 
 -- what is made of a row that is another
 pub judged_row : (situation : Situation) (row other : Event) (result : Result Judged Rule)
@@ -677,8 +814,8 @@ pub opened_belongs : (scope : Scope) → FrontIsOpen → (least : ℕ) (from : O
     → IfOk result (Belongs here bytes (Word at Controller word))
 opened_belongs scope law least from at word (Ok judged.AskByte) opened here bytes other = (
   tt,
-  may_begin here bytes (word % 256) other (open_front law (word % 256 ∷ [])
-      (plain_front scope (word % 256 ∷ []) opened.1)),
+  may_begin here bytes (word % 256) other (open_front law (profile_of scope.begins)
+      (word % 256 ∷ []) (plain_front scope (word % 256 ∷ []) opened.1)),
 )
 opened_belongs scope law least from at word (Ok judged.Foreign) opened here bytes other = tt
 opened_belongs scope law least from at word (Ok found) opened here bytes other = absurd opened
@@ -703,18 +840,18 @@ sealed bytes word command spelled =
     }
 
 -- what was judged of a word inside a block of the controller
-pub asking_belongs : FrontIsOpen → (bytes : List ℕ) (at word : ℕ) (result : Result Judged Rule)
-    → IsGoingOn bytes word result
+pub asking_belongs : FrontIsOpen → (profile : Profile) (bytes : List ℕ) (at word : ℕ)
+    (result : Result Judged Rule) → IsGoingOn profile bytes word result
     → IfOk result (Belongs phase.InAsk bytes (Word at Controller word))
-asking_belongs law bytes at word (Ok judged.AskByte) going =
+asking_belongs law profile bytes at word (Ok judged.AskByte) going =
     let longer : List ℕ = bytes ++ word % 256 ∷ [] in
-    let begun : IsOpen longer = open_front law longer going.1 in
+    let begun : IsOpen longer = open_front law profile longer going.1 in
     let long : length longer ≡ length bytes + 1 = length-append bytes (word % 256 ∷ []) in
     let few : length longer ≤ 32 = few_open longer (needed longer) (omega (arith, long)) refl
     begun in
     (tt, (omega (arith, long, few), begun))
-asking_belongs law bytes at word (Ok judged.Ask) going =
+asking_belongs law profile bytes at word (Ok judged.Ask) going =
     (refl, going.0, sealed bytes word going.0 going.1)
-asking_belongs law bytes at word (Ok judged.Foreign) going = tt
-asking_belongs law bytes at word (Ok found) going = absurd going
-asking_belongs law bytes at word (Err broken) going = tt
+asking_belongs law profile bytes at word (Ok judged.Foreign) going = tt
+asking_belongs law profile bytes at word (Ok found) going = absurd going
+asking_belongs law profile bytes at word (Err broken) going = tt

@@ -3,6 +3,7 @@
 -- first.
 use Rattle.std.specs.Prelude.{◌≡◌, ◌≢◌, ◌<◌, ◌≤◌, ◌⊎◌, ℕ, Bool, true, false, List, [], ◌∷◌, ◌++◌, length, All, Option, Some, None}
 use Rattle.std.specs.List.{list_any}
+use Rattle.std.specs.Option.{option_or}
 use Rattle.mdb_words.specs.declared.limits.TheConstants.{WORD_GAP_MIN, BLOCK_GAP_MAX, ANSWER_GAP_MAX, NEW_BLOCK_GAP_MIN, SETUP_GAP_MIN}
 use Rattle.mdb_words.specs.declared.event.Event.{Event}
 use Rattle.mdb_words.specs.declared.event.Event.TheVariants.{Break}
@@ -15,8 +16,10 @@ use Rattle.mdb_msgs.specs.declared.command.ReaderCommand.TheVariants as readers
 use Rattle.mdb_msgs.specs.declared.command.ReaderUnit.TheVariants.{First, Second}
 use Rattle.mdb_msgs.specs.declared.reply.Reply.{Reply}
 use Rattle.mdb_msgs.specs.declared.reply.Reply.TheVariants as replies
+use Rattle.mdb_msgs.specs.declared.reply.reader.ReaderMsg.{ReaderMsg}
+use Rattle.mdb_msgs.specs.declared.reply.reader.ReaderMsg.TheVariants.{Config, RevalueApproved, RevalueDenied, RevalueLimit}
 use Rattle.mdb_msgs.specs.Answers.{MayHaveData}
-use Rattle.mdb_msgs.specs.Commands.{IsByte}
+use Rattle.mdb_msgs.specs.Commands.{EnablesMore, IsByte}
 use Rattle.mdb_msgs.specs.Reader.{tells_level}
 use Rattle.mdb_bus.specs.declared.act.Act.{Act}
 use Rattle.mdb_bus.specs.declared.act.Act.TheVariants as acts
@@ -24,8 +27,10 @@ use Rattle.mdb_bus.specs.declared.levels.Levels.{Levels}
 use Rattle.mdb_bus.specs.declared.scope.Beginning.{Beginning}
 use Rattle.mdb_bus.specs.declared.scope.Beginning.TheVariants.{PowerOn, Joined}
 use Rattle.mdb_bus.specs.declared.scope.Profile.{Profile}
+use Rattle.mdb_bus.specs.declared.scope.Profile.TheVariants.{Base, Extended}
 use Rattle.mdb_bus.specs.declared.scope.Scope.{Scope}
 use Rattle.mdb_bus.specs.Acts.{IsAct, IsBlockWord, IsForeignWord, Say, reply_words}
+use Rattle.mdb_bus.specs.Formats.{IsReadAs, format_for, levels_for}
 use Rattle.mdb_bus.specs.Scopes.{Asks, profile_of}
 
 -- A piece of a transcript with its events: a whole act; or a tail, the words of an act that has
@@ -247,37 +252,89 @@ levels_after (commands.Reader Second (readers.SetupConfig level columns rows dis
     record levels { second = record levels.second { asked = Some level } }
 levels_after _ levels = levels
 
--- the same after pieces: the level of the last whole SETUP config ask to each reader, and what was
--- told before the first piece where there is none
-abbrev pub levels_of : Levels → List Piece → Levels
-levels_of told [] = told
-levels_of told (Whole (acts.Ask command) events ∷ pieces) =
-    levels_after command (levels_of told pieces)
-levels_of told (piece ∷ pieces) = levels_of told pieces
+-- Z2 of a config message, and of the last one among messages
+abbrev pub level_in : ReaderMsg → Option ℕ
+level_in (Config level code scale decimals response options) = Some level
+level_in _ = None
 
--- what was told to the reader of a command
-abbrev pub level_for : Command → Levels → Option ℕ
-level_for (commands.Reader First command) levels = levels.first.asked
-level_for (commands.Reader Second command) levels = levels.second.asked
-level_for _ levels = None
+abbrev pub last_level : List ReaderMsg → Option ℕ
+last_level [] = None
+last_level (message ∷ messages) = option_or (last_level messages) (level_in message)
+
+-- what each reader has last told of its feature level (Z2), heard or not, once a reply is whole;
+-- the base profile doesn't ask for it
+abbrev pub levels_told : Profile → Command → Reply → Levels → Levels
+levels_told Extended (commands.Reader First command) (replies.Reader list) levels =
+    record levels {
+      first = record levels.first {
+        told = option_or (last_level list.messages) levels.first.told;
+      };
+    }
+levels_told Extended (commands.Reader Second command) (replies.Reader list) levels =
+    record levels {
+      second = record levels.second {
+        told = option_or (last_level list.messages) levels.second.told;
+      };
+    }
+levels_told _ _ _ levels = levels
+
+-- both after an act
+abbrev pub levels_by : Profile → Act → Levels → Levels
+levels_by profile (acts.Ask command) levels = levels_after command levels
+levels_by profile (acts.Reply command reply) levels = levels_told profile command reply levels
+levels_by profile _ levels = levels
+
+-- after an act, if there is one
+abbrev pub levels_if : Profile → Option Act → Levels → Levels
+levels_if profile None levels = levels
+levels_if profile (Some act) levels = levels_by profile act levels
+
+-- after pieces: of each reader the last that was told, and what was told before the first piece
+-- where nothing was
+abbrev pub levels_of : Profile → Levels → List Piece → Levels
+levels_of profile before [] = before
+levels_of profile before (Whole act events ∷ pieces) =
+    levels_by profile act (levels_of profile before pieces)
+levels_of profile before (piece ∷ pieces) = levels_of profile before pieces
 
 -- whether a message of a reply tells of a feature level of 2 or more
 abbrev pub tells_high : Reply → Bool
 tells_high (replies.Reader list) = list_any (tells_level 2) list.messages
 tells_high _ = false
 
--- Levels: where the controller has last told a reader 2 or more, no reply of that reader tells 2 or
--- more.
+-- whether a message is about revalues, and whether one of a reply is
+abbrev pub is_revalue : ReaderMsg → Bool
+is_revalue RevalueApproved = true
+is_revalue RevalueDenied = true
+is_revalue (RevalueLimit amount) = true
+is_revalue _ = false
+
+abbrev pub tells_of_revalues : Reply → Bool
+tells_of_revalues (replies.Reader list) = list_any is_revalue list.messages
+tells_of_revalues _ = false
+
+-- no level is known, or one below 2
 abbrev pub IsLow : Option ℕ → Type 0
 IsLow None = Unit {0}
 IsLow (Some level) = level < 2
 
--- the same of one reply to a command, by either profile
-abbrev pub ReplyFits : Profile → Levels → Command → Reply → Type 0
-ReplyFits profile levels command reply = tells_high reply ≡ true → IsLow (level_for command levels)
+-- What a reply to a command says is followed. By the base profile: where the controller has last
+-- told a reader a level of 2 or more, no reply of that reader tells 2 or more. By the extended one:
+-- it says nothing of revalues.
+abbrev pub IsInProfile : Profile → Levels → Command → Reply → Type 0
+IsInProfile Base levels command reply =
+    tells_high reply ≡ true → IsLow (levels_for command levels).asked
+IsInProfile Extended levels command reply = tells_of_revalues reply ≡ false
 
--- a piece fits the levels told before it
+-- a reply fits the levels told before it: it is read so, and what it says is followed
+abbrev pub ReplyFits : Profile → Levels → Command → Reply → Type 0
+ReplyFits profile levels command reply =
+    IsReadAs (format_for profile levels command) command reply
+    × IsInProfile profile levels command reply
+
+-- a piece fits the levels told before it; an ask doesn't ask for what isn't followed
 abbrev pub PieceFits : Beginning → Levels → Piece → Type 0
+PieceFits begins levels (Whole (acts.Ask command) events) = ¬ EnablesMore command
 PieceFits begins levels (Whole (acts.Reply command reply) events) =
     ReplyFits (profile_of begins) levels command reply
 PieceFits begins levels _ = Unit {0}
@@ -288,7 +345,8 @@ pub record MayStand (scope : Scope) (pieces : List Piece) (piece : Piece) : Type
   pub others : List Event
   pub begins : piece_events piece ≡ first ∷ others
   pub comes : MayCome piece (position_of scope pieces) (last_of (events_of pieces)) first
-  pub levels : PieceFits scope.begins (levels_of scope.levels pieces) piece
+  pub levels : PieceFits scope.begins
+      (levels_of (profile_of scope.begins) scope.levels pieces) piece
 
 -- pieces, each right by itself and after those before it
 abbrev pub ArePieces : Scope → List Piece → Type 0

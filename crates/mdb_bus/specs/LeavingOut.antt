@@ -18,8 +18,8 @@ use Rattle.mdb_bus.specs.declared.scope.Scope.{Scope}
 use Rattle.mdb_bus.specs.ActLists.{Piece, Whole, AskTail, ReplyTail, RepeatTail, Position, InForeign, first_position, left_by, piece_events}
 use Rattle.mdb_bus.specs.Scopes.{IsLeftOut}
 
--- A recording is read twice, and once without further devices: it begins alike, the readers were
--- told the same levels before it, and each device that the one scope leaves out the other leaves
+-- A recording is read twice, and once without further devices: it begins alike, the same levels
+-- were told before it, and each device that the one scope leaves out the other leaves
 -- out too.
 pub record LeavesOutMore (less more : Scope) : Type 0 where
   pub begins : less.begins ≡ more.begins

@@ -2,6 +2,7 @@ pub mod Acts
 pub mod ActLists
 pub mod Bus
 pub mod FaultWords
+pub mod Formats
 pub mod Wish
 pub mod LinkFaults
 pub mod LeavingOut

@@ -1,6 +1,6 @@
 -- Which rule of the link a row breaks, and who is to blame (this profile, by the format and timing
 -- of MDB/ICP 4.3).
-use Rattle.std.specs.Prelude.{◌≡◌, ◌≢◌, ◌+◌, ◌%◌, ◌<◌, ◌≤◌, ◌⊎◌, ℕ, true, List, [], ◌∷◌, ◌++◌, length, sum, All, Option, Some, None}
+use Rattle.std.specs.Prelude.{◌≡◌, ◌≢◌, ◌+◌, ◌%◌, ◌<◌, ◌≤◌, ◌⊎◌, ℕ, List, [], ◌∷◌, ◌++◌, length, sum, All, Option, Some, None}
 use Rattle.mdb_words.specs.declared.limits.TheConstants.{WORD_GAP_MIN, BLOCK_GAP_MAX, ANSWER_GAP_MAX, NEW_BLOCK_GAP_MIN, BREAK_LENGTH_MIN}
 use Rattle.mdb_words.specs.declared.event.Event.{Event}
 use Rattle.mdb_words.specs.declared.event.Event.TheVariants.{Word, Break}
@@ -17,8 +17,8 @@ use Rattle.mdb_msgs.specs.declared.fault.MsgFault.TheVariants as reading
 use Rattle.mdb_msgs.specs.declared.need.Need.TheVariants as need
 use Rattle.mdb_msgs.specs.declared.reply.Reply.{Reply}
 use Rattle.mdb_msgs.specs.Answers.{HasDataAnswer, MayHaveData}
-use Rattle.mdb_msgs.specs.Commands.{device_of}
-use Rattle.mdb_msgs.specs.Replies.{IsReadFault, reply_bytes}
+use Rattle.mdb_msgs.specs.Commands.{EnablesMore, device_of}
+use Rattle.mdb_msgs.specs.Replies.{reply_bytes}
 use Rattle.mdb_bus.specs.declared.act.Act.TheVariants as acts
 use Rattle.mdb_bus.specs.declared.fault.Blame.{Blame}
 use Rattle.mdb_bus.specs.declared.fault.Blame.TheVariants as blame
@@ -28,8 +28,9 @@ use Rattle.mdb_bus.specs.declared.levels.Levels.{Levels}
 use Rattle.mdb_bus.specs.declared.scope.Profile.{Profile}
 use Rattle.mdb_bus.specs.declared.scope.Scope.{Scope}
 use Rattle.mdb_bus.specs.Acts.{IsReply, reply_words}
-use Rattle.mdb_bus.specs.Scopes.{needed_in, profile_of}
-use Rattle.mdb_bus.specs.ActLists.{Piece, Whole, Position, Quiet, InAsk, Asked, InReply, Replied, Returned, InRepeat, ReplyFits, events_of, last_of, levels_of, position_of, rest_before_block, rest_before_break}
+use Rattle.mdb_bus.specs.Formats.{HasFault, IsReadAs, format_for}
+use Rattle.mdb_bus.specs.Scopes.{Asks, needed_in, profile_of}
+use Rattle.mdb_bus.specs.ActLists.{Piece, Whole, Position, Quiet, InAsk, Asked, InReply, Replied, Returned, InRepeat, IsInProfile, events_of, last_of, levels_of, position_of, rest_before_block, rest_before_break}
 
 -- What the rows so far leave for the next one.
 pub record Situation : Type 0 where
@@ -39,7 +40,7 @@ pub record Situation : Type 0 where
   pub position : Position
   -- the last row
   pub last : Option Event
-  -- the feature levels that the controller has last told the readers
+  -- the feature levels that controller and readers have last told each other
   pub levels : Levels
 
 abbrev pub situation_of : Scope → List Piece → Situation
@@ -47,7 +48,7 @@ situation_of scope pieces = record {
   scope = scope;
   position = position_of scope pieces;
   last = last_of (events_of pieces);
-  levels = levels_of scope.levels pieces;
+  levels = levels_of (profile_of scope.begins) scope.levels pieces;
 }
 
 -- the device of the last whole ask, unless a break or a foreign block came since
@@ -156,19 +157,19 @@ abbrev pub IsNoVmcAnswer : ℕ → Type 0
 IsNoVmcAnswer word = (word < 256) × ((answer : Answer) → word ≢ answer_word Controller answer)
 
 -- Answer: an answer that the command cannot have, or a controller's answer that no reply can have.
-abbrev pub WrongAnswer : Position → Event → Type 0
-WrongAnswer (Asked command) (Word at Peripheral word) =
+abbrev pub WrongAnswer : Profile → Levels → Position → Event → Type 0
+WrongAnswer profile levels (Asked command) (Word at Peripheral word) =
     IsNoAnswer word ⊎ ((word < 256) × ¬ MayHaveData command)
-WrongAnswer (InReply command bytes) (Word at Peripheral word) =
-    (256 ≤ word) × IsReadFault command bytes reading.Answer
-WrongAnswer (Replied command reply) (Word at Controller word) = IsNoVmcAnswer word
-WrongAnswer _ _ = ⊥
+WrongAnswer profile levels (InReply command bytes) (Word at Peripheral word) =
+    (256 ≤ word) × HasFault (format_for profile levels command) command bytes reading.Answer
+WrongAnswer profile levels (Replied command reply) (Word at Controller word) = IsNoVmcAnswer word
+WrongAnswer profile levels _ _ = ⊥
 
 -- Message: the leftmost message of a reply that can't be taken can't be read.
-abbrev pub HasBadMessage : Position → Event → Type 0
-HasBadMessage (InReply command bytes) (Word at Peripheral word) =
-    (256 ≤ word) × IsReadFault command bytes reading.Message
-HasBadMessage _ _ = ⊥
+abbrev pub HasBadMessage : Profile → Levels → Position → Event → Type 0
+HasBadMessage profile levels (InReply command bytes) (Word at Peripheral word) =
+    (256 ≤ word) × HasFault (format_for profile levels command) command bytes reading.Message
+HasBadMessage profile levels _ _ = ⊥
 
 -- a word comes next in words of which some were said
 abbrev pub IsNext : List ℕ → List ℕ → ℕ → Type 0
@@ -186,21 +187,26 @@ abbrev pub IsOutside : Scope → ℕ → Type 0
 IsOutside scope word = (byte : ℕ) × (word ≡ 256 + byte)
     × (needed_in scope (byte ∷ []) ≡ need.Outside)
 
--- the reply that these bytes are doesn't fit the levels: a reader tells of a feature level of 2 or
--- more, and the controller has last told it so too
-abbrev pub HasHighLevels : Profile → Command → List ℕ → Levels → Type 0
-HasHighLevels profile command bytes levels =
+-- the reply that these bytes are says what isn't followed
+abbrev pub LeavesProfile : Profile → Command → List ℕ → Levels → Type 0
+LeavesProfile profile command bytes levels =
     (reply : Reply) × IsReply command reply × (bytes ≡ reply_bytes reply)
-    × ¬ ReplyFits profile levels command reply
+    × IsReadAs (format_for profile levels command) command reply
+    × ¬ IsInProfile profile levels command reply
 
--- Profile: what this profile leaves out: commands, messages, and a feature level of 2 or more on
--- both sides.
+-- a block is a command that asks for what isn't followed
+abbrev pub AsksForMore : Scope → List ℕ → Type 0
+AsksForMore scope block = (command : Command) × Asks scope command block × EnablesMore command
+
+-- Profile: what this profile leaves out: commands, messages, and what commands and replies say.
 abbrev pub IsBeyondProfile : Scope → Position → Levels → Event → Type 0
 IsBeyondProfile scope (InAsk bytes) levels (Word at Controller word) =
-    (needed_in scope bytes ≡ need.More) × (needed_in scope (bytes ++ word ∷ []) ≡ need.Outside)
+    ((needed_in scope bytes ≡ need.More) × (needed_in scope (bytes ++ word ∷ []) ≡ need.Outside))
+    ⊎ AsksForMore scope (bytes ++ word ∷ [])
 IsBeyondProfile scope (InReply command bytes) levels (Word at Peripheral word) =
-    (256 ≤ word) × (IsReadFault command bytes reading.Profile
-    ⊎ HasHighLevels (profile_of scope.begins) command bytes levels)
+    (256 ≤ word)
+    × (HasFault (format_for (profile_of scope.begins) levels command) command bytes reading.Profile
+    ⊎ LeavesProfile (profile_of scope.begins) command bytes levels)
 IsBeyondProfile scope (InReply command bytes) levels _ = ⊥
 IsBeyondProfile scope (InRepeat command reply words) levels _ = ⊥
 IsBeyondProfile scope position levels (Word at Controller word) = IsOutside scope word
@@ -218,8 +224,9 @@ RowBreaks s row rule.Spacing = TooFarApart s.position s.last row
 RowBreaks s row rule.Length = WrongLength s.position row
 RowBreaks s row rule.Sum = WrongSum s.scope s.position row
 RowBreaks s row rule.Break = TooShort row
-RowBreaks s row rule.Answer = WrongAnswer s.position row
-RowBreaks s row rule.Message = HasBadMessage s.position row
+RowBreaks s row rule.Answer = WrongAnswer (profile_of s.scope.begins) s.levels s.position row
+RowBreaks s row rule.Message =
+    HasBadMessage (profile_of s.scope.begins) s.levels s.position row
 RowBreaks s row rule.Same = IsChanged s.position row
 RowBreaks s row rule.Profile = IsBeyondProfile s.scope s.position s.levels row
 RowBreaks s row rule.Changer = ⊥

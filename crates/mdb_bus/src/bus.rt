@@ -139,8 +139,8 @@ impl Bus {
         }
     }
 
-    /// Takes the reply that a row has ended, if it can be read and fits the levels, and answers
-    /// that it ends an act, which it then puts into `act`.
+    /// Takes the reply that a row has ended, if it can be read and what it says is
+    /// followed, and answers that it ends an act, which it then puts into `act`.
     #[inline(always)]
     fn take_reply(&mut self, event: Event, act: &mut Act) -> Result<bool, LinkFault>
         requires { self.old.place.phase ≡ Phase.InReply }
@@ -161,6 +161,7 @@ impl Bus {
         let profile = self.scope.begins.profile();
         match self.place.end_reply(profile, self.levels, act) {
             Ok(()) => {
+                self.levels = self.levels.by(profile, act);
                 self.last = Some(event);
                 Ok(true)
             }

@@ -105,9 +105,10 @@ fn judge_controller(
         (Event.Word at Line.Controller word)) }
 {
     laws::first_byte_tells_the_device();
+    laws::first_two_bytes_tell_enable_options();
     match place.phase {
         Phase::Quiet => begin_block(scope, last, at, word, rest_before_block(last)),
-        Phase::InAsk => go_on_asking(&place.bytes, last, at, word),
+        Phase::InAsk => go_on_asking(scope.begins.profile(), &place.bytes, last, at, word),
         Phase::Asked => begin_block(scope, last, at, word, NEW_BLOCK_GAP_MIN),
         Phase::InReply => cut_in(last, at, word),
         Phase::Replied if word.marked() => begin_block(scope, last, at, word, NEW_BLOCK_GAP_MIN),

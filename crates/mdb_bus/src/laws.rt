@@ -27,7 +27,9 @@ fn grammar()
     messages::command_has_what_it_needs();
     messages::first_bytes_tell_the_length();
     messages::first_byte_tells_the_device();
+    messages::first_two_bytes_tell_enable_options();
     messages::need_leaves_a_command_open();
+    messages::need_leaves_another_command_open();
     messages::block_has_one_reply();
     messages::reply_has_no_fault();
     messages::reply_has_its_length();

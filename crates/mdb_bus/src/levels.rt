@@ -1,10 +1,15 @@
 //! The feature levels of controller and cashless readers.
 
 ghost use Rattle.std.specs.Prelude.{◌≡◌, ◌↔◌, IsTrue};
-ghost use Rattle.mdb_bus.specs.ActLists.{tells_high};
+ghost use Rattle.std.specs.List.{list_any};
+ghost use Rattle.std.specs.Option.{option_or};
+ghost use Rattle.mdb_bus.specs.ActLists.{IsLow, is_revalue, last_level, level_in, tells_high, tells_of_revalues};
+ghost use Rattle.mdb_bus.specs.Formats.{format_at, or_short};
 
+use super::act::Act;
+use super::format::Format;
 use super::scope::Profile;
-use mdb_msgs::{Command, ReaderCommand, ReaderUnit, Reply};
+use mdb_msgs::{Command, ReaderCommand, ReaderList, ReaderMsg, ReaderUnit, Reading, Reply};
 
 /// What was reported of the feature level of one reader.
 #[derive(Clone, Copy, PartialEq, Eq, Debug)]
@@ -12,11 +17,31 @@ pub struct ReaderLevels {
     /// The level that the controller last reported to it (Y2 of SETUP config). `None` before it
     /// reported one.
     pub asked: Option<u8>,
+    /// The level that the reader last reported (Z2 of a config message), received or not. `None`
+    /// before it reported one. The base profile doesn't need it, and leaves it as it was.
+    pub told: Option<u8>,
 }
 
 impl ReaderLevels {
     /// No level reported yet.
-    pub const NONE: ReaderLevels = ReaderLevels { asked: None };
+    pub const NONE: ReaderLevels = ReaderLevels {
+        asked: None,
+        told: None,
+    };
+
+    /// How the reader's replies are read by the extended profile.
+    fn format(self) -> Format
+        ensures { result ≡ format_at self.asked self.told }
+    {
+        match (self.asked, self.told) {
+            (Some(asked), Some(told)) => {
+                or_short(asked, or_short(told, Format::As(Reading::Long)))
+            }
+            (Some(asked), None) => or_short(asked, Format::Early),
+            (None, Some(told)) => or_short(told, Format::Early),
+            (None, None) => Format::Early,
+        }
+    }
 }
 
 /// What was reported of the feature levels of both readers.
@@ -31,7 +56,9 @@ pub struct Levels {
 impl Levels {
     ghost use Rattle.std.specs.Prelude.{true};
     ghost use Rattle.std.specs.Bool.{OnTrue, OnFalse};
-    ghost use Rattle.mdb_bus.specs.ActLists.{IsLow, ReplyFits, level_for, levels_after};
+    ghost use Rattle.mdb_msgs.specs.declared.command.Command.TheVariants as commands;
+    ghost use Rattle.mdb_bus.specs.ActLists.{IsInProfile, levels_after, levels_by, levels_told};
+    ghost use Rattle.mdb_bus.specs.Formats.{format_for, levels_for};
 
     /// No level reported yet.
     pub const NONE: Levels = Levels {
@@ -53,18 +80,67 @@ impl Levels {
         levels
     }
 
-    /// Whether a reply to a command fits these levels, by either profile: it reports no level of 2
-    /// or more, or the controller has reported none to the reader.
-    pub(crate) fn fit(self, profile: Profile, command: Command, reply: &Reply) -> bool
-        ensures low { OnTrue result (ReplyFits profile self command reply.now) }
-        ensures high { OnFalse result (ReplyFits profile self command reply.now → ⊥) }
+    /// The levels after an act, by a profile.
+    // Not inlined, since few rows end an ask or a reply that tells a level.
+    #[inline(never)]
+    pub fn by(self, profile: Profile, act: &Act) -> Levels
+        ensures { result ≡ levels_by profile act.now self }
     {
-        self.is_low_for(command) || !tells_high(reply)
+        match act {
+            Act::Ask(command) => self.after(*command),
+            Act::Reply(command, reply) => match profile {
+                Profile::Base => self,
+                Profile::Extended => self.told(*command, reply),
+            },
+            _ => self,
+        }
+    }
+
+    /// The levels after a reply to a command, by the extended profile.
+    #[inline(never)]
+    fn told(self, command: Command, reply: &Reply) -> Levels
+        ensures { result ≡ levels_told Profile.Extended command reply.now self }
+    {
+        let (Command::Reader(unit, _), Reply::Reader(list)) = (command, reply) else {
+            return self;
+        };
+        let level = last_level(list);
+        let mut levels = self;
+        match unit {
+            ReaderUnit::First => levels.first.told = level.or(self.first.told),
+            ReaderUnit::Second => levels.second.told = level.or(self.second.told),
+        }
+        levels
+    }
+
+    /// How a reply to a command is read.
+    pub fn format(self, profile: Profile, command: Command) -> Format
+        ensures { result ≡ format_for profile self command }
+    {
+        match (profile, command) {
+            (Profile::Base, _) => Format::As(Reading::Base),
+            (Profile::Extended, Command::Reader(ReaderUnit::First, _)) => self.first.format(),
+            (Profile::Extended, Command::Reader(ReaderUnit::Second, _)) => self.second.format(),
+            (Profile::Extended, _) => Format::As(Reading::Short),
+        }
+    }
+
+    /// Whether what a reply to a command says is followed. By the base profile: it reports no level
+    /// of 2 or more, or the controller has reported none to the reader. By the extended profile: it
+    /// has no message about revalues.
+    pub(crate) fn fit(self, profile: Profile, command: Command, reply: &Reply) -> bool
+        ensures low { OnTrue result (IsInProfile profile self command reply.now) }
+        ensures high { OnFalse result (IsInProfile profile self command reply.now → ⊥) }
+    {
+        match profile {
+            Profile::Base => self.is_low_for(command) || !tells_high(reply),
+            Profile::Extended => !tells_of_revalues(reply),
+        }
     }
 
     /// Whether the controller has reported no level of 2 or more to the reader of a command.
     fn is_low_for(self, command: Command) -> bool
-        ensures { IsTrue result ↔ IsLow (level_for command self) }
+        ensures { IsTrue result ↔ IsLow (levels_for command self).asked }
     {
         let level = match command {
             Command::Reader(ReaderUnit::First, _) => self.first.asked,
@@ -78,6 +154,17 @@ impl Levels {
     }
 }
 
+/// Short where a level is below 2, and else this one.
+fn or_short(level: u8, format: Format) -> Format
+    ensures { result ≡ or_short level format }
+{
+    if level < 2 {
+        Format::As(Reading::Short)
+    } else {
+        format
+    }
+}
+
 /// Whether a reader's reply reports a feature level of 2 or more (Z2 of a config message).
 fn tells_high(reply: &Reply) -> bool
     ensures { result ≡ tells_high reply.now }
@@ -85,5 +172,58 @@ fn tells_high(reply: &Reply) -> bool
     match reply {
         Reply::Reader(list) => list.tells_level(2),
         _ => false,
+    }
+}
+
+/// Whether a reader's reply has a message about revalues: 0D, 0E or 0F.
+fn tells_of_revalues(reply: &Reply) -> bool
+    ensures { result ≡ tells_of_revalues reply.now }
+{
+    match reply {
+        Reply::Reader(list) => has_revalues(list),
+        _ => false,
+    }
+}
+
+/// Whether one of a reader's messages is about revalues.
+fn has_revalues(list: &ReaderList) -> bool
+    ensures { result ≡ list_any is_revalue list.now.messages }
+{
+    for message in list.iter() {
+        if is_revalue(message) {
+            return true;
+        }
+    }
+    false
+}
+
+/// Whether a reader's message is about revalues.
+fn is_revalue(message: ReaderMsg) -> bool
+    ensures { result ≡ is_revalue message }
+{
+    matches!(
+        message,
+        ReaderMsg::RevalueApproved | ReaderMsg::RevalueDenied | ReaderMsg::RevalueLimit(_)
+    )
+}
+
+/// Z2 of the last config message of a reader's reply.
+fn last_level(list: &ReaderList) -> Option<u8>
+    ensures { result ≡ last_level list.now.messages }
+{
+    let mut last = None;
+    for message in list.iter() {
+        last = level_in(message).or(last);
+    }
+    last
+}
+
+/// Z2 of a config message.
+fn level_in(message: ReaderMsg) -> Option<u8>
+    ensures { result ≡ level_in message }
+{
+    match message {
+        ReaderMsg::Config { level, .. } => Some(level),
+        _ => None,
     }
 }

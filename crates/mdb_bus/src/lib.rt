@@ -5,7 +5,7 @@
 //! [`LinkFault`]: the [`Rule`] that the row breaks, and who is to blame.
 //!
 //! A [`Scope`] states where the recording begins, what is followed of it, which devices are left
-//! out, and which feature levels the readers were told before. The rules are those of MDB/ICP 4.3,
+//! out, and which feature levels were reported before. The rules are those of MDB/ICP 4.3,
 //! bus format and timing, as this profile follows them. This crate allocates nothing.
 #![tactic(auto)]
 
@@ -13,6 +13,7 @@ mod act;
 mod begun;
 mod bus;
 mod fault;
+mod format;
 mod gaps;
 mod judged;
 mod judging;
@@ -26,5 +27,6 @@ mod spelled;
 pub use act::Act;
 pub use bus::Bus;
 pub use fault::{Blame, LinkFault, Rule};
+pub use format::Format;
 pub use levels::{Levels, ReaderLevels};
 pub use scope::{Beginning, Profile, Scope};

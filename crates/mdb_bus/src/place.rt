@@ -8,12 +8,13 @@ ghost use Rattle.mdb_bus.specs.inner.Steps.{IsWord, rule_of as rule_of_lem};
 use super::act::Act;
 use super::begun::Begun;
 use super::fault::Rule;
+use super::format::read_as;
 use super::judged::Judged;
 use super::levels::Levels;
 use super::phase::Phase;
 use super::scope::Profile;
 use super::spelled::Spelled;
-use mdb_msgs::{Command, MsgFault, Reply, command_of, laws, polled, reply_of};
+use mdb_msgs::{Command, MsgFault, Reply, command_of, laws, polled};
 use mdb_words::Event;
 use std::mem;
 
@@ -194,8 +195,8 @@ impl Place {
         act.note(Act::Nak(self.command))
     }
 
-    /// The reply has ended, with the right length and sum: takes it, if it can be read and fits the
-    /// levels, and puts the act into `act`. Else both are as they were.
+    /// The reply has ended, with the right length and sum: takes it, if it can be read and what it
+    /// says is followed, and puts the act into `act`. Else both are as they were.
     // Not inlined, so that only rows that end a reply pay for it. What it calls is inlined here, so
     // that a reply is moved less often.
     #[inline(never)]
@@ -213,7 +214,8 @@ impl Place {
         ensures unchanged { OnErr result (self.new ≡ self.old) }
         ensures untouched { OnErr result (act.new ≡ act.old) }
     {
-        let reply = match reply_of(&self.command, self.bytes.as_slice()) {
+        let format = levels.format(profile, self.command);
+        let reply = match read_as(format, &self.command, self.bytes.as_slice()) {
             Ok(reply) => reply,
             Err(fault) => return Err(rule_of(fault)),
         };

@@ -1,19 +1,43 @@
 //! The scope of a check.
 
-ghost use Rattle.std.specs.Prelude.{◌≡◌};
-ghost use Rattle.mdb_bus.specs.Scopes.{joined, leaving_out, profile_of, told};
+ghost use Rattle.std.specs.Prelude.{◌≡◌, ◌<◌, ◌∷◌, [], length};
+ghost use Rattle.mdb_bus.specs.Scopes.{from_power_on, joined, leaves_options, leaving_out, needed_by, needed_in, profile_of, told};
 
 use super::levels::Levels;
-use mdb_msgs::{DeviceSet, Setups};
+use mdb_msgs::{DeviceSet, Need, Setups, begins_options, need_of, need_without};
 
 /// What is followed of the protocol.
 #[derive(Clone, Copy, PartialEq, Eq, Debug)]
 pub enum Profile {
-    /// Changer, validator, and card readers of feature level 1 (this profile).
+    /// Changer, validator, and card readers of feature level 1. If a reader reports a feature level
+    /// of 2 or more after the controller reported one to it, the reading ends there. ENABLE OPTIONS
+    /// (17 04 and 67 04) is foreign traffic.
     Base,
-    /// The same, and what card readers of feature levels 2 and 3 say. A check follows nothing more
-    /// with it so far.
+    /// The same without the rule on levels: also card readers of feature levels 2 and 3, and bills
+    /// that go to a recycler. This holds for recordings from power-on.
     Extended,
+}
+
+impl Profile {
+    /// Whether ENABLE OPTIONS is foreign.
+    fn leaves_options(self) -> bool
+        ensures { result ≡ leaves_options self }
+    {
+        matches!(self, Profile::Base)
+    }
+
+    /// What a block needs that begins with these bytes, whoever it is to.
+    #[inline(always)]
+    pub(crate) fn need_of(self, prefix: &[u8]) -> Need
+        requires { 0 < length prefix.now }
+        ensures { result ≡ needed_by self prefix.now }
+    {
+        if self.leaves_options() && begins_options(prefix) {
+            Need::Foreign
+        } else {
+            need_of(prefix)
+        }
+    }
 }
 
 /// Where a recording begins, and what is followed of it (this profile).
@@ -49,7 +73,7 @@ impl Beginning {
 }
 
 /// The scope of a check: where the recording begins, what is followed of it, which devices are left
-/// out, and what the readers were told before (this profile).
+/// out, and which feature levels were reported before (this profile).
 ///
 /// A device that is left out isn't followed. All words to it and from it are foreign traffic.
 #[derive(PartialEq, Eq, Debug, Drop)]
@@ -58,8 +82,8 @@ pub struct Scope {
     pub begins: Beginning,
     /// The devices that are left out.
     pub without: DeviceSet,
-    /// The feature levels (Y2 of SETUP config) that the controller had reported to the readers
-    /// before the recording began, where they are known.
+    /// The feature levels that controller and readers had reported to each other before the
+    /// recording began, where they are known.
     pub levels: Levels,
 }
 
@@ -71,15 +95,22 @@ impl Scope {
         levels: Levels::NONE,
     };
 
-    /// A recording from power-on, with these devices left out.
-    pub fn leaving_out(devices: DeviceSet) -> Scope
-        ensures { result ≡ leaving_out devices }
+    /// A recording from power-on that is followed by a profile, with these devices left out.
+    pub fn from_power_on(profile: Profile, devices: DeviceSet) -> Scope
+        ensures { result ≡ from_power_on profile devices }
     {
         Scope {
-            begins: Beginning::PowerOn(Profile::Base),
+            begins: Beginning::PowerOn(profile),
             without: devices,
             levels: Levels::NONE,
         }
+    }
+
+    /// A recording from power-on, by the base profile, with these devices left out.
+    pub fn leaving_out(devices: DeviceSet) -> Scope
+        ensures { result ≡ leaving_out devices }
+    {
+        Scope::from_power_on(Profile::Base, devices)
     }
 
     /// A recording of a machine that was running, with these setup data known and these devices
@@ -92,6 +123,14 @@ impl Scope {
             without,
             levels: Levels::NONE,
         }
+    }
+
+    /// What a block needs that begins with this byte.
+    #[inline(always)]
+    pub(crate) fn first_need(&self, first: u8) -> Need
+        ensures { result ≡ needed_in self.now (first ∷ []) }
+    {
+        need_without(self.without, &[first])
     }
 
     /// The same scope, with these feature levels reported before the recording began.

@@ -1,11 +1,13 @@
 -- How options say that a recording is taken.
-use Rattle.std.specs.Prelude.{ℕ, Bool, not, nat_eq, if◌then◌else◌}
+use Rattle.std.specs.Prelude.{ℕ, Bool, Option, Some, None, not, nat_eq, nat_le, if◌then◌else◌}
 use Rattle.std.specs.Int.Bits.{bit_and}
 use Rattle.mdb_msgs.specs.declared.device_set.DeviceSet.{DeviceSet}
 use Rattle.mdb_msgs.specs.Setups.{nothing_known}
-use Rattle.mdb_bus.specs.Scopes.{joined, leaving_out}
+use Rattle.mdb_bus.specs.Scopes.{from_power_on, joined}
+use Rattle.mdb_bus.specs.declared.scope.Profile.{Profile}
+use Rattle.mdb_bus.specs.declared.scope.Profile.TheVariants.{Base, Extended}
 use Rattle.mdb_bus.specs.declared.scope.Scope.{Scope}
-use Rattle.mdb_c.specs.declared.options.TheConstants.{JOINED, WITHOUT_BILL, WITHOUT_CASHLESS, WITHOUT_CASHLESS_2, WITHOUT_CHANGER}
+use Rattle.mdb_c.specs.declared.options.TheConstants.{EXTENDED, JOINED, WITHOUT_BILL, WITHOUT_CASHLESS, WITHOUT_CASHLESS_2, WITHOUT_CHANGER}
 
 -- whether an option is one of those that are given
 abbrev pub is_given : ℕ → ℕ → Bool
@@ -20,8 +22,15 @@ left_out options = record {
   second_reader = is_given options WITHOUT_CASHLESS_2;
 }
 
--- how the recording is taken
-abbrev pub scope_of : ℕ → Scope
+-- what is followed
+abbrev pub profile_of : ℕ → Profile
+profile_of options = if is_given options EXTENDED then Extended else Base
+
+-- how the recording is taken: no way where a bit is set that is no option, or where a recording in
+-- mid-session is to be followed by the extended profile
+abbrev pub scope_of : ℕ → Option Scope
 scope_of options =
-    if is_given options JOINED then joined nothing_known (left_out options)
-    else leaving_out (left_out options)
+    if nat_le 64 options then None else (if is_given options JOINED
+    then (if is_given options EXTENDED then None
+    else Some (joined nothing_known (left_out options)))
+    else Some (from_power_on (profile_of options) (left_out options)))

@@ -1,6 +1,6 @@
 //! The call.
 
-ghost use Rattle.std.specs.Prelude.{◌≡◌, ◌≢◌, ◌<◌, ◌≤◌, ◌↔◌, ◌++◌, ℕ, List, Result, Ok, Err, IfOk, drop, length};
+ghost use Rattle.std.specs.Prelude.{◌≡◌, ◌≢◌, ◌<◌, ◌≤◌, ◌↔◌, ◌++◌, ℕ, List, None, Result, Ok, Err, IfOk, IfSome, drop, length};
 ghost use Rattle.std.specs.Bool.{OnFalse, OnTrue};
 ghost use Rattle.csv.specs.Reading.{default_config, records, strip_bom};
 ghost use Rattle.mdb_follow.specs.declared.follower.TheConstants.{ROWS_MAX};
@@ -46,7 +46,7 @@ pub struct MdbcheckTold {
 /// - `UNREAD`: the text has more bytes than it may have;
 /// - `NO_MEMORY`: memory was refused;
 /// - `NO_ROOM`: there is a verdict, and its text has no room;
-/// - `BAD_OPTIONS`: a bit is set that is no option.
+/// - `BAD_OPTIONS`: a bit is set that is no option, or `EXTENDED` stands with `JOINED`.
 ///
 /// With any code but `YES` and `NO` the buffer stays as it was.
 #[unsafe(no_mangle)]
@@ -57,17 +57,17 @@ pub extern "C" fn mdbcheck_check(
     report: &mut [u8],
     told: &mut MdbcheckTold,
 ) -> u32
-    ensures answer { options < 32 → (answer : Result Outcome RunFault)
-        × IsAnswer (scope_of options) ROWS_MAX (records default_config (strip_bom text.now)) answer
-        × IfOk answer (Headline (scope_of options) ROWS_MAX
-        (records default_config (strip_bom text.now)))
-        × IsGiven (scope_of options) answer report.old result report.new told.new }
-    ensures only { (answer : Result Outcome RunFault) → options < 32
-        → IsAnswer (scope_of options) ROWS_MAX (records default_config (strip_bom text.now)) answer
+    ensures answer { IfSome (scope_of options) (λ scope. (answer : Result Outcome RunFault)
+        × IsAnswer scope ROWS_MAX (records default_config (strip_bom text.now)) answer
+        × IfOk answer (Headline scope ROWS_MAX (records default_config (strip_bom text.now)))
+        × IsGiven scope answer report.old result report.new told.new) }
+    ensures only { IfSome (scope_of options) (λ scope. (answer : Result Outcome RunFault)
+        → IsAnswer scope ROWS_MAX (records default_config (strip_bom text.now)) answer
         → IsOwnAnswer answer → result ≢ UNREAD → result ≢ NO_MEMORY
-        → IsGiven (scope_of options) answer report.old result report.new told.new }
-    ensures bad_options { result ≡ BAD_OPTIONS ↔ (32 ≤ options) }
-    ensures refused { 32 ≤ options → (report.new ≡ report.old) × (told.new ≡ nothing_told) }
+        → IsGiven scope answer report.old result report.new told.new) }
+    ensures bad_options { result ≡ BAD_OPTIONS ↔ (scope_of options ≡ None) }
+    ensures refused { scope_of options ≡ None
+        → (report.new ≡ report.old) × (told.new ≡ nothing_told) }
 {
     laws::texts_have_one_answer();
     let Some(scope) = scope_of(options) else {

@@ -11,4 +11,6 @@ mod options;
 
 pub use call::{MdbcheckTold, mdbcheck_check};
 pub use codes::{BAD_OPTIONS, BAD_ROW, NO, NO_MEMORY, NO_ROOM, TOO_LONG, UNREAD, YES};
-pub use options::{JOINED, WITHOUT_BILL, WITHOUT_CASHLESS, WITHOUT_CASHLESS_2, WITHOUT_CHANGER};
+pub use options::{
+    EXTENDED, JOINED, WITHOUT_BILL, WITHOUT_CASHLESS, WITHOUT_CASHLESS_2, WITHOUT_CHANGER,
+};

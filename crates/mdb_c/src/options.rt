@@ -1,10 +1,10 @@
 //! The options of a check: a sum of these numbers.
 
-ghost use Rattle.std.specs.Prelude.{◌≡◌, ◌<◌, ◌≤◌, MatchOption, if◌then◌else◌};
+ghost use Rattle.std.specs.Prelude.{◌≡◌, if◌then◌else◌};
 ghost use Rattle.mdb_msgs.specs.DeviceSets.{with_device};
 ghost use Rattle.mdb_c.specs.Options as spec;
 
-use mdb_bus::Scope;
+use mdb_bus::{Profile, Scope};
 use mdb_msgs::{Device, DeviceSet, ReaderUnit, Setups};
 
 /// The recording begins while the machine was running.
@@ -22,22 +22,38 @@ pub const WITHOUT_CASHLESS: u32 = 8;
 /// The cashless reader at 60H is left out.
 pub const WITHOUT_CASHLESS_2: u32 = 16;
 
-/// The least number that is no sum of options.
-const OPTIONS_END: u32 = 32;
+/// What card readers of feature levels 2 and 3 say is followed too. Not with `JOINED`.
+pub const EXTENDED: u32 = 32;
 
-/// The scope that options name; `None` where a bit is set that is no option.
+/// The least number that is no sum of options.
+const OPTIONS_END: u32 = 64;
+
+/// The scope that options name. `None` where a bit is set that is no option, and where `EXTENDED`
+/// stands with `JOINED`.
 pub(crate) fn scope_of(options: u32) -> Option<Scope>
-    ensures { MatchOption result (32 ≤ options)
-        (λ scope. (options < 32) × (scope ≡ spec.scope_of options)) }
+    ensures { result ≡ spec.scope_of options }
 {
     if options >= OPTIONS_END {
         return None;
     }
     let without = left_out(options);
     if options & JOINED != 0 {
-        Some(Scope::joined(Setups::NONE, without))
+        if options & EXTENDED != 0 {
+            return None;
+        }
+        return Some(Scope::joined(Setups::NONE, without));
+    }
+    Some(Scope::from_power_on(profile_of(options), without))
+}
+
+/// What options say is followed.
+fn profile_of(options: u32) -> Profile
+    ensures { result ≡ spec.profile_of options }
+{
+    if options & EXTENDED != 0 {
+        Profile::Extended
     } else {
-        Some(Scope::leaving_out(without))
+        Profile::Base
     }
 }
 

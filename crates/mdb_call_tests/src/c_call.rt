@@ -1,7 +1,8 @@
 //! What the call for C answers to small texts.
 
 use mdb_c::{
-    BAD_OPTIONS, BAD_ROW, JOINED, MdbcheckTold, NO, NO_ROOM, WITHOUT_BILL, YES, mdbcheck_check,
+    BAD_OPTIONS, BAD_ROW, EXTENDED, JOINED, MdbcheckTold, NO, NO_ROOM, WITHOUT_BILL, YES,
+    mdbcheck_check,
 };
 
 /// What the call answers, with room for so many bytes, and what it tells.
@@ -44,6 +45,8 @@ fn what_has_no_verdict_is_told(rt: HostRuntime) {
     let mut report = [7; 4];
     let text = b"1000,M,108\n2200,M,8\n";
     assert_eq!(rt; checked(&rt, 0, text, &mut report), (BAD_ROW, 2, 0, 4));
-    assert_eq!(rt; checked(&rt, 32, text, &mut report), (BAD_OPTIONS, 0, 0, 0));
+    let bad = (BAD_OPTIONS, 0, 0, 0);
+    assert_eq!(rt; checked(&rt, 64, text, &mut report), bad);
+    assert_eq!(rt; checked(&rt, JOINED + EXTENDED, text, &mut report), bad);
     assert_eq!(rt; report, [7; 4]);
 }

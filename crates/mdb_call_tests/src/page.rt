@@ -15,6 +15,7 @@ const UNKNOWN: PageSetup = PageSetup {
 fn power_on() -> PageOptions {
     PageOptions {
         joined: 0,
+        extended: 0,
         without: [0; 4],
         setups: [UNKNOWN; 4],
     }
@@ -82,6 +83,13 @@ fn options_that_name_no_scope_are_refused(rt: HostRuntime) {
     options.setups[0].count = 2;
     let (number, _, _) = checked(&options, b"");
     assert_eq!(rt; number, 5);
+    options.setups[0].count = 0;
+    options.extended = 1;
+    let (number, _, _) = checked(&options, b"");
+    assert_eq!(rt; number, 5);
+    options.joined = 0;
+    let (number, _, _) = checked(&options, b"");
+    assert_eq!(rt; number, 0);
 }
 
 /// A coin of 25 that the changer reported twice. The controller acknowledged both reports.
@@ -148,6 +156,7 @@ const BLANK: PageAct = PageAct {
     kind: 99,
     device: 9,
     count: 9,
+    reading: 9,
     bytes: [0; 36],
 };
 
@@ -320,7 +329,7 @@ fn sizes_are_told(rt: HostRuntime) {
         rise: 0,
     };
     mdb_page_layout(&mut layout);
-    assert_eq!(rt; (layout.options, layout.setup, layout.told), (153, 37, 40));
+    assert_eq!(rt; (layout.options, layout.setup, layout.told), (154, 37, 40));
     assert_eq!(rt; (layout.answer, layout.act, layout.news), (4104, 80, 64));
     assert_eq!(rt;
         (layout.fault, layout.lines, layout.rise),

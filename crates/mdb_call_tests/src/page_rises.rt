@@ -29,6 +29,7 @@ const UNKNOWN: PageSetup = PageSetup {
 fn power_on() -> PageOptions {
     PageOptions {
         joined: 0,
+        extended: 0,
         without: [0; 4],
         setups: [UNKNOWN; 4],
     }

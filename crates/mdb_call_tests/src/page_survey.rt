@@ -69,6 +69,7 @@ const UNKNOWN: PageSetup = PageSetup {
 /// From power-on, with all devices.
 const POWER_ON: PageOptions = PageOptions {
     joined: 0,
+    extended: 0,
     without: [0; 4],
     setups: [UNKNOWN; 4],
 };

@@ -4,17 +4,16 @@ use Rattle.mdb_cash.specs.declared.bill.activity.BillActivity.TheVariants as act
 use Rattle.mdb_cash.specs.declared.bill.state.BillType.{BillType}
 use Rattle.mdb_cash.specs.declared.bill.state.Escrow.{Escrow}
 use Rattle.mdb_cash.specs.declared.bill.state.Escrow.TheVariants.{Empty, Waiting}
-use Rattle.mdb_cash.specs.Bill.{MayReturn, MayStack, MovesBills, MovesBill}
+use Rattle.mdb_cash.specs.Bill.{MayReturn, MayStack, MovesBill, MovesBills, StacksBill}
 use Rattle.mdb_cash.specs.shared.BillCodes.{same_type}
 use Rattle.mdb_cash.specs.BillFacts.{Facts}
 use Rattle.mdb_machine.specs.Pair.{IsOnly}
 
 -- a message that can be new
-pub stacks : (facts : Facts) {message : BillActivity} {escrow : Escrow} (bill : BillType)
-    {number : ℕ} → message ≡ activity.Stacked number → bill.number ≡ number
-    → facts.past.enabled number ≡ true → MayStack bill escrow
-    → IsOnly (MovesBill facts message escrow) (Some Empty)
-stacks facts bill is same enabled may = rw is ((bill, same, enabled, may, refl), λ x takes. takes.4)
+pub stacks : (facts : Facts) {escrow : Escrow} (bill : BillType) {number : ℕ}
+    → bill.number ≡ number → facts.past.enabled number ≡ true → MayStack bill escrow
+    → IsOnly (StacksBill facts number escrow) (Some Empty)
+stacks facts bill same enabled may = ((bill, same, enabled, may, refl), λ x takes. takes.4)
 
 pub puts : (facts : Facts) {message : BillActivity} {escrow : Escrow} (bill : BillType) {number : ℕ}
     → message ≡ activity.Escrow number → bill.number ≡ number
@@ -32,13 +31,12 @@ pub returns : (facts : Facts) {message : BillActivity} {escrow : Escrow} (bill :
 returns facts bill is same may = rw is ((bill, same, may, refl), λ x takes. takes.3)
 
 -- and one that can't
-pub stacks_not : (facts : Facts) {message : BillActivity} {escrow : Escrow} (bill : BillType)
-    {number : ℕ} → message ≡ activity.Stacked number → bill.number ≡ number
-    → (facts.past.enabled number ≡ true → MayStack bill escrow → ⊥) → (x : Escrow)
-    → MovesBill facts message escrow x → ⊥
-stacks_not facts {message} {escrow} bill is same denied =
-    rw is (λ x takes. denied takes.2
-    (subst (λ t. MayStack t escrow) (same_type takes.0 bill (takes.1 ∙ sym same)) takes.3))
+pub stacks_not : (facts : Facts) {escrow : Escrow} (bill : BillType) {number : ℕ}
+    → bill.number ≡ number → (facts.past.enabled number ≡ true → MayStack bill escrow → ⊥)
+    → (x : Escrow) → StacksBill facts number escrow x → ⊥
+stacks_not facts {escrow} bill same denied x takes =
+    denied takes.2
+    (subst (λ t. MayStack t escrow) (same_type takes.0 bill (takes.1 ∙ sym same)) takes.3)
 
 pub returns_not : (facts : Facts) {message : BillActivity} {escrow : Escrow} (bill : BillType)
     {number : ℕ} → message ≡ activity.Returned number → bill.number ≡ number

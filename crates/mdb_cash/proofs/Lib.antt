@@ -1,3 +1,2 @@
 pub mod DispenseWays
 pub mod Escrows
-pub mod FirstBytes

@@ -34,25 +34,31 @@ abbrev pub bill_value : Option BillSetup → ℕ → ℕ
 bill_value None number = 0
 bill_value (Some setup) number = setup.scaling * counted (credit_of setup.credits.items number)
 
--- what a kept message adds to bills-in: a bill that was stacked
+-- what a kept message adds to bills-in: a bill that was stacked, or went to the recycler
 abbrev pub stacked : Option BillSetup → BillActivity → ℕ
 stacked setup (activity.Stacked number) = bill_value setup number
+stacked setup (activity.Recycled number) = bill_value setup number
 stacked setup _ = 0
 
--- A bill may be stacked that never waited in escrow, or that waits there with an order to stack it;
--- one may be returned with an order or without one.
+-- A bill may be stacked, or go to the recycler, that never waited in escrow, or that waits there
+-- with an order to stack it; one may be returned with an order or without one.
 abbrev pub MayStack : BillType → Escrow → Type 0
 MayStack type escrow = (escrow ≡ Empty) ⊎ (escrow ≡ Ordered type)
 
 abbrev pub MayReturn : BillType → Escrow → Type 0
 MayReturn type escrow = (escrow ≡ Empty) ⊎ (escrow ≡ Waiting type) ⊎ (escrow ≡ Ordered type)
 
--- What is in escrow before and after a message that is new. A bill that is stacked or in escrow is
--- of a type that is enabled. There are no types past 15, so nothing may be told of one.
-abbrev pub MovesBill : Facts → BillActivity → Escrow → Escrow → Type 0
-MovesBill facts (activity.Stacked number) before after =
+-- What is in escrow before and after a new message that a bill was stacked, or went to the
+-- recycler. Its type is enabled. There are no types past 15, so nothing may be told of one.
+abbrev pub StacksBill : Facts → ℕ → Escrow → Escrow → Type 0
+StacksBill facts number before after =
     (type : BillType) × (type.number ≡ number) × (facts.past.enabled number ≡ true)
     × MayStack type before × (after ≡ Empty)
+
+-- And before and after a message that is new. A bill in escrow is of a type that is enabled too.
+abbrev pub MovesBill : Facts → BillActivity → Escrow → Escrow → Type 0
+MovesBill facts (activity.Stacked number) before after = StacksBill facts number before after
+MovesBill facts (activity.Recycled number) before after = StacksBill facts number before after
 MovesBill facts (activity.Escrow number) before after =
     (type : BillType) × (type.number ≡ number) × (facts.past.enabled number ≡ true)
     × (before ≡ Empty) × (after ≡ Waiting type)
@@ -85,9 +91,10 @@ TakeStep (bill.Escrow order) before after gains =
     (after ≡ record before { escrow = ordered order before.escrow }) × (gains ≡ no_gains)
 TakeStep _ before after gains = Stays before after gains
 
--- whether a kept message tells of a bill that was stacked
+-- whether a kept message tells of a bill that was stacked, or went to the recycler
 abbrev pub is_stacked : BillActivity → Bool
 is_stacked (activity.Stacked number) = true
+is_stacked (activity.Recycled number) = true
 is_stacked _ = false
 
 -- What the validator does of its own. Data answers SETUP, POLL, STACKER and IDENTIFICATION alone:
@@ -124,6 +131,6 @@ machine begins = record {
   Step = λ acts. StepKnowing tables conduct (known_of begins acts);
 }
 
--- how many amounts without a value acts tell: bills that were stacked
+-- how many amounts without a value acts tell: bills that were stacked, or went to the recycler
 abbrev pub unvalued : Beginning → List Act → ℕ
 unvalued = amounts.unvalued tables conduct

@@ -1,10 +1,9 @@
 -- The changer's messages as it keeps them (MDB/ICP 4.3, coin changer; what is kept, this profile).
-use Rattle.std.specs.Prelude.{ℕ, List, [], map, slice_index}
+use Rattle.std.specs.Prelude.{List, [], map}
 use Rattle.mdb_msgs.specs.declared.reply.Reply.{Reply}
 use Rattle.mdb_msgs.specs.declared.reply.Reply.TheVariants as replies
 use Rattle.mdb_msgs.specs.declared.reply.changer.ChangerMsg.{ChangerMsg}
 use Rattle.mdb_msgs.specs.declared.reply.changer.ChangerMsg.TheVariants as messages
-use Rattle.mdb_msgs.specs.Changer.{changer_msg_bytes}
 use Rattle.mdb_cash.specs.declared.changer.activity.ChangerActivity.{ChangerActivity}
 use Rattle.mdb_cash.specs.declared.changer.activity.ChangerActivity.TheVariants.{Dispensed, CashBox, Tube}
 use Rattle.mdb_machine.specs.declared.kept.Part.{Part}
@@ -18,10 +17,6 @@ part_of (messages.CashBox coin in_tube) = part.Kept (CashBox coin)
 part_of (messages.Tube coin in_tube) = part.Kept (Tube coin)
 part_of messages.Reset = part.Reset
 part_of _ = part.Other
-
--- the first byte of a message
-abbrev pub first_byte : ChangerMsg → ℕ
-first_byte message = slice_index (changer_msg_bytes message) 0
 
 -- the messages of a reply of the changer
 abbrev pub parts_of : Reply → List (Part ChangerActivity)

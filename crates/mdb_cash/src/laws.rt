@@ -8,21 +8,17 @@ ghost use Rattle.mdb_msgs.specs.declared.command.ChangerCommand.TheVariants as c
 ghost use Rattle.mdb_msgs.specs.declared.command.Command.TheVariants as commands;
 ghost use Rattle.mdb_msgs.specs.declared.command.Device.TheVariants as devices;
 ghost use Rattle.mdb_msgs.specs.declared.reply.Reply.{Reply};
-ghost use Rattle.mdb_msgs.specs.declared.reply.changer.ChangerMsg.{ChangerMsg};
 ghost use Rattle.mdb_msgs.specs.declared.setups.Setups.{Setups};
-ghost use Rattle.mdb_msgs.specs.Changer.{IsChangerMsg};
 ghost use Rattle.mdb_bus.specs.declared.act.Act.{Act};
 ghost use Rattle.mdb_bus.specs.declared.act.Act.TheVariants as acts;
 ghost use Rattle.mdb_bus.specs.declared.scope.Beginning.{Beginning};
 ghost use Rattle.mdb_bus.specs.declared.scope.Beginning.TheVariants.{PowerOn, Joined};
 ghost use Rattle.mdb_bus.specs.declared.scope.Profile.{Profile};
 ghost use Rattle.mdb_cash.specs.declared.bill.state.BillState.{BillState};
-ghost use Rattle.mdb_cash.specs.declared.changer.activity.ChangerActivity.{ChangerActivity};
 ghost use Rattle.mdb_cash.specs.declared.changer.state.ChangerState.{ChangerState};
 ghost use Rattle.mdb_machine.specs.declared.choice.Choice.{Choice};
 ghost use Rattle.mdb_machine.specs.declared.choice.Choice.TheVariants.{Plain};
 ghost use Rattle.mdb_machine.specs.declared.gains.Gains.{Gains};
-ghost use Rattle.mdb_machine.specs.declared.kept.Part.TheVariants as part;
 ghost use Rattle.mdb_cash.specs.Bill as bill_machine;
 ghost use Rattle.mdb_cash.specs.BillFacts as bill;
 ghost use Rattle.mdb_cash.specs.BillMessages as bill_messages;
@@ -30,21 +26,12 @@ ghost use Rattle.mdb_cash.specs.Changer as changer_machine;
 ghost use Rattle.mdb_cash.specs.Changer.{dispensed_value};
 ghost use Rattle.mdb_cash.specs.ChangerFacts as changer;
 ghost use Rattle.mdb_cash.specs.ChangerMessages as changer_messages;
-ghost use Rattle.mdb_cash.specs.ChangerMessages.{first_byte, part_of};
 ghost use Rattle.mdb_machine.specs.Gains.{Stays, controller_gains, in_slots, no_gains};
 ghost use Rattle.mdb_machine.specs.Keeper.{AllowsFacts};
 ghost use Rattle.mdb_machine.specs.Kept.{kept_of};
 ghost use Rattle.mdb_machine.specs.MidSession.{AsksNone, IsSettled, TellsHeldFirst, TellsNone};
 ghost use Rattle.mdb_machine.specs.MidSession.{facts_recorded};
 ghost use Rattle.mdb_machine.specs.Pair.{IsBreak, own_acts};
-
-/// Two kept messages of the changer say the same where their first bytes are the same.
-pub fn kept_messages_say_what_their_first_bytes_are()
-    ensures { (one other : ChangerMsg) (first second : ChangerActivity)
-        → IsChangerMsg one → IsChangerMsg other
-        → part_of one ≡ part.Kept first → part_of other ≡ part.Kept second
-        → (first ≡ second) ↔ (first_byte one ≡ first_byte other) }
-{}
 
 /// What is known of the changer after acts, and the amounts without a value that they tell of it,
 /// depend on its own acts among them alone.

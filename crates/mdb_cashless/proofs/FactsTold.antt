@@ -10,17 +10,18 @@ use Rattle.mdb_machine.specs.Past.{effect_taken, or_else, resets, tells_out_of_s
 use Rattle.mdb_machine.specs.PastValues.{past_after}
 use Rattle.mdb_cashless.specs.declared.reader.transaction.Transaction.{Transaction}
 use Rattle.mdb_cashless.specs.ReaderFacts.{effect_of, effect_of_own, own_messages, own_of, own_transaction}
-use Rattle.mdb_cashless.specs.ReaderMessages.{amount_in, begin_session, config_in, last_said, messages_of, part_of}
-use Rattle.mdb_cashless.specs.ReaderValues.{ToldFacts, last_after, taken, told, told_with}
+use Rattle.mdb_cashless.specs.ReaderMessages.{amount_in, begin_session, config_in, last_said, level_in, messages_of, part_of}
+use Rattle.mdb_cashless.specs.ReaderValues.{ToldFacts, extended_after, last_after, taken, told, told_with}
 use Rattle.mdb_cashless.specs.Transactions.{transaction_of}
 use Rattle.mdb_cashless.specs.Units.{own}
 
 -- facts are the same where their fields are
 same_fields : {one other : ToldFacts} → one.config ≡ other.config → one.asked ≡ other.asked
-    → one.taken ≡ other.taken → one.amount ≡ other.amount → one.past ≡ other.past → one ≡ other
-same_fields {one} {other} config asked taken amount past =
+    → one.taken ≡ other.taken → one.amount ≡ other.amount → one.extended ≡ other.extended
+    → one.past ≡ other.past → one ≡ other
+same_fields {one} {other} config asked taken amount extended past =
     let same : record one { config = one.config } ≡ record other { config = other.config } =
-    cc (config, asked, taken, amount, past) in
+    cc (config, asked, taken, amount, extended, past) in
     same
 
 -- the facts after a reply, where it is known whether it refuses its command
@@ -36,6 +37,9 @@ answered unit command refused messages old =
           else or_else (own_transaction (own_of unit (if refused then None else Some command)))
           old.taken;
       amount = or_else (last_said amount_in (own_messages unit command messages)) old.amount;
+      extended =
+          extended_after None (last_said level_in (own_messages unit command messages)) None
+          old.extended;
       past =
           past_after
           (resets (effect_taken (effect_of unit) (if refused then None else Some command)))
@@ -55,6 +59,7 @@ answered_own found refused messages old =
           if resets (effect_of_own took) || begin_session own_ones then None
           else or_else (own_transaction took) old.taken;
       amount = or_else (last_said amount_in own_ones) old.amount;
+      extended = extended_after None (last_said level_in own_ones) None old.extended;
       past =
           past_after (resets (effect_of_own took)) (effect_of_own took) (map part_of own_ones)
           old.past;
@@ -74,26 +79,14 @@ last_is : (command : ReaderCommand) (begins : Bool) (last : Option Transaction)
     ≡ (if begins then None else last_after command last)
 last_is reader.Reset true last = refl
 last_is reader.Reset false last = refl
-last_is (reader.SetupConfig level columns rows display) begins last = refl
-last_is (reader.SetupPrices maximum minimum) begins last = refl
-last_is reader.Poll begins last = refl
-last_is (reader.VendRequest price item) begins last = refl
-last_is reader.VendCancel begins last = refl
-last_is (reader.VendSuccess item) begins last = refl
-last_is reader.VendFailure begins last = refl
-last_is reader.SessionComplete begins last = refl
-last_is (reader.CashSale price item) begins last = refl
-last_is reader.Disable begins last = refl
-last_is reader.Enable begins last = refl
-last_is reader.Cancel begins last = refl
-last_is (reader.RequestId identity) begins last = refl
+last_is command begins last = refl
 
 own_answer : (its : ReaderCommand) (refused : Bool) (messages : List ReaderMsg) (old : ToldFacts)
     → answered_own (Some its) refused messages old
     ≡ told messages (taken (if refused then None else Some its) old)
 own_answer its true messages old = refl
 own_answer its false messages old =
-    same_fields refl refl (last_is its (begin_session messages) old.taken) refl refl
+    same_fields refl refl (last_is its (begin_session messages) old.taken) refl refl refl
 
 -- the facts after a reply of this reader: it has taken its command or not, and has told messages
 pub replied : (unit : ReaderUnit) (command : Command) (its : ReaderCommand) (reply : Reply)

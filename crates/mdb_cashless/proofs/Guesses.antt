@@ -51,58 +51,83 @@ where_again : (is : Bool) (to after : View) (itself : Bool) → itself ≡ true
 where_again true to after itself is e = ap (λ b. if b then Some to else None) is ∙ e
 where_again false to after itself is e = absurd cc
 
-sent_again : (last : Option Transaction) (t : Transaction) (before after : View)
-    → sent last t before ≡ Some after → sent (Some t) t before ≡ Some after
-sent_again last (Request price item) view.Asked after e =
+-- the same where more may be sent
+where_same : (one other : Bool) (to after : View)
+    → or_else (if one then Some to else None) (Some to) ≡ Some after
+    → or_else (if other then Some to else None) (Some to) ≡ Some after
+where_same true true to after e = e
+where_same true false to after e = e
+where_same false true to after e = e
+where_same false false to after e = e
+
+where_alone : (is : Bool) (to after : View) (itself : Bool) → itself ≡ true
+    → or_else (if is then Some to else None) None ≡ Some after
+    → or_else (if itself then Some to else None) None ≡ Some after
+where_alone true to after itself is e =
+    ap (λ b. or_else (if b then Some to else None) None) is ∙ e
+where_alone false to after itself is e = absurd cc
+
+sent_again : (refused : Bool) (last : Option Transaction) (t : Transaction) (before after : View)
+    → sent refused last t before ≡ Some after → sent refused (Some t) t before ≡ Some after
+sent_again false last (Request price item) view.Asked after e =
     where_again (is_again last (Request price item)) view.Asked after
     (is_same (Request price item) (Request price item)) (is_itself (Request price item)) e
-sent_again last (Success item) view.SuccessOwed after e =
+sent_again false last (Success item) view.SuccessOwed after e =
     where_again (is_again last (Success item)) view.SuccessOwed after
     (is_same (Success item) (Success item)) (is_itself (Success item)) e
-sent_again last t before after e = e
+sent_again true last (Request price item) view.Asked after e =
+    where_same (is_again last (Request price item))
+    (is_same (Request price item) (Request price item)) view.Asked after e
+sent_again true last (Success item) view.SuccessOwed after e =
+    where_alone (is_again last (Success item)) view.SuccessOwed after
+    (is_same (Success item) (Success item)) (is_itself (Success item)) e
+sent_again refused last t before after e = e
 
--- the view after a command that is asked, by what was asked last
-abbrev asked_after : Option Transaction → ReaderCommand → View → Option View
-asked_after last reader.Reset before = Some view.NoSession
-asked_after last command before =
+-- the view after a command that is asked, by what was asked last and whether that was refused
+abbrev asked_after : Bool → Option Transaction → ReaderCommand → View → Option View
+asked_after refused last reader.Reset before = Some view.NoSession
+asked_after refused last command before =
     elim (transaction_of command) [
-      | Some transaction ↦ sent last transaction before
+      | Some transaction ↦ sent refused last transaction before
       | None ↦ Some before
     ]
 
 asked_is : (facts : Facts) (command : ReaderCommand) (before : View)
-    → asked facts command before ≡ asked_after facts.asked command before
+    → asked facts command before ≡ asked_after facts.refused facts.asked command before
 asked_is facts reader.Reset before = refl
 asked_is facts command before = refl
 
-asked_again : (last : Option Transaction) (command : ReaderCommand) (before after : View)
-    → asked_after last command before ≡ Some after
-    → asked_after (transaction_of command) command before ≡ Some after
-asked_again last (reader.VendRequest price item) before after e =
-    sent_again last (Request price item) before after e
-asked_again last reader.VendCancel before after e = sent_again last Cancel before after e
-asked_again last (reader.VendSuccess item) before after e =
-    sent_again last (Success item) before after e
-asked_again last reader.VendFailure before after e = sent_again last Failure before after e
-asked_again last reader.SessionComplete before after e = sent_again last Complete before after e
-asked_again last command before after e = e
+asked_again : (refused : Bool) (last : Option Transaction) (command : ReaderCommand)
+    (before after : View) → asked_after refused last command before ≡ Some after
+    → asked_after refused (transaction_of command) command before ≡ Some after
+asked_again refused last (reader.VendRequest price item) before after e =
+    sent_again refused last (Request price item) before after e
+asked_again refused last reader.VendCancel before after e =
+    sent_again refused last Cancel before after e
+asked_again refused last (reader.VendSuccess item) before after e =
+    sent_again refused last (Success item) before after e
+asked_again refused last reader.VendFailure before after e =
+    sent_again refused last Failure before after e
+asked_again refused last reader.SessionComplete before after e =
+    sent_again refused last Complete before after e
+asked_again refused last command before after e = e
 
-asked_nothing : (one other : Option Transaction) (command : ReaderCommand) (before : View)
-    → transaction_of command ≡ None → asked_after one command before
-    ≡ asked_after other command before
-asked_nothing one other (reader.VendRequest price item) before none = absurd cc
-asked_nothing one other reader.VendCancel before none = absurd cc
-asked_nothing one other (reader.VendSuccess item) before none = absurd cc
-asked_nothing one other reader.VendFailure before none = absurd cc
-asked_nothing one other reader.SessionComplete before none = absurd cc
-asked_nothing one other command before none = refl
+asked_nothing : (refused : Bool) (one other : Option Transaction) (command : ReaderCommand)
+    (before : View) → transaction_of command ≡ None
+    → asked_after refused one command before ≡ asked_after refused other command before
+asked_nothing refused one other (reader.VendRequest price item) before none = absurd cc
+asked_nothing refused one other reader.VendCancel before none = absurd cc
+asked_nothing refused one other (reader.VendSuccess item) before none = absurd cc
+asked_nothing refused one other reader.VendFailure before none = absurd cc
+asked_nothing refused one other reader.SessionComplete before none = absurd cc
+asked_nothing refused one other command before none = refl
 
 -- an ask depends on what was asked last alone
 ask_with : (facts : Facts) (a : Option Transaction) (t u : Option Transaction)
     (k l : List ReaderActivity) (b : Option Transaction) (command : ReaderCommand)
     (before after : ReaderState) (gains : Gains)
-    → (asked_after a command before.view ≡ Some after.view
-    → asked_after b command before.view ≡ Some after.view)
+    → (asked_after facts.refused a command before.view ≡ Some after.view
+    → asked_after facts.refused b command before.view ≡ Some after.view)
     → AskStep (guessing facts a t k) command before after gains
     → AskStep (guessing facts b u l) command before after gains
 ask_with facts a t u k l b command before after gains may step = record {
@@ -119,7 +144,7 @@ pub ask_again : (facts : Facts) (a t u : Option Transaction) (k l : List ReaderA
     → AskStep (guessing facts (transaction_of command) u l) command before after gains
 ask_again facts a t u k l command before after gains =
     ask_with facts a t u k l (transaction_of command) command before after gains
-    (asked_again a command before.view after.view)
+    (asked_again facts.refused a command before.view after.view)
 
 pub ask_same : (facts : Facts) (a b t u : Option Transaction) (k l : List ReaderActivity)
     (command : ReaderCommand) (before after : ReaderState) (gains : Gains)
@@ -128,10 +153,10 @@ pub ask_same : (facts : Facts) (a b t u : Option Transaction) (k l : List Reader
     → AskStep (guessing facts b u l) command before after gains
 ask_same facts a b t u k l command before after gains (inl same) =
     ask_with facts a t u k l b command before after gains
-    (λ e. ap (λ x. asked_after x command before.view) same ∙ e)
+    (λ e. ap (λ x. asked_after facts.refused x command before.view) same ∙ e)
 ask_same facts a b t u k l command before after gains (inr none) =
     ask_with facts a t u k l b command before after gains
-    (λ e. asked_nothing b a command before.view none ∙ e)
+    (λ e. asked_nothing facts.refused b a command before.view none ∙ e)
 
 -- whether a transaction command, if it is one, is repeated while the reader holds
 abbrev repeats : Option Transaction → Option Transaction → Bool → Bool

@@ -1,13 +1,12 @@
 -- What is held after an ACK, by whether a message of the reply is kept.
 use Rattle.std.proofs.Common.{◌≡◌, ◌⊎◌, inl, inr, ◌&&◌, not, Bool, true, false, List, [], ◌∷◌, refl, map}
-use Rattle.std.specs.List.{list_any}
 use Rattle.mdb_msgs.specs.declared.reply.reader.ReaderMsg.{ReaderMsg}
-use Rattle.mdb_msgs.specs.declared.reply.reader.ReaderMsg.TheVariants.{BeginSession, VendApproved, VendDenied, EndSession}
-use Rattle.mdb_msgs.specs.Reader.{is_kept}
+use Rattle.mdb_msgs.specs.declared.reply.reader.ReaderMsg.TheVariants.{BeginSession, BeginSessionLong, VendApproved, VendDenied, EndSession}
 use Rattle.mdb_machine.specs.declared.choice.Choice.{Choice}
 use Rattle.mdb_machine.specs.declared.choice.Choice.TheVariants.{Plain, Lost, Restart}
 use Rattle.mdb_machine.specs.Kept.{holds_acked, kept_of}
 use Rattle.mdb_cashless.specs.ReaderMessages.{part_of}
+use Rattle.mdb_cashless.specs.inner.ReaderSaid.{keeps_some}
 
 -- what the reader holds, by that
 abbrev pub held_on : Choice → Bool → Bool → Bool
@@ -30,17 +29,19 @@ some Restart message kept true = refl
 some Restart message kept false = refl
 
 pub acked_is : (messages : List ReaderMsg) (choice : Choice) (holds : Bool)
-    → held_on choice (list_any is_kept messages) holds
+    → held_on choice (keeps_some messages) holds
     ≡ holds_acked choice (kept_of (map part_of messages)) holds
 acked_is [] choice holds = none choice holds
 acked_is (BeginSession funds ∷ messages) choice holds = some choice _ _ holds
+acked_is (BeginSessionLong funds media kind details ∷ messages) choice holds =
+    some choice _ _ holds
 acked_is (VendApproved amount ∷ messages) choice holds = some choice _ _ holds
 acked_is (VendDenied ∷ messages) choice holds = some choice _ _ holds
 acked_is (EndSession ∷ messages) choice holds = some choice _ _ holds
 acked_is (_ ∷ messages) choice holds = acked_is messages choice holds
 
 pub heard_is : (choice : Choice) → (choice ≡ Plain) ⊎ (choice ≡ Restart)
-    → (messages : List ReaderMsg) (holds : Bool) → (holds && not (list_any is_kept messages))
+    → (messages : List ReaderMsg) (holds : Bool) → (holds && not (keeps_some messages))
     ≡ holds_acked choice (kept_of (map part_of messages)) holds
 heard_is Plain heard messages holds = acked_is messages Plain holds
 heard_is Restart heard messages holds = acked_is messages Restart holds

@@ -29,17 +29,18 @@ use Rattle.mdb_cashless.specs.inner.Guesses.{IsReplyKeeping, OfSome, again, keep
 use Rattle.mdb_cashless.proofs.Guesses.{ack_same, ack_with, ask_again, ask_same, either_meets, fronts, guessing, held_before, meets_itself, reply_with}
 
 pub same_facts : {one other : Facts} → one.config ≡ other.config → one.asked ≡ other.asked
-    → one.taken ≡ other.taken → one.amount ≡ other.amount → one.past ≡ other.past → one ≡ other
-same_facts {one} {other} config asked taken amount past =
+    → one.taken ≡ other.taken → one.amount ≡ other.amount → one.refused ≡ other.refused
+    → one.past ≡ other.past → one ≡ other
+same_facts {one} {other} config asked taken amount refused past =
     let same : record one { config = one.config } ≡ record other { config = other.config } =
-    cc (config, asked, taken, amount, past) in
+    cc (config, asked, taken, amount, refused, past) in
     same
 
 -- facts that may be
 as_guess : (known : ReaderKnown) (holds : Bool) (facts : Facts)
     → AllowsFacts (known_in known) holds facts
     → facts ≡ guessing (facts_in known.facts) facts.asked facts.taken facts.past.last_kept
-as_guess known holds facts is = same_facts is.config refl refl is.amount
+as_guess known holds facts is = same_facts is.config refl refl is.amount is.refused
     (same_past (λ kind. ap (λ e. e kind) is.past.enabled) is.past.reset_owed refl)
 
 allowed : (known : ReaderKnown) (holds : Bool) (a t : Option Transaction)
@@ -52,6 +53,7 @@ allowed known holds a t k asked taken kept = record {
   asked = asked;
   taken = taken;
   amount = refl;
+  refused = refl;
   past = record { enabled = refl; reset_owed = refl; last_kept = kept };
 }
 

@@ -24,7 +24,7 @@ use Rattle.mdb_cashless.specs.declared.reader.facts.ReaderFacts.{ReaderFacts}
 use Rattle.mdb_cashless.specs.declared.reader.known.ReaderKnown.{ReaderKnown}
 use Rattle.mdb_cashless.specs.declared.reader.transaction.Transaction.{Transaction}
 use Rattle.mdb_cashless.specs.Reader.{drops}
-use Rattle.mdb_cashless.specs.ReaderFacts.{asked_by, effect_of, effect_of_own, ends_transactions, known_of, own_messages, own_of, own_transaction, parts_by, taken_told, transaction_taken_by}
+use Rattle.mdb_cashless.specs.ReaderFacts.{asked_by, effect_of, effect_of_own, ends_transactions, extended_of, known_of, own_messages, own_of, own_transaction, parts_by, taken_told, transaction_taken_by}
 use Rattle.mdb_cashless.specs.ReaderMessages.{begin_session, messages_of}
 use Rattle.mdb_cashless.specs.ReaderValues.{ToldFacts, known_in, known_with, tells_taken, told_in, told_with}
 use Rattle.mdb_cashless.specs.Transactions.{transaction_of}
@@ -90,6 +90,7 @@ known_after unit act old new asked taken kept same = same_fields
     ∙ taken_after old.knows_taken (ends_transactions unit act) (transaction_taken_by unit act)
     old.facts.taken)
     (ap (λ (t : ToldFacts). t.amount) same)
+    (ap (λ (t : ToldFacts). t.extended) same)
     (past_more old.knows_kept new.knows_kept old.facts.past new.facts.past
     (powers_on (effect_of unit) act) (effect_by (effect_of unit) act) (parts_by unit act) kept
     (ap (λ (t : ToldFacts). t.past) same))
@@ -99,6 +100,7 @@ pub known_first : (unit : ReaderUnit) (begins : Beginning) (facts : ReaderFacts)
     → knows ≡ from_power_on begins
     → facts.config ≡ known_before (λ setups. config_known setups unit) begins
     → facts.asked ≡ None → facts.taken ≡ None → facts.amount ≡ None
+    → facts.extended ≡ extended_of begins unit []
     → past_in facts.past ≡ first_past begins
     → known_in (record {
       facts = facts;
@@ -107,17 +109,19 @@ pub known_first : (unit : ReaderUnit) (begins : Beginning) (facts : ReaderFacts)
       knows_kept = knows;
     })
     ≡ known_of begins unit []
-known_first unit (PowerOn profile) facts knows so config asked taken amount past = same_fields
+known_first unit (PowerOn profile) facts knows so config asked taken amount extended past =
+    same_fields
     config (ap (λ k. if_known k facts.asked) so ∙ ap (λ a. if_known true a) asked)
     (ap (λ k. if_known k facts.taken) so ∙ ap (λ a. if_known true a) taken)
-    amount
+    amount extended
     (same_known_past (λ kind. ap (λ p. p.enabled kind) past) (ap (λ p. p.reset_owed) past)
     (ap (λ k. if_known k facts.past.last_kept.items) so
     ∙ ap (λ p. if_known true p.last_kept) past))
-known_first unit (Joined setups profile) facts knows so config asked taken amount past = same_fields
+known_first unit (Joined setups profile) facts knows so config asked taken amount extended past =
+    same_fields
     config (ap (λ k. if_known k facts.asked) so)
     (ap (λ k. if_known k facts.taken) so)
-    amount
+    amount extended
     (same_known_past (λ kind. ap (λ p. p.enabled kind) past) (ap (λ p. p.reset_owed) past)
     (ap (λ k. if_known k facts.past.last_kept.items) so))
 

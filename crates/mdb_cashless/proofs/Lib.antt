@@ -12,4 +12,3 @@ pub mod Resets
 pub mod Said
 pub mod Sales
 pub mod Steps
-pub mod Transactions

@@ -20,7 +20,7 @@ use Rattle.mdb_machine.specs.declared.gains.Gains.{Gains}
 use Rattle.mdb_machine.specs.Gains.{device_gains, in_slots}
 use Rattle.mdb_machine.specs.Kept.{IsNew, MayBeKept, held, holds_after, kept_of}
 use Rattle.mdb_machine.specs.Known.{Allows, AllowsKept, known_by}
-use Rattle.mdb_machine.specs.Past.{last_list, last_told, or_else, powers_on, resets, unless_empty}
+use Rattle.mdb_machine.specs.Past.{last_list, last_told, or_else, past_of, powers_on, resets, unless_empty}
 use Rattle.mdb_machine.specs.shared.PastWays.{same_past}
 use Rattle.mdb_cashless.specs.declared.reader.messages.ReaderActivity.{ReaderActivity}
 use Rattle.mdb_cashless.specs.declared.reader.messages.ReaderActivity.TheVariants.{VendDenied}
@@ -29,7 +29,7 @@ use Rattle.mdb_cashless.specs.declared.reader.transaction.Ended.{Ended}
 use Rattle.mdb_cashless.specs.declared.reader.transaction.Transaction.{Transaction}
 use Rattle.mdb_cashless.specs.Reader.{AckStep, all_approved, AskStep, ReaderStep, ReplyStep, StepKnowing, before_messages, drops, is_poll, is_repeated, machine, read, sold_any, take_any, taken, value, view_heard}
 use Rattle.mdb_cashless.specs.ReaderDevice.{all_told, effect, has_approved}
-use Rattle.mdb_cashless.specs.ReaderFacts.{AllowsFacts, Facts, asked_by, effect_of, effect_of_own, ends_transactions, facts_of, known_of, own_transaction, parts_by, taken_told, transaction_taken_by}
+use Rattle.mdb_cashless.specs.ReaderFacts.{AllowsFacts, Facts, asked_by, effect_of, effect_of_own, ends_transactions, known_of, last_taken, own_transaction, parts_by, taken_told, transaction_taken_by}
 use Rattle.mdb_cashless.specs.ReaderMessages.{config_in, last_said, messages_of, parts_of}
 use Rattle.mdb_cashless.specs.Transactions.{amounts, ended_by, is_again, is_same, no_end, transaction_of}
 use Rattle.mdb_cashless.specs.Units.{own}
@@ -106,7 +106,7 @@ is_taken_known unit so_far = by (last_told (taken_told unit) so_far) refl
 -- what may have been taken last
 taken_allows : (unit : ReaderUnit) (setups : Setups) (profile : Profile) (so_far : List Act)
     (t : Option Transaction)
-    → ((TakesNone unit so_far → ⊥) → t ≡ (facts_of unit so_far).taken)
+    → ((TakesNone unit so_far → ⊥) → t ≡ last_taken unit so_far)
     → Allows (known_of (Joined setups profile) unit so_far).taken t
 taken_allows unit setups profile so_far t is =
     allows_if setups profile None (last_told (taken_told unit) so_far) t
@@ -115,7 +115,7 @@ taken_allows unit setups profile so_far t is =
 taken_so : (unit : ReaderUnit) (setups : Setups) (profile : Profile) (so_far : List Act)
     (t : Option Transaction)
     → Allows (known_of (Joined setups profile) unit so_far).taken t → (TakesNone unit so_far → ⊥)
-    → t ≡ (facts_of unit so_far).taken
+    → t ≡ last_taken unit so_far
 taken_so unit setups profile so_far t allows known =
     as_allowed setups profile None (last_told (taken_told unit) so_far) t allows
     (λ none. known (taken_by_none unit so_far none)) ∙ sym (last_taken_is unit so_far)
@@ -138,14 +138,16 @@ some_kept unit setups profile so_far holds last allows held =
 same_kept : (unit : ReaderUnit) (setups : Setups) (profile : Profile) (so_far : List Act)
     (holds : Bool) (last : List ReaderActivity)
     → AllowsKept (known_of (Joined setups profile) unit so_far).past.last_kept holds last
-    → (TellsNone unit so_far → ⊥) → last ≡ (facts_of unit so_far).past.last_kept
+    → (TellsNone unit so_far → ⊥) → last
+    ≡ (past_of (effect_of unit) (parts_by unit) so_far).last_kept
 same_kept unit setups profile so_far holds last allows known =
     kept_so setups profile holds (last_list (parts_by unit) so_far) last allows
     (λ none. known (kept_by_none unit so_far none))
 
 kept_allows : (unit : ReaderUnit) (setups : Setups) (profile : Profile) (so_far : List Act)
     (holds : Bool) (last : List ReaderActivity) → last ≢ []
-    → ((TellsNone unit so_far → ⊥) → last ≡ (facts_of unit so_far).past.last_kept)
+    → ((TellsNone unit so_far → ⊥) → last
+    ≡ (past_of (effect_of unit) (parts_by unit) so_far).last_kept)
     → AllowsKept (known_of (Joined setups profile) unit so_far).past.last_kept holds last
 kept_allows unit setups profile so_far holds last some is =
     keeps_if setups profile holds (last_list (parts_by unit) so_far) last (λ none. some)
@@ -154,17 +156,18 @@ kept_allows unit setups profile so_far holds last some is =
 -- the facts that acts tell are those that are known
 same_owed : (unit : ReaderUnit) (setups : Setups) (profile : Profile) (so_far : List Act)
     → (known_of (Joined setups profile) unit so_far).past.reset_owed
-    ≡ (facts_recorded unit setups so_far).past.reset_owed
-same_owed unit setups profile so_far = not_not (facts_of unit so_far).past.reset_owed
+    ≡ (facts_recorded unit setups profile so_far).past.reset_owed
+same_owed unit setups profile so_far = not_not
+    (past_of (effect_of unit) (parts_by unit) so_far).reset_owed
     (list_any (powers_on (effect_of unit)) so_far)
 
 as_guess : (unit : ReaderUnit) (setups : Setups) (profile : Profile) (so_far : List Act)
     (holds : Bool) (facts : Facts)
     → AllowsFacts (known_of (Joined setups profile) unit so_far) holds facts
-    → facts ≡ guessing (facts_recorded unit setups so_far) facts.asked facts.taken
+    → facts ≡ guessing (facts_recorded unit setups profile so_far) facts.asked facts.taken
     facts.past.last_kept
 as_guess unit setups profile so_far holds facts is =
-    same_facts is.config refl refl is.amount
+    same_facts is.config refl refl is.amount is.refused
     (same_past (λ kind. ap (λ e. e kind) is.past.enabled)
     (is.past.reset_owed ∙ same_owed unit setups profile so_far) refl)
 
@@ -174,12 +177,13 @@ guess_allowed : (unit : ReaderUnit) (setups : Setups) (profile : Profile) (so_fa
     → Allows (known_of (Joined setups profile) unit so_far).taken t
     → AllowsKept (known_of (Joined setups profile) unit so_far).past.last_kept holds k
     → AllowsFacts (known_of (Joined setups profile) unit so_far) holds
-    (guessing (facts_recorded unit setups so_far) a t k)
+    (guessing (facts_recorded unit setups profile so_far) a t k)
 guess_allowed unit setups profile so_far holds a t k asked taken kept = record {
   config = refl;
   asked = asked;
   taken = taken;
   amount = refl;
+  refused = refl;
   past = record {
     enabled = refl;
     reset_owed = sym (same_owed unit setups profile so_far);
@@ -188,12 +192,12 @@ guess_allowed unit setups profile so_far holds a t k asked taken kept = record {
 }
 
 its_taken : (unit : ReaderUnit) (setups : Setups) (profile : Profile) (so_far : List Act)
-    → Allows (known_of (Joined setups profile) unit so_far).taken (facts_of unit so_far).taken
+    → Allows (known_of (Joined setups profile) unit so_far).taken (last_taken unit so_far)
 its_taken unit setups profile so_far =
-    taken_allows unit setups profile so_far (facts_of unit so_far).taken (λ known. refl)
+    taken_allows unit setups profile so_far (last_taken unit so_far) (λ known. refl)
 
 its_asked : (unit : ReaderUnit) (setups : Setups) (profile : Profile) (so_far : List Act)
-    → Allows (known_of (Joined setups profile) unit so_far).asked (facts_of unit so_far).asked
+    → Allows (known_of (Joined setups profile) unit so_far).asked (last_told (asked_by unit) so_far)
 its_asked unit setups profile so_far = allows_told setups profile (last_told (asked_by unit) so_far)
 
 a_list : (unit : ReaderUnit) (setups : Setups) (profile : Profile) (so_far : List Act)
@@ -210,11 +214,12 @@ pub sent_way : (unit : ReaderUnit) (setups : Setups) (profile : Profile) (so_far
     → ((facts : Facts) × AllowsFacts (known_of (Joined setups profile) unit so_far) before.holds
     facts
     × AskStep facts command before after gains)
-    ↔ AskStep (record (facts_recorded unit setups so_far) { asked = transaction_of command })
+    ↔ AskStep (record (facts_recorded unit setups profile so_far)
+    { asked = transaction_of command })
     command
     before after gains
 sent_way unit setups profile so_far command before after gains none =
-    let base = facts_recorded unit setups so_far in
+    let base = facts_recorded unit setups profile so_far in
     let kept = a_list unit setups profile so_far before.holds in (
       λ some.
           let facts = some.0 in
@@ -239,7 +244,8 @@ pub sent : (unit : ReaderUnit) (setups : Setups) (profile : Profile) (so_far : L
     → SendsNone unit so_far
     → (machine unit (Joined setups profile)).Step so_far (acts.Ask (commands.Reader unit command))
     choice before after gains
-    ↔ AskStep (record (facts_recorded unit setups so_far) { asked = transaction_of command })
+    ↔ AskStep (record (facts_recorded unit setups profile so_far)
+    { asked = transaction_of command })
     command
     before after gains
 sent First setups profile so_far command choice before after gains none =
@@ -332,15 +338,15 @@ takes_to : SameFields → (unit : ReaderUnit) (setups : Setups) (profile : Profi
     (so_far : List Act) (facts : Facts) (holds : Bool) → AllowsFacts
     (known_of (Joined setups profile) unit so_far) holds facts
     → (its : Option ReaderCommand) (before : ReaderState)
-    → Takes unit so_far (facts_recorded unit setups so_far) its before (take_any facts its before)
-    (sold_any facts its before)
+    → Takes unit so_far (facts_recorded unit setups profile so_far) its before
+    (take_any facts its before) (sold_any facts its before)
 takes_to fields unit setups profile so_far facts holds allowed None before =
     inr (λ t is held known same. absurd cc, refl, refl)
 takes_to fields unit setups profile so_far facts holds allowed (Some command) before =
     by (is_repeated facts command before.holds) refl
   where
     base : Facts
-    base = facts_recorded unit setups so_far
+    base = facts_recorded unit setups profile so_far
 
     by : (r : Bool) → is_repeated facts command before.holds ≡ r
         → Takes unit so_far base (Some command) before (take_any facts (Some command) before)
@@ -385,8 +391,8 @@ TakesAfter unit setups profile so_far its before after sold guess t =
     Allows (known_of (Joined setups profile) unit so_far).taken t
     × (or_else (own_transaction its) t ≡ or_else (own_transaction its) guess)
     × ((a : Option Transaction) (k : List ReaderActivity)
-    → (take_any (guessing (facts_recorded unit setups so_far) a t k) its before ≡ after)
-    × (sold_any (guessing (facts_recorded unit setups so_far) a t k) its before ≡ sold))
+    → (take_any (guessing (facts_recorded unit setups profile so_far) a t k) its before ≡ after)
+    × (sold_any (guessing (facts_recorded unit setups profile so_far) a t k) its before ≡ sold))
 
 own_is : (its : Option Transaction) (t : Transaction) (one other : Option Transaction)
     → its ≡ Some t → or_else its one ≡ or_else its other
@@ -398,7 +404,7 @@ another_guess : SameFields → (unit : ReaderUnit) (setups : Setups) (profile : 
     (so_far : List Act) (its : Option Transaction) (holds : Bool) (guess : Option Transaction)
     → Allows (known_of (Joined setups profile) unit so_far).taken guess
     → ((t : Transaction) → its ≡ Some t → holds ≡ true → (TakesNone unit so_far → ⊥)
-    → (facts_of unit so_far).taken ≢ Some t)
+    → last_taken unit so_far ≢ Some t)
     → (t : Option Transaction) × Allows (known_of (Joined setups profile) unit so_far).taken t
     × (or_else its t ≡ or_else its guess) × (repeats t its holds ≡ false)
 another_guess fields unit setups profile so_far None holds guess may other =
@@ -412,10 +418,10 @@ another_guess fields unit setups profile so_far (Some s) holds guess may other =
         not_repeated fields None (Some s) holds (λ t is held same. absurd cc),
       )
       | inr known ↦ (
-        (facts_of unit so_far).taken,
+        last_taken unit so_far,
         its_taken unit setups profile so_far,
         refl,
-        not_repeated fields (facts_of unit so_far).taken (Some s) holds
+        not_repeated fields (last_taken unit so_far) (Some s) holds
             (λ t is held. other t is held known),
       )
     ]
@@ -423,7 +429,7 @@ another_guess fields unit setups profile so_far (Some s) holds guess may other =
 takes_from : SameFields → (unit : ReaderUnit) (setups : Setups) (profile : Profile)
     (so_far : List Act) (its : Option ReaderCommand) (before after : ReaderState) (sold : Ended)
     (guess : Option Transaction) → Allows (known_of (Joined setups profile) unit so_far).taken guess
-    → Takes unit so_far (facts_recorded unit setups so_far) its before after sold
+    → Takes unit so_far (facts_recorded unit setups profile so_far) its before after sold
     → (t : Option Transaction) × TakesAfter unit setups profile so_far its before after sold guess t
 takes_from fields unit setups profile so_far None before after sold guess may (inl again) = absurd
     cc
@@ -435,7 +441,7 @@ takes_from fields unit setups profile so_far (Some command) before after sold gu
         taken_allows unit setups profile so_far (Some t) (λ known. sym (again.0.last known)),
         own_is (transaction_of command) t (Some t) guess again.0.is,
         λ a k.
-            let facts = guessing (facts_recorded unit setups so_far) a (Some t) k in
+            let facts = guessing (facts_recorded unit setups profile so_far) a (Some t) k in
             let to = taken_again facts command before
             (repeated fields t (transaction_of command) before.holds again.0.is
             again.0.holds_some) in
@@ -454,7 +460,7 @@ takes_from fields unit setups profile so_far (Some command) before after sold gu
         one.1,
         one.2,
         λ a k.
-            let facts = guessing (facts_recorded unit setups so_far) a one.0 k in
+            let facts = guessing (facts_recorded unit setups profile so_far) a one.0 k in
             let to = taken_anew facts command before one.3 in
             (to.0 ∙ sym another.1, to.1 ∙ sym another.2),
       ),
@@ -467,7 +473,8 @@ pub ack_ways : SameFields → (unit : ReaderUnit) (setups : Setups) (profile : P
     → ((facts : Facts) × AllowsFacts (known_of (Joined setups profile) unit so_far) before.holds
     facts
     × AckStep facts command choice before after gains)
-    ↔ AckWay unit so_far (facts_recorded unit setups so_far) command choice before after gains
+    ↔ AckWay unit so_far (facts_recorded unit setups profile so_far) command choice before after
+    gains
 ack_ways fields unit setups profile so_far command choice before after gains = (
   λ some.
       let facts = some.0 in
@@ -482,7 +489,7 @@ ack_ways fields unit setups profile so_far command choice before after gains = (
         gained = step.gained;
       },
   λ way.
-      let base = facts_recorded unit setups so_far in
+      let base = facts_recorded unit setups profile so_far in
       let one = takes_from fields unit setups profile so_far (Some command) before way.middle
       way.sold base.taken (its_taken unit setups profile so_far) way.takes in
       let kept = a_list unit setups profile so_far before.holds in
@@ -503,7 +510,8 @@ ack_ways fields unit setups profile so_far command choice before after gains = (
 -- what is held of a reply's kept messages
 held_to : (unit : ReaderUnit) (so_far : List Act) (poll holds : Bool)
     (last kept news : List ReaderActivity) → (holds ≡ true → last ≢ [])
-    → ((TellsNone unit so_far → ⊥) → last ≡ (facts_of unit so_far).past.last_kept)
+    → ((TellsNone unit so_far → ⊥) → last
+    ≡ (past_of (effect_of unit) (parts_by unit) so_far).last_kept)
     → IsNew poll (held holds last) kept news
     → (count : ℕ) × (AreHeld unit so_far poll holds kept count × (news ≡ drop count kept))
 held_to unit so_far poll false last kept news some known (inl order) = (0, (refl, sym order))
@@ -557,12 +565,12 @@ pub reply_ways : SameFields → (unit : ReaderUnit) (setups : Setups) (profile :
     → ((facts : Facts) × AllowsFacts (known_of (Joined setups profile) unit so_far) before.holds
     facts
     × ReplyStep facts command reply choice before after gains)
-    ↔ ReplyWay unit so_far (facts_recorded unit setups so_far) command reply choice before after
-    gains
+    ↔ ReplyWay unit so_far (facts_recorded unit setups profile so_far) command reply choice before
+    after gains
 reply_ways fields unit setups profile so_far command reply choice before after gains = (forth, back)
   where
     base : Facts
-    base = facts_recorded unit setups so_far
+    base = facts_recorded unit setups profile so_far
 
     its : Option ReaderCommand
     its = taken command reply
@@ -653,7 +661,7 @@ pub settled_way : (unit : ReaderUnit) (setups : Setups) (profile : Profile) (so_
     (act : Act) (choice : Choice) (before after : ReaderState) (gains : Gains)
     → IsSettled unit so_far act
     → StepKnowing unit (known_of (Joined setups profile) unit so_far) act choice before after gains
-    ↔ ReaderStep unit (facts_recorded unit setups so_far) act choice before after gains
+    ↔ ReaderStep unit (facts_recorded unit setups profile so_far) act choice before after gains
 settled_way unit setups profile so_far act choice before after gains settled = (
   λ step.
       let facts = step.facts in
@@ -679,7 +687,7 @@ settled_way unit setups profile so_far act choice before after gains settled = (
 )
   where
     base : Facts
-    base = facts_recorded unit setups so_far
+    base = facts_recorded unit setups profile so_far
 
     no_own : (found : Option ReaderCommand) (X : ReaderCommand → Type 0) → found ≡ None
         → (its : ReaderCommand) → found ≡ Some its → X its
@@ -714,7 +722,8 @@ pub acked : SameFields → (unit : ReaderUnit) (setups : Setups) (profile : Prof
     (gains : Gains)
     → (machine unit (Joined setups profile)).Step so_far (acts.Ack (commands.Reader unit command))
     choice before after gains
-    ↔ AckWay unit so_far (facts_recorded unit setups so_far) command choice before after gains
+    ↔ AckWay unit so_far (facts_recorded unit setups profile so_far) command choice before after
+    gains
 acked fields First setups profile so_far command choice before after gains =
     let ways = ack_ways fields First setups profile so_far command choice before after gains in (
       λ step. ways.0 (step.facts, step.allowed, step.step),
@@ -735,8 +744,8 @@ pub replied : SameFields → (unit : ReaderUnit) (setups : Setups) (profile : Pr
     (before after : ReaderState) (gains : Gains)
     → (machine unit (Joined setups profile)).Step so_far
     (acts.Reply (commands.Reader unit command) reply) choice before after gains
-    ↔ ReplyWay unit so_far (facts_recorded unit setups so_far) command reply choice before after
-    gains
+    ↔ ReplyWay unit so_far (facts_recorded unit setups profile so_far) command reply choice before
+    after gains
 replied fields First setups profile so_far command reply choice before after gains =
     let ways = reply_ways fields First setups profile so_far command reply choice before after
     gains in (

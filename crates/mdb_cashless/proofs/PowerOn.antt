@@ -62,7 +62,8 @@ owed_so false = refl
 
 pub power_on_known : (unit : ReaderUnit) (profile : Profile) (acts : List Act) (holds : Bool)
     (facts : Facts)
-    → AllowsFacts (known_of (PowerOn profile) unit acts) holds facts ↔ (facts ≡ facts_of unit acts)
+    → AllowsFacts (known_of (PowerOn profile) unit acts) holds facts
+    ↔ (facts ≡ facts_of (PowerOn profile) unit acts)
 power_on_known unit profile acts holds facts =
     let config = or_none (last_told (config_by unit) acts) in
     let asked = asked_known profile (last_told (asked_by unit) acts) in
@@ -71,6 +72,7 @@ power_on_known unit profile acts holds facts =
     let kept = kept_known profile (last_list (parts_by unit) acts) holds in (
       λ is. same_facts (is.config ∙ config) ((asked facts.asked).0 is.asked)
           ((taken facts.taken).0 is.taken ∙ sym (last_taken_is unit acts)) is.amount
+          is.refused
           (same_past
           (λ kind. ap (λ e. e kind) is.past.enabled ∙ no_more (past.enabled kind) (ltb kind 16))
           (is.past.reset_owed ∙ owed_so past.reset_owed)
@@ -80,6 +82,7 @@ power_on_known unit profile acts holds facts =
         asked = (asked facts.asked).1 (ap (λ (f : Facts). f.asked) same);
         taken = (taken facts.taken).1 (ap (λ (f : Facts). f.taken) same ∙ last_taken_is unit acts);
         amount = ap (λ (f : Facts). f.amount) same;
+        refused = ap (λ (f : Facts). f.refused) same;
         past = record {
           enabled = fun_ext (λ kind. ap (λ (f : Facts). f.past.enabled kind) same
               ∙ sym (no_more (past.enabled kind) (ltb kind 16)));
@@ -93,13 +96,14 @@ power_on_known unit profile acts holds facts =
 pub power_on_steps : (unit : ReaderUnit) (profile : Profile) (so_far : List Act) (act : Act)
     (choice : Choice) (before after : ReaderState) (gains : Gains)
     → StepKnowing unit (known_of (PowerOn profile) unit so_far) act choice before after gains
-    ↔ ReaderStep unit (facts_of unit so_far) act choice before after gains
+    ↔ ReaderStep unit (facts_of (PowerOn profile) unit so_far) act choice before after gains
 power_on_steps unit profile so_far act choice before after gains = (
   λ step. subst (λ f. ReaderStep unit f act choice before after gains)
       ((power_on_known unit profile so_far before.holds step.facts).0 step.allowed) step.step,
   λ step. record {
-    facts = facts_of unit so_far;
-    allowed = (power_on_known unit profile so_far before.holds (facts_of unit so_far)).1 refl;
+    facts = facts_of (PowerOn profile) unit so_far;
+    allowed = (power_on_known unit profile so_far before.holds
+        (facts_of (PowerOn profile) unit so_far)).1 refl;
     step = step;
   },
 )

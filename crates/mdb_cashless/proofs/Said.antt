@@ -9,7 +9,7 @@ use Rattle.mdb_machine.specs.Kept.{IsSummary}
 use Rattle.mdb_machine.specs.Past.{is_out_of_sequence, or_else}
 use Rattle.mdb_cashless.specs.declared.reader.messages.ReaderActivity.{ReaderActivity}
 use Rattle.mdb_cashless.specs.declared.reader.messages.Said.{Said}
-use Rattle.mdb_cashless.specs.ReaderMessages.{amount_in, begins_session, config_in, last_said, part_of}
+use Rattle.mdb_cashless.specs.ReaderMessages.{amount_in, begins_session, config_in, last_said, level_in, part_of}
 use Rattle.mdb_cashless.specs.inner.ReaderSaid.{IsSaid}
 
 -- two words for one thing
@@ -54,8 +54,9 @@ pub said_more : (old new : Said) (messages : List ReaderMsg) (m : ReaderMsg) →
     → new.config ≡ or_else (config_in m) old.config → new.amount ≡ or_else (amount_in m) old.amount
     → new.begins ≡ (begins_session m || old.begins)
     → new.refused ≡ (is_out_of_sequence m || old.refused)
+    → new.level ≡ or_else (level_in m) old.level
     → IsSaid new (messages ++ m ∷ [])
-said_more old new messages m said summary config amount begins refused =
+said_more old new messages m said summary config amount begins refused level =
     record {
       summary_is =
           subst (λ (parts : List (Part ReaderActivity)).
@@ -78,4 +79,8 @@ said_more old new messages m said summary config amount begins refused =
           refused
           ∙ (ap (λ b. is_out_of_sequence m || b) said.refused_is
           ∙ sym (any_last is_out_of_sequence messages m));
+      level_is =
+          level
+          ∙ (ap (or_else (level_in m)) said.level_is
+          ∙ sym (last_said-more level_in messages m));
     }

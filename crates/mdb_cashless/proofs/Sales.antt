@@ -30,7 +30,7 @@ use Rattle.mdb_cashless.specs.Reader.{AckStep, AskStep, ReaderStep, ReplyStep, S
 use Rattle.mdb_cashless.specs.ReaderFacts.{Facts, asked_by, known_of, own_transaction}
 use Rattle.mdb_cashless.specs.ReaderMessages.{messages_of}
 use Rattle.mdb_cashless.specs.ReaderView as reader_view
-use Rattle.mdb_cashless.specs.ReaderView.{all_heard, heard, sent}
+use Rattle.mdb_cashless.specs.ReaderView.{all_heard, heard, sent, sent_in_turn, waits}
 use Rattle.mdb_cashless.specs.shared.SaleViews.{AcksLastReply, MayTellOfSale, TellsOfSale}
 use Rattle.mdb_cashless.specs.Sales.{EndsInReply, IsApproved, IsRequested, IsUnrequested, LeavesSale, MayBeRequestedBefore}
 use Rattle.mdb_cashless.specs.Transactions.{is_again, is_same, transaction_of}
@@ -157,6 +157,22 @@ hear Tells none idle (messages.BeginSession funds) one two Approved tells = tell
 hear Tells none idle (messages.BeginSession funds) one two SuccessOwed tells = tells
 hear Tells none idle (messages.BeginSession funds) one two FailureOwed tells = tells
 hear Tells none idle (messages.BeginSession funds) one two Ending tells = tells
+hear Tells none idle (messages.BeginSessionLong funds media kind details) one two NoSession tells =
+    idle
+hear Tells none idle (messages.BeginSessionLong funds media kind details) one two Idle tells =
+    tells
+hear Tells none idle (messages.BeginSessionLong funds media kind details) one two Asked tells =
+    tells
+hear Tells none idle (messages.BeginSessionLong funds media kind details) one two Waiting tells =
+    tells
+hear Tells none idle (messages.BeginSessionLong funds media kind details) one two Approved tells =
+    tells
+hear Tells none idle (messages.BeginSessionLong funds media kind details) one two
+    SuccessOwed tells = tells
+hear Tells none idle (messages.BeginSessionLong funds media kind details) one two
+    FailureOwed tells = tells
+hear Tells none idle (messages.BeginSessionLong funds media kind details) one two Ending tells =
+    tells
 hear Tells none idle (messages.VendApproved amount) one two NoSession tells = tells
 hear Tells none idle (messages.VendApproved amount) one two Idle tells = tells
 hear Tells none idle (messages.VendApproved amount) one two Asked tells = one amount refl tells
@@ -410,12 +426,12 @@ requests unit command price item so_far is = record {
   undecided = All-nil (LeavesSale unit (λ t. (t ≡ Request price item) ⊎ (t ≡ Cancel)));
 }
 
--- the view after each transaction command
+-- the view after each transaction command that is sent in turn
 asks_request : SameFields
     → (unit : ReaderUnit) (last : Option Transaction) (command : Command) (price item : ℕ)
     (so_far : List Act) (before after : View)
     → own unit command ≡ Some (reader.VendRequest price item)
-    → TellsOfSale unit before so_far → sent last (Request price item) before ≡ Some after
+    → TellsOfSale unit before so_far → sent_in_turn last (Request price item) before ≡ Some after
     → TellsOfSale unit after (acts.Ask command ∷ so_far)
 asks_request law unit last command price item so_far NoSession after is tells sends = absurd cc
 asks_request law unit last command price item so_far Idle after is tells sends =
@@ -436,7 +452,7 @@ asks_cancel : SameFields
     → (unit : ReaderUnit) (last : Option Transaction) (command : Command) (so_far : List Act)
     (before after : View)
     → own unit command ≡ Some reader.VendCancel
-    → TellsOfSale unit before so_far → sent last Cancel before ≡ Some after
+    → TellsOfSale unit before so_far → sent_in_turn last Cancel before ≡ Some after
     → TellsOfSale unit after (acts.Ask command ∷ so_far)
 asks_cancel law unit last command so_far NoSession after is tells sends = absurd cc
 asks_cancel law unit last command so_far Idle after is tells sends = absurd cc
@@ -459,7 +475,7 @@ asks_failure : SameFields
     → (unit : ReaderUnit) (last : Option Transaction) (command : Command) (so_far : List Act)
     (before after : View)
     → own unit command ≡ Some reader.VendFailure
-    → TellsOfSale unit before so_far → sent last Failure before ≡ Some after
+    → TellsOfSale unit before so_far → sent_in_turn last Failure before ≡ Some after
     → TellsOfSale unit after (acts.Ask command ∷ so_far)
 asks_failure law unit last command so_far NoSession after is tells sends = absurd cc
 asks_failure law unit last command so_far Idle after is tells sends = absurd cc
@@ -478,7 +494,7 @@ asks_complete : SameFields
     → (unit : ReaderUnit) (last : Option Transaction) (command : Command) (so_far : List Act)
     (before after : View)
     → own unit command ≡ Some reader.SessionComplete
-    → TellsOfSale unit before so_far → sent last Complete before ≡ Some after
+    → TellsOfSale unit before so_far → sent_in_turn last Complete before ≡ Some after
     → TellsOfSale unit after (acts.Ask command ∷ so_far)
 asks_complete law unit last command so_far NoSession after is tells sends = absurd cc
 asks_complete law unit last command so_far Idle after is tells sends =
@@ -515,7 +531,7 @@ sale_approved : SameFields
     → (unit : ReaderUnit) (last : Option Transaction) (item : ℕ) (so_far : List Act)
     (before after : View)
     → IsLastAsked unit so_far last → TellsOfSale unit before so_far
-    → sent last (Success item) before ≡ Some after → IsApproved unit item so_far
+    → sent_in_turn last (Success item) before ≡ Some after → IsApproved unit item so_far
 sale_approved law unit last item so_far NoSession after lasts tells sends = absurd cc
 sale_approved law unit last item so_far Idle after lasts tells sends = absurd cc
 sale_approved law unit last item so_far Asked after lasts tells sends = absurd cc
@@ -534,7 +550,7 @@ asks_success : SameFields
     (so_far : List Act) (before after : View)
     → own unit command ≡ Some (reader.VendSuccess item)
     → IsLastAsked unit so_far last → TellsOfSale unit before so_far
-    → sent last (Success item) before ≡ Some after
+    → sent_in_turn last (Success item) before ≡ Some after
     → TellsOfSale unit after (acts.Ask command ∷ so_far)
 asks_success law unit last command item so_far NoSession after is lasts tells sends = absurd cc
 asks_success law unit last command item so_far Idle after is lasts tells sends = absurd cc
@@ -553,6 +569,31 @@ asks_success law unit last command item so_far SuccessOwed after is lasts tells 
 asks_success law unit last command item so_far FailureOwed after is lasts tells sends = absurd cc
 asks_success law unit last command item so_far Ending after is lasts tells sends = absurd cc
 
+-- What is sent is sent in turn, from the view or from Idle, and that tells what is so.
+turned : (refused : Bool) (last : Option Transaction) (t : Transaction) (before after : View)
+    → sent refused last t before ≡ Some after
+    → (sent_in_turn last t before ≡ Some after) ⊎ (sent_in_turn last t Idle ≡ Some after)
+turned false last t before after sends = inl sends
+turned true last t before after sends =
+    either (sent_in_turn last t before) (waits before) sends
+  where
+    either : (found : Option View) (waiting : Bool)
+        → or_else found (if waiting then sent_in_turn last t Idle else None) ≡ Some after
+        → (found ≡ Some after) ⊎ (sent_in_turn last t Idle ≡ Some after)
+    either (Some view) waiting e = inl e
+    either None true e = inr e
+    either None false e = absurd cc
+
+in_turn : (unit : ReaderUnit) (refused : Bool) (last : Option Transaction) (t : Transaction)
+    (so_far : List Act) (before after : View) → TellsOfSale unit before so_far
+    → sent refused last t before ≡ Some after
+    → (from : View) × TellsOfSale unit from so_far × (sent_in_turn last t from ≡ Some after)
+in_turn unit refused last t so_far before after tells sends =
+    elim (turned refused last t before after sends) [
+      | inl own ↦ (before, tells, own)
+      | inr idle ↦ (Idle, tt, idle)
+    ]
+
 -- the view after each command to the reader
 asks_own : SameFields
     → (unit : ReaderUnit) (facts : Facts) (command : Command) (its : ReaderCommand)
@@ -565,38 +606,24 @@ asks_own law unit facts command reader.Reset so_far before after is lasts tells 
     subst (λ (v : View). TellsOfSale unit v (acts.Ask command ∷ so_far)) same tt
 asks_own law unit facts command (reader.VendRequest price item) so_far before after is lasts tells
     sends =
-    asks_request law unit facts.asked command price item so_far before after is tells sends
+    let turn = in_turn unit facts.refused facts.asked (Request price item) so_far before after tells
+    sends in
+    asks_request law unit facts.asked command price item so_far turn.0 after is turn.1 turn.2
 asks_own law unit facts command reader.VendCancel so_far before after is lasts tells sends =
-    asks_cancel law unit facts.asked command so_far before after is tells sends
+    let turn = in_turn unit facts.refused facts.asked Cancel so_far before after tells sends in
+    asks_cancel law unit facts.asked command so_far turn.0 after is turn.1 turn.2
 asks_own law unit facts command (reader.VendSuccess item) so_far before after is lasts tells sends =
-    asks_success law unit facts.asked command item so_far before after is lasts tells sends
+    let turn = in_turn unit facts.refused facts.asked (Success item) so_far before after tells
+    sends in
+    asks_success law unit facts.asked command item so_far turn.0 after is lasts turn.1 turn.2
 asks_own law unit facts command reader.VendFailure so_far before after is lasts tells sends =
-    asks_failure law unit facts.asked command so_far before after is tells sends
+    let turn = in_turn unit facts.refused facts.asked Failure so_far before after tells sends in
+    asks_failure law unit facts.asked command so_far turn.0 after is turn.1 turn.2
 asks_own law unit facts command reader.SessionComplete so_far before after is lasts tells sends =
-    asks_complete law unit facts.asked command so_far before after is tells sends
-asks_own law unit facts command (reader.SetupConfig level columns rows display) so_far before after
-    is lasts tells sends =
-    plain unit command (reader.SetupConfig level columns rows display) so_far before after is
-    (λ e. cc) refl tells sends
-asks_own law unit facts command (reader.SetupPrices maximum minimum) so_far before after is lasts
-    tells sends =
-    plain unit command (reader.SetupPrices maximum minimum) so_far before after is (λ e. cc) refl
-    tells sends
-asks_own law unit facts command reader.Poll so_far before after is lasts tells sends =
-    plain unit command reader.Poll so_far before after is (λ e. cc) refl tells sends
-asks_own law unit facts command (reader.CashSale price item) so_far before after is lasts tells
-    sends =
-    plain unit command (reader.CashSale price item) so_far before after is (λ e. cc) refl tells
-    sends
-asks_own law unit facts command reader.Disable so_far before after is lasts tells sends =
-    plain unit command reader.Disable so_far before after is (λ e. cc) refl tells sends
-asks_own law unit facts command reader.Enable so_far before after is lasts tells sends =
-    plain unit command reader.Enable so_far before after is (λ e. cc) refl tells sends
-asks_own law unit facts command reader.Cancel so_far before after is lasts tells sends =
-    plain unit command reader.Cancel so_far before after is (λ e. cc) refl tells sends
-asks_own law unit facts command (reader.RequestId identity) so_far before after is lasts tells
-    sends =
-    plain unit command (reader.RequestId identity) so_far before after is (λ e. cc) refl tells sends
+    let turn = in_turn unit facts.refused facts.asked Complete so_far before after tells sends in
+    asks_complete law unit facts.asked command so_far turn.0 after is turn.1 turn.2
+asks_own law unit facts command its so_far before after is lasts tells sends =
+    plain unit command its so_far before after is (λ e. cc) refl tells sends
 
 asks : SameFields
     → (unit : ReaderUnit) (facts : Facts) (command : Command) (so_far : List Act)
@@ -651,7 +678,9 @@ asked_sale law unit facts so_far item before after gains (Some its) is lasts tel
     let same : its ≡ reader.VendSuccess item = cc in
     let sends =
     (subst (λ (c : ReaderCommand). AskStep facts c before after gains) same step).view in
-    sale_approved law unit facts.asked item so_far before.view after.view lasts tells sends
+    let turn = in_turn unit facts.refused facts.asked (Success item) so_far before.view after.view
+    tells sends in
+    sale_approved law unit facts.asked item so_far turn.0 after.view lasts turn.1 turn.2
 
 -- what is known of the last transaction command that was asked allows no other
 last_known : (begins : Beginning) (told asked : Option Transaction)
@@ -679,17 +708,25 @@ still_unrequested unit act so_far other none price item among =
     by (inr earlier) = none price item earlier
 
 -- or one is, and the view tells of that
-sent_request : (last : Option Transaction) (price item : ℕ) (before after : View)
-    → sent last (Request price item) before ≡ Some after → Asked ≡ after
-sent_request last price item NoSession after sends = absurd cc
-sent_request last price item Idle after sends = cc
-sent_request last price item Asked after sends =
+request_in_turn : (last : Option Transaction) (price item : ℕ) (before after : View)
+    → sent_in_turn last (Request price item) before ≡ Some after → Asked ≡ after
+request_in_turn last price item NoSession after sends = absurd cc
+request_in_turn last price item Idle after sends = cc
+request_in_turn last price item Asked after sends =
     (sent_where (is_again last (Request price item)) Asked after sends).1
-sent_request last price item Waiting after sends = absurd cc
-sent_request last price item Approved after sends = absurd cc
-sent_request last price item SuccessOwed after sends = absurd cc
-sent_request last price item FailureOwed after sends = absurd cc
-sent_request last price item Ending after sends = absurd cc
+request_in_turn last price item Waiting after sends = absurd cc
+request_in_turn last price item Approved after sends = absurd cc
+request_in_turn last price item SuccessOwed after sends = absurd cc
+request_in_turn last price item FailureOwed after sends = absurd cc
+request_in_turn last price item Ending after sends = absurd cc
+
+sent_request : (refused : Bool) (last : Option Transaction) (price item : ℕ) (before after : View)
+    → sent refused last (Request price item) before ≡ Some after → Asked ≡ after
+sent_request refused last price item before after sends =
+    elim (turned refused last (Request price item) before after sends) [
+      | inl own ↦ request_in_turn last price item before after own
+      | inr idle ↦ request_in_turn last price item Idle after idle
+    ]
 
 -- whether a command is VEND REQUEST
 abbrev requests_sale : ReaderCommand → Bool
@@ -726,7 +763,7 @@ anew_own : (unit : ReaderUnit) (facts : Facts) (command : Command) (its : Reader
 anew_own unit facts command (reader.VendRequest price item) so_far before after is unrequested
     sends =
     inl (subst (λ (v : View). TellsOfSale unit v (acts.Ask command ∷ so_far))
-    (sent_request facts.asked price item before after sends)
+    (sent_request facts.refused facts.asked price item before after sends)
     (requests unit command price item so_far is))
 anew_own unit facts command its so_far before after is unrequested sends =
     other_ask unit command (Some its) so_far after is (λ other e. cc) unrequested

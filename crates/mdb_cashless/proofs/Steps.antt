@@ -87,19 +87,12 @@ vmc_acks facts before after gains unit act command reply its choice is found ste
 leaves : (facts : Facts) (command : ReaderCommand) (view : View) → changes_view command ≡ false
     → (asked facts command view ≡ Some view) × (sold_to facts command view ≡ no_end)
 leaves facts reader.Reset view still = absurd cc
-leaves facts (reader.SetupConfig level columns rows display) view still = (refl, refl)
-leaves facts (reader.SetupPrices maximum minimum) view still = (refl, refl)
-leaves facts reader.Poll view still = (refl, refl)
 leaves facts (reader.VendRequest price item) view still = absurd cc
 leaves facts reader.VendCancel view still = absurd cc
 leaves facts (reader.VendSuccess item) view still = absurd cc
 leaves facts reader.VendFailure view still = absurd cc
 leaves facts reader.SessionComplete view still = absurd cc
-leaves facts (reader.CashSale price item) view still = (refl, refl)
-leaves facts reader.Disable view still = (refl, refl)
-leaves facts reader.Enable view still = (refl, refl)
-leaves facts reader.Cancel view still = (refl, refl)
-leaves facts (reader.RequestId identity) view still = (refl, refl)
+leaves facts command view still = (refl, refl)
 
 -- asking it changes nothing
 ask_stays : (facts : Facts) (command : ReaderCommand) (before after : ReaderState) (gains : Gains)

@@ -10,12 +10,14 @@ use Rattle.mdb_msgs.specs.declared.reply.Reply.{Reply}
 use Rattle.mdb_msgs.specs.declared.setups.Setups.{Setups}
 use Rattle.mdb_bus.specs.declared.act.Act.{Act}
 use Rattle.mdb_bus.specs.declared.act.Act.TheVariants as acts
+use Rattle.mdb_bus.specs.declared.scope.Beginning.TheVariants.{Joined}
+use Rattle.mdb_bus.specs.declared.scope.Profile.{Profile}
 use Rattle.mdb_machine.specs.declared.choice.Choice.{Choice}
 use Rattle.mdb_machine.specs.declared.gains.Gains.{Gains}
 use Rattle.mdb_machine.specs.Gains.{device_gains, in_slots}
 use Rattle.mdb_machine.specs.Kept.{MayBeKept, MayBeRead, holds_after, kept_of}
 use Rattle.mdb_machine.specs.MidSession.{past_recorded}
-use Rattle.mdb_machine.specs.Past.{or_else}
+use Rattle.mdb_machine.specs.Past.{last_told, or_else, past_of}
 use Rattle.mdb_cashless.specs.declared.reader.messages.ReaderActivity.{ReaderActivity}
 use Rattle.mdb_cashless.specs.declared.reader.state.ReaderState.{ReaderState}
 use Rattle.mdb_cashless.specs.declared.reader.transaction.Ended.{Ended}
@@ -23,7 +25,7 @@ use Rattle.mdb_cashless.specs.declared.reader.transaction.Transaction.{Transacti
 use Rattle.mdb_cashless.specs.Reader.{all_approved, drops, is_poll, owes_reset, read, taken, value, view_heard}
 use Rattle.mdb_cashless.specs.ReaderDevice as reader_device
 use Rattle.mdb_cashless.specs.ReaderDevice.{all_told, effect}
-use Rattle.mdb_cashless.specs.ReaderFacts.{Facts, asked_by, effect_of, ends_transactions, facts_of, own_transaction, parts_by, transaction_taken_by}
+use Rattle.mdb_cashless.specs.ReaderFacts.{Facts, asked_by, config_by, effect_of, ends_transactions, facts_of, last_taken, own_transaction, parts_by, transaction_taken_by}
 use Rattle.mdb_cashless.specs.Transactions.{amounts, ended_by, no_end}
 use Rattle.mdb_cashless.specs.Units.{own}
 use Rattle.mdb_cashless.specs.ReaderMessages.{config_in, last_said, messages_of, parts_of}
@@ -43,12 +45,13 @@ TakesNone unit so_far =
     so_far
 
 -- The facts after acts, as the acts of the recording tell them. They are those from power-on, with
--- two changes: the config message may be known from elsewhere, and until a break, or a RESET that
--- the reader takes, no reset message is owed.
-abbrev pub facts_recorded : ReaderUnit → Setups → List Act → Facts
-facts_recorded unit setups so_far =
-    record (facts_of unit so_far) {
-      config = or_else (facts_of unit so_far).config (config_known setups unit);
+-- three changes: the config message may be known from elsewhere; until a break, or a RESET that the
+-- reader takes, no reset message is owed; and by the extended profile the controller may do as if
+-- it was refused, until it sends a transaction command.
+abbrev pub facts_recorded : ReaderUnit → Setups → Profile → List Act → Facts
+facts_recorded unit setups profile so_far =
+    record (facts_of (Joined setups profile) unit so_far) {
+      config = or_else (last_told (config_by unit) so_far) (config_known setups unit);
       past = past_recorded (effect_of unit) (parts_by unit) so_far;
     }
 
@@ -59,14 +62,14 @@ pub record MayBeAgain (unit : ReaderUnit) (so_far : List Act) (its : Option Read
   pub transaction : Transaction
   pub is : own_transaction its ≡ Some transaction
   pub holds_some : holds ≡ true
-  pub last : (TakesNone unit so_far → ⊥) → (facts_of unit so_far).taken ≡ Some transaction
+  pub last : (TakesNone unit so_far → ⊥) → last_taken unit so_far ≡ Some transaction
 
 -- It may be another, unless the reader holds messages and the acts so far tell that it is the same.
 -- A command that is no transaction is never the last one again.
 abbrev pub MayBeAnother : ReaderUnit → List Act → Option ReaderCommand → Bool → Type 0
 MayBeAnother unit so_far its holds =
     (transaction : Transaction) → own_transaction its ≡ Some transaction → holds ≡ true
-    → (TakesNone unit so_far → ⊥) → (facts_of unit so_far).taken ≢ Some transaction
+    → (TakesNone unit so_far → ⊥) → last_taken unit so_far ≢ Some transaction
 
 -- the state once a command, if one is taken, has had its effect; a transaction and RESET drop what
 -- is held
@@ -100,7 +103,8 @@ Takes unit so_far facts its before after sold =
 abbrev pub AreHeld : ReaderUnit → List Act → Bool → Bool → List ReaderActivity → ℕ → Type 0
 AreHeld unit so_far poll true kept count =
     ((1 ≤ count) × (count ≤ length kept)
-    × ((TellsNone unit so_far → ⊥) → take count kept ≡ (facts_of unit so_far).past.last_kept))
+    × ((TellsNone unit so_far → ⊥)
+    → take count kept ≡ (past_of (effect_of unit) (parts_by unit) so_far).last_kept))
     ⊎ ((poll ≡ false) × (kept ≡ []) × (count ≡ 0))
 AreHeld unit so_far poll false kept count = count ≡ 0
 

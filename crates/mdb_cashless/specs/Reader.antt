@@ -116,7 +116,7 @@ abbrev pub asked : Facts → ReaderCommand → View → Option View
 asked facts reader.Reset before = Some view.NoSession
 asked facts command before =
     elim (transaction_of command) [
-      | Some transaction ↦ sent facts.asked transaction before
+      | Some transaction ↦ sent facts.refused facts.asked transaction before
       | None ↦ Some before
     ]
 

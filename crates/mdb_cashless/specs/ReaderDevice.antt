@@ -9,7 +9,7 @@ use Rattle.mdb_cashless.specs.declared.reader.device.DeviceState.TheVariants.{In
 use Rattle.mdb_cashless.specs.declared.reader.device.Home.{Home}
 use Rattle.mdb_cashless.specs.declared.reader.device.Home.TheVariants as home
 use Rattle.mdb_cashless.specs.declared.reader.messages.ReaderActivity.{ReaderActivity}
-use Rattle.mdb_cashless.specs.declared.reader.messages.ReaderActivity.TheVariants.{SessionBegun, VendApproved, VendDenied, SessionEnded}
+use Rattle.mdb_cashless.specs.declared.reader.messages.ReaderActivity.TheVariants.{SessionBegun, SessionBegunLong, VendApproved, VendDenied, SessionEnded}
 use Rattle.mdb_cashless.specs.declared.reader.transaction.Transaction.{Transaction}
 use Rattle.mdb_cashless.specs.declared.reader.transaction.Transaction.TheVariants as transaction
 
@@ -63,6 +63,7 @@ is_request last = false
 -- REQUEST; 06 needs Vend; 07 needs Ending. Elsewhere the message is impossible.
 abbrev pub told : Option Transaction → ReaderActivity → DeviceState → Option DeviceState
 told last (SessionBegun funds) Enabled = Some (Idle home.Enabled)
+told last (SessionBegunLong funds media kind details) Enabled = Some (Idle home.Enabled)
 told last (VendApproved amount) (Vend back) =
     if is_request last then Some (Approved back) else None
 told last VendDenied (Vend back) = Some (Idle back)

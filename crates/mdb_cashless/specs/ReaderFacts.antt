@@ -1,5 +1,6 @@
 -- What is known of a reader after a list of acts, the newest first (this profile).
-use Rattle.std.specs.Prelude.{◌≡◌, ℕ, Bool, List, [], ◌∷◌, Option, Some, None, option_map, unwrap_or, if◌then◌else◌, map, ◌||◌}
+use Rattle.std.specs.Prelude.{◌≡◌, ℕ, Bool, true, false, List, [], ◌∷◌, Option, Some, None, option_map, unwrap_or, if◌then◌else◌, ltb, map, ◌&&◌, ◌||◌}
+use Rattle.std.specs.List.{list_any}
 use Rattle.mdb_msgs.specs.declared.command.Command.{Command}
 use Rattle.mdb_msgs.specs.declared.command.ReaderCommand.{ReaderCommand}
 use Rattle.mdb_msgs.specs.declared.command.ReaderCommand.TheVariants as reader
@@ -8,6 +9,8 @@ use Rattle.mdb_msgs.specs.declared.reply.reader.ReaderMsg.{ReaderMsg}
 use Rattle.mdb_bus.specs.declared.act.Act.{Act}
 use Rattle.mdb_bus.specs.declared.act.Act.TheVariants as acts
 use Rattle.mdb_bus.specs.declared.scope.Beginning.{Beginning}
+use Rattle.mdb_bus.specs.declared.scope.Beginning.TheVariants.{PowerOn, Joined}
+use Rattle.mdb_bus.specs.declared.scope.Profile.TheVariants.{Extended}
 use Rattle.mdb_machine.specs.declared.kept.Part.{Part}
 use Rattle.mdb_machine.specs.declared.past.Effect.{Effect}
 use Rattle.mdb_machine.specs.declared.past.Effect.TheVariants as effects
@@ -15,9 +18,10 @@ use Rattle.mdb_machine.specs.Known.{Allows, Known, known_before, known_by}
 use Rattle.mdb_machine.specs.Past.{AllowsPast, KnownPast, PastFacts, known_past, last_told, or_else, past_of, powers_on, taken_by}
 use Rattle.mdb_msgs.specs.Setups.{config_known}
 use Rattle.mdb_msgs.specs.declared.setups.ReaderConfig.{ReaderConfig}
+use Rattle.mdb_cashless.specs.declared.reader.extended.ExtendedFacts.{ExtendedFacts}
 use Rattle.mdb_cashless.specs.declared.reader.messages.ReaderActivity.{ReaderActivity}
 use Rattle.mdb_cashless.specs.declared.reader.transaction.Transaction.{Transaction}
-use Rattle.mdb_cashless.specs.ReaderMessages.{amount_in, begin_session, config_in, last_said, messages_of, part_of}
+use Rattle.mdb_cashless.specs.ReaderMessages.{amount_in, begin_session, config_in, last_said, level_in, messages_of, part_of, refuses}
 use Rattle.mdb_cashless.specs.Transactions.{transaction_of}
 use Rattle.mdb_cashless.specs.Units.{own}
 
@@ -82,8 +86,65 @@ last_taken unit (act ∷ acts) =
     if ends_transactions unit act then None
     else or_else (transaction_taken_by unit act) (last_taken unit acts)
 
--- The facts. Breaks and RESETs leave the config message, the last transaction command sent, and the
--- amount.
+-- the feature level that a command to the reader tells: Y2 of SETUP config
+abbrev pub level_of : Option ReaderCommand → Option ℕ
+level_of (Some (reader.SetupConfig level columns rows display)) = Some level
+level_of command = None
+
+-- the feature level that the controller tells the reader by an act, and the last that the reader
+-- tells by it, heard or not
+abbrev pub level_asked_by : ReaderUnit → Act → Option ℕ
+level_asked_by unit (acts.Ask command) = level_of (own unit command)
+level_asked_by unit act = None
+
+abbrev pub level_told_by : ReaderUnit → Act → Option ℕ
+level_told_by unit act = last_said level_in (messages_by unit act)
+
+-- Whether the last transaction command is refused, if an act tells that. One that is sent isn't
+-- yet. The reader's NAK refuses it. So does a message that refuses, in a reply to any command, once
+-- the controller acknowledges that reply or its repeat.
+abbrev pub refusal_by : ReaderUnit → Act → Option Bool
+refusal_by unit (acts.Ask command) =
+    option_map (λ transaction. false) (own_transaction (own unit command))
+refusal_by unit (acts.Nak command) =
+    option_map (λ transaction. true) (own_transaction (own unit command))
+refusal_by unit (acts.VmcAck command reply) =
+    if list_any refuses (own_messages unit command (messages_of reply)) then Some true else None
+refusal_by unit act = None
+
+-- What counts by the extended profile alone: the levels that were last told, and whether the last
+-- transaction command is refused. Breaks and RESETs leave all this. In a recording that begins in
+-- mid-session (`joined`) the controller may do as if it was refused before that.
+abbrev pub extended_since : Bool → ReaderUnit → List Act → ExtendedFacts
+extended_since joined unit acts =
+    record {
+      joined = joined;
+      asked = last_told (level_asked_by unit) acts;
+      told = last_told (level_told_by unit) acts;
+      refused = unwrap_or (last_told (refusal_by unit) acts) joined;
+    }
+
+-- by the base profile nothing of this counts
+abbrev pub extended_of : Beginning → ReaderUnit → List Act → Option ExtendedFacts
+extended_of (PowerOn Extended) unit acts = Some (extended_since false unit acts)
+extended_of (Joined setups Extended) unit acts = Some (extended_since true unit acts)
+extended_of begins unit acts = None
+
+-- Whether a level may be 2 or more. One that isn't told yet may be, where a recording begins in
+-- mid-session.
+abbrev pub may_be_high : Bool → Option ℕ → Bool
+may_be_high joined None = joined
+may_be_high joined (Some level) = ltb 1 level
+
+-- Whether the controller was refused, where that counts: by the extended profile, where the levels
+-- of controller and reader are, or may be, 2 or more.
+abbrev pub is_refused : Option ExtendedFacts → Bool
+is_refused None = false
+is_refused (Some facts) = may_be_high facts.joined facts.asked
+    && may_be_high facts.joined facts.told && facts.refused
+
+-- The facts. Breaks and RESETs leave the config message, the last transaction command sent, the
+-- amount, and whether the controller was refused.
 pub record Facts : Type 0 where
   -- the last config message, of the last reply that has one
   pub config : Option ReaderConfig
@@ -93,17 +154,20 @@ pub record Facts : Type 0 where
   pub taken : Option Transaction
   -- the amount of the last message 05, of the last reply that has one; 0 where there was none
   pub amount : ℕ
+  -- whether the controller was refused, where that counts
+  pub refused : Bool
   -- the reset message, and the last kept list; a reader has no types that could be enabled
   pub past : PastFacts ReaderActivity
 
--- the facts after acts
-abbrev pub facts_of : ReaderUnit → List Act → Facts
-facts_of unit acts =
+-- the facts after acts, as these tell them
+abbrev pub facts_of : Beginning → ReaderUnit → List Act → Facts
+facts_of begins unit acts =
     record {
       config = last_told (config_by unit) acts;
       asked = last_told (asked_by unit) acts;
       taken = last_taken unit acts;
       amount = unwrap_or (last_told (amount_by unit) acts) 0;
+      refused = is_refused (extended_of begins unit acts);
       past = past_of (effect_of unit) (parts_by unit) acts;
     }
 
@@ -126,6 +190,8 @@ pub record KnownFacts : Type 0 where
   pub taken : Known (Option Transaction)
   -- none, where there was no message 05
   pub amount : Option ℕ
+  -- none by the base profile
+  pub extended : Option ExtendedFacts
   pub past : KnownPast ReaderActivity
 
 -- what is known of them after acts: the config message may be known from elsewhere
@@ -138,6 +204,7 @@ known_of begins unit acts =
           (option_map (λ transaction. Some transaction) (last_told (asked_by unit) acts));
       taken = known_taken begins unit acts;
       amount = last_told (amount_by unit) acts;
+      extended = extended_of begins unit acts;
       past = known_past begins (effect_of unit) (parts_by unit) acts;
     }
 
@@ -148,4 +215,5 @@ pub record AllowsFacts (known : KnownFacts) (holds : Bool) (facts : Facts) : Typ
   pub asked : Allows known.asked facts.asked
   pub taken : Allows known.taken facts.taken
   pub amount : facts.amount ≡ unwrap_or known.amount 0
+  pub refused : facts.refused ≡ is_refused known.extended
   pub past : AllowsPast known.past holds facts.past

@@ -2,6 +2,7 @@
 -- what is known stands for; the rest serves private functions.
 use Rattle.std.specs.Prelude.{Bool, true, false, ◌&&◌, ◌||◌, not, ℕ, List, Some, None, option_map, unwrap_or, if◌then◌else◌, map, Option, []}
 use Rattle.std.specs.Option.{is_none}
+use Rattle.std.specs.List.{list_any}
 use Rattle.mdb_msgs.specs.declared.command.ReaderCommand.{ReaderCommand}
 use Rattle.mdb_msgs.specs.declared.command.ReaderCommand.TheVariants as reader
 use Rattle.mdb_msgs.specs.declared.command.ReaderUnit.{ReaderUnit}
@@ -13,13 +14,14 @@ use Rattle.mdb_bus.specs.declared.act.Act.TheVariants as acts
 use Rattle.mdb_machine.specs.declared.past.Effect.TheVariants as effects
 use Rattle.mdb_machine.specs.PastValues.{if_known, known_more, known_past_with, past_after, past_in, past_known, past_with}
 use Rattle.mdb_machine.specs.Past.{PastFacts, or_else, resets, tells_out_of_sequence}
+use Rattle.mdb_cashless.specs.declared.reader.extended.ExtendedFacts.{ExtendedFacts}
 use Rattle.mdb_cashless.specs.declared.reader.facts.ReaderFacts.{ReaderFacts}
 use Rattle.mdb_cashless.specs.declared.reader.known.ReaderKnown.{ReaderKnown}
 use Rattle.mdb_cashless.specs.declared.reader.messages.ReaderActivity.{ReaderActivity}
 use Rattle.mdb_cashless.specs.declared.reader.transaction.Transaction.{Transaction}
 use Rattle.mdb_cashless.specs.Reader.{drops}
-use Rattle.mdb_cashless.specs.ReaderFacts.{Facts, KnownFacts, amount_by, asked_by, config_by, effect_of, effect_of_own, ends_transactions, own_transaction, parts_by, taken_told, transaction_taken_by}
-use Rattle.mdb_cashless.specs.ReaderMessages.{amount_in, begin_session, config_in, last_said, messages_of, part_of}
+use Rattle.mdb_cashless.specs.ReaderFacts.{Facts, KnownFacts, amount_by, asked_by, config_by, effect_of, effect_of_own, ends_transactions, is_refused, level_asked_by, level_of, level_told_by, own_transaction, parts_by, refusal_by, taken_told, transaction_taken_by}
+use Rattle.mdb_cashless.specs.ReaderMessages.{amount_in, begin_session, config_in, last_said, level_in, messages_of, part_of, refuses}
 use Rattle.mdb_cashless.specs.Transactions.{transaction_of}
 use Rattle.mdb_cashless.specs.Units.{own}
 
@@ -31,6 +33,7 @@ facts_in facts =
       asked = facts.asked;
       taken = facts.taken;
       amount = unwrap_or facts.amount 0;
+      refused = is_refused facts.extended;
       past = past_in facts.past;
     }
 
@@ -42,8 +45,26 @@ known_in known =
       asked = if_known known.knows_asked known.facts.asked;
       taken = if_known known.knows_taken known.facts.taken;
       amount = known.facts.amount;
+      extended = known.facts.extended;
       past = past_known known.knows_kept known.facts.past;
     }
+
+-- what counts by the extended profile alone, after one act more that tells these levels and whether
+-- the controller is refused, or nothing of it
+abbrev pub extended_after : Option ℕ → Option ℕ → Option Bool → Option ExtendedFacts
+    → Option ExtendedFacts
+extended_after None None None extended = extended
+extended_after asked told refused extended =
+    option_map (λ facts. record {
+      joined = facts.joined;
+      asked = or_else asked facts.asked;
+      told = or_else told facts.told;
+      refused = unwrap_or refused facts.refused;
+    }) extended
+
+abbrev pub extended_with : ReaderUnit → Act → Option ExtendedFacts → Option ExtendedFacts
+extended_with unit act extended =
+    extended_after (level_asked_by unit act) (level_told_by unit act) (refusal_by unit act) extended
 
 -- what is known after one act more
 abbrev pub known_with : ReaderUnit → Act → KnownFacts → KnownFacts
@@ -54,6 +75,7 @@ known_with unit act known =
           known.asked;
       taken = known_more (taken_told unit act) known.taken;
       amount = or_else (amount_by unit act) known.amount;
+      extended = extended_with unit act known.extended;
       past = known_past_with (effect_of unit) (parts_by unit) act known.past;
     }
 
@@ -75,6 +97,7 @@ pub record ToldFacts : Type 0 where
   pub asked : Option Transaction
   pub taken : Option Transaction
   pub amount : Option ℕ
+  pub extended : Option ExtendedFacts
   pub past : PastFacts ReaderActivity
 
 abbrev pub told_in : ReaderFacts → ToldFacts
@@ -84,6 +107,7 @@ told_in facts =
       asked = facts.asked;
       taken = facts.taken;
       amount = facts.amount;
+      extended = facts.extended;
       past = past_in facts.past;
     }
 
@@ -96,6 +120,7 @@ told_with unit act facts =
       taken = if ends_transactions unit act then None
           else or_else (transaction_taken_by unit act) facts.taken;
       amount = or_else (amount_by unit act) facts.amount;
+      extended = extended_with unit act facts.extended;
       past = past_with (effect_of unit) (parts_by unit) act facts.past;
     }
 
@@ -103,6 +128,31 @@ told_with unit act facts =
 abbrev pub last_after : ReaderCommand → Option Transaction → Option Transaction
 last_after reader.Reset last = None
 last_after command last = or_else (transaction_of command) last
+
+-- the facts after a command to the reader that the controller sends
+abbrev pub asked : ReaderCommand → ToldFacts → ToldFacts
+asked command facts =
+    record facts {
+      asked = or_else (transaction_of command) facts.asked;
+      extended = extended_after (level_of (Some command)) None
+          (option_map (λ transaction. false) (transaction_of command)) facts.extended;
+    }
+
+-- the facts after a NAK to it
+abbrev pub denied : ReaderCommand → ToldFacts → ToldFacts
+denied command facts =
+    record facts {
+      extended = extended_after None None
+          (option_map (λ transaction. true) (transaction_of command)) facts.extended;
+    }
+
+-- the facts after the controller's ACK of messages
+abbrev pub heard : List ReaderMsg → ToldFacts → ToldFacts
+heard messages facts =
+    record facts {
+      extended = extended_after None None
+          (if list_any refuses messages then Some true else None) facts.extended;
+    }
 
 -- the facts after a command that is taken, if one is
 abbrev pub taken : Option ReaderCommand → ToldFacts → ToldFacts
@@ -125,6 +175,7 @@ told messages facts =
       config = or_else (last_said config_in messages) facts.config;
       taken = if begin_session messages then None else facts.taken;
       amount = or_else (last_said amount_in messages) facts.amount;
+      extended = extended_after None (last_said level_in messages) None facts.extended;
       past = past_after false effects.Other (map part_of messages) facts.past;
     }
 

@@ -6,24 +6,41 @@ use Rattle.mdb_cashless.specs.declared.reader.transaction.Transaction.{Transacti
 use Rattle.mdb_cashless.specs.declared.reader.transaction.Transaction.TheVariants.{Request, Cancel, Success, Failure, Complete}
 use Rattle.mdb_cashless.specs.declared.reader.view.View.{View}
 use Rattle.mdb_cashless.specs.declared.reader.view.View.TheVariants.{NoSession, Idle, Asked, Waiting, Approved, SuccessOwed, FailureOwed, Ending}
+use Rattle.mdb_machine.specs.Past.{or_else}
 use Rattle.mdb_cashless.specs.Transactions.{is_again}
 
--- The transaction commands that the controller may send in each view, and the view after them; the
--- same block is that of the last transaction command sent. Any other it may not send.
-abbrev pub sent : Option Transaction → Transaction → View → Option View
-sent last (Request price item) Idle = Some Asked
-sent last Complete Idle = Some Ending
-sent last (Request price item) Asked =
+-- The transaction commands that the controller may send in each view, and the view after them,
+-- where the reader didn't refuse the last one; the same block is that of the last transaction
+-- command sent. Any other it may not send.
+abbrev pub sent_in_turn : Option Transaction → Transaction → View → Option View
+sent_in_turn last (Request price item) Idle = Some Asked
+sent_in_turn last Complete Idle = Some Ending
+sent_in_turn last (Request price item) Asked =
     if is_again last (Request price item) then Some Asked else None
-sent last Cancel Asked = Some Waiting
-sent last Cancel Waiting = Some Waiting
-sent last (Success item) Approved = Some SuccessOwed
-sent last Failure Approved = Some FailureOwed
-sent last (Success item) SuccessOwed =
+sent_in_turn last Cancel Asked = Some Waiting
+sent_in_turn last Cancel Waiting = Some Waiting
+sent_in_turn last (Success item) Approved = Some SuccessOwed
+sent_in_turn last Failure Approved = Some FailureOwed
+sent_in_turn last (Success item) SuccessOwed =
     if is_again last (Success item) then Some SuccessOwed else None
-sent last Failure FailureOwed = Some FailureOwed
-sent last Complete Ending = Some Ending
-sent last transaction before = None
+sent_in_turn last Failure FailureOwed = Some FailureOwed
+sent_in_turn last Complete Ending = Some Ending
+sent_in_turn last transaction before = None
+
+-- whether the controller waits for the reader in a view: not in NoSession, Idle and Approved
+abbrev pub waits : View → Bool
+waits NoSession = false
+waits Idle = false
+waits Approved = false
+waits before = true
+
+-- The view after a transaction command, where the reader didn't refuse the last one, or did. Where
+-- it did, a controller that waits for the reader may also send what it may in Idle.
+abbrev pub sent : Bool → Option Transaction → Transaction → View → Option View
+sent false last transaction before = sent_in_turn last transaction before
+sent true last transaction before =
+    or_else (sent_in_turn last transaction before)
+    (if waits before then sent_in_turn last transaction Idle else None)
 
 -- whether the controller has heard the approval of a sale that hasn't ended
 abbrev pub has_approved : View → Bool
@@ -47,6 +64,7 @@ awaits before = false
 abbrev pub heard : ReaderMsg → View → View
 heard messages.JustReset before = NoSession
 heard (messages.BeginSession funds) NoSession = Idle
+heard (messages.BeginSessionLong funds media kind details) NoSession = Idle
 heard (messages.VendApproved amount) Asked = Approved
 heard (messages.VendApproved amount) Waiting = Approved
 heard messages.VendDenied Asked = Idle

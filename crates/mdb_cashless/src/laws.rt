@@ -1,13 +1,11 @@
 //! Laws of the readers' machine. Each function's contract is the law.
 
-ghost use Rattle.std.specs.Prelude.{◌≡◌, ◌↔◌, ◌⊎◌, ℕ, Bool, true, List, [], ◌∷◌, Some, None, All};
-ghost use Rattle.mdb_msgs.specs.declared.command.Command.{Command};
+ghost use Rattle.std.specs.Prelude.{◌≡◌, ◌↔◌, ◌⊎◌, ℕ, Bool, true, List, [], ◌∷◌, All};
 ghost use Rattle.mdb_msgs.specs.declared.command.Command.TheVariants as commands;
 ghost use Rattle.mdb_msgs.specs.declared.command.Device.TheVariants as devices;
 ghost use Rattle.mdb_msgs.specs.declared.command.ReaderCommand.{ReaderCommand};
 ghost use Rattle.mdb_msgs.specs.declared.command.ReaderCommand.TheVariants as readers;
 ghost use Rattle.mdb_msgs.specs.declared.command.ReaderUnit.{ReaderUnit};
-ghost use Rattle.mdb_msgs.specs.declared.command.ReaderUnit.TheVariants.{First, Second};
 ghost use Rattle.mdb_msgs.specs.declared.reply.Reply.{Reply};
 ghost use Rattle.mdb_msgs.specs.declared.setups.Setups.{Setups};
 ghost use Rattle.mdb_bus.specs.declared.act.Act.{Act};
@@ -26,25 +24,11 @@ ghost use Rattle.mdb_cashless.specs.Reader.{AskStep, ReaderStep, machine, unvalu
 ghost use Rattle.mdb_cashless.specs.ReaderFacts.{AllowsFacts, Facts, facts_of, known_of};
 ghost use Rattle.mdb_cashless.specs.Sales.{IsApproved, MayBeRequestedBefore};
 ghost use Rattle.mdb_cashless.specs.Transactions.{is_same, transaction_of};
-ghost use Rattle.mdb_cashless.specs.Units.{own};
 ghost use Rattle.mdb_cashless.specs.shared.SaleViews.{AcksLastReply, MayTellOfSale};
 
 /// Two transaction commands are the same where all their fields are.
 pub fn transactions_with_the_same_fields_are_the_same()
     ensures { (one other : Transaction) → (is_same one other ≡ true) ↔ (one ≡ other) }
-{}
-
-/// Two commands that are one transaction command are one command.
-pub fn transactions_are_of_one_command()
-    ensures { (one other : ReaderCommand) (transaction : Transaction)
-        → transaction_of one ≡ Some transaction → transaction_of other ≡ Some transaction
-        → one ≡ other }
-{}
-
-/// No command is to both readers.
-pub fn commands_are_to_one_reader()
-    ensures { (command : Command) (its : ReaderCommand)
-        → own First command ≡ Some its → own Second command ≡ None }
 {}
 
 /// What the controller's view tells of the sale under way stays true with each step, where the
@@ -81,11 +65,11 @@ pub fn from_power_on_all_is_known_of_a_reader()
     ensures facts { (unit : ReaderUnit) (profile : Profile) (so_far : List Act) (holds : Bool)
         (facts : Facts)
         → AllowsFacts (known_of (PowerOn profile) unit so_far) holds facts
-        ↔ (facts ≡ facts_of unit so_far) }
+        ↔ (facts ≡ facts_of (PowerOn profile) unit so_far) }
     ensures steps { (unit : ReaderUnit) (profile : Profile) (so_far : List Act) (act : Act)
         (choice : Choice) (before after : ReaderState) (gains : Gains)
         → (machine unit (PowerOn profile)).Step so_far act choice before after gains
-        ↔ ReaderStep unit (facts_of unit so_far) act choice before after gains }
+        ↔ ReaderStep unit (facts_of (PowerOn profile) unit so_far) act choice before after gains }
 {}
 
 /// What is known of a reader after acts, and the amounts without a value that they tell of it,
@@ -122,26 +106,28 @@ pub fn in_mid_session_a_reader_has_these_ways_alone()
         → SendsNone unit so_far
         → (machine unit (Joined setups profile)).Step so_far
         (acts.Ask (commands.Reader unit command)) choice before after gains
-        ↔ AskStep (record (facts_recorded unit setups so_far) { asked = transaction_of command })
+        ↔ AskStep (record (facts_recorded unit setups profile so_far)
+        { asked = transaction_of command })
         command before after gains }
     ensures acked { (unit : ReaderUnit) (setups : Setups) (profile : Profile) (so_far : List Act)
         (command : ReaderCommand) (choice : Choice) (before after : ReaderState) (gains : Gains)
         → (machine unit (Joined setups profile)).Step so_far
         (acts.Ack (commands.Reader unit command)) choice before after gains
-        ↔ AckWay unit so_far (facts_recorded unit setups so_far) command choice before after
+        ↔ AckWay unit so_far (facts_recorded unit setups profile so_far) command choice before after
         gains }
     ensures replied { (unit : ReaderUnit) (setups : Setups) (profile : Profile) (so_far : List Act)
         (command : ReaderCommand) (reply : Reply) (choice : Choice) (before after : ReaderState)
         (gains : Gains)
         → (machine unit (Joined setups profile)).Step so_far
         (acts.Reply (commands.Reader unit command) reply) choice before after gains
-        ↔ ReplyWay unit so_far (facts_recorded unit setups so_far) command reply choice before
-        after gains }
+        ↔ ReplyWay unit so_far (facts_recorded unit setups profile so_far) command reply choice
+        before after gains }
     ensures settled { (unit : ReaderUnit) (setups : Setups) (profile : Profile) (so_far : List Act)
         (act : Act) (choice : Choice) (before after : ReaderState) (gains : Gains)
         → IsSettled unit so_far act
         → (machine unit (Joined setups profile)).Step so_far act choice before after gains
-        ↔ ReaderStep unit (facts_recorded unit setups so_far) act choice before after gains }
+        ↔ ReaderStep unit (facts_recorded unit setups profile so_far) act choice before after
+        gains }
 {
     transactions_with_the_same_fields_are_the_same();
 }

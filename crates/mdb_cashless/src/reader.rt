@@ -14,6 +14,7 @@ ghost use Rattle.mdb_cashless.specs.Units as units;
 
 mod answers;
 pub(crate) mod device;
+pub(crate) mod extended;
 pub(crate) mod facts;
 mod guesses;
 pub(crate) mod known;

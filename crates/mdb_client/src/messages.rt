@@ -7,10 +7,11 @@ ghost use Rattle.mdb_msgs.specs.CommandFaults.{IsCommandFault};
 ghost use Rattle.mdb_msgs.specs.Commands.{Spells};
 ghost use Rattle.mdb_msgs.specs.Replies.{IsReadFault, SpellsReply};
 ghost use Rattle.mdb_msgs.specs.declared.fault.MsgFault.{MsgFault};
+ghost use Rattle.mdb_msgs.specs.declared.reading.Reading.TheVariants.{Base};
 ghost use Rattle.mdb_msgs.specs.declared.reply.Reply.{Reply};
 
 use mdb_blocks::{Block, BlockFault, unseal};
-use mdb_msgs::{Command, MsgFault, read_command, read_reply, write_reply};
+use mdb_msgs::{Command, MsgFault, Reading, read_command, read_reply, write_reply};
 
 /// Why bytes carry no message.
 #[derive(Clone, Copy, PartialEq, Eq, Debug)]
@@ -39,7 +40,8 @@ pub fn command_in(bytes: &[u8]) -> Result<Command, Unread>
     }
 }
 
-/// The block that says again, message by message, what the bytes of a reply to a command say.
+/// The block that says again, message by message, what the bytes of a reply to a command say by the
+/// base profile.
 ///
 /// # Errors
 ///
@@ -52,7 +54,7 @@ pub fn sent_again(command: &Command, bytes: &[u8]) -> Result<Block, Unread>
         → IsUnsealFault bytes.now fault }
     ensures no_message { (fault : MsgFault) (content : List ℕ)
         → result ≡ Err (Unread.NoMessage fault) → bytes.now ≡ block_of content
-        → IsReadFault command.now content fault }
+        → IsReadFault Base command.now content fault }
     ensures block { (fault : MsgFault) → result ≡ Err (Unread.NoMessage fault)
         → IsBlock bytes.now }
 {
@@ -60,7 +62,7 @@ pub fn sent_again(command: &Command, bytes: &[u8]) -> Result<Block, Unread>
         Ok(block) => block,
         Err(fault) => return Err(Unread::NoBlock(fault)),
     };
-    match read_reply(command, &block) {
+    match read_reply(Reading::Base, command, &block) {
         Ok(reply) => Ok(write_reply(command, &reply).unwrap()),
         Err(fault) => Err(Unread::NoMessage(fault)),
     }

@@ -3,7 +3,8 @@
 ghost use Rattle.std.specs.Prelude.{◌≡◌, ◌≢◌, ◌≤◌, List, [], ℕ, OnErr, OnOk, IfOk, IfErr, IsSome, None, length};
 ghost use Rattle.std.specs.Io.KnownBytes.{Appends};
 ghost use Rattle.mdb_records.specs.ToCome.{IsOverLimit, ToCome, fault_of};
-ghost use Rattle.mdb_bus.specs.Scopes.{leaving_out, power_on};
+ghost use Rattle.mdb_bus.specs.Scopes.{power_on};
+ghost use Rattle.mdb_bus.specs.Scopes as scopes;
 ghost use Rattle.mdb_explain.specs.Explain.{ExplainsText, IsExplained, LeavesNo, explanation_text};
 ghost use Rattle.mdb_verdict.specs.Headline.{IfYes};
 ghost use Rattle.mdb_verdict.specs.Verdict.{HasCause, IsAnswer, IsNoYes};
@@ -20,7 +21,7 @@ ghost use Rattle.mdb_follow.specs.declared.follower.TheConstants.{ROWS_MAX};
 
 use super::keeping::Keeping;
 use super::lines::{add_mark, add_row};
-use mdb_bus::Scope;
+use mdb_bus::{Profile, Scope};
 use mdb_explained_runs::{Mark, explain_reached};
 use mdb_follow::{Goal, Offence, ROWS_MAX, Report, laws};
 use mdb_msgs::DeviceSet;
@@ -36,8 +37,8 @@ use std::io::{Read, Write};
 /// this writes an explanation of a bound of the report: the marks of a run that reaches the bound,
 /// and then the rows of the recording. No run goes further, and none that reaches the bound has
 /// fewer marks. If the answer is no, this writes what `check` writes. The recording begins at
-/// power-on or at a break, and all devices are followed: this is [`explain_scoped`] of
-/// [`DeviceSet::NONE`].
+/// power-on or at a break, and all devices are followed, by the base profile: this is
+/// [`explain_scoped`] of [`Profile::Base`] and [`DeviceSet::NONE`].
 ///
 /// An explanation is an input of [`replay`](super::replay). Each mark has a line: the number of its
 /// row, `L` for a lost ACK or `R` for a reply that reports a restart, and `-`. The numbers rise.
@@ -58,23 +59,24 @@ pub fn explain<R: Read + Drop, W: Write>(
     ensures explains { ExplainsText W.contents power_on goal.now (R.remaining reader) writer.old
         writer.new result }
 {
-    explain_scoped(alloc, DeviceSet::NONE, reader, writer, goal)
+    explain_scoped(alloc, Profile::Base, DeviceSet::NONE, reader, writer, goal)
 }
 
-/// Does what [`explain`] does, with these devices left out, as for
-/// [`check_scoped`](super::check_scoped) of [`Scope::leaving_out`].
+/// Does what [`explain`] does by a profile, with these devices left out, as for
+/// [`check_scoped`](super::check_scoped) of [`Scope::from_power_on`].
 pub fn explain_scoped<R: Read + Drop, W: Write>(
     alloc: Global,
+    profile: Profile,
     without: DeviceSet,
     reader: R,
     writer: &mut W,
     goal: &Goal,
 ) -> Result<Outcome, RunFault>
-    ensures explains { ExplainsText W.contents (leaving_out without) goal.now
+    ensures explains { ExplainsText W.contents (scopes.from_power_on profile without) goal.now
         (R.remaining reader) writer.old writer.new result }
 {
     let mut records = records_of(alloc, reader, BYTES_MAX);
-    explain_records(alloc, without, &mut records, writer, goal)
+    explain_records(alloc, profile, without, &mut records, writer, goal)
 }
 
 /// Explains the records that are still to come, and writes the text of that. The rows are kept, and
@@ -82,24 +84,27 @@ pub fn explain_scoped<R: Read + Drop, W: Write>(
 /// asked where reading ended.
 pub fn explain_records<R: Read + Drop, W: Write>(
     alloc: Global,
+    profile: Profile,
     without: DeviceSet,
     records: &mut Records<R>,
     writer: &mut W,
     goal: &Goal,
 ) -> Result<Outcome, RunFault>
     ensures explained { (all : List (List (List ℕ))) → ToCome R.remaining records.old all
-        → IsExplained (leaving_out without) goal.now all (W.contents writer.old)
+        → IsExplained (scopes.from_power_on profile without) goal.now all (W.contents writer.old)
         (W.contents writer.new) result }
-    ensures leaves { LeavesNo W.contents (leaving_out without) writer.old writer.new result }
+    ensures leaves { LeavesNo W.contents (scopes.from_power_on profile without) writer.old
+        writer.new result }
     ensures whole { IsOverLimit R.remaining records.old → IsNoYes result }
     ensures heard { IfErr result (HasCause (fault_of records.new)) }
     ensures met { fault_of records.old ≡ None → IsSome (fault_of records.new) → IsNoYes result }
 {
-    let mut keeping = Keeping::new(alloc, without);
+    let mut keeping = Keeping::new(alloc, profile, without);
     match kept_outcome(records, &mut keeping)? {
         Outcome::Yes(report) => {
             explain_rows(
                 alloc,
+                profile,
                 without,
                 keeping.rows.as_slice(),
                 goal,
@@ -107,7 +112,7 @@ pub fn explain_records<R: Read + Drop, W: Write>(
                 writer,
             )
         }
-        Outcome::No(offence) => tell_no(alloc, without, offence, writer),
+        Outcome::No(offence) => tell_no(alloc, profile, without, offence, writer),
     }
 }
 
@@ -142,6 +147,7 @@ fn kept_outcome<R: Read + Drop>(
 /// Writes what explains a goal of rows that are reached, and have this report.
 fn explain_rows<W: Write>(
     alloc: Global,
+    profile: Profile,
     without: DeviceSet,
     rows: &[Event],
     goal: &Goal,
@@ -149,11 +155,11 @@ fn explain_rows<W: Write>(
     writer: &mut W,
 ) -> Result<Outcome, RunFault>
     requires few { length rows.now ≤ ROWS_MAX }
-    requires reached { IsReached (leaving_out without) rows.now }
+    requires reached { IsReached (scopes.from_power_on profile without) rows.now }
     ensures { IsTold W.contents writer.old writer.new
-        (IsRowsText (leaving_out without) rows.now goal.now report) result }
+        (IsRowsText (scopes.from_power_on profile without) rows.now goal.now report) result }
 {
-    let Ok(marks) = explain_reached(alloc, without, rows, goal) else {
+    let Ok(marks) = explain_reached(alloc, profile, without, rows, goal) else {
         return Err(RunFault::Memory);
     };
     write_explanation(writer, marks.as_slice(), rows)?;
@@ -163,15 +169,16 @@ fn explain_rows<W: Write>(
 /// Writes the text of a no.
 fn tell_no<W: Write>(
     alloc: Global,
+    profile: Profile,
     without: DeviceSet,
     offence: Offence,
     writer: &mut W,
 ) -> Result<Outcome, RunFault>
-    ensures { IsTold W.contents writer.old writer.new (IsNoText (leaving_out without) offence)
-        result }
+    ensures { IsTold W.contents writer.old writer.new
+        (IsNoText (scopes.from_power_on profile without) offence) result }
 {
     let outcome = Outcome::No(offence);
-    let Ok(text) = text_scoped(alloc, &Scope::leaving_out(without), &outcome) else {
+    let Ok(text) = text_scoped(alloc, &Scope::from_power_on(profile, without), &outcome) else {
         return Err(RunFault::Memory);
     };
     write_text(writer, text.as_slice())?;

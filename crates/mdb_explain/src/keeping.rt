@@ -1,9 +1,9 @@
 //! Rows that are followed, and kept.
 
 ghost use Rattle.std.specs.Prelude.{◌≡◌, length};
-ghost use Rattle.mdb_bus.specs.Scopes.{leaving_out as leaving_out_of};
+ghost use Rattle.mdb_bus.specs.Scopes as scopes;
 
-use mdb_bus::Scope;
+use mdb_bus::{Profile, Scope};
 use mdb_follow::{Follower, Offence};
 use mdb_msgs::DeviceSet;
 use mdb_verdict::{RunFault, TakeRows};
@@ -22,13 +22,13 @@ impl Keeping {
     ghost use Rattle.mdb_follow.specs.Follower.{scope_of};
     ghost use Rattle.mdb_explain.specs.inner.Explaining.{HasKept};
 
-    /// Before the first row: these devices are left out.
-    pub(crate) fn new(alloc: Global, without: DeviceSet) -> Keeping
-        ensures none { HasKept (leaving_out_of without) result [] }
-        ensures scope { scope_of result.follower ≡ leaving_out_of without }
+    /// Before the first row, by a profile: these devices are left out.
+    pub(crate) fn new(alloc: Global, profile: Profile, without: DeviceSet) -> Keeping
+        ensures none { HasKept (scopes.from_power_on profile without) result [] }
+        ensures scope { scope_of result.follower ≡ scopes.from_power_on profile without }
     {
         Keeping {
-            follower: Follower::scoped(&Scope::leaving_out(without)),
+            follower: Follower::scoped(&Scope::from_power_on(profile, without)),
             rows: Vec::new(alloc),
         }
     }

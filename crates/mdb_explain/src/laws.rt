@@ -6,7 +6,8 @@ ghost use Rattle.std.specs.Prelude.{◌≤◌, All, map};
 ghost use Rattle.csv.specs.Reading.{default_config, records as read_records, strip_bom};
 ghost use Rattle.mdb_words.specs.declared.event.Event.{Event};
 ghost use Rattle.mdb_words.specs.Row.{row_fields};
-ghost use Rattle.mdb_bus.specs.Scopes.{leaving_out};
+ghost use Rattle.mdb_bus.specs.declared.scope.Profile.{Profile};
+ghost use Rattle.mdb_bus.specs.Scopes.{from_power_on};
 ghost use Rattle.mdb_msgs.specs.declared.device_set.DeviceSet.{DeviceSet};
 ghost use Rattle.mdb_bus.specs.declared.scope.Scope.{Scope};
 ghost use Rattle.mdb_follow.specs.declared.goal.Goal.{Goal};
@@ -76,17 +77,19 @@ pub fn explanations_read_as_their_marks_and_rows()
 /// both ends of that range in the report of the replay are the end that the report of `check` has.
 /// And it has no more bytes than an input may have.
 pub fn explanations_replay_to_their_goals()
-    ensures comes { (without : DeviceSet) (goal : Goal) (records : List (List (List ℕ)))
-        (text : List ℕ) (checked : Report) (answer : Result Outcome MarkedFault)
-        → IsAnswer (leaving_out without) ROWS_MAX records (Ok (Yes checked))
-        → IsExplanation (leaving_out without) goal records text
-        → IsReplayAnswer (leaving_out without) ROWS_MAX
+    ensures comes { (profile : Profile) (without : DeviceSet) (goal : Goal)
+        (records : List (List (List ℕ))) (text : List ℕ) (checked : Report)
+        (answer : Result Outcome MarkedFault)
+        → IsAnswer (from_power_on profile without) ROWS_MAX records (Ok (Yes checked))
+        → IsExplanation (from_power_on profile without) goal records text
+        → IsReplayAnswer (from_power_on profile without) ROWS_MAX
         (read_records default_config (strip_bom text)) answer
         → IsOwnReplay answer → ComesTo goal checked answer }
-    ensures within { (without : DeviceSet) (goal : Goal) (records : List (List (List ℕ)))
-        (text : List ℕ) (checked : Report)
-        → IsAnswer (leaving_out without) ROWS_MAX records (Ok (Yes checked))
-        → IsExplanation (leaving_out without) goal records text → length text ≤ BYTES_MAX }
+    ensures within { (profile : Profile) (without : DeviceSet) (goal : Goal)
+        (records : List (List (List ℕ))) (text : List ℕ) (checked : Report)
+        → IsAnswer (from_power_on profile without) ROWS_MAX records (Ok (Yes checked))
+        → IsExplanation (from_power_on profile without) goal records text
+        → length text ≤ BYTES_MAX }
 {
     laws::marks_rise();
     laws::rows_with_a_marked_run_have_a_replay_report();

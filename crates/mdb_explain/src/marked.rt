@@ -2,7 +2,8 @@
 
 ghost use Rattle.std.specs.Prelude.{◌≡◌, ◌≢◌, List, ℕ, IfErr, IsSome, None};
 ghost use Rattle.mdb_records.specs.ToCome.{IsOverLimit, ToCome, fault_of};
-ghost use Rattle.mdb_bus.specs.Scopes.{leaving_out, power_on};
+ghost use Rattle.mdb_bus.specs.Scopes.{power_on};
+ghost use Rattle.mdb_bus.specs.Scopes as scopes;
 ghost use Rattle.mdb_explain.specs.Replay.{HasMarkedCause, IsReplayAnswer};
 ghost use Rattle.mdb_text.specs.Text.{report_text};
 ghost use Rattle.mdb_verdict.specs.Answers.{Answers, AnswersText, Leaves};
@@ -13,7 +14,7 @@ ghost use Rattle.mdb_follow.specs.declared.follower.TheConstants.{ROWS_MAX};
 
 use super::fault::MarkedFault;
 use super::replaying::{ENTRIES_MAX, Replaying};
-use mdb_bus::Scope;
+use mdb_bus::{Profile, Scope};
 use mdb_msgs::DeviceSet;
 use mdb_records::Records;
 use mdb_text::{Form, Outcome};
@@ -24,8 +25,8 @@ use std::io::{Read, Write};
 
 /// Reads marks and then a recording, and follows the run that has these marks. It writes what that
 /// run leads to, or why there is none: the text of `check`, in which each range has one value. The
-/// recording begins at power-on or at a break, and all devices are followed: this is
-/// [`replay_scoped`] of [`DeviceSet::NONE`].
+/// recording begins at power-on or at a break, and all devices are followed, by the base profile:
+/// this is [`replay_scoped`] of [`Profile::Base`] and [`DeviceSet::NONE`].
 ///
 /// A mark row has three fields: the number of a row of the recording in 1 to 15 digits, `L` or `R`,
 /// and `-`. `L` is a mark on an ACK of a device or of the controller: its receiver didn't hear it.
@@ -55,26 +56,29 @@ pub fn replay<R: Read + Drop, W: Write>(
         (report_text power_on) (MarkedFault.Run RunFault.Write) BYTES_MAX
         (R.remaining reader) writer.old writer.new result }
 {
-    replay_scoped(alloc, DeviceSet::NONE, reader, writer)
+    replay_scoped(alloc, Profile::Base, DeviceSet::NONE, reader, writer)
 }
 
-/// Does as [`replay`] does, with these devices left out, as `check_scoped` leaves them out.
+/// Does as [`replay`] does by a profile, with these devices left out, as `check_scoped` leaves them
+/// out.
 ///
 /// # Errors
 ///
 /// Those of `replay`.
 pub fn replay_scoped<R: Read + Drop, W: Write>(
     alloc: Global,
+    profile: Profile,
     without: DeviceSet,
     reader: R,
     writer: &mut W,
 ) -> Result<Outcome, MarkedFault>
-    ensures answers { AnswersText W.contents (IsReplayAnswer (leaving_out without) ROWS_MAX)
-        (report_text (leaving_out without)) (MarkedFault.Run RunFault.Write) BYTES_MAX
-        (R.remaining reader) writer.old writer.new result }
+    ensures answers { AnswersText W.contents
+        (IsReplayAnswer (scopes.from_power_on profile without) ROWS_MAX)
+        (report_text (scopes.from_power_on profile without)) (MarkedFault.Run RunFault.Write)
+        BYTES_MAX (R.remaining reader) writer.old writer.new result }
 {
     let mut records = records_of(alloc, reader, BYTES_MAX);
-    replay_records(alloc, Form::Text, without, &mut records, writer)
+    replay_records(alloc, Form::Text, profile, without, &mut records, writer)
 }
 
 /// Replays the records that are still to come, and writes what that tells in this form. What the
@@ -86,22 +90,28 @@ pub fn replay_scoped<R: Read + Drop, W: Write>(
 pub fn replay_records<R: Read + Drop, W: Write>(
     alloc: Global,
     form: Form,
+    profile: Profile,
     without: DeviceSet,
     records: &mut Records<R>,
     writer: &mut W,
 ) -> Result<Outcome, MarkedFault>
     ensures answers { (all : List (List (List ℕ))) → ToCome R.remaining records.old all
-        → Answers (IsReplayAnswer (leaving_out without) ROWS_MAX all)
-        (answer_text form (leaving_out without)) (MarkedFault.Run RunFault.Write)
+        → Answers (IsReplayAnswer (scopes.from_power_on profile without) ROWS_MAX all)
+        (answer_text form (scopes.from_power_on profile without)) (MarkedFault.Run RunFault.Write)
         (W.contents writer.old) (W.contents writer.new) result }
-    ensures leaves { Leaves W.contents (answer_text form (leaving_out without))
+    ensures leaves { Leaves W.contents (answer_text form (scopes.from_power_on profile without))
         (MarkedFault.Run RunFault.Write) writer.old writer.new result }
     ensures whole { IsOverLimit R.remaining records.old → IsNoYes result }
     ensures heard { IfErr result (HasMarkedCause (fault_of records.new)) }
     ensures met { fault_of records.old ≡ None → IsSome (fault_of records.new) → IsNoYes result }
 {
-    let outcome = replay_outcome(alloc, without, records)?;
-    let Some(text) = answer_in(alloc, form, &Scope::leaving_out(without), &outcome) else {
+    let outcome = replay_outcome(alloc, profile, without, records)?;
+    let Some(text) = answer_in(
+        alloc,
+        form,
+        &Scope::from_power_on(profile, without),
+        &outcome,
+    ) else {
         return Err(MarkedFault::Run(RunFault::Memory));
     };
     write_text(writer, text.as_slice())?;
@@ -118,17 +128,18 @@ pub fn replay_records<R: Read + Drop, W: Write>(
 /// reading was refused it.
 pub fn replay_outcome<R: Read + Drop>(
     alloc: Global,
+    profile: Profile,
     without: DeviceSet,
     records: &mut Records<R>,
 ) -> Result<Outcome, MarkedFault>
     ensures answer { (all : List (List (List ℕ))) → ToCome R.remaining records.old all
-        → IsReplayAnswer (leaving_out without) ROWS_MAX all result }
+        → IsReplayAnswer (scopes.from_power_on profile without) ROWS_MAX all result }
     ensures whole { IsOverLimit R.remaining records.old → IsNoYes result }
     ensures heard { IfErr result (HasMarkedCause (fault_of records.new)) }
     ensures met { fault_of records.old ≡ None → IsSome (fault_of records.new) → IsNoYes result }
     ensures not_write { IfErr result (λ fault. fault ≢ MarkedFault.Run RunFault.Write) }
 {
-    let mut taker = Replaying::new(alloc, without);
+    let mut taker = Replaying::new(alloc, profile, without);
     match read_rows(records, &mut Batch::new(), &mut taker, &mut (), ENTRIES_MAX)? {
         None => taker.finish(),
         // A row that can't be, or else a mark that isn't followed or refused memory.

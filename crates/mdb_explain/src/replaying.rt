@@ -1,12 +1,13 @@
 //! The replay of an input's entries: its marks, and then its rows.
 
 ghost use Rattle.std.specs.Prelude.{◌≡◌, ◌≤◌, ◌<◌, ◌+◌, ◌++◌, ◌∷◌, List, [], ℕ, length, Err, IfErr, OnSome, ◌≢◌};
-ghost use Rattle.mdb_bus.specs.Scopes as scopes;
 ghost use Rattle.mdb_explained_runs.specs.Replays.{rows_of, scope_of};
+ghost use Rattle.mdb_bus.specs.Scopes.{from_power_on};
 ghost use Rattle.mdb_explain.specs.inner.Entries.{stop_by};
 
 use super::entry::Entry;
 use super::fault::MarkedFault;
+use mdb_bus::Profile;
 use mdb_explained_runs::{Mark, Replay, ReplayFault, laws};
 use mdb_follow::{Offence, ROWS_MAX};
 use mdb_msgs::DeviceSet;
@@ -43,14 +44,14 @@ impl Replaying {
     ghost use Rattle.mdb_explain.specs.inner.Replaying.{Finishes, HasReplayed, HasStopped};
     ghost use Rattle.mdb_explain.specs.inner.Replaying.{HasTakenNext, IsStoppedAt};
 
-    /// Before the first entry: these devices are left out.
-    pub(crate) fn new(alloc: Global, without: DeviceSet) -> Replaying
-        ensures none { HasReplayed (scopes.leaving_out without) result [] }
-        ensures scope { scope_of result.replay ≡ scopes.leaving_out without }
+    /// Before the first entry, by a profile: these devices are left out.
+    pub(crate) fn new(alloc: Global, profile: Profile, without: DeviceSet) -> Replaying
+        ensures none { HasReplayed (from_power_on profile without) result [] }
+        ensures scope { scope_of result.replay ≡ from_power_on profile without }
     {
         laws::replays_stand_for_the_only_run_with_their_marks();
         Replaying {
-            replay: Replay::leaving_out(without),
+            replay: Replay::from_power_on(profile, without),
             marks: Vec::new(alloc),
             last: 0,
             passed: 0,

@@ -10,7 +10,7 @@ use Rattle.mdb_msgs.specs.declared.command.Device.TheVariants as devices
 use Rattle.mdb_msgs.specs.declared.command.ReaderUnit.TheVariants.{First, Second}
 use Rattle.mdb_bus.specs.declared.act.Act.{Act}
 use Rattle.mdb_bus.specs.declared.scope.Beginning.TheVariants.{PowerOn}
-use Rattle.mdb_bus.specs.declared.scope.Profile.TheVariants.{Base}
+use Rattle.mdb_bus.specs.declared.scope.Profile.{Profile}
 use Rattle.mdb_bus.specs.ActLists.{Piece, Whole, acts_of, events_of}
 use Rattle.mdb_machine.specs.Pair.{IsActOf}
 use Rattle.mdb_explained_runs.specs.declared.explain.all_paths.AllPaths.{AllPaths}
@@ -54,30 +54,31 @@ on-false true P Q weaker h = tt
 on-false false P Q weaker h = weaker h
 
 -- paths of a device are those through the acts of pieces
-abbrev pub PathsAt : (device : Device) → Weight → List Link → List Piece
+abbrev pub PathsAt : Profile → (device : Device) → Weight → List Link → List Piece
     → Paths (FactsOf device) (codes_of device) → Type 0
-PathsAt device weight links pieces paths =
-    ArePaths (stands_for (PowerOn Base) device) (code_of device) device
-    (machine_of (PowerOn Base) device) weight links pieces paths
+PathsAt profile device weight links pieces paths =
+    ArePaths (stands_for (PowerOn profile) device) (code_of device) device
+    (machine_of (PowerOn profile) device) weight links pieces paths
 
-relinked : (device : Device) (weight : Weight) (old new : List Link) (pieces : List Piece)
-    (paths : Paths (FactsOf device) (codes_of device)) → KeepChains old new
-    → PathsAt device weight old pieces paths → PathsAt device weight new pieces paths
-relinked device weight old new pieces paths keep are = record {
+relinked : (profile : Profile) (device : Device) (weight : Weight) (old new : List Link)
+    (pieces : List Piece) (paths : Paths (FactsOf device) (codes_of device)) → KeepChains old new
+    → PathsAt profile device weight old pieces paths → PathsAt profile device weight new pieces
+    paths
+relinked profile device weight old new pieces paths keep are = record {
   facts = are.facts;
-  best = paths-kept (code_of device) device (machine_of (PowerOn Base) device) weight old new pieces
-      paths.entries.items keep are.best;
+  best = paths-kept (code_of device) device (machine_of (PowerOn profile) device) weight old new
+      pieces paths.entries.items keep are.best;
 }
 
 -- what is of a device's paths is so with further links, where they stay
-moved : (device : Device) (goal : Goal) (pieces : List Piece) (old new : AllPaths)
-    → KeepChains old.chains.links.items new.chains.links.items
-    → paths_in new device ≡ paths_in old device → ArePathsOf goal pieces old device
-    → ArePathsOf goal pieces new device
-moved device goal pieces old new keep same are =
-    subst (PathsAt device (weight_for goal device) new.chains.links.items pieces) (sym same)
-    (relinked device (weight_for goal device) old.chains.links.items new.chains.links.items pieces
-    (paths_in old device) keep are)
+moved : (profile : Profile) (device : Device) (goal : Goal) (pieces : List Piece)
+    (old new : AllPaths) → KeepChains old.chains.links.items new.chains.links.items
+    → paths_in new device ≡ paths_in old device → ArePathsOf profile goal pieces old device
+    → ArePathsOf profile goal pieces new device
+moved profile device goal pieces old new keep same are =
+    subst (PathsAt profile device (weight_for goal device) new.chains.links.items pieces) (sym same)
+    (relinked profile device (weight_for goal device) old.chains.links.items new.chains.links.items
+    pieces (paths_in old device) keep are)
 
 within-moved : (device : Device) (limit : ℕ) (old new : AllPaths)
     → KeepChains old.chains.links.items new.chains.links.items
@@ -92,18 +93,18 @@ within-moved device limit old new keep same are =
 -- Only the paths of one device are led, and those of the others stay.
 
 -- an act in which a device has no part leaves its paths
-still-of : (device : Device) (weight : Weight) (old new : List Link) (pieces : List Piece)
+still-of : (profile : Profile) (device : Device) (weight : Weight) (old new : List Link)
+    (pieces : List Piece)
     (act : Act) (events : List Event) (paths : Paths (FactsOf device) (codes_of device))
-    → (IsActOf device act → ⊥) → KeepChains old new → PathsAt device weight old pieces paths
-    → PathsAt device weight new (Whole act events ∷ pieces) paths
-still-of device weight old new pieces act events paths other keep are = record {
-  facts = unmoved (PowerOn Base) device paths.facts (acts_of pieces) act other are.facts;
-  best = paths-kept (code_of device) device (machine_of (PowerOn Base) device) weight old new
+    → (IsActOf device act → ⊥) → KeepChains old new → PathsAt profile device weight old pieces paths
+    → PathsAt profile device weight new (Whole act events ∷ pieces) paths
+still-of profile device weight old new pieces act events paths other keep are = record {
+  facts = unmoved (PowerOn profile) device paths.facts (acts_of pieces) act other are.facts;
+  best = paths-kept (code_of device) device (machine_of (PowerOn profile) device) weight old new
       (Whole act events ∷ pieces) paths.entries.items keep
-      (paths-still (code_of device) device (machine_of (PowerOn Base) device) weight old pieces act
-      events paths.entries.items
-      (λ k d within acts choice before after gains same.
-      (is_machine_of (PowerOn Base) device).elsewhere acts act choice before after gains other)
+      (paths-still (code_of device) device (machine_of (PowerOn profile) device) weight old pieces
+      act events paths.entries.items (λ k d within acts choice before after gains same.
+      (is_machine_of (PowerOn profile) device).elsewhere acts act choice before after gains other)
       are.best);
 }
 
@@ -153,9 +154,10 @@ of-device device P all chains paths same is holds =
 leads-which : (goal : Goal) (which : Device) (weight : Weight) (act : Act) (row : ℕ)
     (old : AllPaths) (chains : Chains) (paths : Paths (FactsOf which) (codes_of which))
     → weight ≡ weight_for goal which
-    → ((pieces : List Piece) (events : List Event) → row ≡ length (events_of pieces ++ events)
-    → PathsAt which weight old.chains.links.items pieces (paths_in old which)
-    → PathsAt which weight chains.links.items (Whole act events ∷ pieces) paths)
+    → ((profile : Profile) (pieces : List Piece) (events : List Event)
+    → row ≡ length (events_of pieces ++ events)
+    → PathsAt profile which weight old.chains.links.items pieces (paths_in old which)
+    → PathsAt profile which weight chains.links.items (Whole act events ∷ pieces) paths)
     → ((limit : ℕ) → AreEntriesWithin (codes_of which) limit old.chains.links.items
     (paths_in old which).entries.items
     → AreEntriesWithin (codes_of which) (limit + 2 ^ 32) chains.links.items paths.entries.items)
@@ -166,12 +168,12 @@ leads-which goal which weight act row old chains paths is led within =
     let its_paths = its which chains paths old in
     record {
       own = record {
-        led = λ pieces events at are. of-device which
-            (λ links. PathsAt which (weight_for goal which) links (Whole act events ∷ pieces)) new
-            chains paths same_chains its_paths
-            (subst (λ w. PathsAt which w chains.links.items (Whole act events ∷ pieces) paths) is
-            (led pieces events at
-            (subst (λ w. PathsAt which w old.chains.links.items pieces (paths_in old which))
+        led = λ profile pieces events at are. of-device which
+            (λ links. PathsAt profile which (weight_for goal which) links
+            (Whole act events ∷ pieces)) new chains paths same_chains its_paths
+            (subst (λ w. PathsAt profile which w chains.links.items (Whole act events ∷ pieces)
+            paths) is (led profile pieces events at
+            (subst (λ w. PathsAt profile which w old.chains.links.items pieces (paths_in old which))
             (sym is) are)));
         within = λ limit are. of-device which
             (λ links paths. AreEntriesWithin (codes_of which) (limit + 2 ^ 32) links
@@ -185,10 +187,10 @@ pub one-leads : {E : Type 0} (r : Result Bool E) (goal : Goal) (device which : D
     (weight : Weight) (act : Act) (row : ℕ) (old : AllPaths) (chains : Chains)
     (paths : Paths (FactsOf which) (codes_of which)) → device ≡ which
     → weight ≡ weight_for goal device
-    → IfOk r (λ goes. OnTrue goes ((pieces : List Piece) (events : List Event)
+    → IfOk r (λ goes. OnTrue goes ((profile : Profile) (pieces : List Piece) (events : List Event)
     → row ≡ length (events_of pieces ++ events)
-    → PathsAt which weight old.chains.links.items pieces (paths_in old which)
-    → PathsAt which weight chains.links.items (Whole act events ∷ pieces) paths))
+    → PathsAt profile which weight old.chains.links.items pieces (paths_in old which)
+    → PathsAt profile which weight chains.links.items (Whole act events ∷ pieces) paths))
     → IfOk r (λ _. (limit : ℕ)
     → AreEntriesWithin (codes_of which) limit old.chains.links.items
     (paths_in old which).entries.items
@@ -206,31 +208,33 @@ one-leads (Err e) goal device which weight act row old chains paths is weighs le
 pub one-none : {E : Type 0} (r : Result Bool E) (goal : Goal) (device which : Device)
     (weight : Weight) (act : Act) (old : AllPaths) → device ≡ which
     → weight ≡ weight_for goal device
-    → IfOk r (λ goes. OnFalse goes ((pieces : List Piece)
-    → PathsAt which weight old.chains.links.items pieces (paths_in old which)
-    → HasNoWay pieces act which))
-    → IfOk r (λ goes. OnFalse goes ((pieces : List Piece) → ArePathsOf goal pieces old device
-    → HasNoWay pieces act device))
+    → IfOk r (λ goes. OnFalse goes ((profile : Profile) (pieces : List Piece)
+    → PathsAt profile which weight old.chains.links.items pieces (paths_in old which)
+    → HasNoWay profile pieces act which))
+    → IfOk r (λ goes. OnFalse goes ((profile : Profile) (pieces : List Piece)
+    → ArePathsOf profile goal pieces old device → HasNoWay profile pieces act device))
 one-none r goal device which weight act old is weighs =
-    if-ok r _ _ (λ goes. on-false goes _ _ (λ none pieces are.
-    subst (HasNoWay pieces act) (sym is)
-    (none pieces (subst (λ w. PathsAt which w old.chains.links.items pieces (paths_in old which))
-    (sym (weighs ∙ ap (weight_for goal) is)) (subst (ArePathsOf goal pieces old) is are)))))
+    if-ok r _ _ (λ goes. on-false goes _ _ (λ none profile pieces are.
+    subst (HasNoWay profile pieces act) (sym is)
+    (none profile pieces (subst (λ w. PathsAt profile which w old.chains.links.items pieces
+    (paths_in old which))
+    (sym (weighs ∙ ap (weight_for goal) is)) (subst (ArePathsOf profile goal pieces old) is are)))))
 
 -- All go on where the paths of the only device that has a part in the act were led.
 pub all-led : (goal : Goal) (device : Device) (act : Act) (row : ℕ) (old new : AllPaths)
     → ((other : Device) → IsActOf other act → other ≡ device)
     → KeepChains old.chains.links.items new.chains.links.items
-    → OneLeadsPaths device goal act row old new → (pieces : List Piece) (events : List Event)
-    → row ≡ length (events_of pieces ++ events) → AreAllPaths goal pieces old
-    → AreAllPaths goal (Whole act events ∷ pieces) new
-all-led goal device act row old new only keep one pieces events at are other =
+    → OneLeadsPaths device goal act row old new → (profile : Profile) (pieces : List Piece)
+    (events : List Event) → row ≡ length (events_of pieces ++ events) → AreAllPaths profile goal
+    pieces old → AreAllPaths profile goal (Whole act events ∷ pieces) new
+all-led goal device act row old new only keep one profile pieces events at are other =
     elim (same_or_not other device) [
-      | inl same ↦ subst (ArePathsOf goal (Whole act events ∷ pieces) new) (sym same)
-          (one.own.led pieces events at (are device))
-      | inr apart ↦ subst (PathsAt other (weight_for goal other) new.chains.links.items
+      | inl same ↦ subst (ArePathsOf profile goal (Whole act events ∷ pieces) new) (sym same)
+          (one.own.led profile pieces events at (are device))
+      | inr apart ↦ subst (PathsAt profile other (weight_for goal other) new.chains.links.items
           (Whole act events ∷ pieces)) (sym (one.others other apart))
-          (still-of other (weight_for goal other) old.chains.links.items new.chains.links.items
+          (still-of profile other (weight_for goal other) old.chains.links.items
+          new.chains.links.items
           pieces act events (paths_in old other) (λ of. apart (only other of)) keep (are other))
     ]
 
@@ -250,10 +254,12 @@ all-within goal device act row old new keep one limit are other =
 
 -- All stay where the act is no device's.
 pub none-led : (goal : Goal) (act : Act) (all : AllPaths)
-    → ((other : Device) → IsActOf other act → ⊥) → (pieces : List Piece) (events : List Event)
-    → AreAllPaths goal pieces all → AreAllPaths goal (Whole act events ∷ pieces) all
-none-led goal act all none pieces events are device =
-    still-of device (weight_for goal device) all.chains.links.items all.chains.links.items pieces
+    → ((other : Device) → IsActOf other act → ⊥) → (profile : Profile) (pieces : List Piece)
+    (events : List Event) → AreAllPaths profile goal pieces all → AreAllPaths profile goal
+    (Whole act events ∷ pieces) all
+none-led goal act all none profile pieces events are device =
+    still-of profile device (weight_for goal device) all.chains.links.items all.chains.links.items
+    pieces
     act events (paths_in all device) (none device) (keep-same all.chains.links.items) (are device)
 
 pub none-within : (all : AllPaths) (limit : ℕ) → AreAllWithin limit all
@@ -309,16 +315,16 @@ front-more goal act row count old mid new d within front goes so led keep =
     record {
       gone = λ device less. elim (same_or_not device next) [
         | inl same ↦ subst (LeadsPathsOf goal act row old new) (sym same) (record {
-          led = λ pieces events is are. one.own.led pieces events is
-              (moved next goal pieces old mid front.kept waits are);
+          led = λ profile pieces events is are. one.own.led profile pieces events is
+              (moved profile next goal pieces old mid front.kept waits are);
           within = λ limit are. one.own.within limit
               (within-moved next limit old mid front.kept waits are);
         })
         | inr apart ↦
             let leads = front.gone device (earlier count next device at less apart) in record {
-              led = λ pieces events is are.
-                  moved device goal (Whole act events ∷ pieces) mid new keep
-                  (one.others device apart) (leads.led pieces events is are);
+              led = λ profile pieces events is are.
+                  moved profile device goal (Whole act events ∷ pieces) mid new keep
+                  (one.others device apart) (leads.led profile pieces events is are);
               within = λ limit are. within-moved device (limit + 2 ^ 32) mid new keep
                   (one.others device apart) (leads.within limit are);
             }
@@ -333,12 +339,13 @@ front-more goal act row count old mid new d within front goes so led keep =
     }
 
 -- the next device may be led
-pub front-stands : (goal : Goal) (act : Act) (row count : ℕ) (old mid : AllPaths) (d : Device)
-    (acts : List Act) → count < 4 → FrontLeads goal act row count old mid → AreAllFacts acts old
-    → AreFactsOf acts mid (get_or DEVICES count d)
-front-stands goal act row count old mid d acts within front are =
+pub front-stands : (profile : Profile) (goal : Goal) (act : Act) (row count : ℕ)
+    (old mid : AllPaths) (d : Device)
+    (acts : List Act) → count < 4 → FrontLeads goal act row count old mid → AreAllFacts profile acts
+    old → AreFactsOf profile acts mid (get_or DEVICES count d)
+front-stands profile goal act row count old mid d acts within front are =
     let next : Device = get_or DEVICES count d in
-    subst (λ (paths : Paths (FactsOf next) (codes_of next)). stands_for (PowerOn Base) next
+    subst (λ (paths : Paths (FactsOf next) (codes_of next)). stands_for (PowerOn profile) next
     paths.facts acts) (sym (next-waits goal act row count old mid d within front)) (are next)
 
 pub front-fits : (goal : Goal) (act : Act) (row count : ℕ) (old mid : AllPaths) (d : Device)
@@ -351,13 +358,15 @@ front-fits goal act row count old mid d limit within front are =
 -- and where it has no way, it had none
 pub front-none : (goal : Goal) (act : Act) (row count : ℕ) (old mid : AllPaths) (d : Device)
     → count < 4 → FrontLeads goal act row count old mid → (goes : Bool) → goes ≡ false
-    → OnFalse goes ((pieces : List Piece) → ArePathsOf goal pieces mid (get_or DEVICES count d)
-    → HasNoWay pieces act (get_or DEVICES count d))
-    → (pieces : List Piece) → AreAllPaths goal pieces old → (one : Device) × HasNoWay pieces act one
-front-none goal act row count old mid d within front goes so none pieces are =
+    → OnFalse goes ((profile : Profile) (pieces : List Piece)
+    → ArePathsOf profile goal pieces mid (get_or DEVICES count d)
+    → HasNoWay profile pieces act (get_or DEVICES count d))
+    → (profile : Profile) (pieces : List Piece) → AreAllPaths profile goal pieces old
+    → (one : Device) × HasNoWay profile pieces act one
+front-none goal act row count old mid d within front goes so none profile pieces are =
     let next : Device = get_or DEVICES count d in (
       next,
-      by-false goes _ so none pieces (moved next goal pieces old mid front.kept
+      by-false goes _ so none profile pieces (moved profile next goal pieces old mid front.kept
           (next-waits goal act row count old mid d within front) (are next)),
     )
 
@@ -369,29 +378,30 @@ front-all goal act row count old new all front device =
     front.gone device (omega (arith, all, below device))
 
 -- the best of a device's entries is of a best way, and its chain has the marks of this
-pub best-listed : (device : Device) (goal : Goal) (links : List Link) (pieces : List Piece)
-    (paths : Paths (FactsOf device) (codes_of device)) (best : Best)
-    → PathsAt device (weight_for goal device) links pieces paths → HasWay pieces device
-    → ((entry : ℕ × Best) → Contains paths.entries.items entry
+pub best-listed : (profile : Profile) (device : Device) (goal : Goal) (links : List Link)
+    (pieces : List Piece) (paths : Paths (FactsOf device) (codes_of device)) (best : Best)
+    → PathsAt profile device (weight_for goal device) links pieces paths → HasWay profile pieces
+    device → ((entry : ℕ × Best) → Contains paths.entries.items entry
     → IsBestOf paths.entries.items best)
     → IsBestOf paths.entries.items best
-best-listed device goal links pieces paths best are way is =
+best-listed profile device goal links pieces paths best are way is =
     let has = are.best.whole way.0 way.1 way.2 way.3 in
     is (code_of device way.0, has.best) has.listed
 
-pub best-chain : (device : Device) (goal : Goal) (links : List Link) (pieces : List Piece)
-    (paths : Paths (FactsOf device) (codes_of device)) (best : Best)
-    → PathsAt device (weight_for goal device) links pieces paths
+pub best-chain : (profile : Profile) (device : Device) (goal : Goal) (links : List Link)
+    (pieces : List Piece) (paths : Paths (FactsOf device) (codes_of device)) (best : Best)
+    → PathsAt profile device (weight_for goal device) links pieces paths
     → IsBestOf paths.entries.items best → IsChain links best.chain
-best-chain device goal links pieces paths best are is =
+best-chain profile device goal links pieces paths best are is =
     let path = are.best.sound (is.code, best) is.listed in (_, path.chain)
 
-pub best-marks : (device : Device) (goal : Goal) (links : List Link) (pieces : List Piece)
+pub best-marks : (profile : Profile) (device : Device) (goal : Goal) (links : List Link)
+    (pieces : List Piece)
     (paths : Paths (FactsOf device) (codes_of device)) (best : Best) (marks : List (ℕ × Mark))
-    → PathsAt device (weight_for goal device) links pieces paths
+    → PathsAt profile device (weight_for goal device) links pieces paths
     → IsBestOf paths.entries.items best → Denotes links best.chain marks
-    → AreBestMarks goal pieces device marks
-best-marks device goal links pieces paths best marks are is read =
+    → AreBestMarks profile goal pieces device marks
+best-marks profile device goal links pieces paths best marks are is read =
     let weight = weight_for goal device in
     let path = are.best.sound (is.code, best) is.listed in
     let same : marks ≡ own_marks device pieces path.choices =

@@ -7,7 +7,7 @@ use Rattle.mdb_msgs.specs.declared.command.Device.{Device}
 use Rattle.mdb_msgs.specs.Devices.{same_device}
 use Rattle.mdb_msgs.specs.shared.SameDevices.{is_one, itself}
 use Rattle.mdb_bus.specs.declared.scope.Beginning.TheVariants.{PowerOn}
-use Rattle.mdb_bus.specs.declared.scope.Profile.TheVariants.{Base}
+use Rattle.mdb_bus.specs.declared.scope.Profile.{Profile}
 use Rattle.mdb_bus.specs.ActLists.{Piece, acts_of}
 use Rattle.mdb_follow.specs.declared.account_name.AccountName.{AccountName}
 use Rattle.mdb_explained_runs.specs.declared.explain.best.Weight.{Weight}
@@ -75,14 +75,14 @@ as-far Least one other less = less
 as-far Greatest one other less = omega (arith, ints)
 
 -- no way of the goal's device goes further than one with the best marks
-pub farthest-of : (goal : Goal) (pieces : List Piece) (marks : List (ℕ × Mark))
-    (best : AreBestMarks goal pieces (account_device goal.account) marks) (sums other : AllSums)
-    → sums (account_device goal.account) ≡ best.sums
+pub farthest-of : (profile : Profile) (goal : Goal) (pieces : List Piece) (marks : List (ℕ × Mark))
+    (best : AreBestMarks profile goal pieces (account_device goal.account) marks)
+    (sums other : AllSums) → sums (account_device goal.account) ≡ best.sums
     → (state : StateOf (account_device goal.account)) (choices : Choices (acts_of pieces))
-    → Follows (machine_of (PowerOn Base) (account_device goal.account)) (acts_of pieces) choices
+    → Follows (machine_of (PowerOn profile) (account_device goal.account)) (acts_of pieces) choices
     state (other (account_device goal.account))
     → IsAsFar goal.bound (goal_value goal sums) (goal_value goal other)
-farthest-of goal pieces marks best sums other its state choices way =
+farthest-of profile goal pieces marks best sums other its state choices way =
     let device = account_device goal.account in
     let weight = weight_for goal device in
     let good = best.least state (other device) choices way in
@@ -92,13 +92,14 @@ farthest-of goal pieces marks best sums other its state choices way =
     (subst (λ v. weigh weight best.sums ≤ℤ v) (goal-weighed goal other) good.no_greater))
 
 -- and no way of a device, in a run that comes as far, has fewer marks than the best
-pub fewest-of : (goal : Goal) (pieces : List Piece) (device : Device) (marks : List (ℕ × Mark))
-    (best : AreBestMarks goal pieces device marks) (sums other : AllSums)
+pub fewest-of : (profile : Profile) (goal : Goal) (pieces : List Piece) (device : Device)
+    (marks : List (ℕ × Mark))
+    (best : AreBestMarks profile goal pieces device marks) (sums other : AllSums)
     → sums device ≡ best.sums → goal_value goal other ≡ goal_value goal sums
     → (state : StateOf device) (choices : Choices (acts_of pieces))
-    → Follows (machine_of (PowerOn Base) device) (acts_of pieces) choices state (other device)
+    → Follows (machine_of (PowerOn profile) device) (acts_of pieces) choices state (other device)
     → length marks ≤ length (own_marks device pieces choices)
-fewest-of goal pieces device marks best sums other its same state choices way =
+fewest-of profile goal pieces device marks best sums other its same state choices way =
     let weight = weight_for goal device in
     (best.least state (other device) choices way).no_more
     (ap (weigh weight) (sym its) ∙ same-weighed goal device sums other (sym same))

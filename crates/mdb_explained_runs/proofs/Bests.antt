@@ -1,5 +1,5 @@
 -- What is as good as what, and entries that are taken in.
-use Rattle.std.proofs.Common.{arith, inl, inr, refl, sym, subst, ap, ◌∙◌, ◌≡◌, ◌⊎◌, ◌+◌, ◌<◌, ◌≤◌, ℕ, ℤ}
+use Rattle.std.proofs.Common.{arith, inl, inr, sym, subst, ap, ◌∙◌, ◌≡◌, ◌⊎◌, ◌+◌, ◌<◌, ◌≤◌, ℕ, ℤ}
 use Rattle.std.proofs.Common.{◌+ℤ◌, List, [], ◌∷◌, ◌++◌, length, set, take, get_or, Contains}
 use Rattle.std.proofs.lemmas.Bool.{cases_eq}
 use Rattle.std.proofs.lemmas.Int.{ints}
@@ -12,7 +12,7 @@ use Rattle.mdb_machine.specs.declared.choice.Choice.{Choice}
 use Rattle.mdb_machine.specs.declared.choice.Choice.TheVariants.{Plain, Lost, Restart}
 use Rattle.mdb_explained_runs.specs.Marks.{marks_at}
 use Rattle.mdb_explained_runs.specs.inner.Paths.{HasAsGood, HasCodeAt, IsAsGood, IsBestOf, TakesIn}
-use Rattle.mdb_follow.proofs.Listed.{contains-cases, contains-here, contains-none, contains-there}
+use Rattle.mdb_follow.proofs.Listed.{contains-cases, contains-here, contains-there}
 
 -- a value is as good as itself
 pub as_good-same : (value : ℤ) (marks : ℕ) → IsAsGood value marks value marks

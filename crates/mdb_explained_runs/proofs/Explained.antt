@@ -7,10 +7,10 @@ use Rattle.mdb_msgs.specs.declared.device_set.DeviceSet.{DeviceSet}
 use Rattle.mdb_bus.specs.ActLists.{ArePieces, IsActList, Piece, acts_of}
 use Rattle.mdb_bus.specs.Bus as link
 use Rattle.mdb_bus.specs.Loss.{Loss, LossFits}
-use Rattle.mdb_bus.specs.Scopes.{leaving_out}
+use Rattle.mdb_bus.specs.Scopes.{profile_of}
 use Rattle.mdb_bus.specs.declared.scope.Beginning.{Beginning}
 use Rattle.mdb_bus.specs.declared.scope.Beginning.TheVariants.{PowerOn}
-use Rattle.mdb_bus.specs.declared.scope.Profile.TheVariants.{Base}
+use Rattle.mdb_bus.specs.declared.scope.Profile.{Profile}
 use Rattle.mdb_bus.specs.declared.scope.Scope.{Scope}
 use Rattle.mdb_explained_runs.specs.declared.explain.seeker.Seeker.{Seeker}
 use Rattle.mdb_follow.specs.declared.goal.Goal.{Goal}
@@ -21,8 +21,9 @@ use Rattle.mdb_follow.specs.Devices.{device_place}
 use Rattle.mdb_explained_runs.specs.Goals.{Explains}
 use Rattle.mdb_follow.specs.Machines.{machine_of}
 use Rattle.mdb_explained_runs.specs.Marks.{MarkedRun, Rise, marks_of, own_marks}
+use Rattle.mdb_bus.specs.Scopes.{from_power_on}
 use Rattle.mdb_follow.specs.Runs.{AllSums, IsReached, IsWay, States}
-use Rattle.mdb_explained_runs.specs.inner.AllPaths.{AreBestBelow, AreBestMarks, HasWay}
+use Rattle.mdb_explained_runs.specs.inner.AllPaths.{AreAllPaths, AreBestBelow, AreBestMarks, HasWay}
 use Rattle.mdb_explained_runs.specs.inner.Merges.{IsMergeOf, IsOfBoth}
 use Rattle.mdb_explained_runs.specs.inner.Seekers.{IsSeeker}
 use Rattle.mdb_explained_runs.proofs.BestMarks.{farthest-of, fewest-of}
@@ -104,14 +105,14 @@ merge_count told scope pieces are own marks same merge is =
     (λ device. ap length (own_of_merged told device pieces own ∙ same device))
 
 -- the marks of a best way of each device, as one list, explain the goal
-pub explained : ExplainLaws → (without : DeviceSet) (events : List Event) (pieces : List Piece)
-    → IsActList (leaving_out without) pieces events → (goal : Goal)
+pub explained : ExplainLaws → (profile : Profile) (without : DeviceSet) (events : List Event)
+    (pieces : List Piece) → IsActList (from_power_on profile without) pieces events → (goal : Goal)
     (marks : Device → List (ℕ × Mark))
-    → ((device : Device) → AreBestMarks goal pieces device (marks device))
+    → ((device : Device) → AreBestMarks profile goal pieces device (marks device))
     → (merge : List (ℕ × Mark)) → IsMergeOf marks merge
-    → Explains (leaving_out without) events goal merge
-explained laws without events pieces list goal marks best merge is =
-    let scope : Scope = leaving_out without in
+    → Explains (from_power_on profile without) events goal merge
+explained laws profile without events pieces list goal marks best merge is =
+    let scope : Scope = from_power_on profile without in
     let own : Device → Choices (acts_of pieces) = λ device. (best device).choices in
     let states : States = λ device. (best device).state in
     let sums : AllSums = λ device. (best device).sums in
@@ -119,8 +120,8 @@ explained laws without events pieces list goal marks best merge is =
     λ device. sym (best device).are in
     let chosen : Choices (acts_of pieces) = merged (acts_of pieces) own in
     let found = laws.joins scope pieces chosen states sums list.in_order
-    (λ device. follows_as device (machine_of (PowerOn Base) device)
-    (is_machine_of (PowerOn Base) device) (acts_of pieces) (own device) chosen
+    (λ device. follows_as device (machine_of (PowerOn profile) device)
+    (is_machine_of (PowerOn profile) device) (acts_of pieces) (own device) chosen
     (merged_agrees (acts_of pieces) own device) (states device) (sums device) (best device).way) in
     record {
       sums = sums;
@@ -137,18 +138,18 @@ explained laws without events pieces list goal marks best merge is =
             ∙ merge_is laws.told scope pieces list.in_order own marks same merge is;
       };
       farthest = λ other run.
-          let its = choices_of (PowerOn Base) run.loss run.pieces run.states other run.way in
+          let its = choices_of (PowerOn profile) run.loss run.pieces run.states other run.way in
           let ways = ways_with laws scope events pieces list (marks_of run.pieces its) other
           (record { run = run; are = refl }) in
           let device : Device = account_device goal.account in
-          farthest-of goal pieces (marks device) (best device) sums other refl
+          farthest-of profile goal pieces (marks device) (best device) sums other refl
           (ways.states device) ways.chosen (ways.ways device);
       fewest = λ others other marked as_good.
           let ways = ways_with laws scope events pieces list others other marked in
           let no_more : together marks ≤ together (λ device. own_marks device pieces ways.chosen) =
           together_most marks (λ device. own_marks device pieces ways.chosen)
-          (λ device. fewest-of goal pieces device (marks device) (best device) sums other refl
-          as_good (ways.states device) ways.chosen (ways.ways device)) in
+          (λ device. fewest-of profile goal pieces device (marks device) (best device) sums other
+          refl as_good (ways.states device) ways.chosen (ways.ways device)) in
           omega (
             arith,
             merge_count laws.told scope pieces list.in_order own marks same merge is,
@@ -159,53 +160,59 @@ explained laws without events pieces list goal marks best merge is =
     }
 
 -- of no device there are no marks
-pub best_none : (goal : Goal) (pieces : List Piece) → AreBestBelow goal pieces 0 []
-best_none goal pieces = record {
+pub best_none : (profile : Profile) (goal : Goal) (pieces : List Piece) → AreBestBelow profile goal
+    pieces 0 []
+best_none profile goal pieces = record {
   of = λ device. [];
   best = λ device less. absurd (omega (arith, less));
   merge = merged_none (λ device. []);
 }
 
 -- with those of a best way of the next device they are those of one device more
-pub best_more : (goal : Goal) (pieces : List Piece) (count : ℕ) (next : Device)
+pub best_more : (profile : Profile) (goal : Goal) (pieces : List Piece) (count : ℕ) (next : Device)
     (own marks both : List (ℕ × Mark)) → device_place next ≡ count
-    → AreBestBelow goal pieces count marks → AreBestMarks goal pieces next own
-    → IsOfBoth marks own both → AreBestBelow goal pieces (count + 1) both
-best_more goal pieces count next own marks both at is best whole = record {
+    → AreBestBelow profile goal pieces count marks → AreBestMarks profile goal pieces next own
+    → IsOfBoth marks own both → AreBestBelow profile goal pieces (count + 1) both
+best_more profile goal pieces count next own marks both at is best whole = record {
   of = with_own next own is.of;
   best = λ device less. elim (same_or_not device next) [
     | inl same ↦
-        subst (AreBestMarks goal pieces device) (sym (its_own next device own is.of same))
-        (subst (λ d. AreBestMarks goal pieces d own) (sym same) best)
+        subst (AreBestMarks profile goal pieces device) (sym (its_own next device own is.of same))
+        (subst (λ d. AreBestMarks profile goal pieces d own) (sym same) best)
     | inr apart ↦
-        subst (AreBestMarks goal pieces device) (sym (anothers next device own is.of apart))
+        subst (AreBestMarks profile goal pieces device) (sym (anothers next device own is.of apart))
         (is.best device (earlier count next device at less apart))
   ];
   merge = merged_more count is.of next own marks both at is.merge whole;
 }
 
-pub best_enough : (goal : Goal) (pieces : List Piece) (count : ℕ) (marks : List (ℕ × Mark))
-    → 4 ≤ count → AreBestBelow goal pieces count marks → AreBestBelow goal pieces 4 marks
-best_enough goal pieces count marks enough is = record {
+pub best_enough : (profile : Profile) (goal : Goal) (pieces : List Piece) (count : ℕ)
+    (marks : List (ℕ × Mark))
+    → 4 ≤ count → AreBestBelow profile goal pieces count marks → AreBestBelow profile goal pieces 4
+    marks
+best_enough profile goal pieces count marks enough is = record {
   of = is.of;
   best = λ device less. is.best device (omega (arith, less, enough));
   merge = merged_enough count is.of marks enough is.merge;
 }
 
 -- so all of them explain the goal
-pub explained_all : ExplainLaws → (without : DeviceSet) (events : List Event) (pieces : List Piece)
-    → IsActList (leaving_out without) pieces events → (goal : Goal) (all : List (ℕ × Mark))
-    → AreBestBelow goal pieces 4 all → Explains (leaving_out without) events goal all
-explained_all laws without events pieces list goal all is =
-    let scope : Scope = leaving_out without in
+pub explained_all : ExplainLaws → (profile : Profile) (without : DeviceSet)
+    (events : List Event) (pieces : List Piece)
+    → IsActList (from_power_on profile without) pieces events → (goal : Goal)
+    (all : List (ℕ × Mark))
+    → AreBestBelow profile goal pieces 4 all → Explains (from_power_on profile without) events goal
+    all
+explained_all laws profile without events pieces list goal all is =
+    let scope : Scope = from_power_on profile without in
     let marks : Device → List (ℕ × Mark) = is.of in
-    let best : (device : Device) → AreBestMarks goal pieces device (marks device) =
+    let best : (device : Device) → AreBestMarks profile goal pieces device (marks device) =
     λ device. is.best device (below device) in
     let own : Device → Choices (acts_of pieces) = λ device. (best device).choices in
     let chosen : Choices (acts_of pieces) = merged (acts_of pieces) own in
     let each : (device : Device) → own_marks device pieces chosen ≡ marks device =
     λ device. own_of_merged laws.told device pieces own ∙ sym (best device).are in
-    explained laws without events pieces list goal marks best all
+    explained laws profile without events pieces list goal marks best all
     (all_merged marks all
     (λ device. subst Rise (each device) (own_rise scope device pieces chosen list.in_order))
     (λ x y differ mark next has its same. differ
@@ -223,15 +230,25 @@ list-of-seeker goal events seeker scope same on = record {
   whole = on.whole;
 }
 
+-- and its paths are those by the profile of the scope
+pub paths-of-seeker : (goal : Goal) (events : List Event) (seeker : Seeker) (profile : Profile)
+    (without : DeviceSet) → link.scope_of seeker.bus ≡ from_power_on profile without
+    → (on : IsSeeker goal events seeker) → AreAllPaths profile goal on.pieces seeker.all
+paths-of-seeker goal events seeker profile without same on =
+    subst (λ p. AreAllPaths p goal on.pieces seeker.all)
+    (ap profile_of (sym on.begins ∙ ap (λ (s : Scope). s.begins) same)) on.paths
+
 -- in reached rows each device has a way through the acts of their act list
-pub has-way : (without : DeviceSet) → OneActList (leaving_out without) → (events : List Event)
-    (pieces : List Piece) → IsActList (leaving_out without) pieces events
-    → IsReached (leaving_out without) events → (device : Device) → HasWay pieces device
-has-way without one events pieces list reached device =
+pub has-way : (profile : Profile) (without : DeviceSet) → OneActList (from_power_on profile without)
+    → (events : List Event)
+    (pieces : List Piece) → IsActList (from_power_on profile without) pieces events
+    → IsReached (from_power_on profile without) events → (device : Device) → HasWay profile pieces
+    device
+has-way profile without one events pieces list reached device =
     let run = reached.1 in
-    subst (λ ps. HasWay ps device) (one events run.pieces pieces run.act_list list) (
+    subst (λ ps. HasWay profile ps device) (one events run.pieces pieces run.act_list list) (
       run.states device,
       reached.0 device,
-      choices_of (PowerOn Base) run.loss run.pieces run.states reached.0 run.way,
-      split_with_choices (PowerOn Base) run.loss run.pieces run.states reached.0 run.way device,
+      choices_of (PowerOn profile) run.loss run.pieces run.states reached.0 run.way,
+      split_with_choices (PowerOn profile) run.loss run.pieces run.states reached.0 run.way device,
     )

@@ -228,6 +228,7 @@ moves_bill : (facts : bill_facts.Facts) (message : BillActivity) (before one oth
     → bill.MovesBill facts message before one → bill.MovesBill facts message before other
     → one ≡ other
 moves_bill facts (activity.Stacked number) before one other p q = p.4 ∙ sym q.4
+moves_bill facts (activity.Recycled number) before one other p q = p.4 ∙ sym q.4
 moves_bill facts (activity.Escrow number) before one other p q =
     p.4 ∙ (ap Waiting (same_type p.0 q.0 (p.1 ∙ sym q.1)) ∙ sym q.4)
 moves_bill facts (activity.Returned number) before one other p q = p.3 ∙ sym q.3
@@ -332,6 +333,7 @@ reader_facts_one unit profile so_far holds one other p q =
     let taken : one.taken ≡ other.taken =
     allowed_one profile None _ one.taken other.taken p.taken q.taken in
     let amount : one.amount ≡ other.amount = p.amount ∙ sym q.amount in
+    let refused : one.refused ≡ other.refused = p.refused ∙ sym q.refused in
     let past : one.past ≡ other.past =
     past_alike one.past other.past (p.past.enabled ∙ sym q.past.enabled)
     (p.past.reset_owed ∙ sym q.past.reset_owed)
@@ -342,6 +344,7 @@ reader_facts_one unit profile so_far holds one other p q =
       asked = asked i;
       taken = taken i;
       amount = amount i;
+      refused = refused i;
       past = past i;
     }
 

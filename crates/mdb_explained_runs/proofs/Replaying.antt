@@ -14,7 +14,7 @@ use Rattle.mdb_bus.specs.declared.fault.Blame.{Blame}
 use Rattle.mdb_bus.specs.declared.fault.LinkFault.{LinkFault}
 use Rattle.mdb_bus.specs.declared.scope.Beginning.{Beginning}
 use Rattle.mdb_bus.specs.declared.scope.Beginning.TheVariants.{PowerOn}
-use Rattle.mdb_bus.specs.declared.scope.Profile.TheVariants.{Base}
+use Rattle.mdb_bus.specs.declared.scope.Profile.{Profile}
 use Rattle.mdb_bus.specs.declared.scope.Scope.{Scope}
 use Rattle.mdb_bus.specs.ActLists.{ArePieces, AskTail, HasActList, IsActList, IsTail, Piece}
 use Rattle.mdb_bus.specs.ActLists.{RepeatTail, ReplyTail, Whole, act_in, acts_of, events_of}
@@ -74,51 +74,57 @@ MarksTell = (scope : Scope) (pieces : List Piece) (one other : Choices (acts_of 
 
 -- What is known of pieces: which choices have the marks, and that tracks stand for their acts with
 -- them.
-record Known (tracks : Tracks) (marks : List (ℕ × Mark)) (pieces : List Piece) : Type 0 where
+record Known (profile : Profile) (tracks : Tracks) (marks : List (ℕ × Mark))
+    (pieces : List Piece) : Type 0 where
   chosen : Choices (acts_of pieces)
   marked : marks_of pieces chosen ≡ marks
-  stand : AreTracks tracks (acts_of pieces) chosen
+  stand : AreTracks profile tracks (acts_of pieces) chosen
 
 -- a tail adds nothing
-without-tail : (tracks : Tracks) (marks : List (ℕ × Mark)) (tail : Piece) (pieces : List Piece)
-    → IsTail tail → Known tracks marks (tail ∷ pieces) → Known tracks marks pieces
-without-tail tracks marks (Whole act events) pieces is known = absurd is
-without-tail tracks marks (AskTail bytes events) pieces is known =
+without-tail : (profile : Profile) (tracks : Tracks) (marks : List (ℕ × Mark)) (tail : Piece)
+    (pieces : List Piece)
+    → IsTail tail → Known profile tracks marks (tail ∷ pieces) → Known profile tracks marks pieces
+without-tail profile tracks marks (Whole act events) pieces is known = absurd is
+without-tail profile tracks marks (AskTail bytes events) pieces is known =
     record { chosen = known.chosen; marked = known.marked; stand = known.stand }
-without-tail tracks marks (ReplyTail command bytes events) pieces is known =
+without-tail profile tracks marks (ReplyTail command bytes events) pieces is known =
     record { chosen = known.chosen; marked = known.marked; stand = known.stand }
-without-tail tracks marks (RepeatTail command reply words events) pieces is known =
+without-tail profile tracks marks (RepeatTail command reply words events) pieces is known =
     record { chosen = known.chosen; marked = known.marked; stand = known.stand }
 
-with-tail : (tracks : Tracks) (marks : List (ℕ × Mark)) (tail : Piece) (pieces : List Piece)
-    → act_in tail ≡ None → Known tracks marks pieces → Known tracks marks (tail ∷ pieces)
-with-tail tracks marks (Whole act events) pieces none known = absurd (cc none)
-with-tail tracks marks (AskTail bytes events) pieces none known =
+with-tail : (profile : Profile) (tracks : Tracks) (marks : List (ℕ × Mark)) (tail : Piece)
+    (pieces : List Piece)
+    → act_in tail ≡ None → Known profile tracks marks pieces → Known profile tracks marks
+    (tail ∷ pieces)
+with-tail profile tracks marks (Whole act events) pieces none known = absurd (cc none)
+with-tail profile tracks marks (AskTail bytes events) pieces none known =
     record { chosen = known.chosen; marked = known.marked; stand = known.stand }
-with-tail tracks marks (ReplyTail command bytes events) pieces none known =
+with-tail profile tracks marks (ReplyTail command bytes events) pieces none known =
     record { chosen = known.chosen; marked = known.marked; stand = known.stand }
-with-tail tracks marks (RepeatTail command reply words events) pieces none known =
+with-tail profile tracks marks (RepeatTail command reply words events) pieces none known =
     record { chosen = known.chosen; marked = known.marked; stand = known.stand }
 
 -- what is known of the pieces before the newest of those that went on
-earlier-known : (tracks : Tracks) (marks : List (ℕ × Mark)) (pieces : List Piece) (row : Event)
+earlier-known : (profile : Profile) (tracks : Tracks) (marks : List (ℕ × Mark))
+    (pieces : List Piece) (row : Event)
     (act : Option Act) (longer : List Piece) (grown : Grown pieces row act longer)
-    → Known tracks marks pieces → Known tracks marks grown.earlier
-earlier-known tracks marks pieces row act longer grown known =
+    → Known profile tracks marks pieces → Known profile tracks marks grown.earlier
+earlier-known profile tracks marks pieces row act longer grown known =
     elim grown.from [
-      | inl alone ↦ subst (Known tracks marks) alone.1 known
-      | inr on ↦ without-tail tracks marks on.0 grown.earlier on.1
-          (subst (Known tracks marks) on.3 known)
+      | inl alone ↦ subst (Known profile tracks marks) alone.1 known
+      | inr on ↦ without-tail profile tracks marks on.0 grown.earlier on.1
+          (subst (Known profile tracks marks) on.3 known)
     ]
 
 -- a row that ends no act leaves it
-still-known : (tracks : Tracks) (marks : List (ℕ × Mark)) (pieces : List Piece) (row : Event)
-    (longer : List Piece) → Grown pieces row None longer → Known tracks marks pieces
-    → Known tracks marks longer
-still-known tracks marks pieces row longer grown known =
-    subst (Known tracks marks) (sym grown.are)
-    (with-tail tracks marks grown.newest grown.earlier grown.ends
-    (earlier-known tracks marks pieces row None longer grown known))
+still-known : (profile : Profile) (tracks : Tracks) (marks : List (ℕ × Mark)) (pieces : List Piece)
+    (row : Event)
+    (longer : List Piece) → Grown pieces row None longer → Known profile tracks marks pieces
+    → Known profile tracks marks longer
+still-known profile tracks marks pieces row longer grown known =
+    subst (Known profile tracks marks) (sym grown.are)
+    (with-tail profile tracks marks grown.newest grown.earlier grown.ends
+    (earlier-known profile tracks marks pieces row None longer grown known))
 
 -- the mark of a choice
 at-mark : (row : ℕ) (mark : Option Mark) (marks : List (ℕ × Mark))
@@ -146,27 +152,27 @@ more-marked marks earlier events act mark number chosen can count have =
     ap (λ ms. ms ++ marks_at (length (events_of earlier ++ events)) (choice_by mark)) have
     ∙ ap (λ n. marks ++ marks_at n (choice_by mark)) count ∙ at-mark number mark marks
 
-more-known : (old new : Tracks) (marks : List (ℕ × Mark)) (pieces : List Piece) (row : Event)
-    (act : Act) (mark : Option Mark) (longer : List Piece) (number : ℕ)
+more-known : (profile : Profile) (old new : Tracks) (marks : List (ℕ × Mark)) (pieces : List Piece)
+    (row : Event) (act : Act) (mark : Option Mark) (longer : List Piece) (number : ℕ)
     (grown : Grown pieces row (Some act) longer)
     → length (events_of longer) ≡ number → CanStand act (choice_by mark)
-    → TracksLead old act (choice_by mark) new → Known old marks pieces
-    → Known new (with_mark number mark marks) longer
-more-known old new marks pieces row act mark longer number grown rows can led known =
-    let earlier = earlier-known old marks pieces row (Some act) longer grown known in
+    → TracksLead old act (choice_by mark) new → Known profile old marks pieces
+    → Known profile new (with_mark number mark marks) longer
+more-known profile old new marks pieces row act mark longer number grown rows can led known =
+    let earlier = earlier-known profile old marks pieces row (Some act) longer grown known in
     let are = newest-whole pieces row act longer grown in
-    subst (Known new (with_mark number mark marks)) (sym are) (record {
+    subst (Known profile new (with_mark number mark marks)) (sym are) (record {
       chosen = chosen_more act (acts_of grown.earlier) (choice_by mark) can earlier.chosen;
       marked = more-marked marks grown.earlier (grown.begun ++ row ∷ []) act mark number
           earlier.chosen can (ap (λ (ps : List Piece). length (events_of ps)) (sym are) ∙ rows)
           earlier.marked;
-      stand = λ device. (led device).stands (acts_of grown.earlier) earlier.chosen can
+      stand = λ device. (led device profile).stands (acts_of grown.earlier) earlier.chosen can
           (earlier.stand device);
     })
 
 -- what a replay knows
 known-of : (replay : Replay) (events : List Event) (marks : List (ℕ × Mark))
-    (on : StandsFor replay events marks) → Known replay.tracks marks on.pieces
+    (on : StandsFor replay events marks) → Known on.profile replay.tracks marks on.pieces
 known-of replay events marks on =
     record { chosen = on.chosen; marked = on.marked; stand = on.tracks }
 
@@ -208,11 +214,12 @@ pub stands-still : (old new : Replay) (events : List Event) (marks : List (ℕ �
     → scope_of new ≡ scope_of old → new.tracks ≡ old.tracks → new.silences ≡ old.silences
     → new.rows ≡ old.rows + 1 → new.fault ≡ old.fault → StandsFor new (events ++ row ∷ []) marks
 stands-still old new events marks row on goes same_scope same_tracks same_silences more same =
-    let known = still-known new.tracks marks on.pieces row goes.longer goes.grown
-    (subst (λ tracks. Known tracks marks on.pieces) (sym same_tracks)
+    let known = still-known on.profile new.tracks marks on.pieces row goes.longer goes.grown
+    (subst (λ tracks. Known on.profile tracks marks on.pieces) (sym same_tracks)
     (known-of old events marks on)) in
     record {
       begins = ap (λ (s : Scope). s.begins) same_scope ∙ on.begins;
+      profile = on.profile;
       pieces = goes.longer;
       on_bus = goes.stands;
       whole = goes.rows ∙ ap (λ rows. rows ++ row ∷ []) on.whole;
@@ -222,9 +229,10 @@ stands-still old new events marks row on goes same_scope same_tracks same_silenc
       marked = known.marked;
       tracks = known.stand;
       silences = λ device. subst (StandsForAsks (silence_in new.silences device))
-          (sym (asks-stay (PowerOn Base) device on.pieces row goes.longer goes.grown))
+          (sym (asks-stay (PowerOn on.profile) device on.pieces row goes.longer goes.grown))
           (subst (λ silences. StandsForAsks (silence_in silences device)
-          (asks_of (PowerOn Base) device on.pieces)) (sym same_silences) (on.silences device));
+          (asks_of (PowerOn on.profile) device on.pieces)) (sym same_silences)
+          (on.silences device));
     }
 
 -- an act was followed
@@ -242,11 +250,11 @@ stands-on old mid new events marks row act mark on goes old_scope same_tracks sa
     let led : TracksLead old.tracks act (choice_by mark) new.tracks =
     subst (λ tracks. TracksLead tracks act (choice_by mark) new.tracks) same_tracks has.tracks in
     let number = rows-more on.pieces goes.longer events row goes.rows on.whole in
-    let known = more-known old.tracks new.tracks marks on.pieces row act mark goes.longer
+    let known = more-known on.profile old.tracks new.tracks marks on.pieces row act mark goes.longer
     (old.rows + 1) goes.grown (number ∙ ap (λ n. n + 1) (sym on.rows)) can led
     (known-of old events marks on) in
-    let stand = λ (device : Device). (led device).stands (acts_of on.pieces) on.chosen can
-    (on.tracks device) in
+    let stand = λ (device : Device). (led device on.profile).stands (acts_of on.pieces) on.chosen
+    can (on.tracks device) in
     let first = new.tracks.first_reader.facts in
     let second = new.tracks.second_reader.facts in
     let follows : SilencesFollow mid.silences act (start_of row) first second new.silences =
@@ -255,6 +263,7 @@ stands-on old mid new events marks row act mark on goes old_scope same_tracks sa
     record {
       begins = ap (λ (s : Scope). s.begins) (ap link.scope_of has.on_bus ∙ old_scope)
           ∙ on.begins;
+      profile = on.profile;
       pieces = goes.longer;
       on_bus = subst (λ b. link.StandsFor b goes.longer) (sym has.on_bus) goes.stands;
       whole = goes.rows ∙ ap (λ rows. rows ++ row ∷ []) on.whole;
@@ -265,11 +274,12 @@ stands-on old mid new events marks row act mark on goes old_scope same_tracks sa
       marked = known.marked;
       tracks = known.stand;
       silences = λ device. subst (StandsForAsks (silence_in new.silences device))
-          (asks-go-on (PowerOn Base) device on.pieces row act goes.longer first second goes.grown
-          (stand (devices.Reader First)).facts (stand (devices.Reader Second)).facts)
-          ((follows device).stands (asks_of (PowerOn Base) device on.pieces)
+          (asks-go-on (PowerOn on.profile) device on.pieces row act goes.longer first second
+          goes.grown (stand (devices.Reader First)).facts (stand (devices.Reader Second)).facts)
+          ((follows device).stands (asks_of (PowerOn on.profile) device on.pieces)
           (subst (λ silences. StandsForAsks (silence_in silences device)
-          (asks_of (PowerOn Base) device on.pieces)) (sym same_silences) (on.silences device)));
+          (asks_of (PowerOn on.profile) device on.pieces)) (sym same_silences)
+          (on.silences device)));
     }
 
 -- where no act ended, a mark that may stand is none
@@ -291,7 +301,7 @@ run-of joins replay events marks on =
     let scope : Scope = scope_of replay in
     let states : States = λ device. (track_in replay.tracks device).state in
     let sums : AllSums = λ device. (on.tracks device).sums in
-    let ways : AllFollow (PowerOn Base) (acts_of on.pieces) on.chosen states sums =
+    let ways : AllFollow (PowerOn on.profile) (acts_of on.pieces) on.chosen states sums =
     λ device. (on.tracks device).way in
     let found = joins scope on.pieces on.chosen states sums on.on_bus.in_order
     (subst (λ b. AllFollow b (acts_of on.pieces) on.chosen states sums) (sym on.begins) ways) in
@@ -344,7 +354,7 @@ only-run splits tell one replay events marks on sums marked device =
     let scope : Scope = scope_of replay in
     let ways = followed splits tell scope (one scope) events marks on.pieces on.chosen
     (list-of replay events marks on) on.marked sums marked in
-    let from : AllFollow (PowerOn Base) (acts_of on.pieces) on.chosen marked.run.states sums =
+    let from : AllFollow (PowerOn on.profile) (acts_of on.pieces) on.chosen marked.run.states sums =
     subst (λ b. AllFollow b (acts_of on.pieces) on.chosen marked.run.states sums) on.begins ways in
     (on.tracks device).only (marked.run.states device) (sums device) (from device)
 
@@ -390,8 +400,8 @@ machine-offence joins splits tell one old mid new events marks row act mark faul
     let choice = choice_by mark in
     let has = subst (λ c. HasStopped mid act c new fault) same_choice had in
     let grown = goes.grown in
-    let earlier = earlier-known old.tracks marks on.pieces row (Some act) goes.longer grown
-    (known-of old events marks on) in
+    let earlier = earlier-known on.profile old.tracks marks on.pieces row (Some act) goes.longer
+    grown (known-of old events marks on) in
     let are = newest-whole on.pieces row act goes.longer grown in
     let pieces : List Piece = Whole act (grown.begun ++ row ∷ []) ∷ grown.earlier in
     let list : IsActList scope pieces (events ++ row ∷ []) =
@@ -401,9 +411,9 @@ machine-offence joins splits tell one old mid new events marks row act mark faul
     let device : Device = has.none.0 in
     let stops : TrackStops device old.tracks act choice has.rule =
     subst (λ tracks. TrackStops device tracks act choice has.rule) same_tracks has.none.1 in
-    let none : HasNoStepFrom (machine_of (PowerOn Base) device) (acts_of grown.earlier) act choice
-    (track_in old.tracks device).state =
-    stops.none (acts_of grown.earlier) earlier.chosen (earlier.stand device) in
+    let none : HasNoStepFrom (machine_of (PowerOn on.profile) device) (acts_of grown.earlier) act
+    choice (track_in old.tracks device).state =
+    stops.none on.profile (acts_of grown.earlier) earlier.chosen (earlier.stand device) in
     let count : length (events_of pieces) ≡ length events + 1 =
     ap length list.whole ∙ length-append events (row ∷ []) in
     let have = more-marked marks grown.earlier (grown.begun ++ row ∷ []) act mark
@@ -422,8 +432,8 @@ machine-offence joins splits tell one old mid new events marks row act mark faul
           reached.1.run.states reached.0) on.begins ways) device in
           let was = (earlier.stand device).only way.before way.sums_before way.way in
           none (reached.1.run.states device) way.gains
-          (subst (λ s. (machine_of (PowerOn Base) device).Step (acts_of grown.earlier) act choice s
-          (reached.1.run.states device) way.gains) was.0 way.step);
+          (subst (λ s. (machine_of (PowerOn on.profile) device).Step (acts_of grown.earlier) act
+          choice s (reached.1.run.states device) way.gains) was.0 way.step);
       number = ap (λ n. n + 1) (same_rows ∙ on.rows);
       why = inr (record {
         act = act;
@@ -437,8 +447,8 @@ machine-offence joins splits tell one old mid new events marks row act mark faul
           none = λ sums marked.
               subst (λ b. HasNoStepFrom (machine_of b device) (acts_of grown.earlier) act choice
               (marked.run.states device)) (sym on.begins)
-              (subst (λ s. HasNoStepFrom (machine_of (PowerOn Base) device) (acts_of grown.earlier)
-              act choice s)
+              (subst (λ s. HasNoStepFrom (machine_of (PowerOn on.profile) device)
+              (acts_of grown.earlier) act choice s)
               (sym (only-run splits tell one old events marks on sums marked device).0) none);
         };
         blame = refl;
@@ -509,7 +519,7 @@ pub reported : JoinWithChoices → SplitWithChoices → MarksTell
     (marks : List (ℕ × Mark)) (report : Report) (on : StandsFor replay events marks)
     (cells : Device → Cell)
     → ((device : Device) → cells device ≡ (track_in replay.tracks device).cell)
-    → report ≡ report_of (PowerOn Base) replay.rows on.pieces (account_by cells)
+    → report ≡ report_of (PowerOn on.profile) replay.rows on.pieces (account_by cells)
     → IsReplayReport (scope_of replay) events marks report
 reported joins splits tell one replay events marks report on cells are telling =
     let scope : Scope = scope_of replay in
@@ -533,7 +543,7 @@ reported joins splits tell one replay events marks report on cells are telling =
           (subst (IsCell (λ other. other ≡ sums device)) (sym (are device))
           (on.tracks device).cell));
       telling = telling
-          ∙ ap (λ rows. report_of (PowerOn Base) rows on.pieces (account_by cells)) on.rows
+          ∙ ap (λ rows. report_of (PowerOn on.profile) rows on.pieces (account_by cells)) on.rows
           ∙ ap (λ begins. report_of begins (length events) on.pieces (account_by cells))
           (sym on.begins);
     }

@@ -11,9 +11,9 @@ use Rattle.mdb_msgs.specs.declared.command.Device.{Device}
 use Rattle.mdb_bus.specs.declared.act.Act.{Act}
 use Rattle.mdb_bus.specs.declared.bus.Bus.{Bus}
 use Rattle.mdb_bus.specs.declared.scope.Beginning.TheVariants.{PowerOn}
-use Rattle.mdb_bus.specs.declared.scope.Profile.TheVariants.{Base}
+use Rattle.mdb_bus.specs.declared.scope.Profile.{Profile}
 use Rattle.mdb_bus.specs.declared.scope.Scope.{Scope}
-use Rattle.mdb_bus.specs.ActLists.{HasActList, IsActList, IsTail, Piece, Whole, AskTail, ReplyTail}
+use Rattle.mdb_bus.specs.ActLists.{IsActList, IsTail, Piece, Whole, AskTail, ReplyTail}
 use Rattle.mdb_bus.specs.ActLists.{RepeatTail, act_in, acts_of, events_of, piece_events}
 use Rattle.mdb_bus.specs.Bus as link
 use Rattle.mdb_bus.specs.Bus.{GoesOn, Grown}
@@ -56,45 +56,48 @@ acts-tail (AskTail bytes events) pieces tail = refl
 acts-tail (ReplyTail command bytes events) pieces tail = refl
 acts-tail (RepeatTail command reply words events) pieces tail = refl
 
-with-tail : (goal : Goal) (tail : Piece) (pieces : List Piece) (all : AllPaths) → IsTail tail
-    → AreAllPaths goal pieces all → AreAllPaths goal (tail ∷ pieces) all
-with-tail goal tail pieces all is are device = record {
-  facts = subst (λ acts. stands_for (PowerOn Base) device (paths_in all device).facts acts)
+with-tail : (profile : Profile) (goal : Goal) (tail : Piece) (pieces : List Piece) (all : AllPaths)
+    → IsTail tail
+    → AreAllPaths profile goal pieces all → AreAllPaths profile goal (tail ∷ pieces) all
+with-tail profile goal tail pieces all is are device = record {
+  facts = subst (λ acts. stands_for (PowerOn profile) device (paths_in all device).facts acts)
       (sym (acts-tail tail pieces is)) (are device).facts;
-  best = paths-tail (code_of device) device (machine_of (PowerOn Base) device)
+  best = paths-tail (code_of device) device (machine_of (PowerOn profile) device)
       (weight_for goal device) all.chains.links.items tail pieces
       (paths_in all device).entries.items is (are device).best;
 }
 
-without-tail : (goal : Goal) (tail : Piece) (pieces : List Piece) (all : AllPaths) → IsTail tail
-    → AreAllPaths goal (tail ∷ pieces) all → AreAllPaths goal pieces all
-without-tail goal tail pieces all is are device = record {
-  facts = subst (λ acts. stands_for (PowerOn Base) device (paths_in all device).facts acts)
+without-tail : (profile : Profile) (goal : Goal) (tail : Piece) (pieces : List Piece)
+    (all : AllPaths) → IsTail tail
+    → AreAllPaths profile goal (tail ∷ pieces) all → AreAllPaths profile goal pieces all
+without-tail profile goal tail pieces all is are device = record {
+  facts = subst (λ acts. stands_for (PowerOn profile) device (paths_in all device).facts acts)
       (acts-tail tail pieces is) (are device).facts;
-  best = paths-untail (code_of device) device (machine_of (PowerOn Base) device)
+  best = paths-untail (code_of device) device (machine_of (PowerOn profile) device)
       (weight_for goal device) all.chains.links.items tail pieces
       (paths_in all device).entries.items is (are device).best;
 }
 
 -- the paths are those through the pieces that come before the newest of those that have gone on
-pub earlier-paths : (goal : Goal) (pieces : List Piece) (row : Event) (act : Option Act)
-    (longer : List Piece) (all : AllPaths) (grown : Grown pieces row act longer)
-    → AreAllPaths goal pieces all → AreAllPaths goal grown.earlier all
-earlier-paths goal pieces row act longer all grown are =
+pub earlier-paths : (profile : Profile) (goal : Goal) (pieces : List Piece) (row : Event)
+    (act : Option Act) (longer : List Piece) (all : AllPaths) (grown : Grown pieces row act longer)
+    → AreAllPaths profile goal pieces all → AreAllPaths profile goal grown.earlier all
+earlier-paths profile goal pieces row act longer all grown are =
     elim grown.from [
-      | inl alone ↦ subst (λ ps. AreAllPaths goal ps all) alone.1 are
-      | inr more ↦ without-tail goal more.0 grown.earlier all more.1
-          (subst (λ ps. AreAllPaths goal ps all) more.3 are)
+      | inl alone ↦ subst (λ ps. AreAllPaths profile goal ps all) alone.1 are
+      | inr more ↦ without-tail profile goal more.0 grown.earlier all more.1
+          (subst (λ ps. AreAllPaths profile goal ps all) more.3 are)
     ]
 
 -- where no act ended
-pub still-paths : (goal : Goal) (pieces : List Piece) (row : Event) (longer : List Piece)
-    (all : AllPaths) (grown : Grown pieces row None longer) → AreAllPaths goal pieces all
-    → AreAllPaths goal longer all
-still-paths goal pieces row longer all grown are =
-    subst (λ ps. AreAllPaths goal ps all) (sym grown.are)
-    (with-tail goal grown.newest grown.earlier all (is-tail grown.newest grown.ends)
-    (earlier-paths goal pieces row None longer all grown are))
+pub still-paths : (profile : Profile) (goal : Goal) (pieces : List Piece) (row : Event)
+    (longer : List Piece)
+    (all : AllPaths) (grown : Grown pieces row None longer) → AreAllPaths profile goal pieces all
+    → AreAllPaths profile goal longer all
+still-paths profile goal pieces row longer all grown are =
+    subst (λ ps. AreAllPaths profile goal ps all) (sym grown.are)
+    (with-tail profile goal grown.newest grown.earlier all (is-tail grown.newest grown.ends)
+    (earlier-paths profile goal pieces row None longer all grown are))
 
 -- where one has, it is the newest piece
 pub longer-is : (pieces : List Piece) (row : Event) (act : Act) (longer : List Piece)
@@ -116,19 +119,20 @@ row-is pieces row act longer rows events grown more whole counted =
 
 -- reached rows have an act list, and each device has a way through its acts
 
-pub way-of-reached : (scope : Scope) → OneActList scope → scope.begins ≡ PowerOn Base
+pub way-of-reached : (profile : Profile) (scope : Scope) → OneActList scope
+    → scope.begins ≡ PowerOn profile
     → (rows : List Event) (act : Act) (events : List Event) (earlier : List Piece)
     → IsActList scope (Whole act events ∷ earlier) rows → IsReached scope rows
-    → (device : Device) → HasNoWay earlier act device → ⊥
-way-of-reached scope one begins rows act events earlier list reached device none =
+    → (device : Device) → HasNoWay profile earlier act device → ⊥
+way-of-reached profile scope one begins rows act events earlier list reached device none =
     let run = reached.1 in
-    let ways : EachArrives (PowerOn Base) (act ∷ acts_of earlier) run.states reached.0 =
+    let ways : EachArrives (PowerOn profile) (act ∷ acts_of earlier) run.states reached.0 =
     subst (λ b. EachArrives b (act ∷ acts_of earlier) run.states reached.0) begins
     (subst (λ ps. EachArrives scope.begins (acts_of ps) run.states reached.0)
     (one rows run.pieces (Whole act events ∷ earlier) run.act_list list)
     (split scope.begins run.loss run.pieces run.states reached.0 run.way)) in
-    let way = chosen (machine_of (PowerOn Base) device) (act ∷ acts_of earlier) (run.states device)
-    (reached.0 device) (ways device) in
+    let way = chosen (machine_of (PowerOn profile) device) (act ∷ acts_of earlier)
+    (run.states device) (reached.0 device) (ways device) in
     none way.0 (run.states device) (reached.0 device) way.1
 
 -- limits
@@ -142,20 +146,20 @@ within-more limit more all le are device =
 
 -- an act was followed
 
-pub went-paths : (goal : Goal) (old new : AllPaths) (act : Act) (rows : ℕ) (goes : Bool)
-    → OnTrue goes ((pieces : List Piece) (events : List Event)
-    → rows + 1 ≡ length (events_of pieces ++ events) → AreAllPaths goal pieces old
-    → AreAllPaths goal (Whole act events ∷ pieces) new)
+pub went-paths : (profile : Profile) (goal : Goal) (old new : AllPaths) (act : Act) (rows : ℕ)
+    (goes : Bool) → OnTrue goes ((profile : Profile) (pieces : List Piece) (events : List Event)
+    → rows + 1 ≡ length (events_of pieces ++ events) → AreAllPaths profile goal pieces old
+    → AreAllPaths profile goal (Whole act events ∷ pieces) new)
     → goes ≡ true → (bus : Bus) (pieces : List Piece) (row : Event) (events : List Event)
     (on : GoesOn bus pieces row (Some act)) → events_of pieces ≡ events → rows ≡ length events
-    → AreAllPaths goal pieces old → AreAllPaths goal on.longer new
-went-paths goal old new act rows true led so bus pieces row events on whole counted are =
+    → AreAllPaths profile goal pieces old → AreAllPaths profile goal on.longer new
+went-paths profile goal old new act rows true led so bus pieces row events on whole counted are =
     let grown = on.grown in
-    subst (λ ps. AreAllPaths goal ps new) (sym (longer-is pieces row act on.longer grown))
-    (led grown.earlier (piece_events grown.newest)
+    subst (λ ps. AreAllPaths profile goal ps new) (sym (longer-is pieces row act on.longer grown))
+    (led profile grown.earlier (piece_events grown.newest)
     (row-is pieces row act on.longer rows events grown on.rows whole counted)
-    (earlier-paths goal pieces row (Some act) on.longer old grown are))
-went-paths goal old new act rows false led so bus pieces row events on whole counted are =
+    (earlier-paths profile goal pieces row (Some act) on.longer old grown are))
+went-paths profile goal old new act rows false led so bus pieces row events on whole counted are =
     absurd (false≢true so)
 
 pub went-within : (old new : AllPaths) (rows : ℕ) (goes : Bool)
@@ -167,24 +171,26 @@ went-within old new rows true within so are =
 went-within old new rows false within so are = absurd (false≢true so)
 
 -- an act that ends reached rows was followed
-pub stuck : (goal : Goal) (old : AllPaths) (act : Act) (goes : Bool)
-    → OnFalse goes ((pieces : List Piece) → AreAllPaths goal pieces old
-    → (device : Device) × HasNoWay pieces act device)
+pub stuck : (profile : Profile) (goal : Goal) (old : AllPaths) (act : Act) (goes : Bool)
+    → OnFalse goes ((profile : Profile) (pieces : List Piece) → AreAllPaths profile goal pieces old
+    → (device : Device) × HasNoWay profile pieces act device)
     → goes ≡ false → (bus : Bus) (scope : Scope) → link.scope_of bus ≡ scope → OneActList scope
-    → scope.begins ≡ PowerOn Base → (pieces : List Piece) (row : Event) (events : List Event)
+    → scope.begins ≡ PowerOn profile → (pieces : List Piece) (row : Event) (events : List Event)
     → GoesOn bus pieces row (Some act) → events_of pieces ≡ events
-    → AreAllPaths goal pieces old → IsReached scope (events ++ row ∷ []) → ⊥
-stuck goal old act true none so bus scope same one begins pieces row events on whole are reached =
+    → AreAllPaths profile goal pieces old → IsReached scope (events ++ row ∷ []) → ⊥
+stuck profile goal old act true none so bus scope same one begins pieces row events on whole are
+    reached =
     absurd (false≢true (sym so))
-stuck goal old act false none so bus scope same one begins pieces row events on whole are reached =
+stuck profile goal old act false none so bus scope same one begins pieces row events on whole are
+    reached =
     let grown = on.grown in
-    let found = none grown.earlier
-    (earlier-paths goal pieces row (Some act) on.longer old grown are) in
+    let found = none profile grown.earlier
+    (earlier-paths profile goal pieces row (Some act) on.longer old grown are) in
     let list : IsActList (link.scope_of bus) on.longer (events ++ row ∷ []) = record {
       in_order = on.stands.in_order;
       whole = on.rows ∙ ap (λ rows. rows ++ row ∷ []) whole;
     } in
-    way-of-reached scope one begins (events ++ row ∷ []) act (piece_events grown.newest)
+    way-of-reached profile scope one begins (events ++ row ∷ []) act (piece_events grown.newest)
     grown.earlier
     (subst (λ ps. IsActList scope ps (events ++ row ∷ []))
     (longer-is pieces row act on.longer grown)

@@ -1,6 +1,6 @@
 -- What steps from entries lead to, as it is taken in.
 use Rattle.std.proofs.Common.{arith, inl, inr, refl, sym, subst, ◌∙◌, ◌≡◌, ◌⊎◌, ◌+◌, ◌<◌, ℕ, ℤ}
-use Rattle.std.proofs.Common.{◌+ℤ◌, List, [], ◌∷◌, ◌++◌, length, take, get_or, Contains}
+use Rattle.std.proofs.Common.{◌+ℤ◌, List, [], ◌∷◌, ◌++◌, length, take, get_or}
 use Rattle.std.proofs.lemmas.Int.{ints}
 use Rattle.std.proofs.lemmas.List.{take_more}
 use Rattle.std.proofs.lemmas.List.Elements.{Contains-append_left, Contains-push}
@@ -19,7 +19,6 @@ use Rattle.mdb_explained_runs.specs.inner.Paths.{AreLed, LinksGoOnFrom, HasAsGoo
 use Rattle.mdb_explained_runs.specs.inner.Paths.{TakesSteps}
 use Rattle.mdb_explained_runs.specs.inner.Weights.{weight_of}
 use Rattle.mdb_explained_runs.proofs.Bests.{has-weaker, takes-same}
-use Rattle.mdb_follow.proofs.Listed.{contains-none}
 
 -- where there is no step, nothing is taken in
 pub takes-nothing : {State : Type 0} (number : ℕ) (choice : Choice) (code_of : State → ℕ)
@@ -206,17 +205,6 @@ takes-unheeded {State} number Can code_of Step weight row old_links links before
           no_greater = omega (arith, ints);
           no_more = λ _. omega arith;
         })
-
--- no entry has been led yet
-pub led-none : {State : Type 0} (number : ℕ) (Can : Choice → Type 0) (code_of : State → ℕ)
-    (Step : Choice → State → State → Gains → Type 0) (weight : Weight) (row : ℕ)
-    (links : List Link) (entries : List (ℕ × Best)) → entries ≡ []
-    → AreLed number Can code_of Step weight row links links [] entries
-led-none number Can code_of Step weight row links entries none = record {
-  sound = λ entry in'.
-      absurd (contains-none entry (subst (λ es. Contains es entry) none in'));
-  whole = λ before in'. absurd (contains-none before in');
-}
 
 -- one entry more is led
 pub led-push : {State : Type 0} (number : ℕ) (Can : Choice → Type 0) (code_of : State → ℕ)

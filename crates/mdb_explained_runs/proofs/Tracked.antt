@@ -9,6 +9,7 @@ use Rattle.mdb_msgs.specs.declared.command.ReaderUnit.TheVariants.{First, Second
 use Rattle.mdb_bus.specs.declared.act.Act.{Act}
 use Rattle.mdb_bus.specs.declared.fault.Rule.{Rule}
 use Rattle.mdb_bus.specs.declared.scope.Beginning.TheVariants.{PowerOn}
+use Rattle.mdb_bus.specs.declared.scope.Profile.{Profile}
 use Rattle.mdb_bus.specs.declared.scope.Profile.TheVariants.{Base}
 use Rattle.mdb_machine.specs.declared.choice.Choice.{Choice}
 use Rattle.mdb_machine.specs.declared.gains.Gains.{Gains}
@@ -102,12 +103,12 @@ track-within-weaker limit more track le is =
 -- an act in which a device has no part leaves its track, whatever the choice
 still : (device : Device) (track : TrackOf device) (act : Act) (choice : Choice)
     → (IsActOf device act → ⊥) → LeadsOf act choice device track track
-still device track act choice other =
-    let is : IsMachineOf device (machine_of (PowerOn Base) device) = is_machine_of (PowerOn Base)
-    device in
+still device track act choice other profile =
+    let is : IsMachineOf device (machine_of (PowerOn profile) device) = is_machine_of
+    (PowerOn profile) device in
     record {
       stands = λ acts chosen can on. record {
-        facts = unmoved (PowerOn Base) device track.facts acts act other on.facts;
+        facts = unmoved (PowerOn profile) device track.facts acts act other on.facts;
         sums = on.sums;
         way = record {
           before = track.state;
@@ -127,7 +128,7 @@ still device track act choice other =
                   ∙ sym (no-gains way.sums_before) ∙ was.1,
             );
         cell = on.cell;
-        counted = on.counted ∙ sym (untold (PowerOn Base) device acts act other);
+        counted = on.counted ∙ sym (untold (PowerOn profile) device acts act other);
       };
       within = λ limit. track-within-weaker limit (limit + 2 ^ 32) track (omega arith);
     }
@@ -170,10 +171,10 @@ one-leads (Err e) device which tracks track act choice is goes = tt
 -- It has no step.
 pub one-stops : {T : Type 0} (r : Result T Rule) (device which : Device) (tracks : Tracks)
     (act : Act) (choice : Choice) → device ≡ which
-    → OnErr r ((acts : List Act) (chosen : Choices acts)
-    → IsTrackOf which (track_in tracks which) acts chosen
-    → HasNoStepFrom (machine_of (PowerOn Base) which) acts act choice (track_in tracks which).state)
-    → IfErr r (λ broken. broken ≡ rule_of which)
+    → OnErr r ((profile : Profile) (acts : List Act) (chosen : Choices acts)
+    → IsTrackOf profile which (track_in tracks which) acts chosen
+    → HasNoStepFrom (machine_of (PowerOn profile) which) acts act choice
+    (track_in tracks which).state) → IfErr r (λ broken. broken ≡ rule_of which)
     → IfErr r (TrackStops device tracks act choice)
 one-stops (Ok x) device which tracks act choice is none its = tt
 one-stops (Err broken) device which tracks act choice is none its =
@@ -219,9 +220,9 @@ front-stops count old act choice mid d broken within front stops =
       device,
       record {
         rule = stops.rule;
-        none = subst (λ (t : TrackOf device). (acts : List Act) (chosen : Choices acts)
-            → IsTrackOf device t acts chosen
-            → HasNoStepFrom (machine_of (PowerOn Base) device) acts act choice t.state)
+        none = subst (λ (t : TrackOf device). (profile : Profile) (acts : List Act)
+            (chosen : Choices acts) → IsTrackOf profile device t acts chosen
+            → HasNoStepFrom (machine_of (PowerOn profile) device) acts act choice t.state)
             (front-next TrackOf (LeadsOf act choice) count (track_in old) (track_in mid) d within
             front)
             stops.none;
@@ -257,4 +258,4 @@ pub tracks-within-next : (rows : ℕ) (old : Tracks) (act : Act) (choice : Choic
     → AreTracksWithin ((rows + 1) * 2 ^ 32) new
 tracks-within-next rows old act choice new within led =
     tracks-within-weaker (rows * 2 ^ 32 + 2 ^ 32) ((rows + 1) * 2 ^ 32) new (omega arith)
-    (λ device. (led device).within (rows * 2 ^ 32) (within device))
+    (λ device. (led device Base).within (rows * 2 ^ 32) (within device))

@@ -4,7 +4,7 @@ use Rattle.std.specs.Prelude.{◌≡◌, ℕ, List, length, Option, None}
 use Rattle.mdb_words.specs.declared.event.Event.{Event}
 use Rattle.mdb_msgs.specs.declared.command.Device.{Device}
 use Rattle.mdb_bus.specs.declared.scope.Beginning.TheVariants.{PowerOn}
-use Rattle.mdb_bus.specs.declared.scope.Profile.TheVariants.{Base}
+use Rattle.mdb_bus.specs.declared.scope.Profile.{Profile}
 use Rattle.mdb_bus.specs.declared.scope.Scope.{Scope}
 use Rattle.mdb_bus.specs.ActLists.{IsActList, Piece, acts_of, events_of}
 use Rattle.mdb_bus.specs.Bus as bus
@@ -37,7 +37,8 @@ fault_of replay = replay.fault
 -- acts with the choices that have these marks, and its silences are those of their asks.
 pub record StandsFor (replay : Replay) (events : List Event) (marks : List (ℕ × Mark))
     : Type 0 where
-  pub begins : (scope_of replay).begins ≡ PowerOn Base
+  pub profile : Profile
+  pub begins : (scope_of replay).begins ≡ PowerOn profile
   pub pieces : List Piece
   pub on_bus : bus.StandsFor replay.bus pieces
   pub whole : events_of pieces ≡ events
@@ -45,8 +46,8 @@ pub record StandsFor (replay : Replay) (events : List Event) (marks : List (ℕ 
   pub going : replay.fault ≡ None
   pub chosen : Choices (acts_of pieces)
   pub marked : marks_of pieces chosen ≡ marks
-  pub tracks : AreTracks replay.tracks (acts_of pieces) chosen
-  pub silences : AllStandForAsks replay.silences (λ device. asks_of (PowerOn Base) device pieces)
+  pub tracks : AreTracks profile replay.tracks (acts_of pieces) chosen
+  pub silences : AllStandForAsks replay.silences (λ device. asks_of (PowerOn profile) device pieces)
 
 -- The report on rows that have a run with these marks: both ends of each range are the value in
 -- that run, and all such runs have the same sums. What is reported of each device beside its

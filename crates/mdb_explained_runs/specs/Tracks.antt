@@ -1,12 +1,12 @@
 -- What a track of a replay stands for: a device and the controller, in a recording from power-on,
--- with given choices. Lists of acts stand newest first.
+-- by a profile, with given choices. Lists of acts stand newest first.
 use Rattle.std.specs.Prelude.{◌≡◌, ℕ, List, ◌∷◌}
 use Rattle.mdb_msgs.specs.declared.command.Device.{Device}
 use Rattle.mdb_msgs.specs.declared.command.Device.TheVariants as devices
 use Rattle.mdb_msgs.specs.declared.command.ReaderUnit.TheVariants.{First, Second}
 use Rattle.mdb_bus.specs.declared.act.Act.{Act}
 use Rattle.mdb_bus.specs.declared.scope.Beginning.TheVariants.{PowerOn}
-use Rattle.mdb_bus.specs.declared.scope.Profile.TheVariants.{Base}
+use Rattle.mdb_bus.specs.declared.scope.Profile.{Profile}
 use Rattle.mdb_machine.specs.declared.choice.Choice.{Choice}
 use Rattle.mdb_machine.specs.declared.gains.Gains.{Gains}
 use Rattle.mdb_machine.specs.Choices.{CanStand}
@@ -50,11 +50,11 @@ pub record IsTrack {Facts State : Type 0} (stands_for : Facts → List Act → T
 abbrev pub TrackOf : Device → Type 0
 TrackOf device = Track (FactsOf device) (StateOf device)
 
-abbrev pub IsTrackOf : (device : Device) → TrackOf device → (acts : List Act) → Choices acts
-    → Type 0
-IsTrackOf device track acts chosen =
-    IsTrack (stands_for (PowerOn Base) device) (machine_of (PowerOn Base) device)
-    (unvalued_of (PowerOn Base) device) track acts chosen
+abbrev pub IsTrackOf : Profile → (device : Device) → TrackOf device → (acts : List Act)
+    → Choices acts → Type 0
+IsTrackOf profile device track acts chosen =
+    IsTrack (stands_for (PowerOn profile) device) (machine_of (PowerOn profile) device)
+    (unvalued_of (PowerOn profile) device) track acts chosen
 
 -- the track of a device
 abbrev pub track_in : Tracks → (device : Device) → TrackOf device
@@ -64,6 +64,6 @@ track_in tracks (devices.Reader First) = tracks.first_reader
 track_in tracks (devices.Reader Second) = tracks.second_reader
 
 -- each track stands for acts with choices
-abbrev pub AreTracks : Tracks → (acts : List Act) → Choices acts → Type 0
-AreTracks tracks acts chosen =
-    (device : Device) → IsTrackOf device (track_in tracks device) acts chosen
+abbrev pub AreTracks : Profile → Tracks → (acts : List Act) → Choices acts → Type 0
+AreTracks profile tracks acts chosen =
+    (device : Device) → IsTrackOf profile device (track_in tracks device) acts chosen

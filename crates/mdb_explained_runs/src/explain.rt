@@ -4,9 +4,10 @@ ghost use Rattle.std.specs.Prelude.{◌<◌, ◌≤◌, ◌+◌, [], ◌∷◌, 
 ghost use Rattle.std.specs.Prelude.{IfErr, IfOk, IfSome};
 ghost use Rattle.std.specs.Option.{IfNone};
 ghost use Rattle.mdb_msgs.specs.declared.command.Device.{Device};
-ghost use Rattle.mdb_bus.specs.Scopes.{leaving_out};
+ghost use Rattle.mdb_bus.specs.declared.scope.Profile.{Profile};
 ghost use Rattle.mdb_explained_runs.specs.declared.mark.Mark.{Mark};
 ghost use Rattle.mdb_explained_runs.specs.Goals.{Explains, IsExplainFault};
+ghost use Rattle.mdb_bus.specs.Scopes as scopes;
 ghost use Rattle.mdb_bus.specs.ActLists.{Piece};
 ghost use Rattle.mdb_follow.specs.Runs.{IsReached};
 ghost use Rattle.mdb_follow.specs.declared.goal.Goal.{Goal};
@@ -21,7 +22,7 @@ mod seeker;
 
 use self::all_paths::AllPaths;
 use crate::Mark;
-use mdb_bus::{Scope, laws as bus_laws};
+use mdb_bus::{Profile, Scope, laws as bus_laws};
 use mdb_follow::{Follower, Goal, Offence, ROWS_MAX, Report, laws};
 use mdb_machine::laws as machine_laws;
 use mdb_msgs::DeviceSet;
@@ -37,29 +38,32 @@ pub enum ExplainFault {
     Memory,
 }
 
-/// The marks, with the numbers of their rows from 1, of a run of a recording from power-on, with
-/// these devices left out, that comes to an end of a range (this profile): no run goes further, and
-/// none that comes there has fewer marks. The rows of the marks rise.
+/// The marks, with the numbers of their rows from 1, of a run of a recording from power-on, by a
+/// profile and with these devices left out, that comes to an end of a range (this profile): no run
+/// goes further, and none that comes there has fewer marks. The rows of the marks rise.
 ///
 /// # Errors
 ///
 /// The first row that cannot be, or that memory was refused.
 pub fn explain_run(
     alloc: Global,
+    profile: Profile,
     without: DeviceSet,
     events: &[Event],
     goal: &Goal,
 ) -> Result<Vec<(u64, Mark)>, ExplainFault>
     requires { length events.now ≤ ROWS_MAX }
     ensures explains { IfOk result
-        (λ marks. Explains (leaving_out without) events.now goal.now marks.items) }
-    ensures offence { IfErr result (IsExplainFault (leaving_out without) events.now) }
+        (λ marks. Explains (scopes.from_power_on profile without) events.now goal.now
+        marks.items) }
+    ensures offence { IfErr result (IsExplainFault (scopes.from_power_on profile without)
+        events.now) }
 {
-    let mut follower = Follower::scoped(&Scope::leaving_out(without));
+    let mut follower = Follower::scoped(&Scope::from_power_on(profile, without));
     if let Err(offence) = follower.feed_all(events) {
         return Err(ExplainFault::Offence(offence));
     }
-    match explain_reached(alloc, without, events, goal) {
+    match explain_reached(alloc, profile, without, events, goal) {
         Ok(marks) => Ok(marks),
         Err(_) => Err(ExplainFault::Memory),
     }
@@ -72,19 +76,21 @@ pub fn explain_run(
 /// Memory was refused.
 pub fn explain_reached(
     alloc: Global,
+    profile: Profile,
     without: DeviceSet,
     events: &[Event],
     goal: &Goal,
 ) -> Result<Vec<(u64, Mark)>, AllocError>
     requires few { length events.now ≤ ROWS_MAX }
-    requires reached { IsReached (leaving_out without) events.now }
+    requires reached { IsReached (scopes.from_power_on profile without) events.now }
     ensures { IfOk result
-        (λ marks. Explains (leaving_out without) events.now goal.now marks.items) }
+        (λ marks. Explains (scopes.from_power_on profile without) events.now goal.now
+        marks.items) }
 {
     laws::ways_with_choices_join();
     bus_laws::transcripts_have_one_act_list();
     machine_laws::own_acts_are_those_that_a_device_has_a_part_in();
-    let seeker = seeker::seek(alloc, &Scope::leaving_out(without), events, goal)?;
+    let seeker = seeker::seek(alloc, &Scope::from_power_on(profile, without), events, goal)?;
     marks_of_all(alloc, &seeker.all)
 }
 
@@ -94,11 +100,13 @@ pub fn explain_reached(
 ///
 /// Memory was refused.
 fn marks_of_all(alloc: Global, all: &AllPaths) -> Result<Vec<(u64, Mark)>, AllocError>
-    requires { (goal : Goal) × (pieces : List Piece) × AreAllPaths goal pieces all.now
-        × ((device : Device) → HasWay pieces device) }
-    ensures { IfOk result (λ marks. (goal : Goal) (pieces : List Piece)
-        → AreAllPaths goal pieces all.now → ((device : Device) → HasWay pieces device)
-        → AreBestBelow goal pieces 4 marks.items) }
+    requires { (profile : Profile) × (goal : Goal) × (pieces : List Piece)
+        × AreAllPaths profile goal pieces all.now
+        × ((device : Device) → HasWay profile pieces device) }
+    ensures { IfOk result (λ marks. (profile : Profile) (goal : Goal) (pieces : List Piece)
+        → AreAllPaths profile goal pieces all.now
+        → ((device : Device) → HasWay profile pieces device)
+        → AreBestBelow profile goal pieces 4 marks.items) }
 {
     let mut marks = Vec::new(alloc);
     for device in &Report::DEVICES {

@@ -1,6 +1,6 @@
 //! What follows from the definitions of marks, of replays and of explanations.
 
-ghost use Rattle.std.specs.Prelude.{◌≡◌, ◌↔◌, ◌+◌, ℕ, List, ◌++◌, All, Contains, Option, Some, length};
+ghost use Rattle.std.specs.Prelude.{◌≡◌, ◌+◌, ℕ, List, ◌++◌, All, Contains, Option, Some, length};
 ghost use Rattle.mdb_words.specs.declared.event.Event.{Event};
 ghost use Rattle.mdb_msgs.specs.declared.command.Device.{Device};
 ghost use Rattle.mdb_msgs.specs.declared.command.Device.TheVariants as devices;
@@ -75,12 +75,6 @@ pub fn marks_are_of_devices()
 {
     machine_laws::own_acts_are_those_that_a_device_has_a_part_in();
 }
-
-/// Lists of marks whose rows rise are one where they have the same elements.
-pub fn rising_marks_are_one()
-    ensures { (one other : List (ℕ × Mark)) → Rise one → Rise other
-        → ((mark : ℕ × Mark) → Contains one mark ↔ Contains other mark) → one ≡ other }
-{}
 
 /// The run of a replay is the only one of its rows with its marks: each such run comes to the same
 /// sums.

@@ -65,6 +65,7 @@ fn reader_may_tell_of_restart(reply: &Reply) -> bool
         match message {
             ReaderMsg::JustReset => return true,
             ReaderMsg::BeginSession { .. }
+            | ReaderMsg::BeginSessionLong { .. }
             | ReaderMsg::VendApproved { .. }
             | ReaderMsg::VendDenied
             | ReaderMsg::EndSession => return false,

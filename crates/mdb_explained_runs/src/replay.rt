@@ -7,15 +7,17 @@ ghost use Rattle.std.specs.Bool.{OnFalse, OnTrue};
 ghost use Rattle.std.specs.Option.{ForNone, ForSome};
 ghost use Rattle.mdb_words.specs.declared.event.Event.{Event};
 ghost use Rattle.mdb_bus.specs.Bus.{ended_act};
-ghost use Rattle.mdb_bus.specs.Scopes as scopes;
+ghost use Rattle.mdb_bus.specs.declared.scope.Beginning.TheVariants.{PowerOn};
+ghost use Rattle.mdb_bus.specs.Scopes.{profile_of};
 ghost use Rattle.mdb_explained_runs.specs.Marks as marks;
 ghost use Rattle.mdb_explained_runs.specs.ReplayFaults.{MayStandAt, row_of};
+ghost use Rattle.mdb_bus.specs.Scopes as scopes;
 ghost use Rattle.mdb_follow.specs.SilenceSteps.{AreFew};
 ghost use Rattle.mdb_explained_runs.specs.inner.TrackSteps.{AreTracksWithin};
 
 use crate::tracks::Tracks;
 use crate::{Mark, laws};
-use mdb_bus::{Act, Bus, LinkFault, Scope, laws as bus_laws};
+use mdb_bus::{Act, Bus, LinkFault, Profile, Scope, laws as bus_laws};
 use mdb_follow::{Offence, ROWS_MAX, Report, Silences, laws as follow_laws, sender_of};
 use mdb_machine::Choice;
 use mdb_msgs::DeviceSet;
@@ -53,11 +55,11 @@ impl Replay {
     ghost use Rattle.mdb_explained_runs.specs.declared.mark.Mark.{Mark};
     ghost use Rattle.mdb_explained_runs.specs.Marks.{with_mark};
     ghost use Rattle.mdb_explained_runs.specs.ReplayFaults.{HasMarkedRun, IsReplayFault};
-    ghost use Rattle.mdb_explained_runs.specs.Replays.{IsReplayReport, StandsFor, fault_of, rows_of};
-    ghost use Rattle.mdb_explained_runs.specs.Replays.{scope_of};
+    ghost use Rattle.mdb_explained_runs.specs.Replays.{IsReplayReport, StandsFor, fault_of};
+    ghost use Rattle.mdb_explained_runs.specs.Replays.{rows_of, scope_of};
     ghost use Rattle.mdb_explained_runs.specs.inner.ReplaySteps.{HasReplayed, HasStopped};
 
-    /// The replay before the first row: all devices are followed.
+    /// The replay before the first row, by the base profile: all devices are followed.
     pub fn new() -> Replay
         ensures stands { StandsFor result [] [] }
         ensures empty { rows_of result ≡ 0 }
@@ -66,13 +68,13 @@ impl Replay {
         Replay::scoped(&Scope::POWER_ON)
     }
 
-    /// The replay before the first row: these devices are left out.
-    pub fn leaving_out(devices: DeviceSet) -> Replay
+    /// The replay before the first row, by a profile: these devices are left out.
+    pub fn from_power_on(profile: Profile, without: DeviceSet) -> Replay
         ensures stands { StandsFor result [] [] }
         ensures empty { rows_of result ≡ 0 }
-        ensures scope { scope_of result ≡ scopes.leaving_out devices }
+        ensures scope { scope_of result ≡ scopes.from_power_on profile without }
     {
-        Replay::scoped(&Scope::leaving_out(devices))
+        Replay::scoped(&Scope::from_power_on(profile, without))
     }
 
     /// How many rows were accepted.
@@ -221,16 +223,16 @@ impl Replay {
         }
     }
 
-    /// The replay before the first row of a recording with this scope.
+    /// The replay before the first row of a recording from power-on with this scope.
     fn scoped(scope: &Scope) -> Replay
-        requires { scope.now.begins ≡ scopes.power_on.begins }
+        requires { scope.now.begins ≡ PowerOn (profile_of scope.now.begins) }
         ensures stands { StandsFor result [] [] }
         ensures empty { rows_of result ≡ 0 }
         ensures scope { scope_of result ≡ scope.now }
     {
         Replay {
             bus: Bus::scoped(scope),
-            tracks: Tracks::start(),
+            tracks: Tracks::start(scope.begins.profile()),
             silences: Silences::NONE,
             rows: 0,
             fault: None,

@@ -3,7 +3,7 @@
 ghost use Rattle.std.specs.Prelude.{◌≡◌, ◌<◌, ◌↔◌, ◌^◌, List, [], IfErr, IfOk, OnErr};
 ghost use Rattle.mdb_bus.specs.declared.act.Act.{Act};
 ghost use Rattle.mdb_bus.specs.declared.scope.Beginning.TheVariants.{PowerOn};
-ghost use Rattle.mdb_bus.specs.declared.scope.Profile.TheVariants.{Base};
+ghost use Rattle.mdb_bus.specs.declared.scope.Profile.{Profile};
 ghost use Rattle.mdb_follow.specs.Choosing.{Choices};
 ghost use Rattle.mdb_explained_runs.specs.Tracks.{HasNoStepFrom, IsTrack};
 ghost use Rattle.mdb_explained_runs.specs.inner.TrackSteps.{IsTrackWithin, Leads};
@@ -23,18 +23,18 @@ pub(crate) struct Track<F: Drop, S: Drop> {
     pub(crate) unvalued: u64,
 }
 
-/// The track after no act. The code of the state at power-on is 0.
-pub(crate) fn start<P: Pair>() -> Track<P::Facts, P::State>
+/// The track after no act, by a profile. The code of the state at power-on is 0.
+pub(crate) fn start<P: Pair>(profile: Profile) -> Track<P::Facts, P::State>
     requires some { 0 < P.CODES }
     requires starts { (state : P.State)
-        → (P.machine (PowerOn Base)).Starts state ↔ (P.code_of state ≡ 0) }
-    requires none { P.unvalued (PowerOn Base) [] ≡ 0 }
-    ensures stands { IsTrack (P.stands_for (PowerOn Base)) (P.machine (PowerOn Base))
-        (P.unvalued (PowerOn Base)) result [] tt }
+        → (P.machine (PowerOn profile)).Starts state ↔ (P.code_of state ≡ 0) }
+    requires none { P.unvalued (PowerOn profile) [] ≡ 0 }
+    ensures stands { IsTrack (P.stands_for (PowerOn profile)) (P.machine (PowerOn profile))
+        (P.unvalued (PowerOn profile)) result [] tt }
     ensures within { IsTrackWithin 0 result }
 {
     Track {
-        facts: P::facts_start(&Beginning::PowerOn(Profile::Base)),
+        facts: P::facts_start(&Beginning::PowerOn(profile)),
         state: P::state(0),
         cell: Cell::NOTHING,
         unvalued: 0,
@@ -55,13 +55,14 @@ pub(crate) fn lead<P: Pair>(
     rule: Rule,
 ) -> Result<(), Rule>
     requires { IsTrackWithin (2 ^ 62) track.old }
-    ensures led { IfOk result (λ _. Leads (P.stands_for (PowerOn Base)) (P.machine (PowerOn Base))
-        (P.unvalued (PowerOn Base)) track.old act.now choice track.new) }
+    ensures led { IfOk result (λ _. (profile : Profile) → Leads (P.stands_for (PowerOn profile))
+        (P.machine (PowerOn profile)) (P.unvalued (PowerOn profile)) track.old act.now choice
+        track.new) }
     ensures its { IfErr result (λ broken. broken ≡ rule) }
-    ensures none { OnErr result ((acts : List Act) (chosen : Choices acts)
-        → IsTrack (P.stands_for (PowerOn Base)) (P.machine (PowerOn Base))
-        (P.unvalued (PowerOn Base)) track.old acts chosen → HasNoStepFrom (P.machine (PowerOn Base))
-        acts act.now choice track.old.state) }
+    ensures none { OnErr result ((profile : Profile) (acts : List Act) (chosen : Choices acts)
+        → IsTrack (P.stands_for (PowerOn profile)) (P.machine (PowerOn profile))
+        (P.unvalued (PowerOn profile)) track.old acts chosen
+        → HasNoStepFrom (P.machine (PowerOn profile)) acts act.now choice track.old.state) }
     ensures same { OnErr result (track.new ≡ track.old) }
 {
     if !P::settles(&track.facts, act) {

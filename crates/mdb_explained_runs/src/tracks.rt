@@ -3,7 +3,7 @@
 ghost use Rattle.std.specs.Prelude.{◌≡◌, ◌^◌, List, [], IfErr, IfOk};
 ghost use Rattle.mdb_bus.specs.declared.act.Act.{Act};
 ghost use Rattle.mdb_bus.specs.declared.scope.Beginning.TheVariants.{PowerOn};
-ghost use Rattle.mdb_bus.specs.declared.scope.Profile.TheVariants.{Base};
+ghost use Rattle.mdb_bus.specs.declared.scope.Profile.{Profile};
 ghost use Rattle.mdb_follow.specs.Choosing.{Choices};
 ghost use Rattle.std.specs.Prelude.{map};
 ghost use Rattle.mdb_msgs.specs.declared.command.Device.{Device};
@@ -16,7 +16,7 @@ ghost use Rattle.mdb_explained_runs.specs.inner.TrackSteps.{OneLeads, TrackStops
 ghost use Rattle.mdb_explained_runs.specs.inner.TrackSteps.{TracksStop};
 
 use crate::track::{self, Track};
-use mdb_bus::{Act, Rule};
+use mdb_bus::{Act, Profile, Rule};
 use mdb_cash::{Bill, BillKnown, BillState, Changer, ChangerKnown, ChangerState};
 use mdb_cashless::{Reader, ReaderKnown, ReaderState};
 use mdb_follow::{Cell, DeviceFacts, Owner, Report, owner_of};
@@ -33,16 +33,16 @@ pub(crate) struct Tracks {
 }
 
 impl Tracks {
-    /// The tracks after no act, from power-on.
-    pub(crate) fn start() -> Tracks
-        ensures stands { AreTracks result [] tt }
+    /// The tracks after no act, from power-on, by a profile.
+    pub(crate) fn start(profile: Profile) -> Tracks
+        ensures stands { AreTracks profile result [] tt }
         ensures within { AreTracksWithin 0 result }
     {
         Tracks {
-            changer: track::start::<Changer>(),
-            bill: track::start::<Bill>(),
-            first_reader: track::start::<Reader<0>>(),
-            second_reader: track::start::<Reader<1>>(),
+            changer: track::start::<Changer>(profile),
+            bill: track::start::<Bill>(profile),
+            first_reader: track::start::<Reader<0>>(profile),
+            second_reader: track::start::<Reader<1>>(profile),
         }
     }
 
@@ -111,8 +111,9 @@ impl Tracks {
 
     /// What the acts so far show of each of `Report::DEVICES`.
     pub(crate) fn facts(&self) -> [DeviceFacts; 4]
-        ensures { (acts : List Act) (chosen : Choices acts) → AreTracks self.now acts chosen
-            → result ≡ map (λ device. device_facts_of (PowerOn Base) device acts) DEVICES }
+        ensures { (profile : Profile) (acts : List Act) (chosen : Choices acts)
+            → AreTracks profile self.now acts chosen
+            → result ≡ map (λ device. device_facts_of (PowerOn profile) device acts) DEVICES }
     {
         [
             DeviceFacts {

@@ -152,19 +152,6 @@ ended-by bus scope events row pieces act in_order whole goes same_scope =
       acts = subst (λ ps. acts_of ps ≡ with_act act (acts_of pieces)) grown.are goes.acts;
     }
 
--- one act ends with a row, or none
-pub one-ended-act : (scope : Scope) → OneActList scope → (events : List Event) (row : Event)
-    (a b : Option Act) → IsEndedAct scope events row a → IsEndedAct scope events row b → a ≡ b
-one-ended-act scope one events row a b first second =
-    let same : first.newest ≡ second.newest = heads-alike first.newest second.newest first.earlier
-    second.earlier (one (events ++ row ∷ []) (first.newest ∷ first.earlier)
-    (second.newest ∷ second.earlier) first.act_list second.act_list) in
-    sym first.is ∙ ap act_in same ∙ second.is
-  where
-    heads-alike : (newest other : Piece) (earlier more : List Piece)
-        → newest ∷ earlier ≡ other ∷ more → newest ≡ other
-    heads-alike newest other earlier more same = cc same
-
 -- each device's way of a run leads through the acts of an act list of its rows
 arrived : (scope : Scope) → OneActList scope
     → (rows : List Event) (pieces : List Piece) (sums : AllSums)

@@ -19,7 +19,6 @@ use Rattle.mdb_follow.specs.Tables.{ArrivesAt, IsTable}
 use Rattle.mdb_follow.specs.inner.Entries.{AreBelow}
 use Rattle.mdb_follow.specs.Limits.{IsAccountWithin, IsCellWithin, IsRangeWithin}
 use Rattle.mdb_follow.specs.Limits.{IsTableWithin}
-use Rattle.mdb_follow.proofs.Listed.{contains-none}
 use Rattle.mdb_follow.proofs.Ways.{account-start}
 
 -- a cell is of no sums

@@ -1,7 +1,7 @@
 //! Laws of runs. They follow from the definitions alone.
 
 ghost use Rattle.std.specs.List.{All};
-ghost use Rattle.std.specs.Prelude.{◌≡◌, ◌↔◌, ◌+◌, List, [], ◌∷◌, ◌++◌, None, Option, Result, Some};
+ghost use Rattle.std.specs.Prelude.{◌≡◌, ◌↔◌, ◌+◌, List, [], ◌∷◌, ◌++◌, None, Result, Some};
 ghost use Rattle.mdb_words.specs.declared.event.Event.{Event};
 ghost use Rattle.mdb_msgs.specs.declared.command.Device.{Device};
 ghost use Rattle.mdb_msgs.specs.declared.command.Device.TheVariants as devices;
@@ -18,8 +18,7 @@ ghost use Rattle.mdb_follow.specs.AccountNames.{account_of, sums_of};
 ghost use Rattle.mdb_follow.specs.Arrivals.{EachArrives};
 ghost use Rattle.mdb_follow.specs.Choosing.{AllFollow, Choices, choices_of};
 ghost use Rattle.mdb_follow.specs.Devices.{spec_of};
-ghost use Rattle.mdb_follow.specs.EndedActs.{IsEndedAct};
-ghost use Rattle.mdb_follow.specs.Follower.{HasAccepted, StandsFor, scope_of};
+ghost use Rattle.mdb_follow.specs.Follower.{StandsFor, scope_of};
 ghost use Rattle.mdb_follow.specs.declared.account_name.AccountName.{AccountName};
 ghost use Rattle.mdb_follow.specs.declared.follower.Follower.{Follower};
 ghost use Rattle.mdb_follow.specs.declared.offence.Offence.{Offence};
@@ -189,20 +188,6 @@ pub fn followers_stand_for_reached_rows()
     ways_join();
 }
 
-/// A follower has accepted the rows that it stands for.
-pub fn followers_have_accepted_what_they_stand_for()
-    ensures { (follower : Follower) (rows : List Event) → StandsFor follower rows
-        → HasAccepted follower rows }
-{}
-
-/// A row ends one act or none, and the act list shows which.
-pub fn rows_end_one_act_or_none()
-    ensures { (scope : Scope) (rows : List Event) (row : Event) (a b : Option Act)
-        → IsEndedAct scope rows row a → IsEndedAct scope rows row b → a ≡ b }
-{
-    laws::transcripts_have_one_act_list();
-}
-
 /// In every run of rows, each sale at either reader follows its approval. Before each VEND SUCCESS
 /// the controller has requested a sale, the reader has approved one, and the controller has
 /// acknowledged that. In a recording that begins while the machine was running, this holds for each
@@ -277,14 +262,6 @@ pub fn runs_without_further_devices_come_from_runs()
     laws::act_lists_without_further_devices_are_what_is_left();
     laws::acts_of_followed_devices_stay();
     machine_laws::own_acts_are_those_that_a_device_has_a_part_in();
-}
-
-/// Rows that are reached are reached without further devices.
-pub fn reached_rows_stay_reached_without_further_devices()
-    ensures { (less more : Scope) (rows : List Event) → LeavesOutMore less more
-        → IsReached less rows → IsReached more rows }
-{
-    runs_go_on_without_further_devices();
 }
 
 /// In every run, the sums of a device that is left out are nothing.

@@ -4,7 +4,10 @@ use Rattle.std.specs.List.{filter}
 use Rattle.serde_json.specs.Data.{depth}
 use Rattle.serde_json.specs.Read.{max_depth}
 use Rattle.mdb_msgs.specs.declared.command.Device.{Device}
+use Rattle.mdb_bus.specs.declared.scope.Profile.{Profile}
+use Rattle.mdb_bus.specs.declared.scope.Profile.TheVariants.{Base, Extended}
 use Rattle.mdb_bus.specs.declared.scope.Scope.{Scope}
+use Rattle.mdb_bus.specs.Scopes.{profile_of}
 use Rattle.mdb_follow.specs.declared.account.Account.{Account}
 use Rattle.mdb_follow.specs.declared.account_name.TheConstants.AccountName.{ALL}
 use Rattle.mdb_follow.specs.declared.report.Report.{Report}
@@ -12,7 +15,7 @@ use Rattle.mdb_follow.specs.declared.report.TheConstants.Report.{DEVICES}
 use Rattle.mdb_follow.specs.Report.{device_decimals}
 use Rattle.mdb_text.specs.declared.outcome.Outcome.{Outcome}
 use Rattle.mdb_text.specs.declared.outcome.Outcome.TheVariants.{Yes, No}
-use Rattle.mdb_json.specs.Reports.{account_member, accounts_data, device_data, device_member, devices_data, keeps, offence_data, outcome_data, places_data}
+use Rattle.mdb_json.specs.Reports.{account_member, accounts_data, device_data, device_member, devices_data, keeps, offence_data, outcome_data, places_data, yes_by}
 use Rattle.mdb_json.proofs.Objects.{one_deeper}
 
 of_places : (places : Option ℕ) → depth (places_data places) ≡ 0
@@ -34,9 +37,14 @@ of_devices : (scope : Scope) (report : Report) → depth (devices_data scope rep
 of_devices scope report =
     one_deeper 4 (device_member scope report) DEVICES (of_device scope report)
 
+of_yes : (profile : Profile) (scope : Scope) (report : Report)
+    → depth (yes_by profile scope report) ≤ max_depth
+of_yes Base scope report = omega (arith, of_devices scope report)
+of_yes Extended scope report = omega (arith, of_devices scope report)
+
 pub of_outcome : (scope : Scope) (outcome : Outcome)
     → depth (outcome_data scope outcome) ≤ max_depth
-of_outcome scope (Yes report) = omega (arith, of_devices scope report)
+of_outcome scope (Yes report) = of_yes (profile_of scope.begins) scope report
 of_outcome scope (No offence) =
-    let flat : depth (offence_data offence) ≡ 1 = refl in
+    let flat : depth (offence_data (profile_of scope.begins) offence) ≡ 1 = refl in
     omega (arith, flat)

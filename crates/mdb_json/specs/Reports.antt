@@ -1,5 +1,5 @@
 -- An answer as a JSON value.
-use Rattle.std.specs.Prelude.{ℕ, List, [], ◌∷◌, Bool, true, false, Option, Some, None, codes, map}
+use Rattle.std.specs.Prelude.{ℕ, List, [], ◌∷◌, ◌++◌, Bool, true, false, Option, Some, None, codes, map}
 use Rattle.std.specs.List.{filter, fold}
 use Rattle.serde_json.specs.Data.{Data, null, boolean, number, string, Members, object, no_members, put, unsigned}
 use Rattle.serde_json.specs.Find.{of_integer}
@@ -10,7 +10,10 @@ use Rattle.mdb_msgs.specs.DeviceSets.{has}
 use Rattle.mdb_msgs.specs.Devices.{device_word}
 use Rattle.mdb_bus.specs.declared.scope.Beginning.{Beginning}
 use Rattle.mdb_bus.specs.declared.scope.Beginning.TheVariants.{PowerOn, Joined}
+use Rattle.mdb_bus.specs.declared.scope.Profile.{Profile}
+use Rattle.mdb_bus.specs.declared.scope.Profile.TheVariants.{Base, Extended}
 use Rattle.mdb_bus.specs.declared.scope.Scope.{Scope}
+use Rattle.mdb_bus.specs.Scopes.{profile_of}
 use Rattle.mdb_bus.specs.FaultWords.{blame_word, rule_word}
 use Rattle.mdb_follow.specs.declared.account.Account.{Account}
 use Rattle.mdb_follow.specs.declared.account_name.AccountName.{AccountName}
@@ -108,29 +111,42 @@ abbrev pub is_joined : Beginning → Bool
 is_joined (PowerOn profile) = false
 is_joined (Joined setups profile) = true
 
--- a yes
-abbrev pub yes_data : Scope → Report → Data
-yes_data scope report =
-    object (members (
+-- the version of the form, and what a yes has of the profile: nothing by the base profile
+abbrev pub version_of : Profile → ℕ
+version_of Base = 1
+version_of Extended = 2
+
+abbrev pub profile_members : Profile → List (List ℕ × Data)
+profile_members Base = []
+profile_members Extended = (codes "extended", boolean true) ∷ []
+
+-- a yes by a profile
+abbrev pub yes_by : Profile → Scope → Report → Data
+yes_by profile scope report =
+    object (members (profile_members profile ++
     (codes "devices", devices_data scope report)
     ∷ (codes "joined", boolean (is_joined scope.begins))
     ∷ (codes "rows", number (unsigned report.rows))
     ∷ (codes "verdict", string (codes "yes"))
-    ∷ (codes "version", number (unsigned 1)) ∷ []
+    ∷ (codes "version", number (unsigned (version_of profile))) ∷ []
     ))
 
+-- a yes
+abbrev pub yes_data : Scope → Report → Data
+yes_data scope report = yes_by (profile_of scope.begins) scope report
+
 -- a no: the row and why
-abbrev pub offence_data : Offence → Data
-offence_data offence =
+abbrev pub offence_data : Profile → Offence → Data
+offence_data profile offence =
     object (members (
     (codes "blame", string (blame_word offence.blame))
     ∷ (codes "row", number (unsigned offence.row))
     ∷ (codes "rule", string (rule_word offence.rule))
     ∷ (codes "verdict", string (codes "no"))
-    ∷ (codes "version", number (unsigned 1)) ∷ []
+    ∷ (codes "version", number (unsigned (version_of profile))) ∷ []
     ))
 
 -- the answer to a recording that is taken so
 abbrev pub outcome_data : Scope → Outcome → Data
 outcome_data scope (Yes report) = yes_data scope report
-outcome_data scope (No offence) = offence_data offence
+outcome_data scope (No offence) = offence_data (profile_of scope.begins) offence

@@ -12,13 +12,19 @@ use Rattle.mdb_msgs.specs.declared.command.Command.TheVariants as commands
 use Rattle.mdb_msgs.specs.declared.command.ReaderCommand.TheVariants as readers
 use Rattle.mdb_msgs.specs.declared.command.ReaderUnit.TheVariants.{First, Second}
 use Rattle.mdb_msgs.specs.declared.setups.Setups.{Setups}
+use Rattle.mdb_msgs.specs.declared.reply.Reply.{Reply}
+use Rattle.mdb_msgs.specs.declared.reply.Reply.TheVariants as replies
+use Rattle.mdb_bus.specs.declared.act.Act.{Act}
 use Rattle.mdb_bus.specs.declared.act.Act.TheVariants as acts
 use Rattle.mdb_bus.specs.declared.levels.Levels.{Levels}
 use Rattle.mdb_bus.specs.declared.scope.Beginning.{Beginning}
 use Rattle.mdb_bus.specs.declared.scope.Beginning.TheVariants.{Joined}
+use Rattle.mdb_bus.specs.declared.scope.Profile.{Profile}
+use Rattle.mdb_bus.specs.declared.scope.Profile.TheVariants.{Base, Extended}
 use Rattle.mdb_bus.specs.declared.scope.Scope.{Scope}
 use Rattle.mdb_bus.specs.Acts.{IsBlockWord, IsForeignWord}
-use Rattle.mdb_bus.specs.ActLists.{Piece, Whole, AskTail, ReplyTail, RepeatTail, Position, Quiet, InAsk, Asked, InReply, Replied, Returned, InRepeat, InForeign, ArePieces, AreSpaced, BlockMayCome, ForeignMayCome, IsActList, IsLow, IsPiece, MayCome, MayStand, NotBefore, PieceFits, events_of, last_of, left_by, level_for, levels_after, levels_of, piece_events, position_of}
+use Rattle.mdb_bus.specs.ActLists.{Piece, Whole, AskTail, ReplyTail, RepeatTail, Position, Quiet, InAsk, Asked, InReply, Replied, Returned, InRepeat, InForeign, ArePieces, AreSpaced, BlockMayCome, ForeignMayCome, IsActList, IsLow, IsPiece, MayCome, MayStand, NotBefore, PieceFits, ReplyFits, events_of, last_of, left_by, levels_after, levels_by, levels_of, levels_told, piece_events, position_of}
+use Rattle.mdb_bus.specs.Formats.{levels_for}
 use Rattle.mdb_bus.specs.LeavingOut.{with_foreign}
 use Rattle.mdb_bus.specs.Scopes.{no_levels, profile_of}
 use Rattle.mdb_late_start.specs.Cuts.{BeginAnew, IsBreakEvent, SplitsAt, joined_with}
@@ -191,19 +197,35 @@ told_after (commands.Reader Second (readers.SetupConfig level columns rows displ
     less = (less.0, refl)
 told_after asked one other less = less
 
+-- with what a reader tells of its own level
+told_with : (profile : Profile) (command : Command) (reply : Reply) (one other : Levels)
+    → IsLessTold one other
+    → IsLessTold (levels_told profile command reply one) (levels_told profile command reply other)
+told_with Extended (commands.Reader First command) (replies.Reader list) one other less = less
+told_with Extended (commands.Reader Second command) (replies.Reader list) one other less = less
+told_with profile command reply one other less = less
+
+-- and so with an act
+told_by : (profile : Profile) (act : Act) (one other : Levels) → IsLessTold one other
+    → IsLessTold (levels_by profile act one) (levels_by profile act other)
+told_by profile (acts.Ask command) one other less = told_after command one other less
+told_by profile (acts.Reply command reply) one other less =
+    told_with profile command reply one other less
+told_by profile act one other less = less
+
 -- so it is in the end of pieces, where it is so in front of the end
-pub less_told : (less more : Levels) (later : List Piece) (words : List Event) (before : List Piece)
-    → IsLessTold less (levels_of more before)
-    → IsLessTold (levels_of less (later ++ with_foreign words []))
-    (levels_of more (later ++ before))
-less_told less more [] words before told =
-    subst (λ (levels : Levels). IsLessTold levels (levels_of more before))
-    (sym (foreign_levels less words [])) told
-less_told less more (Whole (acts.Ask asked) events ∷ later) words before told =
-    told_after asked (levels_of less (later ++ with_foreign words []))
-    (levels_of more (later ++ before)) (less_told less more later words before told)
-less_told less more (piece ∷ later) words before told =
-    less_told less more later words before told
+pub less_told : (profile : Profile) (less more : Levels) (later : List Piece) (words : List Event)
+    (before : List Piece) → IsLessTold less (levels_of profile more before)
+    → IsLessTold (levels_of profile less (later ++ with_foreign words []))
+    (levels_of profile more (later ++ before))
+less_told profile less more [] words before told =
+    subst (λ (levels : Levels). IsLessTold levels (levels_of profile more before))
+    (sym (foreign_levels profile less words [])) told
+less_told profile less more (Whole act events ∷ later) words before told =
+    told_by profile act (levels_of profile less (later ++ with_foreign words []))
+    (levels_of profile more (later ++ before)) (less_told profile less more later words before told)
+less_told profile less more (piece ∷ later) words before told =
+    less_told profile less more later words before told
 
 -- a level that is none or the same is low if it was
 is_low : (one other : Option ℕ) → IsNothingOr one other → IsLow other → IsLow one
@@ -212,20 +234,28 @@ is_low (Some level) other less low = subst IsLow less low
 
 -- and so is that of a command's reader
 low_for : (command : Command) (one other : Levels) → IsLessTold one other
-    → IsLow (level_for command other) → IsLow (level_for command one)
+    → IsLow (levels_for command other).asked → IsLow (levels_for command one).asked
 low_for (commands.Reader First command) one other less low =
     is_low one.first.asked other.first.asked less.0 low
 low_for (commands.Reader Second command) one other less low =
     is_low one.second.asked other.second.asked less.1 low
 low_for command one other less low = low
 
--- so what a piece says of levels fits in mid-session as it did
-pub levels_fit : (begins : Beginning) (setups : Setups) (piece : Piece) (one other : Levels)
-    → IsLessTold one other → PieceFits begins other piece
+-- so by the base profile a reply fits as it did
+reply_fits : (profile : Profile) → profile ≡ Base → (command : Command) (reply : Reply)
+    (one other : Levels) → IsLessTold one other → ReplyFits profile other command reply
+    → ReplyFits profile one command reply
+reply_fits Base base command reply one other less fits =
+    (fits.0, λ high. low_for command one other less (fits.1 high))
+reply_fits Extended base command reply one other less fits = absurd (cc base)
+
+-- and what a piece says of levels does in mid-session
+pub levels_fit : (begins : Beginning) (setups : Setups) → profile_of begins ≡ Base
+    → (piece : Piece) (one other : Levels) → IsLessTold one other → PieceFits begins other piece
     → PieceFits (Joined setups (profile_of begins)) one piece
-levels_fit begins setups (Whole (acts.Reply command reply) events) one other less fits =
-    λ high. low_for command one other less (fits high)
-levels_fit begins setups piece one other less fits = fits
+levels_fit begins setups base (Whole (acts.Reply command reply) events) one other less fits =
+    reply_fits (profile_of begins) base command reply one other less fits
+levels_fit begins setups base piece one other less fits = fits
 
 -- What a cut leaves of a transcript, and that what goes on of the pieces in front of it are foreign
 -- words.
@@ -254,16 +284,18 @@ last_before scope setups front middle pieces are cut =
 
 -- a piece in the end stands after what is in the end
 stands_on : (scope : Scope) (setups : Setups) (front middle end : List Event) (piece : Piece)
-    (pieces : List Piece) → IsPiece scope piece → (stands : MayStand scope pieces piece)
+    (pieces : List Piece) → profile_of scope.begins ≡ Base → IsPiece scope piece
+    → (stands : MayStand scope pieces piece)
     → end ≡ middle ++ piece_events piece → (cut : Cutting scope setups front middle pieces)
     → MayCome piece
     (position_of (joined_with setups scope) (cut.later ++ with_foreign cut.words []))
     (last_of (events_of (cut.later ++ with_foreign cut.words []))) stands.first
     → Cutting scope setups front end (piece ∷ pieces)
-stands_on scope setups front middle end piece pieces is stands ends cut comes =
+stands_on scope setups front middle end piece pieces base is stands ends cut comes =
+    let profile : Profile = profile_of scope.begins in
     let Told : List Piece → Type 0 =
-    λ ps. IsLessTold (levels_of no_levels (cut.later ++ with_foreign cut.words []))
-    (levels_of scope.levels ps) in
+    λ ps. IsLessTold (levels_of profile no_levels (cut.later ++ with_foreign cut.words []))
+    (levels_of profile scope.levels ps) in
     record {
       later = piece ∷ cut.later;
       words = cut.words;
@@ -273,7 +305,7 @@ stands_on scope setups front middle end piece pieces is stands ends cut comes =
       rows = cut.rows;
       stand = (
         record {
-          said = said_stays (Joined setups (profile_of scope.begins)) no_levels scope piece is.said;
+          said = said_stays (Joined setups profile) no_levels scope piece refl is.said;
           spaced = is.spaced;
         },
         record {
@@ -281,11 +313,11 @@ stands_on scope setups front middle end piece pieces is stands ends cut comes =
           others = stands.others;
           begins = stands.begins;
           comes = comes;
-          levels = levels_fit scope.begins setups piece
-              (levels_of no_levels (cut.later ++ with_foreign cut.words []))
-              (levels_of scope.levels pieces)
+          levels = levels_fit scope.begins setups base piece
+              (levels_of profile no_levels (cut.later ++ with_foreign cut.words []))
+              (levels_of profile scope.levels pieces)
               (subst Told (sym cut.order)
-              (less_told no_levels scope.levels cut.later cut.words cut.before (tt, tt)))
+              (less_told profile no_levels scope.levels cut.later cut.words cut.before (tt, tt)))
               stands.levels;
         },
         cut.stand,
@@ -355,11 +387,11 @@ stands_first scope setups front middle end piece pieces are first others begins 
 
 -- a piece in the end
 stands_in_end : (scope : Scope) (setups : Setups) (front middle end : List Event) (piece : Piece)
-    (pieces : List Piece) → ArePieces scope (piece ∷ pieces)
+    (pieces : List Piece) → profile_of scope.begins ≡ Base → ArePieces scope (piece ∷ pieces)
     → events_of pieces ≡ front ++ middle → end ≡ middle ++ piece_events piece
     → (cut : Cutting scope setups front middle pieces) (later : List Piece) → cut.later ≡ later
     → Cutting scope setups front end (piece ∷ pieces)
-stands_in_end scope setups front middle end piece pieces are rows ends cut (top ∷ later) is =
+stands_in_end scope setups front middle end piece pieces base are rows ends cut (top ∷ later) is =
     let new = joined_with setups scope in
     let stands = are.1 in
     let here : position_of scope pieces ≡ left_by top =
@@ -369,12 +401,12 @@ stands_in_end scope setups front middle end piece pieces are rows ends cut (top 
     let At : Position → Type 0 =
     λ position. MayCome piece position
     (last_of (events_of (cut.later ++ with_foreign cut.words []))) stands.first in
-    stands_on scope setups front middle end piece pieces are.0 stands ends cut
+    stands_on scope setups front middle end piece pieces base are.0 stands ends cut
     (subst At (here ∙ sym there)
     (comes_after piece (position_of scope pieces)
     (last_of (events_of (cut.later ++ with_foreign cut.words []))) (last_of (events_of pieces))
     stands.first (last_before scope setups front middle pieces rows cut) stands.comes))
-stands_in_end scope setups front middle end piece pieces are rows ends cut [] none =
+stands_in_end scope setups front middle end piece pieces base are rows ends cut [] none =
     let new = joined_with setups scope in
     let stands = are.1 in
     let kind : Kind piece (last_of (events_of pieces)) stands.first stands.others =
@@ -392,7 +424,7 @@ stands_in_end scope setups front middle end piece pieces are rows ends cut [] no
     elim kind.way [
       | inl way ↦ stands_first scope setups front middle end piece pieces are stands.first
           stands.others stands.begins ends cut none kind.words (subst Less cut.whole less) way
-      | inr comes ↦ stands_on scope setups front middle end piece pieces are.0 stands ends cut
+      | inr comes ↦ stands_on scope setups front middle end piece pieces base are.0 stands ends cut
           (subst At (sym there)
           (comes_after piece InForeign
           (last_of (events_of (cut.later ++ with_foreign cut.words [])))
@@ -433,23 +465,24 @@ cut_inside scope setups front end piece pieces are whole event middle is =
 
 -- a cut of pieces with one more: before its events, or inside them
 cut_on : (scope : Scope) (setups : Setups) (front end : List Event) (piece : Piece)
-    (pieces : List Piece) → ArePieces scope (piece ∷ pieces)
+    (pieces : List Piece) → profile_of scope.begins ≡ Base → ArePieces scope (piece ∷ pieces)
     → events_of (piece ∷ pieces) ≡ front ++ end
     → ((middle : List Event) → events_of pieces ≡ front ++ middle
     → Cutting scope setups front middle pieces)
     → IsDivided (events_of pieces) (piece_events piece) front end
     → Cutting scope setups front end (piece ∷ pieces)
-cut_on scope setups front end piece pieces are whole earlier (inl (middle, rows, ends)) =
+cut_on scope setups front end piece pieces base are whole earlier (inl (middle, rows, ends)) =
     let cut = earlier middle rows in
-    stands_in_end scope setups front middle end piece pieces are rows ends cut cut.later refl
-cut_on scope setups front end piece pieces are whole earlier (inr (event, middle, rows, ends)) =
+    stands_in_end scope setups front middle end piece pieces base are rows ends cut cut.later refl
+cut_on scope setups front end piece pieces base are whole earlier
+    (inr (event, middle, rows, ends)) =
     cut_inside scope setups front end piece pieces are whole event middle ends
 
 -- pieces in order may be cut anywhere
 cut_at : (scope : Scope) (setups : Setups) (pieces : List Piece) (front end : List Event)
-    → ArePieces scope pieces → events_of pieces ≡ front ++ end
+    → profile_of scope.begins ≡ Base → ArePieces scope pieces → events_of pieces ≡ front ++ end
     → Cutting scope setups front end pieces
-cut_at scope setups [] [] [] are whole = record {
+cut_at scope setups [] [] [] base are whole = record {
   later = [];
   words = [];
   before = [];
@@ -460,11 +493,11 @@ cut_at scope setups [] [] [] are whole = record {
   whole = refl;
   foreign = tt;
 }
-cut_at scope setups [] [] (event ∷ end) are whole = absurd cc
-cut_at scope setups [] (event ∷ front) end are whole = absurd cc
-cut_at scope setups (piece ∷ pieces) front end are whole =
-    cut_on scope setups front end piece pieces are whole
-    (λ middle rows. cut_at scope setups pieces front middle are.2 rows)
+cut_at scope setups [] [] (event ∷ end) base are whole = absurd cc
+cut_at scope setups [] (event ∷ front) end base are whole = absurd cc
+cut_at scope setups (piece ∷ pieces) front end base are whole =
+    cut_on scope setups front end piece pieces base are whole
+    (λ middle rows. cut_at scope setups pieces front middle base are.2 rows)
     (divide (events_of pieces) (piece_events piece) front end whole)
 
 -- the rows of an end begin with its foreign words
@@ -491,10 +524,10 @@ none_anew (word ∷ words) rest foreign anew = absurd (begins_nothing word forei
 
 -- the end of a transcript has an act list of its own
 pub ends_have_act_lists : (scope : Scope) (setups : Setups) (front end : List Event)
-    (pieces : List Piece) → IsActList scope pieces (front ++ end)
-    → SplitsAt scope setups front end pieces
-ends_have_act_lists scope setups front end pieces list =
-    let cut = cut_at scope setups pieces front end list.in_order list.whole in
+    (pieces : List Piece) → profile_of scope.begins ≡ Base
+    → IsActList scope pieces (front ++ end) → SplitsAt scope setups front end pieces
+ends_have_act_lists scope setups front end pieces base list =
+    let cut = cut_at scope setups pieces front end base list.in_order list.whole in
     let rows : end ≡ cut.words ++ events_of cut.later =
     sym cut.whole ∙ rows_begin cut.later cut.words in
     record {

@@ -7,6 +7,7 @@ use Rattle.mdb_msgs.specs.declared.setups.Setups.{Setups}
 use Rattle.mdb_bus.specs.declared.levels.Levels.{Levels}
 use Rattle.mdb_bus.specs.declared.scope.Beginning.{Beginning}
 use Rattle.mdb_bus.specs.declared.scope.Beginning.TheVariants.{Joined}
+use Rattle.mdb_bus.specs.declared.scope.Profile.TheVariants.{Base}
 use Rattle.mdb_bus.specs.declared.scope.Scope.{Scope}
 use Rattle.mdb_bus.specs.ActLists.{Piece, Whole, AskTail, ReplyTail, RepeatTail, ArePieces, IsActList, acts_of}
 use Rattle.mdb_bus.specs.LeavingOut.{with_foreign}
@@ -87,19 +88,20 @@ its_way laws begins setups device later before words states sums name ways =
 
 -- no levels were told, in front of any end of rows that are reached
 pub none_told : EndLaws → (scope : Scope) (setups : Setups) (front end : List Event)
-    → IsReached scope (front ++ end) → WereTold scope setups no_levels front end
-none_told laws scope setups front end reached = record {
+    → profile_of scope.begins ≡ Base → IsReached scope (front ++ end)
+    → WereTold scope setups no_levels front end
+none_told laws scope setups front end base reached = record {
   pieces = reached.1.pieces;
   act_list = reached.1.act_list;
-  cut = laws.cut scope setups front end reached.1.pieces reached.1.act_list;
+  cut = laws.cut scope setups front end reached.1.pieces base reached.1.act_list;
   in_front = (tt, tt);
 }
 
 -- where rows are reached, each end of them is
 pub end_reached : EndLaws → (scope : Scope) (setups : Setups) (levels : Levels)
-    (front end : List Event) → IsReached scope (front ++ end)
+    (front end : List Event) → profile_of scope.begins ≡ Base → IsReached scope (front ++ end)
     → WereTold scope setups levels front end → IsReached (told_later setups levels scope) end
-end_reached laws scope setups levels front end reached told =
+end_reached laws scope setups levels front end base reached told =
     let run = reached.1 in
     let cut = told.cut in
     let same : run.pieces ≡ told.pieces =
@@ -108,7 +110,7 @@ end_reached laws scope setups levels front end reached told =
     subst (λ ps. EachArrives scope.begins (acts_of ps) run.states reached.0) (same ∙ cut.order)
     (laws.splits scope.begins run.loss run.pieces run.states reached.0 run.way) in
     let list =
-    laws.told scope setups levels front end told.pieces told.act_list cut told.in_front in
+    laws.told scope setups levels front end told.pieces base told.act_list cut told.in_front in
     let foreign = with_foreign cut.words [] in
     let name : AllName (acts_of cut.later) =
     name_later (acts_of cut.later) (acts_of foreign)
@@ -126,10 +128,10 @@ end_reached laws scope setups levels front end reached told =
 
 -- a run passes the end of the rows in front, where the rest begins anew
 pub passes_front : EndLaws → (scope : Scope) (setups : Setups) (front end : List Event)
-    (sums : AllSums) (run : Run scope (front ++ end) sums) → BeginAnew end
-    → Passes scope (front ++ end) sums run front
-passes_front laws scope setups front end sums run anew =
-    let cut = laws.cut scope setups front end run.pieces run.act_list in
+    (sums : AllSums) (run : Run scope (front ++ end) sums) → profile_of scope.begins ≡ Base
+    → BeginAnew end → Passes scope (front ++ end) sums run front
+passes_front laws scope setups front end sums run base anew =
+    let cut = laws.cut scope setups front end run.pieces base run.act_list in
     let way : IsWay scope.begins run.loss (cut.later ++ cut.before) run.states sums =
     subst (λ ps. IsWay scope.begins run.loss ps run.states sums) cut.order run.way in
     let two = all_in_two scope.begins run.loss cut.later cut.before run.states sums way in
@@ -147,11 +149,12 @@ passes_front laws scope setups front end sums run anew =
 -- the pieces that a run goes on through from there are an act list of the end
 pub later_pieces : EndLaws → (scope : Scope) (setups : Setups) (levels : Levels)
     (front end : List Event) (sums : AllSums) (run : Run scope (front ++ end) sums)
-    → BeginAnew end → (passes : Passes scope (front ++ end) sums run front)
+    → profile_of scope.begins ≡ Base → BeginAnew end
+    → (passes : Passes scope (front ++ end) sums run front)
     → AreToldBy scope passes.before levels
     → IsActList (told_later setups levels scope) passes.later end
-later_pieces laws scope setups levels front end sums run anew passes told =
-    let cut = laws.cut scope setups front end run.pieces run.act_list in
+later_pieces laws scope setups levels front end sums run base anew passes told =
+    let cut = laws.cut scope setups front end run.pieces base run.act_list in
     let none = cut.clean anew in
     let mine : IsActList scope passes.before front = record {
       in_order = front_in_order scope passes.later passes.before
@@ -170,7 +173,7 @@ later_pieces laws scope setups levels front end sums run anew passes told =
     let clean : IsActList (told_later setups levels scope) (cut.later ++ []) end =
     subst
     (λ ws. IsActList (told_later setups levels scope) (cut.later ++ with_foreign ws []) end) none
-    (laws.told scope setups levels front end run.pieces run.act_list cut
+    (laws.told scope setups levels front end run.pieces base run.act_list cut
     (subst (λ ps. AreToldBy scope ps levels) before told)) in
     subst (λ ps. IsActList (told_later setups levels scope) ps end)
     (append-nil cut.later ∙ later) clean
@@ -178,16 +181,17 @@ later_pieces laws scope setups levels front end sums run anew passes told =
 -- one run of the end gains what the whole run gains there
 pub gained_there : EndLaws → (scope : Scope) (setups : Setups) (levels : Levels)
     (front end : List Event) (sums : AllSums) (run : Run scope (front ++ end) sums)
-    → BeginAnew end → (passes : Passes scope (front ++ end) sums run front)
+    → profile_of scope.begins ≡ Base → BeginAnew end
+    → (passes : Passes scope (front ++ end) sums run front)
     → AreToldBy scope passes.before levels → (gained : AllSums)
     × Run (told_later setups levels scope) end gained
     × ((device : Device) → TellsOnlyWhatIsSo setups scope.begins device (acts_of passes.before)
     → unvalued_of (Joined setups (profile_of scope.begins)) device (acts_of passes.later) ≡ 0
     → sums device ≡ both_sums (passes.sums_then device) (gained device))
-gained_there laws scope setups levels front end sums run anew passes levels_told =
+gained_there laws scope setups levels front end sums run base anew passes levels_told =
     let begins : Beginning = scope.begins in
     let list =
-    later_pieces laws scope setups levels front end sums run anew passes levels_told in
+    later_pieces laws scope setups levels front end sums run base anew passes levels_told in
     let name = all_name laws (told_later setups levels scope) passes.later list.in_order in
     let answer : AllAnswer (acts_of passes.later) =
     all_answer (told_later setups levels scope) passes.later list.in_order in

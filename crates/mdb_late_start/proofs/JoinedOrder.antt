@@ -1,7 +1,7 @@
 -- The act list of a transcript from power-on is one of the same rows as a recording that begins in
 -- mid-session: where no row stands before them, pieces that may come as nothing is open may come in
 -- foreign traffic.
-use Rattle.std.proofs.Common.{◌≡◌, inl, inr, List, [], ◌∷◌, None}
+use Rattle.std.proofs.Common.{refl, ◌≡◌, inl, inr, List, [], ◌∷◌, None}
 use Rattle.mdb_words.specs.declared.event.Event.{Event}
 use Rattle.mdb_msgs.specs.declared.device_set.DeviceSet.{DeviceSet}
 use Rattle.mdb_msgs.specs.declared.setups.Setups.{Setups}
@@ -56,7 +56,8 @@ in_order_too setups without [] are = tt
 in_order_too setups without (piece ∷ pieces) are =
     let stands = are.1 in (
       record {
-        said = said_stays (Joined setups Base) no_levels (leaving_out without) piece are.0.said;
+        said = said_stays (Joined setups Base) no_levels (leaving_out without) piece refl
+            are.0.said;
         spaced = are.0.spaced;
       },
       record {
@@ -64,7 +65,7 @@ in_order_too setups without (piece ∷ pieces) are =
         others = stands.others;
         begins = stands.begins;
         comes = comes_too setups without pieces piece stands.first stands.comes;
-        levels = fits_too setups (levels_of no_levels pieces) piece stands.levels;
+        levels = fits_too setups (levels_of Base no_levels pieces) piece stands.levels;
       },
       in_order_too setups without pieces are.2,
     )

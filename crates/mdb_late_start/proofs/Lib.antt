@@ -20,6 +20,8 @@ pub mod ReaderOtherwise
 pub mod ReaderPrices
 pub mod Readers
 pub mod Said
+pub mod SameReports
+pub mod SameWays
 pub mod ToldCuts
 pub mod Truth
 pub mod Validator

@@ -16,6 +16,7 @@ use Rattle.mdb_bus.specs.declared.levels.Levels.{Levels}
 use Rattle.mdb_bus.specs.declared.scope.Beginning.TheVariants.{Joined}
 use Rattle.mdb_bus.specs.declared.scope.Scope.{Scope}
 use Rattle.mdb_bus.specs.declared.scope.Profile.{Profile}
+use Rattle.mdb_bus.specs.declared.scope.Profile.TheVariants.{Base}
 use Rattle.mdb_bus.specs.Acts.{IsForeignWord, Say, said_by}
 use Rattle.mdb_bus.specs.ActLists.{Piece, Whole, AskTail, ReplyTail, RepeatTail, Position, InForeign, ArePieces, IsActList, IsSaid, IsTail, MayCome, acts_of, events_of, first_position, last_of, levels_of, piece_events, position_of}
 use Rattle.mdb_bus.specs.LeavingOut.{with_foreign}
@@ -129,12 +130,12 @@ foreign_only scope (piece ∷ pieces) begins are words =
     (still_foreign scope pieces begins earlier) its.0 pieces earlier
 
 -- foreign acts tell no level
-none_told_by : (levels : Levels) (pieces : List Piece) → AreForeign pieces
-    → levels_of levels pieces ≡ levels
-none_told_by levels [] foreign = refl
-none_told_by levels (Whole acts.Foreign events ∷ pieces) foreign =
-    none_told_by levels pieces foreign
-none_told_by levels (piece ∷ pieces) foreign = absurd foreign
+none_told_by : (profile : Profile) (levels : Levels) (pieces : List Piece) → AreForeign pieces
+    → levels_of profile levels pieces ≡ levels
+none_told_by profile levels [] foreign = refl
+none_told_by profile levels (Whole acts.Foreign events ∷ pieces) foreign =
+    none_told_by profile levels pieces foreign
+none_told_by profile levels (piece ∷ pieces) foreign = absurd foreign
 
 -- a device has no part in them
 none_of_its : (device : Device) (pieces : List Piece) → AreForeign pieces
@@ -192,14 +193,14 @@ pub record Parts (scope : Scope) (rows middle : List Event) (has : HasMiddle sco
 
 pub parts : EndLaws → (setups : Setups) (levels : Levels) (scope : Scope)
     (rows middle : List Event) (has : HasMiddle (told_later setups levels scope) rows middle)
-    → Parts (told_later setups levels scope) rows middle has
-parts laws setups levels scope rows middle has =
+    → profile_of scope.begins ≡ Base → Parts (told_later setups levels scope) rows middle has
+parts laws setups levels scope rows middle has base =
     let mine = told_later setups levels scope in
     let list : IsActList mine has.whole (has.words ++ middle) = record {
       in_order = front_in_order mine has.tail has.whole has.act_list.in_order;
       whole = has.of_whole;
     } in
-    let cut = laws.cut mine setups has.words middle has.whole list in
+    let cut = laws.cut mine setups has.words middle has.whole base list in
     let none = cut.clean has.anew in
     let before_rows : events_of cut.before ≡ has.words =
     cut.rows ∙ ap (λ ws. has.words ++ ws) none ∙ append-nil has.words in
@@ -208,11 +209,12 @@ parts laws setups levels scope rows middle has =
     (subst AreForeignWords (sym before_rows)
     (words_each has.words (recursion_from_All IsForeignWord has.words has.foreign))) in
     let told : AreToldBy mine cut.before levels =
-    subst (λ ls. IsLessTold levels ls) (sym (none_told_by levels cut.before foreign))
+    subst (λ ls. IsLessTold levels ls)
+    (sym (none_told_by (profile_of scope.begins) levels cut.before foreign))
     (the_same levels.first.asked, the_same levels.second.asked) in
     let clean : IsActList mine (cut.later ++ []) middle =
     subst (λ ws. IsActList mine (cut.later ++ with_foreign ws []) middle) none
-    (laws.told mine setups levels has.words middle has.whole list cut told) in
+    (laws.told mine setups levels has.words middle has.whole base list cut told) in
     record {
       later = cut.later;
       before = cut.before;
@@ -234,11 +236,12 @@ own_in_middle scope rows middle has parted device =
 -- and a run of the middle is one of the rows
 pub run_of_rows : EndLaws → (setups : Setups) (levels : Levels) (scope : Scope)
     (rows middle : List Event) (has : HasMiddle (told_later setups levels scope) rows middle)
-    (sums : AllSums) → Run (told_later setups levels scope) middle sums
+    (sums : AllSums) → profile_of scope.begins ≡ Base
+    → Run (told_later setups levels scope) middle sums
     → Run (told_later setups levels scope) rows sums
-run_of_rows laws setups levels scope rows middle has sums run =
+run_of_rows laws setups levels scope rows middle has sums base run =
     let mine = told_later setups levels scope in
-    let parted = parts laws setups levels scope rows middle has in
+    let parted = parts laws setups levels scope rows middle has base in
     let same : run.pieces ≡ parted.later =
     laws.one mine middle run.pieces parted.later run.act_list parted.list in
     let ways : EachArrives (Joined setups (profile_of scope.begins)) (acts_of parted.later)

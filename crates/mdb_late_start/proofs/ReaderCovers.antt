@@ -1,17 +1,18 @@
 -- What is known of a reader in the end of a recording by itself is known in the whole recording,
 -- too.
-use Rattle.std.proofs.Common.{◌≡◌, Bool, true, false, ◌&&◌, ◌||◌, List, [], ◌∷◌, ◌++◌, Option, Some, None, refl, ap, sym, subst, ◌∙◌}
+use Rattle.std.proofs.Common.{◌≡◌, ℕ, unwrap_or, Bool, true, false, ◌&&◌, ◌||◌, List, [], ◌∷◌, ◌++◌, Option, Some, None, refl, ap, sym, subst, ◌∙◌}
 use Rattle.mdb_msgs.specs.declared.command.ReaderUnit.{ReaderUnit}
 use Rattle.mdb_msgs.specs.declared.setups.Setups.{Setups}
 use Rattle.mdb_msgs.specs.Setups.{config_known}
 use Rattle.mdb_bus.specs.declared.act.Act.{Act}
 use Rattle.mdb_bus.specs.declared.scope.Beginning.{Beginning}
 use Rattle.mdb_bus.specs.declared.scope.Beginning.TheVariants.{PowerOn, Joined}
+use Rattle.mdb_bus.specs.declared.scope.Profile.TheVariants.{Base, Extended}
 use Rattle.mdb_bus.specs.Scopes.{profile_of}
 use Rattle.mdb_machine.specs.Known.{Allows, AllowsKept, Known, Is, Unknown}
 use Rattle.mdb_machine.specs.Past.{last_told, or_else}
 use Rattle.mdb_machine.specs.PastValues.{known_more}
-use Rattle.mdb_cashless.specs.ReaderFacts.{KnownFacts, amount_by, config_by, known_of}
+use Rattle.mdb_cashless.specs.ReaderFacts.{KnownFacts, amount_by, config_by, extended_of, extended_since, is_refused, known_of, level_asked_by, level_told_by, may_be_high, refusal_by}
 use Rattle.mdb_cashless.specs.ReaderValues.{known_with}
 use Rattle.mdb_cashless.specs.shared.ReaderWays.{goes_on}
 use Rattle.mdb_late_start.specs.MidSession.{HasTold, IsNothingOr}
@@ -96,6 +97,56 @@ config_covers unit begins setups (act ∷ later) front are =
     (goes_on unit begins act (later ++ front))
     (nothing_more (config_by unit act) here.config there.config
     (config_covers unit begins setups later front are)))
+
+-- what is told last in an end is nothing, or what is told last in the whole
+last_in_end : {X : Type 0} (tells : Act → Option X) (later front : List Act)
+    → IsNothingOr (last_told tells later) (last_told tells (later ++ front))
+last_in_end tells [] front = tt
+last_in_end tells (act ∷ later) front =
+    nothing_more (tells act) (last_told tells later) (last_told tells (later ++ front))
+    (last_in_end tells later front)
+
+-- a level that may be high in the whole may be so in the end
+high_too : (joined : Bool) (one other : Option ℕ) → IsNothingOr one other
+    → may_be_high joined other ≡ true → may_be_high true one ≡ true
+high_too joined None other less high = refl
+high_too joined (Some level) other less high = ap (may_be_high joined) (sym less) ∙ high
+
+-- so it is with what is last told of a refusal
+told_too : (joined : Bool) (one other : Option Bool) → IsNothingOr one other
+    → unwrap_or other joined ≡ true → unwrap_or one true ≡ true
+told_too joined None other less is = refl
+told_too joined (Some refused) other less is = ap (λ told. unwrap_or told joined) (sym less) ∙ is
+
+both_too : (a b x y : Bool) → (a ≡ true → x ≡ true) → (b ≡ true → y ≡ true) → (a && b) ≡ true
+    → (x && y) ≡ true
+both_too true b x y one other is = ap (λ both. both && y) (one refl) ∙ other is
+both_too false b x y one other is = absurd cc
+
+since_too : (unit : ReaderUnit) (joined : Bool) (later front : List Act)
+    → is_refused (Some (extended_since joined unit (later ++ front))) ≡ true
+    → is_refused (Some (extended_since true unit later)) ≡ true
+since_too unit joined later front =
+    let one = extended_since joined unit (later ++ front) in
+    let its = extended_since true unit later in
+    both_too (may_be_high joined one.asked && may_be_high joined one.told) one.refused
+    (may_be_high true its.asked && may_be_high true its.told) its.refused
+    (both_too (may_be_high joined one.asked) (may_be_high joined one.told)
+    (may_be_high true its.asked) (may_be_high true its.told)
+    (high_too joined its.asked one.asked (last_in_end (level_asked_by unit) later front))
+    (high_too joined its.told one.told (last_in_end (level_told_by unit) later front)))
+    (told_too joined (last_told (refusal_by unit) later)
+    (last_told (refusal_by unit) (later ++ front)) (last_in_end (refusal_by unit) later front))
+
+-- so where the controller may be refused in the whole, it may be so in the end
+pub refused_too : (unit : ReaderUnit) (begins : Beginning) (setups : Setups)
+    (later front : List Act) → is_refused (extended_of begins unit (later ++ front)) ≡ true
+    → is_refused (extended_of (Joined setups (profile_of begins)) unit later) ≡ true
+refused_too unit (PowerOn Base) setups later front is = absurd cc
+refused_too unit (Joined known Base) setups later front is = absurd cc
+refused_too unit (PowerOn Extended) setups later front is = since_too unit false later front is
+refused_too unit (Joined known Extended) setups later front is =
+    since_too unit true later front is
 
 -- what may count there may count here
 pub allows_too : {X : Type 0} (here there : Known X) (x : X) → IsKnownToo here there

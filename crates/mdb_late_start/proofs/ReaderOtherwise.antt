@@ -1,5 +1,6 @@
--- A step of a reader after some facts is one after facts that differ in what is told of values, and
--- in whether a reset message is owed. It gains the same where what it values has the same value.
+-- A step of a reader after some facts is one after facts that differ in what is told of values, in
+-- whether a reset message is owed, and in whether the controller was refused. It gains the same
+-- where what it values has the same value.
 use Rattle.std.proofs.Common.{◌≡◌, ◌⊎◌, ℕ, ◌+◌, Bool, true, false, ◌||◌, List, [], ◌∷◌, ◌++◌, map, Option, Some, None, refl, inl, inr, if◌then◌else◌, sum_by, unwrap_or, arith, ap, sym, ◌∙◌}
 use Rattle.std.proofs.lemmas.List.Sums.{sum_by-cons}
 use Rattle.mdb_msgs.specs.declared.command.ReaderCommand.{ReaderCommand}
@@ -19,15 +20,17 @@ use Rattle.mdb_machine.specs.Past.{or_else, resets, tells_out_of_sequence}
 use Rattle.mdb_machine.specs.Unvalued.{one_if}
 use Rattle.mdb_cashless.specs.declared.reader.messages.ReaderActivity.{ReaderActivity}
 use Rattle.mdb_cashless.specs.declared.reader.state.ReaderState.{ReaderState}
+use Rattle.mdb_cashless.specs.declared.reader.transaction.Transaction.{Transaction}
 use Rattle.mdb_cashless.specs.declared.reader.view.View.{View}
+use Rattle.mdb_cashless.specs.declared.reader.view.View.TheVariants.{Idle}
 use Rattle.mdb_machine.specs.Steps.{ForOwn}
 use Rattle.mdb_cashless.specs.Reader.{AckStep, AskStep, ReaderStep, ReplyStep, VmcAckStep, all_approved, all_approved_to, approved, asked, asks_sale, is_approval, is_repeated, read, sold, sold_any, sold_to, taken, value, view_answered}
 use Rattle.mdb_cashless.specs.ReaderDevice as reader_device
-use Rattle.mdb_cashless.specs.ReaderFacts.{Facts, KnownFacts, effect_of_own}
+use Rattle.mdb_cashless.specs.ReaderFacts.{Facts, KnownFacts, effect_of_own, is_refused}
 use Rattle.mdb_cashless.specs.ReaderMessages.{config_in, last_said, messages_of, part_of, parts_of}
 use Rattle.mdb_cashless.specs.ReaderView as reader_view
-use Rattle.mdb_cashless.specs.ReaderView.{heard}
-use Rattle.mdb_cashless.specs.Transactions.{amounts, ended_by, no_end}
+use Rattle.mdb_cashless.specs.ReaderView.{heard, sent, sent_in_turn, waits}
+use Rattle.mdb_cashless.specs.Transactions.{amounts, ended_by, no_end, transaction_of}
 use Rattle.mdb_cashless.specs.Units.{own}
 
 -- the facts that may be where this is known, with what they guess of the rest
@@ -37,6 +40,7 @@ otherwise facts known = record {
   asked = facts.asked;
   taken = facts.taken;
   amount = unwrap_or known.amount 0;
+  refused = is_refused known.extended;
   past = record {
     enabled = known.past.enabled;
     reset_owed = known.past.reset_owed;
@@ -158,6 +162,8 @@ kept_none config (messages.VendApproved amount ∷ said) none =
 kept_none config (messages.JustReset ∷ said) none = kept_none config said (omega (arith, none))
 kept_none config (messages.BeginSession funds ∷ said) none =
     let rest = kept_none config said (omega (arith, none)) in omega (arith, rest)
+kept_none config (messages.BeginSessionLong funds media kind details ∷ said) none =
+    let rest = kept_none config said (omega (arith, none)) in omega (arith, rest)
 kept_none config (messages.VendDenied ∷ said) none =
     let rest = kept_none config said (omega (arith, none)) in omega (arith, rest)
 kept_none config (messages.EndSession ∷ said) none =
@@ -212,11 +218,40 @@ same_approved_to one other before said (inl none) =
 same_approved_to one other before said (inr same) =
     ap (λ c. all_approved_to c before said) same
 
--- a command is sent and taken as it was
-same_asked : (facts : Facts) (known : KnownFacts) (its : ReaderCommand) (before : View)
-    → asked (otherwise facts known) its before ≡ asked facts its before
-same_asked facts known reader.Reset before = refl
-same_asked facts known its before = refl
+-- where the controller was refused, it may be so here
+abbrev MayBeRefused : Facts → KnownFacts → Type 0
+MayBeRefused facts known = facts.refused ≡ true → is_refused known.extended ≡ true
+
+-- a transaction command that may be sent may be, where the controller may be refused too
+sent_too : (here there : Bool) (last : Option Transaction) (its : Transaction)
+    (before after : View) → (there ≡ true → here ≡ true)
+    → sent there last its before ≡ Some after → sent here last its before ≡ Some after
+sent_too true true last its before after too is = is
+sent_too false false last its before after too is = is
+sent_too true false last its before after too is =
+    ap (λ view. or_else view (if waits before then sent_in_turn last its Idle else None)) is
+sent_too false true last its before after too is =
+    let clash : false ≡ true = too refl in absurd (cc clash)
+
+-- so may any command
+found_too : (facts : Facts) (known : KnownFacts) (found : Option Transaction)
+    (before after : View) → MayBeRefused facts known
+    → (elim found [ Some its ↦ sent facts.refused facts.asked its before | None ↦ Some before ])
+    ≡ Some after
+    → (elim found [
+      | Some its ↦ sent (is_refused known.extended) facts.asked its before
+      | None ↦ Some before
+    ]) ≡ Some after
+found_too facts known None before after too is = is
+found_too facts known (Some its) before after too is =
+    sent_too (is_refused known.extended) facts.refused facts.asked its before after too is
+
+asked_too : (facts : Facts) (known : KnownFacts) (its : ReaderCommand) (before after : View)
+    → MayBeRefused facts known → asked facts its before ≡ Some after
+    → asked (otherwise facts known) its before ≡ Some after
+asked_too facts known reader.Reset before after too is = is
+asked_too facts known its before after too is =
+    found_too facts known (transaction_of its) before after too is
 
 -- a step, with what it gains, after other facts, where it gains the same if all has its price
 abbrev pub GoesWith : (Gains → Type 0) → Type 0 → Gains → Type 0
@@ -224,14 +259,15 @@ GoesWith Step Priced gains = (other : Gains) × Step other × (Priced → other 
 
 -- an ask
 ask_otherwise : (facts : Facts) (known : KnownFacts) (its : ReaderCommand)
-    (before after : ReaderState) (gains : Gains) → AskStep facts its before after gains
+    (before after : ReaderState) (gains : Gains) → MayBeRefused facts known
+    → AskStep facts its before after gains
     → GoesWith (AskStep (otherwise facts known) its before after)
     (IsSalePriced (otherwise facts known) facts its) gains
-ask_otherwise facts known its before after gains step =
+ask_otherwise facts known its before after gains too step =
     let others = otherwise facts known in (
       controller_gains (in_slots (amounts 0 (sold_to others its before.view))),
       record {
-        view = same_asked facts known its before.view ∙ step.view;
+        view = asked_too facts known its before.view after.view too step.view;
         device = step.device;
         holds = step.holds;
         gained = refl;
@@ -330,40 +366,40 @@ by_own (Some its) One Other Priced before after gains each step =
 -- so by each act
 pub goes_otherwise : (unit : ReaderUnit) (facts : Facts) (known : KnownFacts) (act : Act)
     (choice : Choice) (before after : ReaderState) (gains : Gains)
-    → (known.past.reset_owed ≡ true → facts.past.reset_owed ≡ true)
+    → (known.past.reset_owed ≡ true → facts.past.reset_owed ≡ true) → MayBeRefused facts known
     → ReaderStep unit facts act choice before after gains
     → GoesWith (ReaderStep unit (otherwise facts known) act choice before after)
     (IsPriced unit (otherwise facts known) facts act) gains
-goes_otherwise unit facts known (acts.Ask c) choice before after gains owed step =
+goes_otherwise unit facts known (acts.Ask c) choice before after gains owed too step =
     by_own (own unit c) (AskStep facts) (AskStep (otherwise facts known))
     (IsSalePriced (otherwise facts known) facts) before after gains
-    (λ its. ask_otherwise facts known its before after gains) step
-goes_otherwise unit facts known (acts.Ack c) choice before after gains owed step =
+    (λ its. ask_otherwise facts known its before after gains too) step
+goes_otherwise unit facts known (acts.Ack c) choice before after gains owed too step =
     by_own (own unit c) (λ i. AckStep facts i choice)
     (λ i. AckStep (otherwise facts known) i choice)
     (IsSalePriced (otherwise facts known) facts) before after gains
     (λ its. ack_otherwise facts known its choice before after gains) step
-goes_otherwise unit facts known (acts.Reply c r) choice before after gains owed step =
+goes_otherwise unit facts known (acts.Reply c r) choice before after gains owed too step =
     by_own (own unit c) (λ i. ReplyStep facts i r choice)
     (λ i. ReplyStep (otherwise facts known) i r choice)
     (λ i. IsSalePriced (otherwise facts known) facts i
     × ((approvals (messages_of r) ≡ 0)
     ⊎ (config_after r known.config ≡ config_after r facts.config))) before after gains
     (λ its. reply_otherwise facts known its r choice before after gains owed) step
-goes_otherwise unit facts known (acts.VmcAck c r) choice before after gains owed step =
+goes_otherwise unit facts known (acts.VmcAck c r) choice before after gains owed too step =
     by_own (own unit c) (λ i. VmcAckStep facts i r choice)
     (λ i. VmcAckStep (otherwise facts known) i r choice)
     (λ i. (approvals (messages_of r) ≡ 0) ⊎ (known.config ≡ facts.config)) before after gains
     (λ its. vmc_ack_otherwise facts known its r choice before after gains) step
-goes_otherwise unit facts known (acts.Break n) choice before after gains owed step =
+goes_otherwise unit facts known (acts.Break n) choice before after gains owed too step =
     (gains, step, λ priced. refl)
-goes_otherwise unit facts known (acts.Nak c) choice before after gains owed step =
+goes_otherwise unit facts known (acts.Nak c) choice before after gains owed too step =
     (gains, step, λ priced. refl)
-goes_otherwise unit facts known (acts.VmcNak c r) choice before after gains owed step =
+goes_otherwise unit facts known (acts.VmcNak c r) choice before after gains owed too step =
     (gains, step, λ priced. refl)
-goes_otherwise unit facts known (acts.VmcRet c r) choice before after gains owed step =
+goes_otherwise unit facts known (acts.VmcRet c r) choice before after gains owed too step =
     (gains, step, λ priced. refl)
-goes_otherwise unit facts known (acts.Repeat c r) choice before after gains owed step =
+goes_otherwise unit facts known (acts.Repeat c r) choice before after gains owed too step =
     (gains, step, λ priced. refl)
-goes_otherwise unit facts known acts.Foreign choice before after gains owed step =
+goes_otherwise unit facts known acts.Foreign choice before after gains owed too step =
     (gains, step, λ priced. refl)

@@ -13,7 +13,7 @@ use Rattle.mdb_cashless.specs.declared.reader.state.ReaderState.{ReaderState}
 use Rattle.mdb_cashless.specs.Reader.{StepKnowing}
 use Rattle.mdb_cashless.specs.ReaderFacts.{AllowsFacts, Facts, KnownFacts, known_of}
 use Rattle.mdb_late_start.specs.MidSession.{GoesOnInEnd, HasTold, IsNothingOr, MayJoinLate}
-use Rattle.mdb_late_start.proofs.ReaderCovers.{Covers, allows_kept_too, allows_too, config_covers, covers, same_amount, same_config}
+use Rattle.mdb_late_start.proofs.ReaderCovers.{Covers, allows_kept_too, allows_too, config_covers, covers, refused_too, same_amount, same_config}
 use Rattle.mdb_late_start.proofs.ReaderHolds.{goes_on_told, starts_told}
 use Rattle.mdb_late_start.proofs.ReaderOtherwise.{all_priced, goes_otherwise, otherwise}
 use Rattle.mdb_late_start.proofs.ReaderPrices.{IsTrue, priced, same_where_known}
@@ -27,6 +27,7 @@ allowed_otherwise here there holds facts covers told allowed = record {
   asked = allows_too here.asked there.asked facts.asked covers.asked allowed.asked;
   taken = allows_too here.taken there.taken facts.taken covers.taken allowed.taken;
   amount = refl;
+  refused = refl;
   past = record {
     enabled = refl;
     reset_owed = refl;
@@ -56,7 +57,9 @@ step_in_end begins setups unit later front act choice before after gains told st
     let facts = step.facts in
     let known = covers unit begins setups later front in
     let other = goes_otherwise unit facts here act choice before after gains
-    (λ owed. step.allowed.past.reset_owed ∙ known.reset_owed owed) step.step in
+    (λ owed. step.allowed.past.reset_owed ∙ known.reset_owed owed)
+    (λ refused. refused_too unit begins setups later front (sym step.allowed.refused ∙ refused))
+    step.step in
     record {
       other = other.0;
       step = record {

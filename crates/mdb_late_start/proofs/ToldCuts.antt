@@ -8,6 +8,7 @@ use Rattle.mdb_bus.specs.declared.act.Act.TheVariants as acts
 use Rattle.mdb_bus.specs.declared.levels.Levels.{Levels}
 use Rattle.mdb_bus.specs.declared.scope.Beginning.{Beginning}
 use Rattle.mdb_bus.specs.declared.scope.Beginning.TheVariants.{Joined}
+use Rattle.mdb_bus.specs.declared.scope.Profile.TheVariants.{Base}
 use Rattle.mdb_bus.specs.declared.scope.Scope.{Scope}
 use Rattle.mdb_bus.specs.ActLists.{ArePieces, HasActList, IsActList, MayCome, Piece, PieceFits, Position, Whole, events_of, last_of, levels_of, position_of}
 use Rattle.mdb_bus.specs.LeavingOut.{with_foreign}
@@ -21,7 +22,8 @@ use Rattle.mdb_late_start.proofs.Said.{said_stays}
 abbrev AllFit : Beginning → Levels → List Piece → Type 0
 AllFit begins levels [] = Unit {0}
 AllFit begins levels (piece ∷ pieces) =
-    PieceFits begins (levels_of levels pieces) piece × AllFit begins levels pieces
+    PieceFits begins (levels_of (profile_of begins) levels pieces) piece
+    × AllFit begins levels pieces
 
 -- foreign words say nothing of levels
 foreign_fit : (begins : Beginning) (levels : Levels) (words : List Event) (pieces : List Piece)
@@ -32,17 +34,19 @@ foreign_fit begins levels (word ∷ words) pieces fit =
 
 -- what pieces of an end say fits, where less is told than in front of it
 later_fit : (scope : Scope) (setups : Setups) (levels : Levels) (words : List Event)
-    (before : List Piece) → AreToldBy scope before levels → (later : List Piece)
-    → ArePieces scope (later ++ before)
+    (before : List Piece) → profile_of scope.begins ≡ Base → AreToldBy scope before levels
+    → (later : List Piece) → ArePieces scope (later ++ before)
     → AllFit (Joined setups (profile_of scope.begins)) levels (later ++ with_foreign words [])
-later_fit scope setups levels words before less [] are =
+later_fit scope setups levels words before base less [] are =
     foreign_fit (Joined setups (profile_of scope.begins)) levels words [] tt
-later_fit scope setups levels words before less (piece ∷ later) are = (
-  levels_fit scope.begins setups piece (levels_of levels (later ++ with_foreign words []))
-      (levels_of scope.levels (later ++ before))
-      (less_told levels scope.levels later words before less) are.1.levels,
-  later_fit scope setups levels words before less later are.2,
-)
+later_fit scope setups levels words before base less (piece ∷ later) are =
+    let profile = profile_of scope.begins in (
+      levels_fit scope.begins setups base piece
+          (levels_of profile levels (later ++ with_foreign words []))
+          (levels_of profile scope.levels (later ++ before))
+          (less_told profile levels scope.levels later words before less) are.1.levels,
+      later_fit scope setups levels words before base less later are.2,
+    )
 
 -- the bus is where it is, whatever was told
 same_position : (levels : Levels) (scope : Scope) (pieces : List Piece)
@@ -59,7 +63,7 @@ told_order levels scope (piece ∷ pieces) are fit =
     let Comes : Position → Type 0 =
     λ position. MayCome piece position (last_of (events_of pieces)) stands.first in (
       record {
-        said = said_stays scope.begins levels scope piece are.0.said;
+        said = said_stays scope.begins levels scope piece refl are.0.said;
         spaced = are.0.spaced;
       },
       record {
@@ -74,13 +78,14 @@ told_order levels scope (piece ∷ pieces) are fit =
 
 -- and the act list of an end is one where levels are told that were told in front of it
 pub told_list : (scope : Scope) (setups : Setups) (levels : Levels) (front end : List Event)
-    (pieces : List Piece) → IsActList scope pieces (front ++ end)
-    → (cut : SplitsAt scope setups front end pieces) → AreToldBy scope cut.before levels
+    (pieces : List Piece) → profile_of scope.begins ≡ Base
+    → IsActList scope pieces (front ++ end) → (cut : SplitsAt scope setups front end pieces)
+    → AreToldBy scope cut.before levels
     → IsActList (told_later setups levels scope) (cut.later ++ with_foreign cut.words []) end
-told_list scope setups levels front end pieces list cut less = record {
+told_list scope setups levels front end pieces base list cut less = record {
   in_order = told_order levels (joined_with setups scope)
       (cut.later ++ with_foreign cut.words []) cut.act_list.in_order
-      (later_fit scope setups levels cut.words cut.before less cut.later
+      (later_fit scope setups levels cut.words cut.before base less cut.later
       (subst (ArePieces scope) cut.order list.in_order));
   whole = cut.act_list.whole;
 }
@@ -88,15 +93,17 @@ told_list scope setups levels front end pieces list cut less = record {
 -- Where an end begins anew, levels were told in front of it that the act list of the rows there
 -- tells.
 pub told_anew : ((scope : Scope) (setups : Setups) (front end : List Event) (pieces : List Piece)
-    → IsActList scope pieces (front ++ end) → SplitsAt scope setups front end pieces)
+    → profile_of scope.begins ≡ Base → IsActList scope pieces (front ++ end)
+    → SplitsAt scope setups front end pieces)
     → ((scope : Scope) (rows : List Event) (one other : List Piece)
     → IsActList scope one rows → IsActList scope other rows → one ≡ other)
     → (scope : Scope) (setups : Setups) (levels : Levels) (front end : List Event)
-    (before : List Piece) → HasActList scope (front ++ end) → BeginAnew end
+    (before : List Piece) → profile_of scope.begins ≡ Base → HasActList scope (front ++ end)
+    → BeginAnew end
     → IsActList scope before front → AreToldBy scope before levels
     → WereTold scope setups levels front end
-told_anew cuts one scope setups levels front end before has anew list less =
-    let cut = cuts scope setups front end has.0 has.1 in
+told_anew cuts one scope setups levels front end before base has anew list less =
+    let cut = cuts scope setups front end has.0 base has.1 in
     let there : IsActList scope cut.before front = record {
       in_order = cut.in_front;
       whole = cut.rows ∙ ap (λ ws. front ++ ws) (cut.clean anew) ∙ append-nil front;

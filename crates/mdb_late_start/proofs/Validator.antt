@@ -47,6 +47,13 @@ moves_in_end known facts (activity.Stacked number) before after enabled moves = 
   moves.3,
   moves.4,
 )
+moves_in_end known facts (activity.Recycled number) before after enabled moves = (
+  moves.0,
+  moves.1,
+  type_enabled known facts moves.0 number enabled moves.1 moves.2,
+  moves.3,
+  moves.4,
+)
 moves_in_end known facts (activity.Escrow number) before after enabled moves = (
   moves.0,
   moves.1,
@@ -71,6 +78,7 @@ all_move known facts (message ∷ news) before after enabled move = (
 no_bill : (facts : Facts) (slot : ℕ) (message : BillActivity) → is_stacked message ≡ false
     → in_slots (stacked facts.setup message ∷ []) slot ≡ 0
 no_bill facts slot (activity.Stacked number) none = absurd cc
+no_bill facts slot (activity.Recycled number) none = absurd cc
 no_bill facts zero (activity.Escrow number) none = refl
 no_bill facts zero (activity.Returned number) none = refl
 no_bill facts (suc slot) message none = refl

@@ -7,7 +7,7 @@ use Rattle.mdb_msgs.specs.declared.setups.Setups.{Setups}
 use Rattle.mdb_bus.specs.declared.levels.Levels.{Levels}
 use Rattle.mdb_bus.specs.declared.scope.Scope.{Scope}
 use Rattle.mdb_bus.specs.ActLists.{IsActList, Piece, levels_of}
-use Rattle.mdb_bus.specs.Scopes.{told}
+use Rattle.mdb_bus.specs.Scopes.{profile_of, told}
 use Rattle.mdb_late_start.specs.Cuts.{SplitsAt, joined_with}
 use Rattle.mdb_late_start.specs.MidSession.{IsNothingOr}
 
@@ -23,7 +23,8 @@ IsLessTold one other = IsNothingOr one.first.asked other.first.asked
 -- Of each reader no level is told, or the one that the controller had last told it in these pieces,
 -- or before them.
 abbrev pub AreToldBy : Scope → List Piece → Levels → Type 0
-AreToldBy scope pieces levels = IsLessTold levels (levels_of scope.levels pieces)
+AreToldBy scope pieces levels =
+    IsLessTold levels (levels_of (profile_of scope.begins) scope.levels pieces)
 
 -- Levels were told in front of a cut: by the pieces that began there. A command that the cut
 -- divides is one of them.

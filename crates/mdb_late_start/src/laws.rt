@@ -1,5 +1,6 @@
 //! Laws of the ends of recordings. Each function's contract is the law, and its body calls the laws
-//! that it rests on.
+//! that it rests on. The levels tell the extended profile how to read a reader's reply, and an end
+//! may not show them. So the laws of act lists hold by the base profile.
 
 ghost use Rattle.std.specs.Prelude.{◌≡◌, ℕ, [], ◌++◌, List, Result, Ok};
 ghost use Rattle.mdb_words.specs.declared.event.Event.{Event};
@@ -38,28 +39,31 @@ use mdb_bus::laws as links;
 use mdb_follow::laws as follow;
 use mdb_words::laws as rows;
 
-/// The end of a recording has an act list of its own, wherever the recording is cut. Checked as a
-/// recording that begins while the machine was running, it has the pieces that begin in it, and
-/// foreign words before them.
+/// By the base profile the end of a recording has an act list of its own, wherever the recording is
+/// cut. Checked as a recording that begins while the machine was running, it has the pieces that
+/// begin in it, and foreign words before them.
 pub fn ends_of_transcripts_have_act_lists()
     ensures { (scope : Scope) (setups : Setups) (front end : List Event) (pieces : List Piece)
-        → IsActList scope pieces (front ++ end) → SplitsAt scope setups front end pieces }
+        → profile_of scope.begins ≡ Base → IsActList scope pieces (front ++ end)
+        → SplitsAt scope setups front end pieces }
 {}
 
-/// So it has where feature levels are told that the controller had told the readers in front of the
-/// cut: of each reader none, or the last one.
+/// So it has by the base profile where feature levels are told that the controller had told the
+/// readers in front of the cut: of each reader none, or the last one.
 pub fn ends_have_act_lists_with_the_levels_told_in_front()
     ensures { (scope : Scope) (setups : Setups) (levels : Levels) (front end : List Event)
-        (pieces : List Piece) → IsActList scope pieces (front ++ end)
-        → (cut : SplitsAt scope setups front end pieces) → AreToldBy scope cut.before levels
+        (pieces : List Piece) → profile_of scope.begins ≡ Base
+        → IsActList scope pieces (front ++ end) → (cut : SplitsAt scope setups front end pieces)
+        → AreToldBy scope cut.before levels
         → IsActList (told_later setups levels scope) (cut.later ++ with_foreign cut.words []) end }
 {}
 
 /// If the end of a recording begins anew, the levels told in front of it are those that the act
-/// list of the rows there tells.
+/// list of the rows there tells, by the base profile.
 pub fn the_act_list_in_front_tells_the_levels()
     ensures { (scope : Scope) (setups : Setups) (levels : Levels) (front end : List Event)
-        (before : List Piece) → HasActList scope (front ++ end) → BeginAnew end
+        (before : List Piece) → profile_of scope.begins ≡ Base
+        → HasActList scope (front ++ end) → BeginAnew end
         → IsActList scope before front → AreToldBy scope before levels
         → WereTold scope setups levels front end }
 {
@@ -67,8 +71,8 @@ pub fn the_act_list_in_front_tells_the_levels()
     links::transcripts_have_one_act_list();
 }
 
-/// The act list of a recording from power-on is also that of the same rows, checked as a recording
-/// that begins while the machine was running.
+/// By the base profile the act list of a recording from power-on is also that of the same rows,
+/// checked as a recording that begins while the machine was running.
 pub fn act_lists_from_power_on_are_joined_ones()
     ensures { (setups : Setups) (without : DeviceSet) (pieces : List Piece) (rows : List Event)
         → IsActList (leaving_out without) pieces rows
@@ -76,20 +80,21 @@ pub fn act_lists_from_power_on_are_joined_ones()
 {}
 
 /// Every step of the changer from power-on is allowed in a recording that begins while it was
-/// running.
+/// running, by any profile.
 pub fn the_changer_stays_in_mid_session()
     ensures { (begins : Beginning) (setups : Setups)
         → MayJoinLate begins setups devices.Changer }
 {}
 
 /// Every step of the validator from power-on is allowed in a recording that begins while it was
-/// running.
+/// running, by any profile.
 pub fn the_validator_stays_in_mid_session()
     ensures { (begins : Beginning) (setups : Setups)
         → MayJoinLate begins setups devices.Bill }
 {}
 
-/// Every step of a reader from power-on is allowed in a recording that begins while it was running.
+/// Every step of a reader from power-on is allowed in a recording that begins while it was running,
+/// by any profile.
 pub fn a_reader_stays_in_mid_session()
     ensures { (begins : Beginning) (setups : Setups) (unit : ReaderUnit)
         → MayJoinLate begins setups (devices.Reader unit) }
@@ -110,9 +115,9 @@ fn end_laws()
     follow::ways_join();
 }
 
-/// Each run from power-on is also a run of a recording that begins while the machine was running.
-/// It has the same act list and loss, the same choices and the same states. It has the same sums
-/// for each device of which nothing is known from elsewhere.
+/// By the base profile each run from power-on is also a run of a recording that begins while the
+/// machine was running. It has the same act list and loss, the same choices and the same states. It
+/// has the same sums for each device of which nothing is known from elsewhere.
 pub fn runs_from_power_on_are_joined_runs()
     ensures { (setups : Setups) (without : DeviceSet) (rows : List Event) (sums : AllSums)
         (run : Run (leaving_out without) rows sums) → (more : AllSums)
@@ -126,40 +131,44 @@ pub fn runs_from_power_on_are_joined_runs()
     end_laws();
 }
 
-/// Nobody is blamed because a recording begins late. If rows are reached, each end of them is
-/// reached as a recording that begins while the machine was running, wherever it is cut.
+/// By the base profile nobody is blamed because a recording begins late. If rows are reached, each
+/// end of them is reached as a recording that begins while the machine was running, wherever it is
+/// cut.
 pub fn ends_of_reached_rows_are_reached()
     ensures { (scope : Scope) (setups : Setups) (front end : List Event)
-        → IsReached scope (front ++ end) → IsReached (joined_with setups scope) end }
+        → profile_of scope.begins ≡ Base → IsReached scope (front ++ end)
+        → IsReached (joined_with setups scope) end }
 {
     end_laws();
 }
 
-/// So it is where feature levels are told that the controller had told the readers in front of the
-/// cut: of each reader none, or the last one.
+/// So it is by the base profile where feature levels are told that the controller had told the
+/// readers in front of the cut: of each reader none, or the last one.
 pub fn ends_are_reached_with_the_levels_told_in_front()
     ensures { (scope : Scope) (setups : Setups) (levels : Levels) (front end : List Event)
-        → IsReached scope (front ++ end) → WereTold scope setups levels front end
-        → IsReached (told_later setups levels scope) end }
+        → profile_of scope.begins ≡ Base → IsReached scope (front ++ end)
+        → WereTold scope setups levels front end → IsReached (told_later setups levels scope) end }
 {
     end_laws();
 }
 
-/// If the end of rows begins anew, each run of the rows passes the end of the rows before it.
+/// If the end of rows begins anew, each run of the rows passes the end of the rows before it, by
+/// the base profile.
 pub fn runs_pass_where_an_end_begins_anew()
     ensures { (scope : Scope) (front end : List Event) (sums : AllSums)
-        (run : Run scope (front ++ end) sums) → BeginAnew end
+        (run : Run scope (front ++ end) sums) → profile_of scope.begins ≡ Base → BeginAnew end
         → Passes scope (front ++ end) sums run front }
 {
     end_laws();
 }
 
-/// If an end begins anew, each run of the whole rows has a run of the end that gains the same
-/// there. It does so in both accounts of each device that leaves no amount without a value in the
-/// end. What is known of that device from elsewhere must be how it was set up before the end.
+/// If an end begins anew, by the base profile each run of the whole rows has a run of the end that
+/// gains the same there. It does so in both accounts of each device that leaves no amount without a
+/// value in the end. What is known of that device from elsewhere must be how it was set up before
+/// the end.
 pub fn runs_of_ends_gain_what_whole_runs_gain_there()
     ensures { (scope : Scope) (setups : Setups) (front end : List Event) (sums : AllSums)
-        (run : Run scope (front ++ end) sums) → BeginAnew end
+        (run : Run scope (front ++ end) sums) → profile_of scope.begins ≡ Base → BeginAnew end
         → (passes : Passes scope (front ++ end) sums run front) → (gained : AllSums)
         × Run (joined_with setups scope) end gained
         × ((device : Device) → TellsOnlyWhatIsSo setups scope.begins device (acts_of passes.before)
@@ -169,11 +178,12 @@ pub fn runs_of_ends_gain_what_whole_runs_gain_there()
     end_laws();
 }
 
-/// So it is where feature levels are told that the controller had told the readers in front of the
-/// end: of each reader none, or the last one.
+/// So it is by the base profile where feature levels are told that the controller had told the
+/// readers in front of the end: of each reader none, or the last one.
 pub fn runs_of_ends_gain_it_with_the_levels_told_in_front()
     ensures { (scope : Scope) (setups : Setups) (levels : Levels) (front end : List Event)
-        (sums : AllSums) (run : Run scope (front ++ end) sums) → BeginAnew end
+        (sums : AllSums) (run : Run scope (front ++ end) sums)
+        → profile_of scope.begins ≡ Base → BeginAnew end
         → (passes : Passes scope (front ++ end) sums run front)
         → AreToldBy scope passes.before levels → (gained : AllSums)
         × Run (told_later setups levels scope) end gained
@@ -184,14 +194,15 @@ pub fn runs_of_ends_gain_it_with_the_levels_told_in_front()
     end_laws();
 }
 
-/// So the true sums lie within the bounds. If an end begins anew, take what an account gained in
-/// it, in any run of the whole rows. It lies within the bounds of the end's report: the device's
-/// count, the controller's count, and the difference. This holds for each device that leaves no
-/// amount without a value in the end. What is known of that device from elsewhere must be how it
-/// was set up before the end.
+/// So by the base profile the true sums lie within the bounds. If an end begins anew, take what an
+/// account gained in it, in any run of the whole rows. It lies within the bounds of the end's
+/// report: the device's count, the controller's count, and the difference. This holds for each
+/// device that leaves no amount without a value in the end. What is known of that device from
+/// elsewhere must be how it was set up before the end.
 pub fn what_came_in_an_end_lies_within_its_bounds()
     ensures { (scope : Scope) (setups : Setups) (front end : List Event) (sums : AllSums)
-        (run : Run scope (front ++ end) sums) (report : Report) → BeginAnew end
+        (run : Run scope (front ++ end) sums) (report : Report)
+        → profile_of scope.begins ≡ Base → BeginAnew end
         → (passes : Passes scope (front ++ end) sums run front)
         → IsReport (joined_with setups scope) end report → (account : AccountName)
         → TellsOnlyWhatIsSo setups scope.begins (account_device account) (acts_of passes.before)
@@ -204,12 +215,13 @@ pub fn what_came_in_an_end_lies_within_its_bounds()
     follow::reports_name_the_decimals_and_silences_of_devices();
 }
 
-/// So they lie where feature levels are told that the controller had told the readers in front of
-/// the end: of each reader none, or the last one.
+/// So they lie by the base profile where feature levels are told that the controller had told the
+/// readers in front of the end: of each reader none, or the last one.
 pub fn what_came_lies_within_its_bounds_with_the_levels_told_in_front()
     ensures { (scope : Scope) (setups : Setups) (levels : Levels) (front end : List Event)
         (sums : AllSums) (run : Run scope (front ++ end) sums) (report : Report)
-        → BeginAnew end → (passes : Passes scope (front ++ end) sums run front)
+        → profile_of scope.begins ≡ Base → BeginAnew end
+        → (passes : Passes scope (front ++ end) sums run front)
         → AreToldBy scope passes.before levels
         → IsReport (told_later setups levels scope) end report → (account : AccountName)
         → TellsOnlyWhatIsSo setups scope.begins (account_device account) (acts_of passes.before)
@@ -222,14 +234,15 @@ pub fn what_came_lies_within_its_bounds_with_the_levels_told_in_front()
     follow::reports_name_the_decimals_and_silences_of_devices();
 }
 
-/// So they lie within the bounds of a stretch of rows that has the end in it, as `middle`. Before
-/// the end stand foreign words, and after it at most words of acts that didn't end. Take what an
-/// account gained in the end, in any run of the whole rows. It lies within the bounds of the
-/// stretch's report.
+/// So by the base profile they lie within the bounds of a stretch of rows that has the end in it,
+/// as `middle`. Before the end stand foreign words, and after it at most words of acts that didn't
+/// end. Take what an account gained in the end, in any run of the whole rows. It lies within the
+/// bounds of the stretch's report.
 pub fn what_came_in_a_stretch_lies_within_its_bounds()
     ensures { (scope : Scope) (setups : Setups) (levels : Levels)
         (front middle rows : List Event) (sums : AllSums)
         (run : Run scope (front ++ middle) sums) (report : Report)
+        → profile_of scope.begins ≡ Base
         → HasMiddle (told_later setups levels scope) rows middle
         → IsReport (told_later setups levels scope) rows report
         → (passes : Passes scope (front ++ middle) sums run front)
@@ -245,12 +258,13 @@ pub fn what_came_in_a_stretch_lies_within_its_bounds()
     follow::what_is_known_of_a_device_is_of_its_own_acts();
 }
 
-/// So they lie where further devices are left out of the stretch, in the accounts of the devices
-/// that it follows.
+/// So they lie by the base profile where further devices are left out of the stretch, in the
+/// accounts of the devices that it follows.
 pub fn what_came_lies_within_the_bounds_of_a_stretch_without_further_devices()
     ensures { (scope more : Scope) (setups : Setups) (levels : Levels)
         (front middle rows : List Event) (sums : AllSums)
         (run : Run scope (front ++ middle) sums) (report : Report)
+        → profile_of scope.begins ≡ Base
         → LeavesOutMore (told_later setups levels scope) more
         → HasMiddle more rows middle → IsReport more rows report
         → (passes : Passes scope (front ++ middle) sums run front)
@@ -270,13 +284,13 @@ pub fn what_came_lies_within_the_bounds_of_a_stretch_without_further_devices()
     follow::what_is_known_of_a_device_is_of_its_own_acts();
 }
 
-/// If the answer to the records of a text is yes, the answer to each end of them is yes too. The
-/// end is checked as a recording that begins while the machine was running. It may be cut anywhere,
-/// and anything may be known of the devices from elsewhere. Refused reads, writes and memory are
-/// excepted.
+/// If by the base profile the answer to the records of a text is yes, the answer to each end of
+/// them is yes too. The end is checked as a recording that begins while the machine was running. It
+/// may be cut anywhere, and anything may be known of the devices from elsewhere. Refused reads,
+/// writes and memory are excepted.
 pub fn ends_of_yeses_are_yeses()
     ensures { (scope : Scope) (setups : Setups) (limit : ℕ) (front end : List (List (List ℕ)))
-        (report : Report) (answer : Result Outcome RunFault)
+        (report : Report) (answer : Result Outcome RunFault) → profile_of scope.begins ≡ Base
         → IsAnswer scope limit (front ++ end) (Ok (Yes report))
         → IsAnswer (joined_with setups scope) limit end answer → IsOwnAnswer answer
         → (other : Report) × (answer ≡ Ok (Yes other)) }
@@ -287,11 +301,12 @@ pub fn ends_of_yeses_are_yeses()
     rows::rows_are_never_refused();
 }
 
-/// So it is where feature levels are told that the controller had told the readers in front of the
-/// end: of each reader none, or the last one.
+/// So it is by the base profile where feature levels are told that the controller had told the
+/// readers in front of the end: of each reader none, or the last one.
 pub fn ends_of_yeses_are_yeses_with_the_levels_told_in_front()
     ensures { (scope : Scope) (setups : Setups) (levels : Levels) (limit : ℕ)
         (front end : List (List (List ℕ))) (report : Report) (answer : Result Outcome RunFault)
+        → profile_of scope.begins ≡ Base
         → IsAnswer scope limit (front ++ end) (Ok (Yes report))
         → ((rows ends : List Event) → AreRows front rows → AreRows end ends
         → WereTold scope setups levels rows ends)

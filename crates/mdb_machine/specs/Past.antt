@@ -18,9 +18,11 @@ use Rattle.mdb_machine.specs.declared.past.Effect.TheVariants as effects
 use Rattle.mdb_machine.specs.Kept.{has_reset, kept_of}
 use Rattle.mdb_machine.specs.Known.{AllowsKept, Known, known_by}
 
--- whether a message is a reader's 0B: the command came out of sequence
+-- whether a message is a reader's 0B, with a status or without one: the command came out of
+-- sequence
 abbrev pub is_out_of_sequence : ReaderMsg → Bool
 is_out_of_sequence messages.OutOfSequence = true
+is_out_of_sequence (messages.OutOfSequenceIn status) = true
 is_out_of_sequence _ = false
 
 -- whether a reply says so

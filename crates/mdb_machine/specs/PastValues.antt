@@ -1,6 +1,5 @@
 -- What counts of the acts so far, act by act: of no act, and after one act more; and what of it a
--- value of `Past` stands for. The public functions of `Past` say by this what they do, and a law of
--- `laws` says that what counts goes on so.
+-- value of `Past` stands for. The public functions of `Past` say by this what they do.
 use Rattle.std.specs.Prelude.{ℕ, ◌==◌, Bool, true, false, not, ◌&&◌, ◌||◌, List, [], Option, Some, None, ltb, unwrap_or, if◌then◌else◌}
 use Rattle.std.specs.Int.{bit_at}
 use Rattle.mdb_msgs.specs.declared.command.Command.{Command}

@@ -2,23 +2,10 @@
 //! the law.
 
 ghost use Rattle.std.specs.Prelude.{◌≡◌, ◌↔◌, true, List, ◌∷◌};
-ghost use Rattle.mdb_msgs.specs.declared.command.Command.{Command};
 ghost use Rattle.mdb_msgs.specs.declared.command.Device.{Device};
 ghost use Rattle.mdb_bus.specs.declared.act.Act.{Act};
 ghost use Rattle.mdb_bus.specs.LeavingOut.{has_part};
-ghost use Rattle.mdb_machine.specs.declared.kept.Part.{Part};
-ghost use Rattle.mdb_machine.specs.declared.past.Effect.{Effect};
 ghost use Rattle.mdb_machine.specs.Pair.{IsActOf, own_acts};
-ghost use Rattle.mdb_machine.specs.Past.{past_of};
-ghost use Rattle.mdb_machine.specs.PastValues.{past_with};
-
-/// What counts of acts goes on act by act.
-pub fn what_counts_goes_on_act_by_act<M>()
-    ensures { (effect_of : Command → Effect) (parts_by : Act → List (Part M))
-        (act : Act) (acts : List Act)
-        → past_with effect_of parts_by act (past_of effect_of parts_by acts)
-        ≡ past_of effect_of parts_by (act ∷ acts) }
-{}
 
 /// A device's own acts are those in which it has a part, in their order; and the test that picks
 /// them says of each act whether it has.

@@ -142,8 +142,8 @@ pub fn effect_answered(effect: Effect, reply: &Reply) -> Effect
     }
 }
 
-/// Whether a reply says that the command came out of sequence: a reader's 0B. Its device doesn't
-/// take the command then.
+/// Whether a reply says that the command came out of sequence: a reader's 0B, with a status or
+/// without one. Its device doesn't take the command then.
 pub fn tells_out_of_sequence(reply: &Reply) -> bool
     ensures { result ≡ spec.tells_out_of_sequence reply.now }
 {
@@ -171,5 +171,8 @@ fn tell_out_of_sequence(list: &ReaderList) -> bool
 fn is_out_of_sequence(message: ReaderMsg) -> bool
     ensures { result ≡ spec.is_out_of_sequence message }
 {
-    matches!(message, ReaderMsg::OutOfSequence)
+    matches!(
+        message,
+        ReaderMsg::OutOfSequence | ReaderMsg::OutOfSequenceIn(_)
+    )
 }

@@ -78,6 +78,8 @@ reader_low address reader.Enable low fields = (omega arith, (omega arith, tt))
 reader_low address reader.Cancel low fields = (omega arith, (omega arith, tt))
 reader_low address (reader.RequestId identity) low fields =
     (omega arith, (omega arith, recursion_from_All IsByte identity fields.1))
+reader_low address (reader.EnableOptions options) low fields =
+    (omega arith, (omega arith, recursion_from_All IsByte options fields.1))
 
 -- the bytes of a block are bytes
 block_low : (content : List ℕ) → AllByRecursion IsByte content → All IsByte (block_of content)

@@ -110,7 +110,8 @@ reader_at command fields =
     (if slice_index fields 0 == 0x00 then reader.Disable
     else if slice_index fields 0 == 0x01 then reader.Enable
     else reader.Cancel)
-    else reader.RequestId (drop 1 fields)
+    else if slice_index fields 0 == 0x00 then reader.RequestId (drop 1 fields)
+    else reader.EnableOptions (drop 1 fields)
 
 reader_spelled : (address command : ℕ) (fields : List ℕ) → All IsByte fields
     → reader_need command (slice_get fields 0) ≡ Exactly (length fields + 2)
@@ -129,7 +130,8 @@ reader_spelled address command (a ∷ b ∷ c ∷ d ∷ e ∷ []) bytes told =
     let third : c < 256 = bytes 2 0 (omega arith) in
     let fourth : d < 256 = bytes 3 0 (omega arith) in
     let fifth : e < 256 = bytes 4 0 (omega arith) in
-    grind (arith, common_steps)
+    let options : All IsByte (b ∷ c ∷ d ∷ e ∷ []) = All-drop IsByte 1 (a ∷ b ∷ c ∷ d ∷ e ∷ []) bytes
+    in grind (arith, common_steps)
 reader_spelled address command (a ∷ b ∷ c ∷ d ∷ e ∷ f ∷ rest) bytes told =
     let identity : All IsByte (b ∷ c ∷ d ∷ e ∷ f ∷ rest) =
     All-drop IsByte 1 (a ∷ b ∷ c ∷ d ∷ e ∷ f ∷ rest) bytes in grind (arith, common_steps)

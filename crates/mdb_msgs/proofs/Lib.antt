@@ -7,12 +7,15 @@ pub mod OneReader
 pub mod OneReading
 pub mod OneReply
 pub mod OneCommand
+pub mod Options
 pub mod Prefixes
 pub mod Fronts
 pub mod ReaderBytes
 pub mod ReaderReading
+pub mod Readings
 pub mod ReaderWriting
-pub mod Reading
+pub mod Recycler
+pub mod ListReading
 pub mod SetupData
 pub mod SomeReading
 pub mod SomeReply

@@ -1,17 +1,19 @@
 -- Bytes have one reading as a list of messages.
-use Rattle.std.proofs.Common.{◌≡◌, ℕ, ◌+◌, ◌*◌, ◌-◌, ◌/◌, ◌%◌, ◌<◌, ◌≤◌, ◌⊎◌, inl, inr, nat_lt, nat_eq, if◌then◌else◌, List, [], ◌∷◌, ◌++◌, length, refl, sym, ap, ◌∙◌, arith, append-nil, subst}
+use Rattle.std.proofs.Common.{◌≡◌, ℕ, ◌+◌, ◌*◌, ◌-◌, ◌/◌, ◌%◌, ◌<◌, ◌≤◌, ◌⊎◌, inl, inr, nat_lt, nat_eq, if◌then◌else◌, true, List, [], ◌∷◌, ◌++◌, length, refl, sym, ap, ◌∙◌, arith, append-nil, subst}
 use Rattle.std.specs.List.{flat_map, AllByRecursion}
 use Rattle.std.proofs.lemmas.List.{append_cancel_left}
 use Rattle.std.proofs.lemmas.Bool.Decides.{nat_tests}
 use Rattle.mdb_msgs.specs.declared.fault.MsgFault.{MsgFault}
 use Rattle.mdb_msgs.specs.declared.fault.MsgFault.TheVariants as faults
+use Rattle.mdb_msgs.specs.declared.reading.Reading.{Reading}
 use Rattle.mdb_msgs.specs.declared.reply.bill.BillMsg.{BillMsg}
 use Rattle.mdb_msgs.specs.declared.reply.bill.BillMsg.TheVariants as bill
 use Rattle.mdb_msgs.specs.declared.reply.changer.ChangerMsg.{ChangerMsg}
 use Rattle.mdb_msgs.specs.declared.reply.changer.ChangerMsg.TheVariants as changer
-use Rattle.mdb_msgs.specs.Bill.{bill_msg_bytes, IsBillMsg, NoBillMsg}
+use Rattle.mdb_msgs.specs.Bill.{bill_msg_bytes, IsBillMsg, IsOfRecycler, NoBillMsg}
 use Rattle.mdb_msgs.specs.Changer.{changer_msg_bytes, IsChangerMsg, NoChangerMsg}
 use Rattle.mdb_msgs.specs.Lists.{StopsAt}
+use Rattle.mdb_msgs.specs.Readings.{is_extended}
 use Rattle.mdb_msgs.proofs.Standing.{NoEndBefore, OneBefore, one_standing, stand_all}
 
 -- where messages end: nothing is left, or no message stands there
@@ -118,51 +120,72 @@ bill_find (b ∷ x) =
     else (if nat_lt b 96 then bill.Attempts (b - 64)
     else (if nat_lt b 144 then bill.Stacked (b - 128)
     else (if nat_lt b 160 then bill.Escrow (b - 144)
-    else (if nat_lt b 192 then bill.Returned (b - 160)
-    else bill.Rejected (b - 192)))))
+    else (if nat_lt b 176 then bill.Returned (b - 160)
+    else (if nat_lt b 192 then bill.Recycled (b - 176)
+    else (if nat_lt b 208 then bill.Rejected (b - 192)
+    else bill.RecyclerStatus b))))))
 
-bill_found : (m : BillMsg) (x : List ℕ) → IsBillMsg m → bill_find (bill_msg_bytes m ++ x) ≡ m
+bill_found : (r : Reading) (m : BillMsg) (x : List ℕ) → IsBillMsg r m
+    → bill_find (bill_msg_bytes m ++ x) ≡ m
 unfolding bill_find
-bill_found (bill.Stacked b) x h = grind (arith, nat_tests)
-bill_found (bill.Escrow b) x h = grind (arith, nat_tests)
-bill_found (bill.Returned b) x h = grind (arith, nat_tests)
-bill_found (bill.Rejected b) x h = grind (arith, nat_tests)
-bill_found (bill.Attempts count) x h = grind (arith, nat_tests)
-bill_found bill.Reset x h = refl
-bill_found (bill.Status byte) x h = grind (arith, nat_tests)
+bill_found r (bill.Stacked b) x h = grind (arith, nat_tests)
+bill_found r (bill.Escrow b) x h = grind (arith, nat_tests)
+bill_found r (bill.Returned b) x h = grind (arith, nat_tests)
+bill_found r (bill.Recycled b) x h = grind (arith, nat_tests, h.0)
+bill_found r (bill.Rejected b) x h = grind (arith, nat_tests)
+bill_found r (bill.Attempts count) x h = grind (arith, nat_tests)
+bill_found r bill.Reset x h = refl
+bill_found r (bill.Status byte) x h = grind (arith, nat_tests)
+bill_found r (bill.RecyclerStatus byte) x h = grind (arith, nat_tests, h.0)
 
-pub one_bill : OneFront bill_msg_bytes IsBillMsg
-one_bill = one_front bill_msg_bytes IsBillMsg bill_find bill_found
+pub one_bill : (r : Reading) → OneFront bill_msg_bytes (IsBillMsg r)
+one_bill r = one_front bill_msg_bytes (IsBillMsg r) bill_find (bill_found r)
 
 -- what a message of the validator begins with
-bill_class : (first : ℕ) (further : List ℕ) (fault : MsgFault)
-    → ((first < 27) ⊎ ((32 ≤ first) × (first < 96)))
+abbrev IsPlainBill : ℕ → Type 0
+IsPlainBill first =
+    ((first < 27) ⊎ ((32 ≤ first) × (first < 96)))
     ⊎ (((128 ≤ first) × (first < 176)) ⊎ ((192 ≤ first) × (first < 208)))
-    → NoBillMsg (first ∷ further) fault → ⊥
-bill_class first further faults.Message h none = omega (arith, h, none)
-bill_class first further faults.Profile h none = omega (arith, h, none)
-bill_class first further faults.Length h none = none
-bill_class first further faults.Answer h none = none
 
-bill_goes_on : NoEnd bill_msg_bytes IsBillMsg (Ends NoBillMsg)
-bill_goes_on m x h (inl e) = not_empty m e
+bill_class : (r : Reading) (first : ℕ) (further : List ℕ) (fault : MsgFault) → IsPlainBill first
+    → NoBillMsg r (first ∷ further) fault → ⊥
+bill_class r first further faults.Message h none = omega (arith, h, none)
+bill_class r first further faults.Profile h (inl none) = omega (arith, h, none)
+bill_class r first further faults.Profile h (inr none) = omega (arith, h, none.0)
+bill_class r first further faults.Length h none = none
+bill_class r first further faults.Answer h none = none
+
+recycler_class : (r : Reading) (first : ℕ) (further : List ℕ) (fault : MsgFault)
+    → IsOfRecycler first → is_extended r ≡ true → NoBillMsg r (first ∷ further) fault → ⊥
+recycler_class r first further faults.Message h e none = omega (arith, h, none)
+recycler_class r first further faults.Profile h e (inl none) = omega (arith, h, none)
+recycler_class r first further faults.Profile h e (inr none) = cc (e, none.1)
+recycler_class r first further faults.Length h e none = none
+recycler_class r first further faults.Answer h e none = none
+
+bill_goes_on : (r : Reading) → NoEnd bill_msg_bytes (IsBillMsg r) (Ends (NoBillMsg r))
+bill_goes_on r m x h (inl e) = not_empty m e
   where
     not_empty : (m : BillMsg) → bill_msg_bytes m ++ x ≡ [] → ⊥
     not_empty bill.Reset e = cc
     not_empty _ e = cc
-bill_goes_on (bill.Stacked b) x h (inr none) =
-    bill_class (128 + b) x none.0 (inr (inl (omega arith, omega arith))) none.1
-bill_goes_on (bill.Escrow b) x h (inr none) =
-    bill_class (144 + b) x none.0 (inr (inl (omega arith, omega arith))) none.1
-bill_goes_on (bill.Returned b) x h (inr none) =
-    bill_class (160 + b) x none.0 (inr (inl (omega arith, omega arith))) none.1
-bill_goes_on (bill.Rejected b) x h (inr none) =
-    bill_class (192 + b) x none.0 (inr (inr (omega arith, omega arith))) none.1
-bill_goes_on (bill.Attempts count) x h (inr none) = bill_class (64 + count) x none.0
+bill_goes_on r (bill.Stacked b) x h (inr none) =
+    bill_class r (128 + b) x none.0 (inr (inl (omega arith, omega arith))) none.1
+bill_goes_on r (bill.Escrow b) x h (inr none) =
+    bill_class r (144 + b) x none.0 (inr (inl (omega arith, omega arith))) none.1
+bill_goes_on r (bill.Returned b) x h (inr none) =
+    bill_class r (160 + b) x none.0 (inr (inl (omega arith, omega arith))) none.1
+bill_goes_on r (bill.Recycled b) x h (inr none) =
+    recycler_class r (176 + b) x none.0 (inl (omega arith, omega (arith, h.0))) h.1 none.1
+bill_goes_on r (bill.Rejected b) x h (inr none) =
+    bill_class r (192 + b) x none.0 (inr (inr (omega arith, omega arith))) none.1
+bill_goes_on r (bill.Attempts count) x h (inr none) = bill_class r (64 + count) x none.0
     (inl (inr (omega arith, omega arith))) none.1
-bill_goes_on bill.Reset x h (inr none) = bill_class 6 x none.0 (inl (inl (omega arith))) none.1
-bill_goes_on (bill.Status byte) x h (inr none) =
-    bill_class byte x none.0
+bill_goes_on r bill.Reset x h (inr none) = bill_class r 6 x none.0 (inl (inl (omega arith))) none.1
+bill_goes_on r (bill.RecyclerStatus byte) x h (inr none) =
+    recycler_class r byte x none.0 (inr h.0) h.1 none.1
+bill_goes_on r (bill.Status byte) x h (inr none) =
+    bill_class r byte x none.0
     (inl (elim h.1 [ inl low ↦ inl low | inr high ↦ inr (high.0, omega (arith, high.1)) ])) none.1
 
 -- two lists of messages with the same bytes are one, and so is where reading stops
@@ -173,10 +196,12 @@ pub one_changer_list : (xs ys : List ChangerMsg) (p q : List ℕ) → AllByRecur
 one_changer_list = one_list changer_msg_bytes IsChangerMsg (Ends NoChangerMsg) one_changer
     changer_goes_on
 
-pub one_bill_list : (xs ys : List BillMsg) (p q : List ℕ) → AllByRecursion IsBillMsg xs
-    → AllByRecursion IsBillMsg ys → flat_map bill_msg_bytes xs ++ p ≡ flat_map bill_msg_bytes
-    ys ++ q → Ends NoBillMsg p → Ends NoBillMsg q → (xs ≡ ys) × (p ≡ q)
-one_bill_list = one_list bill_msg_bytes IsBillMsg (Ends NoBillMsg) one_bill bill_goes_on
+pub one_bill_list : (r : Reading) (xs ys : List BillMsg) (p q : List ℕ)
+    → AllByRecursion (IsBillMsg r) xs → AllByRecursion (IsBillMsg r) ys
+    → flat_map bill_msg_bytes xs ++ p ≡ flat_map bill_msg_bytes ys ++ q → Ends (NoBillMsg r) p
+    → Ends (NoBillMsg r) q → (xs ≡ ys) × (p ≡ q)
+one_bill_list r =
+    one_list bill_msg_bytes (IsBillMsg r) (Ends (NoBillMsg r)) (one_bill r) (bill_goes_on r)
 
 -- where only Message and Profile may hold, and not both, one fault does
 pub same_fault : (No : MsgFault → Type 0) → (No faults.Length → ⊥) → (No faults.Answer → ⊥)
@@ -197,11 +222,11 @@ changer_none faults.Profile h = h
 changer_none faults.Length h = h
 changer_none faults.Answer h = h
 
-bill_none : (fault : MsgFault) → NoBillMsg [] fault → ⊥
-bill_none faults.Message h = h
-bill_none faults.Profile h = h
-bill_none faults.Length h = h
-bill_none faults.Answer h = h
+bill_none : (r : Reading) (fault : MsgFault) → NoBillMsg r [] fault → ⊥
+bill_none r faults.Message h = h
+bill_none r faults.Profile h = h
+bill_none r faults.Length h = h
+bill_none r faults.Answer h = h
 
 pub changer_no_stop : (xs : List ChangerMsg) (fault : MsgFault) → AllByRecursion IsChangerMsg xs
     → StopsAt changer_msg_bytes IsChangerMsg NoChangerMsg (flat_map changer_msg_bytes xs) fault → ⊥
@@ -210,12 +235,13 @@ changer_no_stop xs fault h stop =
     (append-nil (flat_map changer_msg_bytes xs) ∙ stop.3) (inl refl) (inr (fault, stop.4)) in
     changer_none fault (subst (λ x. NoChangerMsg x fault) (sym one.1) stop.4)
 
-pub bill_no_stop : (xs : List BillMsg) (fault : MsgFault) → AllByRecursion IsBillMsg xs
-    → StopsAt bill_msg_bytes IsBillMsg NoBillMsg (flat_map bill_msg_bytes xs) fault → ⊥
-bill_no_stop xs fault h stop =
-    let one = one_bill_list xs stop.0 [] stop.1 h stop.2 (append-nil (flat_map bill_msg_bytes xs)
+pub bill_no_stop : (r : Reading) (xs : List BillMsg) (fault : MsgFault)
+    → AllByRecursion (IsBillMsg r) xs
+    → StopsAt bill_msg_bytes (IsBillMsg r) (NoBillMsg r) (flat_map bill_msg_bytes xs) fault → ⊥
+bill_no_stop r xs fault h stop =
+    let one = one_bill_list r xs stop.0 [] stop.1 h stop.2 (append-nil (flat_map bill_msg_bytes xs)
     ∙ stop.3) (inl refl) (inr (fault, stop.4)) in
-    bill_none fault (subst (λ x. NoBillMsg x fault) (sym one.1) stop.4)
+    bill_none r fault (subst (λ x. NoBillMsg r x fault) (sym one.1) stop.4)
 
 changer_no_length : (rest : List ℕ) → NoChangerMsg rest faults.Length → ⊥
 changer_no_length [] h = h
@@ -231,17 +257,19 @@ changer_not_both [] h k = h
 changer_not_both (first ∷ further) (inl none) k = omega (arith, none.0, k)
 changer_not_both (first ∷ further) (inr none) k = omega (arith, none.0, k)
 
-bill_no_length : (rest : List ℕ) → NoBillMsg rest faults.Length → ⊥
-bill_no_length [] h = h
-bill_no_length (first ∷ further) h = h
+bill_no_length : (r : Reading) (rest : List ℕ) → NoBillMsg r rest faults.Length → ⊥
+bill_no_length r [] h = h
+bill_no_length r (first ∷ further) h = h
 
-bill_no_answer : (rest : List ℕ) → NoBillMsg rest faults.Answer → ⊥
-bill_no_answer [] h = h
-bill_no_answer (first ∷ further) h = h
+bill_no_answer : (r : Reading) (rest : List ℕ) → NoBillMsg r rest faults.Answer → ⊥
+bill_no_answer r [] h = h
+bill_no_answer r (first ∷ further) h = h
 
-bill_not_both : (rest : List ℕ) → NoBillMsg rest faults.Message → NoBillMsg rest faults.Profile → ⊥
-bill_not_both [] h k = h
-bill_not_both (first ∷ further) h k = omega (arith, h, k)
+bill_not_both : (r : Reading) (rest : List ℕ) → NoBillMsg r rest faults.Message
+    → NoBillMsg r rest faults.Profile → ⊥
+bill_not_both r [] h k = h
+bill_not_both r (first ∷ further) h (inl none) = omega (arith, h, none)
+bill_not_both r (first ∷ further) h (inr none) = omega (arith, h, none.0)
 
 pub one_changer_stop : (bytes : List ℕ) (a b : MsgFault)
     → StopsAt changer_msg_bytes IsChangerMsg NoChangerMsg bytes a
@@ -252,10 +280,12 @@ one_changer_stop bytes a b h k =
     same_fault (NoChangerMsg k.1) (changer_no_length k.1) (changer_no_answer k.1)
     (changer_not_both k.1) a b (subst (λ x. NoChangerMsg x a) one.1 h.4) k.4
 
-pub one_bill_stop : (bytes : List ℕ) (a b : MsgFault)
-    → StopsAt bill_msg_bytes IsBillMsg NoBillMsg bytes a
-    → StopsAt bill_msg_bytes IsBillMsg NoBillMsg bytes b → a ≡ b
-one_bill_stop bytes a b h k =
-    let one = one_bill_list h.0 k.0 h.1 k.1 h.2 k.2 (sym h.3 ∙ k.3) (inr (a, h.4)) (inr (b, k.4)) in
-    same_fault (NoBillMsg k.1) (bill_no_length k.1) (bill_no_answer k.1) (bill_not_both k.1) a b
-    (subst (λ x. NoBillMsg x a) one.1 h.4) k.4
+pub one_bill_stop : (r : Reading) (bytes : List ℕ) (a b : MsgFault)
+    → StopsAt bill_msg_bytes (IsBillMsg r) (NoBillMsg r) bytes a
+    → StopsAt bill_msg_bytes (IsBillMsg r) (NoBillMsg r) bytes b → a ≡ b
+one_bill_stop r bytes a b h k =
+    let one = one_bill_list r h.0 k.0 h.1 k.1 h.2 k.2 (sym h.3 ∙ k.3) (inr (a, h.4)) (inr (b, k.4))
+    in
+    same_fault (NoBillMsg r k.1) (bill_no_length r k.1) (bill_no_answer r k.1) (bill_not_both r
+    k.1) a b
+    (subst (λ x. NoBillMsg r x a) one.1 h.4) k.4

@@ -22,6 +22,8 @@ whole block (Bill (bill.Features features)) spelled = grind (arith, common_steps
 whole block (Bill command) spelled = grind (arith, common_steps)
 whole block (Reader First (reader.RequestId identity)) spelled = grind (arith, common_steps)
 whole block (Reader Second (reader.RequestId identity)) spelled = grind (arith, common_steps)
+whole block (Reader First (reader.EnableOptions options)) spelled = grind (arith, common_steps)
+whole block (Reader Second (reader.EnableOptions options)) spelled = grind (arith, common_steps)
 whole block (Reader First command) spelled = search rules
 whole block (Reader Second command) spelled = search rules
 

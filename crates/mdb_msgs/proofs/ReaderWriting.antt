@@ -1,14 +1,15 @@
 -- Lists of messages that are given: whether they are another list, and whether they fit a block.
-use Rattle.std.proofs.Common.{◌≡◌, ◌<◌, ◌+◌, false, true, ℕ, List, Some, None, Result, Ok, Err, IfOk, IfErr, length, refl, sym, ap, ◌∙◌, arith, subst, take, get_or}
+use Rattle.std.proofs.Common.{◌≡◌, ◌<◌, ◌+◌, false, true, ℕ, List, Some, None, Result, Ok, Err, IfOk, IfErr, [], length, refl, sym, ap, ◌∙◌, arith, subst, take, get_or}
 use Rattle.std.specs.List.{flat_map}
 use Rattle.std.specs.Result.{result_ok}
 use Rattle.std.proofs.lemmas.List.Folds.{length-flat_map-take}
+use Rattle.mdb_msgs.specs.declared.reading.Reading.{Reading}
 use Rattle.mdb_msgs.specs.declared.reply.reader.ReaderMsg.{ReaderMsg}
-use Rattle.mdb_msgs.specs.declared.reply.reader.ReaderMsg.TheVariants.{JustReset, Config, Display, BeginSession, CancelRequest, VendApproved, VendDenied, EndSession, Cancelled, PeripheralId, Malfunction, OutOfSequence}
+use Rattle.mdb_msgs.specs.declared.reply.reader.ReaderMsg.TheVariants.{JustReset, Config, Display, BeginSession, BeginSessionLong, CancelRequest, VendApproved, VendDenied, EndSession, Cancelled, PeripheralId, PeripheralIdWithOptions, Malfunction, OutOfSequence, OutOfSequenceIn, RevalueApproved, RevalueDenied, RevalueLimit, TimeAsked}
 use Rattle.std.proofs.lemmas.Bool.Decides.{nat_tests}
 use Rattle.mdb_msgs.specs.contracts.reply.reader.ReaderMsgPartialEq.TheImpl.{eq-value}
 use Rattle.mdb_msgs.specs.declared.fault.MsgFault.{MsgFault}
-use Rattle.mdb_msgs.specs.Reader.{ReaderMessages, reader_msg_bytes, reader_list_bytes, IsReaderList, ReaderStopsAt}
+use Rattle.mdb_msgs.specs.Reader.{ReaderMessages, reader_msg_bytes, reader_list_bytes, reading_of, AreReaderMsgs, IsReaderList, ReaderStopsAt}
 use Rattle.mdb_msgs.proofs.OneReader.{one_reader_list, reader_no_stop}
 
 never : false ≡ true → ⊥
@@ -20,43 +21,61 @@ told_same JustReset JustReset h = refl
 told_same (Config l c s d r o) (Config m k t e q p) h = grind (arith, nat_tests)
 told_same (Display time) (Display other) h = grind (arith, nat_tests)
 told_same (BeginSession funds) (BeginSession other) h = grind (arith, nat_tests)
+told_same (BeginSessionLong f m k d) (BeginSessionLong g n l e) h = grind (arith, nat_tests)
 told_same CancelRequest CancelRequest h = refl
 told_same (VendApproved amount) (VendApproved other) h = grind (arith, nat_tests)
 told_same VendDenied VendDenied h = refl
 told_same EndSession EndSession h = refl
 told_same Cancelled Cancelled h = refl
 told_same PeripheralId PeripheralId h = refl
+told_same (PeripheralIdWithOptions options) (PeripheralIdWithOptions other) h =
+    grind (arith, nat_tests)
 told_same (Malfunction code) (Malfunction other) h = grind (arith, nat_tests)
 told_same OutOfSequence OutOfSequence h = refl
+told_same (OutOfSequenceIn status) (OutOfSequenceIn other) h = grind (arith, nat_tests)
+told_same RevalueApproved RevalueApproved h = refl
+told_same RevalueDenied RevalueDenied h = refl
+told_same (RevalueLimit amount) (RevalueLimit other) h = grind (arith, nat_tests)
+told_same TimeAsked TimeAsked h = refl
 told_same a b h = absurd (never h)
 
 is_same : (a : ReaderMsg) → eq-value.it a a ≡ true
 is_same (Config level code scale decimals response options) = grind (arith, nat_tests)
 is_same (Display time) = grind (arith, nat_tests)
 is_same (BeginSession funds) = grind (arith, nat_tests)
+is_same (BeginSessionLong funds media kind details) = grind (arith, nat_tests)
 is_same (VendApproved amount) = grind (arith, nat_tests)
 is_same (Malfunction code) = grind (arith, nat_tests)
+is_same (OutOfSequenceIn status) = grind (arith, nat_tests)
+is_same (PeripheralIdWithOptions options) = grind (arith, nat_tests)
+is_same (RevalueLimit amount) = grind (arith, nat_tests)
 is_same _ = refl
 
 pub same_again : (a b : ReaderMsg) → a ≡ b → eq-value.it a b ≡ true
 same_again a b e = subst (λ m. eq-value.it a m ≡ true) e (is_same a)
 
 -- a list's bytes are read, and as the list
-pub never_refused : (given : ReaderMessages) (bytes : List ℕ)
-    (read : Result ReaderMessages MsgFault) → bytes ≡ reader_list_bytes given
-    → IfErr read (ReaderStopsAt bytes) → result_ok read ≡ None → IsReaderList given → ⊥
-never_refused given bytes (Ok list) e err none h = absurd (cc)
-never_refused given bytes (Err fault) e err none h =
-    reader_no_stop given fault h (subst (λ b. ReaderStopsAt b fault) e err)
+pub never_refused : (r : Reading) (given : ReaderMessages) (bytes : List ℕ)
+    (read : Result ReaderMessages MsgFault) → r ≡ reading_of given.messages
+    → bytes ≡ reader_list_bytes given → IfErr read (ReaderStopsAt r bytes)
+    → result_ok read ≡ None → IsReaderList given → ⊥
+never_refused r given bytes (Ok list) own e err none h = absurd (cc)
+never_refused r given bytes (Err fault) own e err none h =
+    reader_no_stop r given fault (subst (λ q. AreReaderMsgs q given []) (sym own) h.stand)
+    (subst (λ b. ReaderStopsAt r b fault) e err)
 
-pub read_back : (given list : ReaderMessages) (bytes : List ℕ)
-    (read : Result ReaderMessages MsgFault) → bytes ≡ reader_list_bytes given
-    → IfOk read IsReaderList → IfOk read (λ l. bytes ≡ reader_list_bytes l)
+pub read_back : (r : Reading) (given list : ReaderMessages) (bytes : List ℕ)
+    (read : Result ReaderMessages MsgFault) → r ≡ reading_of given.messages
+    → bytes ≡ reader_list_bytes given
+    → IfOk read IsReaderList → IfOk read (λ l. AreReaderMsgs r l [])
+    → IfOk read (λ l. bytes ≡ reader_list_bytes l)
     → result_ok read ≡ Some list → IsReaderList given → list ≡ given
-read_back given list bytes (Ok l) e is spelled some h =
+read_back r given list bytes (Ok l) own e is is_in spelled some h =
     let same : l ≡ list = cc in
-    sym same ∙ one_reader_list l given is h (sym spelled ∙ e)
-read_back given list bytes (Err fault) e is spelled some h = absurd (cc)
+    let given_in : AreReaderMsgs r given [] =
+    subst (λ q. AreReaderMsgs q given []) (sym own) h.stand in
+    sym same ∙ one_reader_list r l given is h is_in given_in (sym spelled ∙ e)
+read_back r given list bytes (Err fault) own e is is_in spelled some h = absurd (cc)
 
 -- the bytes are too many with all messages, where they are with one more
 pub no_room : (id text : List ℕ) (ms : List ReaderMsg) (i : ℕ) (d : ReaderMsg) (bytes : List ℕ)

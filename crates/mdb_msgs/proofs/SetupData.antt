@@ -8,7 +8,8 @@ use Rattle.mdb_msgs.specs.declared.reply.Reply.{Reply}
 use Rattle.mdb_msgs.specs.declared.reply.reader.ReaderMsg.{ReaderMsg}
 use Rattle.mdb_msgs.specs.declared.setups.ReaderConfig.{ReaderConfig}
 use Rattle.mdb_msgs.specs.declared.setups.Setups.{Setups}
-use Rattle.mdb_msgs.specs.Replies.{SpellsReply}
+use Rattle.mdb_msgs.specs.declared.reading.Reading.TheVariants.{Base}
+use Rattle.mdb_msgs.specs.Replies.{IsIn, SpellsReply}
 use Rattle.mdb_msgs.specs.SetupData.{IsSetup, IsSetupOf, config_in, known_with, last_config, or_else}
 use Rattle.mdb_msgs.specs.inner.SetupAsked.{setup_of}
 use Rattle.mdb_msgs.proofs.OneReply.{one_reply}
@@ -39,7 +40,8 @@ one_setup device bytes before a b is_a is_b =
     let spells_a = spells_so device is_a.asked is_a.answer bytes is_a.asks is_a.spells in
     let spells_b = spells_so device is_b.asked is_b.answer bytes is_b.asks is_b.spells in
     let answer : is_a.answer ≡ is_b.answer =
-    one_reply (setup_of device) bytes is_a.answer is_b.answer spells_a spells_b in
+    one_reply Base (setup_of device) bytes is_a.answer is_b.answer is_a.reading is_b.reading
+    spells_a spells_b in
     let some : Some a ≡ Some b = sym is_a.told ∙ ap (known_with before device) answer ∙ is_b.told in
     ap (λ o. unwrap_or o a) some
 
@@ -58,11 +60,12 @@ no_answer fault answer is = cc is
 module _ (device : Device) (bytes : List ℕ) (before : Setups) (asked : Command)
     (asks : asked ≡ setup_of device)
     (read : Result Reply MsgFault)
-    (only : (answer : Reply) → SpellsReply asked answer bytes → read ≡ Ok answer) where
+    (only : (answer : Reply) → SpellsReply asked answer bytes → IsIn Base answer
+    → read ≡ Ok answer) where
   reads : (after : Setups) (is : IsSetupOf device bytes before after) → read ≡ Ok is.answer
   reads after is =
       only is.answer (subst (λ c. SpellsReply c is.answer bytes) (sym asks)
-      (spells_so device is.asked is.answer bytes is.asks is.spells))
+      (spells_so device is.asked is.answer bytes is.asks is.spells)) is.reading
 
   adds : (reply : Reply) → read ≡ Ok reply → (after : Setups) → IsSetupOf device bytes before after
       → known_with before device reply ≡ Some after

@@ -1,24 +1,27 @@
 -- Bytes are messages, or there is a leftmost place where no message stands.
-use Rattle.std.proofs.Common.{◌≡◌, ◌≢◌, ℕ, zero, suc, ◌+◌, ◌-◌, ◌*◌, ◌/◌, ◌%◌, ◌<◌, ◌≤◌, ◌⊎◌, inl, inr, List, [], ◌∷◌, ◌++◌, length, take, drop, All, refl, sym, ap, ◌∙◌, arith, append_assoc, append-nil}
+use Rattle.std.proofs.Common.{◌≡◌, ◌≢◌, ℕ, zero, suc, ◌+◌, ◌-◌, ◌*◌, ◌/◌, ◌%◌, ◌<◌, ◌≤◌, ◌⊎◌, inl, inr, true, false, List, [], ◌∷◌, ◌++◌, length, take, drop, All, refl, sym, ap, ◌∙◌, arith, append_assoc, append-nil, subst}
 use Rattle.std.specs.List.{flat_map, AllByRecursion}
 use Rattle.std.proofs.lemmas.List.{length-take-le, length-drop, take-append-drop}
-use Rattle.std.proofs.lemmas.List.Elements.{All-drop, All-nil}
+use Rattle.std.proofs.lemmas.List.Elements.{All-drop, All-nil, All-take}
 use Rattle.mdb_msgs.specs.declared.fault.MsgFault.{MsgFault}
 use Rattle.mdb_msgs.specs.declared.fault.MsgFault.TheVariants.{Message, Profile}
 use Rattle.mdb_msgs.specs.declared.reply.bill.BillMsg.{BillMsg}
 use Rattle.mdb_msgs.specs.declared.reply.bill.BillMsg.TheVariants as bill
 use Rattle.mdb_msgs.specs.declared.reply.changer.ChangerMsg.{ChangerMsg}
 use Rattle.mdb_msgs.specs.declared.reply.changer.ChangerMsg.TheVariants as changer
+use Rattle.mdb_msgs.specs.declared.reading.Reading.{Reading}
 use Rattle.mdb_msgs.specs.declared.reply.reader.ReaderMsg.{ReaderMsg}
 use Rattle.mdb_msgs.specs.declared.reply.reader.ReaderMsg.TheVariants as reader
 use Rattle.mdb_msgs.specs.Bill.{bill_msg_bytes, IsBillMsg, NoBillMsg}
 use Rattle.mdb_msgs.specs.Changer.{changer_msg_bytes, IsChangerMsg, NoChangerMsg}
 use Rattle.mdb_msgs.specs.Commands.{IsByte}
 use Rattle.mdb_msgs.specs.Lists.{StopsAt}
-use Rattle.mdb_msgs.specs.Reader.{ReaderMessages, head_bytes, reader_list_bytes, IsReaderList, IsTextOf, NoReaderMsg, ReaderStopsAt}
+use Rattle.mdb_msgs.specs.Reader.{ReaderMessages, head_bytes, reader_list_bytes, session_bytes, AreReaderMsgs, IsLeftOut, IsReaderList, IsTextOf, NoReaderMsg, ReaderStopsAt}
+use Rattle.mdb_msgs.specs.Readings.{is_extended, is_long}
 use Rattle.mdb_msgs.specs.ReaderBytes.{no_messages}
 use Rattle.mdb_msgs.specs.inner.ReaderSteps.{with_message}
-use Rattle.mdb_msgs.specs.TwoBytes.{two_bytes}
+use Rattle.mdb_msgs.specs.TwoBytes.{two_bytes, four_bytes}
+use Rattle.mdb_msgs.proofs.Readings.{long_bytes, short_bytes}
 use Rattle.mdb_msgs.proofs.ReaderReading.{Taken, nothing_taken, takes_next, stops_next, all_read}
 
 -- which of two, by a limit
@@ -203,10 +206,11 @@ changer_reads bytes low = reads changer_msg_bytes IsChangerMsg NoChangerMsg chan
     (length bytes) bytes (omega arith) low
 
 -- the validator's messages
-bill_one : (first : ℕ) (further : List ℕ) (message : BillMsg) → All IsByte (first ∷ further)
-    → IsBillMsg message → first ∷ [] ≡ bill_msg_bytes message
-    → Front bill_msg_bytes IsBillMsg (first ∷ further)
-bill_one first further message low right is = record {
+bill_one : (r : Reading) (first : ℕ) (further : List ℕ) (message : BillMsg)
+    → All IsByte (first ∷ further)
+    → IsBillMsg r message → first ∷ [] ≡ bill_msg_bytes message
+    → Front bill_msg_bytes (IsBillMsg r) (first ∷ further)
+bill_one r first further message low right is = record {
   message = message;
   rest = further;
   right = right;
@@ -215,16 +219,40 @@ bill_one first further message low right is = record {
   low = All-drop IsByte 1 (first ∷ further) low;
 }
 
-bill_status : (first : ℕ) (further : List ℕ) → All IsByte (first ∷ further)
+bill_status : (r : Reading) (first : ℕ) (further : List ℕ) → All IsByte (first ∷ further)
     → (first < 27) ⊎ ((32 ≤ first) × (first < 64)) → (first ≡ 6) ⊎ (first ≢ 6)
-    → Front bill_msg_bytes IsBillMsg (first ∷ further)
-bill_status first further low small (inl reset) = bill_one first further bill.Reset low tt
+    → Front bill_msg_bytes (IsBillMsg r) (first ∷ further)
+bill_status r first further low small (inl reset) = bill_one r first further bill.Reset low tt
     (ap (λ b. b ∷ []) reset)
-bill_status first further low small (inr other) = bill_one first further (bill.Status first) low
+bill_status r first further low small (inr other) = bill_one r first further (bill.Status first) low
     (other, small) refl
 
-bill_step : Step bill_msg_bytes IsBillMsg NoBillMsg
-bill_step first further low = low_half (split 27 first) (split 32 first) (split 64 first)
+-- a byte of the recycler is a message, or the base profile leaves it out
+abbrev BillFound : Reading → ℕ → List ℕ → Type 0
+BillFound r first further =
+    Front bill_msg_bytes (IsBillMsg r) (first ∷ further)
+    ⊎ (NoBillMsg r (first ∷ further) Message ⊎ NoBillMsg r (first ∷ further) Profile)
+
+recycled : (r : Reading) (first : ℕ) (further : List ℕ) → All IsByte (first ∷ further)
+    → 176 ≤ first → first < 192 → BillFound r first further
+recycled r first further low least most = elim (is_extended r) as (λ b. is_extended r ≡ b
+    → BillFound r first further) [
+      | true ↦ λ e. inl (bill_one r first further (bill.Recycled (first - 176)) low
+          (omega (arith, least, most), e)
+          (let is : first ≡ 176 + (first - 176) = omega (arith, least) in ap (λ b. b ∷ []) is))
+      | false ↦ λ e. inr (inr (inr (inl (least, most), e)))
+    ] refl
+
+recycler_status : (r : Reading) (first : ℕ) (further : List ℕ) → All IsByte (first ∷ further)
+    → 208 ≤ first → BillFound r first further
+recycler_status r first further low least = elim (is_extended r) as (λ b. is_extended r ≡ b
+    → BillFound r first further) [
+      | true ↦ λ e. inl (bill_one r first further (bill.RecyclerStatus first) low (least, e) refl)
+      | false ↦ λ e. inr (inr (inr (inr least, e)))
+    ] refl
+
+bill_step : (r : Reading) → Step bill_msg_bytes (IsBillMsg r) (NoBillMsg r)
+bill_step r first further low = low_half (split 27 first) (split 32 first) (split 64 first)
     (split 96 first) (split 128 first)
   where
     front : (n : ℕ) → first ≡ n → first ∷ [] ≡ n ∷ []
@@ -232,63 +260,67 @@ bill_step first further low = low_half (split 27 first) (split 32 first) (split 
 
     high_half : 128 ≤ first → (first < 144) ⊎ (144 ≤ first) → (first < 160) ⊎ (160 ≤ first)
         → (first < 176) ⊎ (176 ≤ first) → (first < 192) ⊎ (192 ≤ first)
-        → (first < 208) ⊎ (208 ≤ first) → Front bill_msg_bytes IsBillMsg (first ∷ further)
-        ⊎ (NoBillMsg (first ∷ further) Message ⊎ NoBillMsg (first ∷ further) Profile)
+        → (first < 208) ⊎ (208 ≤ first) → Front bill_msg_bytes (IsBillMsg r) (first ∷ further)
+        ⊎ (NoBillMsg r (first ∷ further) Message ⊎ NoBillMsg r (first ∷ further) Profile)
     high_half least (inl a) b c d e =
-        inl (bill_one first further (bill.Stacked (first - 128)) low (omega (arith, a, least))
+        inl (bill_one r first further (bill.Stacked (first - 128)) low (omega (arith, a, least))
         (front (128 + (first - 128)) (omega (arith, least))))
     high_half least (inr a) (inl b) c d e =
-        inl (bill_one first further (bill.Escrow (first - 144)) low (omega (arith, a, b))
+        inl (bill_one r first further (bill.Escrow (first - 144)) low (omega (arith, a, b))
         (front (144 + (first - 144)) (omega (arith, a))))
     high_half least (inr a) (inr b) (inl c) d e =
-        inl (bill_one first further (bill.Returned (first - 160)) low (omega (arith, b, c))
+        inl (bill_one r first further (bill.Returned (first - 160)) low (omega (arith, b, c))
         (front (160 + (first - 160)) (omega (arith, b))))
-    high_half least (inr a) (inr b) (inr c) (inl d) e = inr (inr (inr (inl (c, d))))
+    high_half least (inr a) (inr b) (inr c) (inl d) e =
+        recycled r first further low c d
     high_half least (inr a) (inr b) (inr c) (inr d) (inl e) =
-        inl (bill_one first further (bill.Rejected (first - 192)) low (omega (arith, d, e))
+        inl (bill_one r first further (bill.Rejected (first - 192)) low (omega (arith, d, e))
         (front (192 + (first - 192)) (omega (arith, d))))
-    high_half least (inr a) (inr b) (inr c) (inr d) (inr e) = inr (inr (inr (inr e)))
+    high_half least (inr a) (inr b) (inr c) (inr d) (inr e) =
+        recycler_status r first further low e
 
     low_half : (first < 27) ⊎ (27 ≤ first) → (first < 32) ⊎ (32 ≤ first)
         → (first < 64) ⊎ (64 ≤ first) → (first < 96) ⊎ (96 ≤ first) → (first < 128) ⊎ (128 ≤ first)
-        → Front bill_msg_bytes IsBillMsg (first ∷ further)
-        ⊎ (NoBillMsg (first ∷ further) Message ⊎ NoBillMsg (first ∷ further) Profile)
-    low_half (inl a) b c d e = inl (bill_status first further low (inl a) (same_or_not first 6))
+        → Front bill_msg_bytes (IsBillMsg r) (first ∷ further)
+        ⊎ (NoBillMsg r (first ∷ further) Message ⊎ NoBillMsg r (first ∷ further) Profile)
+    low_half (inl a) b c d e = inl (bill_status r first further low (inl a) (same_or_not first 6))
     low_half (inr a) (inl b) c d e = inr (inr (inl (a, b)))
     low_half (inr a) (inr b) (inl c) d e =
-        inl (bill_status first further low (inr (b, c)) (same_or_not first 6))
+        inl (bill_status r first further low (inr (b, c)) (same_or_not first 6))
     low_half (inr a) (inr b) (inr c) (inl d) e =
-        inl (bill_one first further (bill.Attempts (first - 64)) low (omega (arith, c, d))
+        inl (bill_one r first further (bill.Attempts (first - 64)) low (omega (arith, c, d))
         (front (64 + (first - 64)) (omega (arith, c))))
     low_half (inr a) (inr b) (inr c) (inr d) (inl e) = inr (inl (d, e))
     low_half (inr a) (inr b) (inr c) (inr d) (inr e) =
         high_half e (split 144 first) (split 160 first) (split 176 first) (split 192 first)
         (split 208 first)
 
-pub bill_reads : (bytes : List ℕ) → All IsByte bytes → Reads bill_msg_bytes IsBillMsg bytes
-    ⊎ Stops bill_msg_bytes IsBillMsg NoBillMsg bytes
-bill_reads bytes low = reads bill_msg_bytes IsBillMsg NoBillMsg bill_step (length bytes) bytes
-    (omega arith) low
+pub bill_reads : (r : Reading) (bytes : List ℕ) → All IsByte bytes
+    → Reads bill_msg_bytes (IsBillMsg r) bytes
+    ⊎ Stops bill_msg_bytes (IsBillMsg r) (NoBillMsg r) bytes
+bill_reads r bytes low = reads bill_msg_bytes (IsBillMsg r) (NoBillMsg r) (bill_step r)
+    (length bytes) bytes (omega arith) low
 
 -- a reader's message stands at the front of bytes
-record ReaderFront (first : ℕ) (further : List ℕ) : Type 0 where
+record ReaderFront (r : Reading) (first : ℕ) (further : List ℕ) : Type 0 where
   message : ReaderMsg
   text : List ℕ
   rest : List ℕ
-  is_text : IsTextOf message text rest
+  is_text : IsTextOf r message text rest
   spelled : first ∷ further ≡ head_bytes message ++ text ++ rest
   shorter : length rest ≤ length further
   low : All IsByte rest
 
-abbrev NoFront : ℕ → List ℕ → Type 0
-NoFront first further = NoReaderMsg (first ∷ further) Message ⊎ NoReaderMsg (first ∷ further)
-    Profile
+abbrev NoFront : Reading → ℕ → List ℕ → Type 0
+NoFront r first further = NoReaderMsg r (first ∷ further) Message
+    ⊎ NoReaderMsg r (first ∷ further) Profile
 
 -- a message of one byte
-short_message : (first : ℕ) (further : List ℕ) (message : ReaderMsg) → All IsByte (first ∷ further)
-    → IsTextOf message [] further → first ∷ [] ≡ head_bytes message → ReaderFront first further
-    ⊎ NoFront first further
-short_message first further message low none is =
+short_message : (r : Reading) (first : ℕ) (further : List ℕ) (message : ReaderMsg)
+    → All IsByte (first ∷ further) → IsTextOf r message [] further
+    → first ∷ [] ≡ head_bytes message → ReaderFront r first further
+    ⊎ NoFront r first further
+short_message r first further message low none is =
     inl (record {
       message = message;
       text = [];
@@ -300,8 +332,9 @@ short_message first further message low none is =
       low = All-drop IsByte 1 (first ∷ further) low;
     })
 
-config : (further : List ℕ) → All IsByte (1 ∷ further) → ReaderFront 1 further ⊎ NoFront 1 further
-config (a ∷ b ∷ c ∷ d ∷ e ∷ f ∷ g ∷ rest) low =
+config : (r : Reading) (further : List ℕ) → All IsByte (1 ∷ further)
+    → ReaderFront r 1 further ⊎ NoFront r 1 further
+config r (a ∷ b ∷ c ∷ d ∷ e ∷ f ∷ g ∷ rest) low =
     let small : c < 256 = low 3 0 (omega arith) in
     inl (record {
       message = reader.Config a (256 * b + c) d e f g;
@@ -312,14 +345,15 @@ config (a ∷ b ∷ c ∷ d ∷ e ∷ f ∷ g ∷ rest) low =
       shorter = omega arith;
       low = All-drop IsByte 8 (1 ∷ a ∷ b ∷ c ∷ d ∷ e ∷ f ∷ g ∷ rest) low;
     })
-config further low = inr (inl (inl (refl, omega arith)))
+config r further low = inr (inl (inl (refl, omega arith)))
 
-display : (further : List ℕ) → All IsByte (2 ∷ further) → ReaderFront 2 further ⊎ NoFront 2 further
-display [] low = inr (inl (inr (inl (refl, inl refl))))
-display (time ∷ text) low = by (split 33 (length text))
+display : (r : Reading) (further : List ℕ) → All IsByte (2 ∷ further)
+    → ReaderFront r 2 further ⊎ NoFront r 2 further
+display r [] low = inr (inl (inr (inl (refl, inl refl))))
+display r (time ∷ text) low = by (split 33 (length text))
   where
-    by : (length text < 33) ⊎ (33 ≤ length text) → ReaderFront 2 (time ∷ text)
-        ⊎ NoFront 2 (time ∷ text)
+    by : (length text < 33) ⊎ (33 ≤ length text) → ReaderFront r 2 (time ∷ text)
+        ⊎ NoFront r 2 (time ∷ text)
     by (inl short) = inl (record {
       message = reader.Display time;
       text = text;
@@ -331,22 +365,67 @@ display (time ∷ text) low = by (split 33 (length text))
     })
     by (inr long) = inr (inl (inr (inl (refl, inr (omega (arith, long))))))
 
-session : (further : List ℕ) → All IsByte (3 ∷ further) → ReaderFront 3 further ⊎ NoFront 3 further
-session (a ∷ b ∷ rest) low =
+no_session : (r : Reading) (further : List ℕ) → length further < session_bytes r
+    → ReaderFront r 3 further ⊎ NoFront r 3 further
+no_session r further few = inr (inl (inr (inr (inl (refl, few)))))
+
+session : (r : Reading) (further : List ℕ) → is_long r ≡ false → All IsByte (3 ∷ further)
+    → ReaderFront r 3 further ⊎ NoFront r 3 further
+session r (a ∷ b ∷ rest) short low =
     let small : b < 256 = low 2 0 (omega arith) in
     inl (record {
       message = reader.BeginSession (256 * a + b);
       text = [];
       rest = rest;
-      is_text = refl;
+      is_text = (refl, short);
       spelled = ap (λ l. 3 ∷ (l ++ rest)) (pair_bytes a b small);
       shorter = omega arith;
       low = All-drop IsByte 3 (3 ∷ a ∷ b ∷ rest) low;
     })
-session further low = inr (inl (inr (inr (inl (inl refl, omega arith)))))
+session r further short low = no_session r further (omega (arith, short_bytes r short))
 
-approved : (further : List ℕ) → All IsByte (5 ∷ further) → ReaderFront 5 further ⊎ NoFront 5 further
-approved (a ∷ b ∷ rest) low =
+four : (a b c d : ℕ) → b < 256 → c < 256 → d < 256
+    → a ∷ b ∷ c ∷ d ∷ [] ≡ four_bytes (65536 * (256 * a + b) + (256 * c + d))
+four a b c d b_small c_small d_small =
+    let first : a ≡ (65536 * (256 * a + b) + (256 * c + d)) / 65536 / 256 = omega arith in
+    let second : b ≡ ((65536 * (256 * a + b) + (256 * c + d)) / 65536) % 256 = omega arith in
+    let third : c ≡ (65536 * (256 * a + b) + (256 * c + d)) % 65536 / 256 = omega arith in
+    let fourth : d ≡ ((65536 * (256 * a + b) + (256 * c + d)) % 65536) % 256 = omega arith in
+    cc
+
+long_session : (r : Reading) (further : List ℕ) → is_long r ≡ true → All IsByte (3 ∷ further)
+    → ReaderFront r 3 further ⊎ NoFront r 3 further
+long_session r (a ∷ b ∷ c ∷ d ∷ e ∷ f ∷ kind ∷ g ∷ h ∷ rest) long low =
+    let funds : a ∷ b ∷ [] ≡ two_bytes (256 * a + b) = pair_bytes a b (low 2 0 (omega arith)) in
+    let media = four c d e f (low 4 0 (omega arith)) (low 5 0 (omega arith))
+    (low 6 0 (omega arith)) in
+    let details : g ∷ h ∷ [] ≡ two_bytes (256 * g + h) = pair_bytes g h (low 9 0 (omega arith)) in
+    inl (record {
+      message = reader.BeginSessionLong (256 * a + b) (65536 * (256 * c + d) + (256 * e + f)) kind
+          (256 * g + h);
+      text = [];
+      rest = rest;
+      is_text = (refl, long);
+      spelled = ap (λ l. 3 ∷ (l ++ (c ∷ d ∷ e ∷ f ∷ kind ∷ g ∷ h ∷ rest))) funds
+          ∙ ap (λ l. 3 ∷ (two_bytes (256 * a + b) ++ (l ++ (kind ∷ g ∷ h ∷ rest)))) media
+          ∙ ap (λ l. 3 ∷ (two_bytes (256 * a + b)
+          ++ (four_bytes (65536 * (256 * c + d) + (256 * e + f)) ++ (kind ∷ (l ++ rest))))) details;
+      shorter = omega arith;
+      low = All-drop IsByte 10 (3 ∷ a ∷ b ∷ c ∷ d ∷ e ∷ f ∷ kind ∷ g ∷ h ∷ rest) low;
+    })
+long_session r further long low = no_session r further (omega (arith, long_bytes r long))
+
+any_session : (r : Reading) (further : List ℕ) → All IsByte (3 ∷ further)
+    → ReaderFront r 3 further ⊎ NoFront r 3 further
+any_session r further low = elim (is_long r) as (λ b. is_long r ≡ b
+    → ReaderFront r 3 further ⊎ NoFront r 3 further) [
+      | true ↦ λ e. long_session r further e low
+      | false ↦ λ e. session r further e low
+    ] refl
+
+approved : (r : Reading) (further : List ℕ) → All IsByte (5 ∷ further)
+    → ReaderFront r 5 further ⊎ NoFront r 5 further
+approved r (a ∷ b ∷ rest) low =
     let small : b < 256 = low 2 0 (omega arith) in
     inl (record {
       message = reader.VendApproved (256 * a + b);
@@ -357,26 +436,75 @@ approved (a ∷ b ∷ rest) low =
       shorter = omega arith;
       low = All-drop IsByte 3 (5 ∷ a ∷ b ∷ rest) low;
     })
-approved further low = inr (inl (inr (inr (inl (inr refl, omega arith)))))
+approved r further low = inr (inl (inr (inr (inr (inl (refl, omega arith))))))
 
-identification : (further : List ℕ) → All IsByte (9 ∷ further) → (length further < 29)
-    ⊎ (29 ≤ length further) → ReaderFront 9 further ⊎ NoFront 9 further
-identification further low (inl short) = inr (inl (inr (inr (inr (inl (refl, short))))))
-identification further low (inr long) =
+bare_id : (r : Reading) (further : List ℕ) → All IsByte (9 ∷ further) → 29 ≤ length further
+    → (is_extended r ≡ false) ⊎ (length (drop 29 further) < 4)
+    → ReaderFront r 9 further ⊎ NoFront r 9 further
+bare_id r further low long bare =
     inl (record {
       message = reader.PeripheralId;
       text = take 29 further;
       rest = drop 29 further;
-      is_text = length-take-le 29 further long;
+      is_text = (length-take-le 29 further long, bare);
       spelled = ap (λ l. 9 ∷ l) (sym (take-append-drop 29 further));
       shorter = omega (arith, length-drop 29 further);
       low = All-drop IsByte 30 (9 ∷ further) low;
     })
 
-malfunction : (further : List ℕ) → All IsByte (10 ∷ further) → ReaderFront 10 further
-    ⊎ NoFront 10 further
-malfunction [] low = inr (inl (inr (inr (inr (inr (refl, refl))))))
-malfunction (code ∷ rest) low =
+four_of : (l : List ℕ) → All IsByte l → length l ≡ 4 → (n : ℕ) × (l ≡ four_bytes n)
+four_of (a ∷ b ∷ c ∷ d ∷ []) low four_long = (
+  65536 * (256 * a + b) + (256 * c + d),
+  four a b c d (low 1 0 (omega arith)) (low 2 0 (omega arith)) (low 3 0 (omega arith)),
+)
+four_of (a ∷ b ∷ c ∷ d ∷ e ∷ l) low four_long = absurd (omega arith)
+four_of l low four_long = absurd (omega arith)
+
+full_id : (r : Reading) (further : List ℕ) → All IsByte (9 ∷ further) → 33 ≤ length further
+    → is_extended r ≡ true → ReaderFront r 9 further ⊎ NoFront r 9 further
+full_id r further low long extended =
+    let text = take 33 further in
+    let count : length text ≡ 33 = length-take-le 33 further long in
+    let low_text : All IsByte text = All-take IsByte 33 further (All-drop IsByte 1 (9 ∷ further)
+    low) in
+    let options = four_of (drop 29 text) (All-drop IsByte 29 text low_text)
+    (omega (arith, count, length-drop 29 text)) in
+    inl (record {
+      message = reader.PeripheralIdWithOptions options.0;
+      text = text;
+      rest = drop 33 further;
+      is_text = (count, options.1, extended);
+      spelled = ap (λ l. 9 ∷ l) (sym (take-append-drop 33 further));
+      shorter = omega (arith, length-drop 33 further);
+      low = All-drop IsByte 34 (9 ∷ further) low;
+    })
+
+identification : (r : Reading) (further : List ℕ) → All IsByte (9 ∷ further)
+    → (length further < 29) ⊎ (29 ≤ length further) → ReaderFront r 9 further ⊎ NoFront r 9 further
+identification r further low (inl short) =
+    inr (inl (inr (inr (inr (inr (inl (refl, short)))))))
+identification r further low (inr long) = by (split 33 (length further))
+  where
+    by : (length further < 33) ⊎ (33 ≤ length further) → ReaderFront r 9 further
+        ⊎ NoFront r 9 further
+    by (inl few) = bare_id r further low long (inr (omega (
+      arith,
+      few,
+      long,
+      length-drop 29
+          further,
+    )))
+    by (inr all) = elim (is_extended r) as (λ b. is_extended r ≡ b
+        → ReaderFront r 9 further ⊎ NoFront r 9 further) [
+          | true ↦ λ e. full_id r further low all e
+          | false ↦ λ e. bare_id r further low long (inl e)
+        ] refl
+
+malfunction : (r : Reading) (further : List ℕ) → All IsByte (10 ∷ further)
+    → ReaderFront r 10 further
+    ⊎ NoFront r 10 further
+malfunction r [] low = inr (inl (inr (inr (inr (inr (inr (inl (refl, refl))))))))
+malfunction r (code ∷ rest) low =
     inl (record {
       message = reader.Malfunction code;
       text = [];
@@ -387,66 +515,150 @@ malfunction (code ∷ rest) low =
       low = All-drop IsByte 2 (10 ∷ code ∷ rest) low;
     })
 
-reader_step : (first : ℕ) (further : List ℕ) → All IsByte (first ∷ further)
-    → ReaderFront first further ⊎ NoFront first further
-reader_step zero further low = short_message 0 further reader.JustReset low refl refl
-reader_step (suc zero) further low = config further low
-reader_step (suc (suc zero)) further low = display further low
-reader_step (suc (suc (suc zero))) further low = session further low
-reader_step (suc (suc (suc (suc zero)))) further low = short_message 4 further reader.CancelRequest
+bare_out_of : (r : Reading) (further : List ℕ) → (is_long r ≡ false) ⊎ (further ≡ [])
+    → All IsByte (11 ∷ further) → ReaderFront r 11 further ⊎ NoFront r 11 further
+bare_out_of r further bare low = short_message r 11 further reader.OutOfSequence low (refl, bare)
+    refl
+
+long_out_of : (r : Reading) (further : List ℕ) → is_long r ≡ true → All IsByte (11 ∷ further)
+    → ReaderFront r 11 further ⊎ NoFront r 11 further
+long_out_of r [] long low = bare_out_of r [] (inr refl) low
+long_out_of r (status ∷ rest) long low =
+    inl (record {
+      message = reader.OutOfSequenceIn status;
+      text = [];
+      rest = rest;
+      is_text = (refl, long);
+      spelled = refl;
+      shorter = omega arith;
+      low = All-drop IsByte 2 (11 ∷ status ∷ rest) low;
+    })
+
+out_of_sequence : (r : Reading) (further : List ℕ) → All IsByte (11 ∷ further)
+    → ReaderFront r 11 further ⊎ NoFront r 11 further
+out_of_sequence r further low = elim (is_long r) as (λ b. is_long r ≡ b
+    → ReaderFront r 11 further ⊎ NoFront r 11 further) [
+      | true ↦ λ e. long_out_of r further e low
+      | false ↦ λ e. bare_out_of r further (inl e) low
+    ] refl
+
+left_out : (r : Reading) (first : ℕ) (further : List ℕ) → 12 ≤ first
+    → (is_long r ≡ false) ⊎ IsLeftOut first → ReaderFront r first further ⊎ NoFront r first further
+left_out r first further high out = inr (inr (high, out))
+
+revalue_limit : (r : Reading) (further : List ℕ) → is_long r ≡ true → All IsByte (15 ∷ further)
+    → ReaderFront r 15 further ⊎ NoFront r 15 further
+revalue_limit r (a ∷ b ∷ rest) long low =
+    let small : b < 256 = low 2 0 (omega arith) in
+    inl (record {
+      message = reader.RevalueLimit (256 * a + b);
+      text = [];
+      rest = rest;
+      is_text = (refl, long);
+      spelled = ap (λ l. 15 ∷ (l ++ rest)) (pair_bytes a b small);
+      shorter = omega arith;
+      low = All-drop IsByte 3 (15 ∷ a ∷ b ∷ rest) low;
+    })
+revalue_limit r further long low =
+    inr (inl (inr (inr (inr (inr (inr (inr (refl, long, omega arith))))))))
+
+-- a first byte of 0C or above, by how much it is above
+long_above : (r : Reading) (more : ℕ) (further : List ℕ) → is_long r ≡ true
+    → All IsByte ((12 + more) ∷ further) → ReaderFront r (12 + more) further
+    ⊎ NoFront r (12 + more) further
+long_above r zero further long low =
+    left_out r 12 further (omega arith) (inr (omega arith, omega arith, omega arith, omega arith))
+long_above r (suc zero) further long low =
+    short_message r 13 further reader.RevalueApproved low (refl, long) refl
+long_above r (suc (suc zero)) further long low =
+    short_message r 14 further reader.RevalueDenied low (refl, long) refl
+long_above r (suc (suc (suc zero))) further long low = revalue_limit r further long low
+long_above r (suc (suc (suc (suc zero)))) further long low =
+    left_out r 16 further (omega arith) (inr (omega arith, omega arith, omega arith, omega arith))
+long_above r (suc (suc (suc (suc (suc zero))))) further long low =
+    short_message r 17 further reader.TimeAsked low (refl, long) refl
+long_above r (suc (suc (suc (suc (suc (suc more)))))) further long low =
+    left_out r (12 + suc (suc (suc (suc (suc (suc more)))))) further (omega arith)
+    (inr (omega arith, omega arith, omega arith, omega arith))
+
+above : (r : Reading) (more : ℕ) (further : List ℕ) → All IsByte ((12 + more) ∷ further)
+    → ReaderFront r (12 + more) further ⊎ NoFront r (12 + more) further
+above r more further low = elim (is_long r) as (λ b. is_long r ≡ b
+    → ReaderFront r (12 + more) further ⊎ NoFront r (12 + more) further) [
+      | true ↦ λ e. long_above r more further e low
+      | false ↦ λ e. left_out r (12 + more) further (omega arith) (inl e)
+    ] refl
+
+reader_step : (r : Reading) (first : ℕ) (further : List ℕ) → All IsByte (first ∷ further)
+    → ReaderFront r first further ⊎ NoFront r first further
+reader_step r zero further low = short_message r 0 further reader.JustReset low refl refl
+reader_step r (suc zero) further low = config r further low
+reader_step r (suc (suc zero)) further low = display r further low
+reader_step r (suc (suc (suc zero))) further low = any_session r further low
+reader_step r (suc (suc (suc (suc zero)))) further low = short_message r 4 further
+    reader.CancelRequest
     low refl refl
-reader_step (suc (suc (suc (suc (suc zero))))) further low = approved further low
-reader_step (suc (suc (suc (suc (suc (suc zero)))))) further low =
-    short_message 6 further reader.VendDenied low refl refl
-reader_step (suc (suc (suc (suc (suc (suc (suc zero))))))) further low =
-    short_message 7 further reader.EndSession low refl refl
-reader_step (suc (suc (suc (suc (suc (suc (suc (suc zero)))))))) further low =
-    short_message 8 further reader.Cancelled low refl refl
-reader_step (suc (suc (suc (suc (suc (suc (suc (suc (suc zero))))))))) further low =
-    identification further low (split 29 (length further))
-reader_step (suc (suc (suc (suc (suc (suc (suc (suc (suc (suc zero)))))))))) further low =
-    malfunction further low
-reader_step (suc (suc (suc (suc (suc (suc (suc (suc (suc (suc (suc zero))))))))))) further low =
-    short_message 11 further reader.OutOfSequence low refl refl
-reader_step (suc (suc (suc (suc (suc (suc (suc (suc (suc (suc (suc (suc first)))))))))))) further
-    low = inr (inr (omega arith))
+reader_step r (suc (suc (suc (suc (suc zero))))) further low = approved r further low
+reader_step r (suc (suc (suc (suc (suc (suc zero)))))) further low =
+    short_message r 6 further reader.VendDenied low refl refl
+reader_step r (suc (suc (suc (suc (suc (suc (suc zero))))))) further low =
+    short_message r 7 further reader.EndSession low refl refl
+reader_step r (suc (suc (suc (suc (suc (suc (suc (suc zero)))))))) further low =
+    short_message r 8 further reader.Cancelled low refl refl
+reader_step r (suc (suc (suc (suc (suc (suc (suc (suc (suc zero))))))))) further low =
+    identification r further low (split 29 (length further))
+reader_step r (suc (suc (suc (suc (suc (suc (suc (suc (suc (suc zero)))))))))) further low =
+    malfunction r further low
+reader_step r (suc (suc (suc (suc (suc (suc (suc (suc (suc (suc (suc zero))))))))))) further low =
+    out_of_sequence r further low
+reader_step r (suc (suc (suc (suc (suc (suc (suc (suc (suc (suc (suc (suc first)))))))))))) further
+    low =
+    let same : 12 + first ≡ suc (suc (suc (suc (suc (suc (suc (suc (suc (suc (suc (suc
+    (first)))))))))))) =
+    omega arith in
+    subst (λ n. All IsByte (n ∷ further) → ReaderFront r n further ⊎ NoFront r n further) same
+    (above r first further) low
 
 -- bytes are a reader's list
-pub record ReadsList (bytes : List ℕ) : Type 0 where
+pub record ReadsList (r : Reading) (bytes : List ℕ) : Type 0 where
   pub list : ReaderMessages
   pub is_list : IsReaderList list
+  pub is_in : AreReaderMsgs r list []
   pub spelled : bytes ≡ reader_list_bytes list
 
-abbrev pub ReaderStops : List ℕ → Type 0
-ReaderStops bytes = ReaderStopsAt bytes Message ⊎ ReaderStopsAt bytes Profile
+abbrev pub ReaderStops : Reading → List ℕ → Type 0
+ReaderStops r bytes = ReaderStopsAt r bytes Message ⊎ ReaderStopsAt r bytes Profile
 
-reader_goes_on : (whole : List ℕ) → length whole ≤ 35
+reader_goes_on : (r : Reading) (whole : List ℕ) → length whole ≤ 35
     → (fuel : ℕ) (list : ReaderMessages) (rest : List ℕ) → length rest ≤ fuel → All IsByte rest
-    → Taken whole list rest → ReadsList whole ⊎ ReaderStops whole
-reader_goes_on whole few fuel list [] short low taken =
+    → Taken r whole list rest → ReadsList r whole ⊎ ReaderStops r whole
+reader_goes_on r whole few fuel list [] short low taken =
     inl (record {
       list = list;
-      is_list = (all_read whole list [] taken refl).1;
-      spelled = (all_read whole list [] taken refl).0;
+      is_list = (all_read r whole list [] taken refl).1;
+      is_in = taken.stand;
+      spelled = (all_read r whole list [] taken refl).0;
     })
-reader_goes_on whole few zero list (first ∷ further) short low taken = absurd (omega arith)
-reader_goes_on whole few (suc fuel) list (first ∷ further) short low taken =
-    by (reader_goes_on whole few fuel) (reader_step first further low)
+reader_goes_on r whole few zero list (first ∷ further) short low taken = absurd (omega arith)
+reader_goes_on r whole few (suc fuel) list (first ∷ further) short low taken =
+    by (reader_goes_on r whole few fuel) (reader_step r first further low)
   where
     by : ((list : ReaderMessages) (rest : List ℕ) → length rest ≤ fuel → All IsByte rest
-        → Taken whole list rest → ReadsList whole ⊎ ReaderStops whole) → ReaderFront first further
-        ⊎ NoFront first further → ReadsList whole ⊎ ReaderStops whole
+        → Taken r whole list rest → ReadsList r whole ⊎ ReaderStops r whole)
+        → ReaderFront r first further
+        ⊎ NoFront r first further → ReadsList r whole ⊎ ReaderStops r whole
     by more (inl front) =
         more (with_message list front.message front.text) front.rest (let shorter = front.shorter in
         omega arith) front.low
-        (takes_next whole list (first ∷ further) first further front.message front.text front.rest
+        (takes_next r whole list (first ∷ further) first further front.message front.text front.rest
         few taken refl front.spelled front.is_text)
     by more (inr (inl none)) =
-        inr (inl (stops_next whole list (first ∷ further) first further Message taken refl none))
+        inr (inl (stops_next r whole list (first ∷ further) first further Message taken refl none))
     by more (inr (inr none)) =
-        inr (inr (stops_next whole list (first ∷ further) first further Profile taken refl none))
+        inr (inr (stops_next r whole list (first ∷ further) first further Profile taken refl none))
 
-pub reader_reads : (bytes : List ℕ) → length bytes ≤ 35 → All IsByte bytes
-    → ReadsList bytes ⊎ ReaderStops bytes
-reader_reads bytes few low = reader_goes_on bytes few (length bytes) no_messages bytes (omega arith)
-    low (nothing_taken bytes)
+pub reader_reads : (r : Reading) (bytes : List ℕ) → length bytes ≤ 35 → All IsByte bytes
+    → ReadsList r bytes ⊎ ReaderStops r bytes
+reader_reads r bytes few low = reader_goes_on r bytes few (length bytes) no_messages bytes (omega
+    arith)
+    low (nothing_taken r bytes)

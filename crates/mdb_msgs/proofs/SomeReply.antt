@@ -6,6 +6,7 @@ use Rattle.mdb_msgs.specs.declared.answer.DataForm.TheVariants as form
 use Rattle.mdb_msgs.specs.declared.command.Command.{Command}
 use Rattle.mdb_msgs.specs.declared.fault.MsgFault.{MsgFault}
 use Rattle.mdb_msgs.specs.declared.fault.MsgFault.TheVariants.{Length, Message, Profile, Answer}
+use Rattle.mdb_msgs.specs.declared.reading.Reading.{Reading}
 use Rattle.mdb_msgs.specs.declared.reply.Reply.{Reply}
 use Rattle.mdb_msgs.specs.declared.reply.Reply.TheVariants as reply
 use Rattle.mdb_msgs.specs.declared.reply.setup.BillSetup.{BillSetup}
@@ -16,20 +17,22 @@ use Rattle.mdb_msgs.specs.Answers.{form_of, lengths_of, may_tell_of_sales, IsDat
 use Rattle.mdb_msgs.specs.Bill.{bill_msg_bytes, IsBillMsg, NoBillMsg}
 use Rattle.mdb_msgs.specs.Changer.{changer_msg_bytes, IsChangerMsg, NoChangerMsg}
 use Rattle.mdb_msgs.specs.Commands.{IsByte}
-use Rattle.mdb_msgs.specs.Replies.{form_of_reply, reply_bytes, tells_of_sales, HasFields, IsAnswerTo, IsReplyTo, IsReadFault, NoReply}
+use Rattle.mdb_msgs.specs.Replies.{form_of_reply, reply_bytes, tells_of_sales, HasFields, IsIn, IsAnswerTo, IsReplyTo, IsReadFault, NoReply}
 use Rattle.mdb_msgs.specs.Setup.{changer_setup_bytes, tube_status_bytes, bill_setup_bytes, stacker_bytes, IsStacker}
 use Rattle.mdb_msgs.specs.TwoBytes.{two_bytes}
+use Rattle.mdb_msgs.proofs.Recycler.{all_extended}
 use Rattle.mdb_msgs.proofs.SomeReading.{split, same_or_not, pair_bytes, Reads, ReadsList, Stops, ReaderStops, changer_reads, bill_reads, reader_reads}
 
 -- bytes are a reply of a form
-record ReadsForm (f : DataForm) (bytes : List ℕ) : Type 0 where
+record ReadsForm (r : Reading) (f : DataForm) (bytes : List ℕ) : Type 0 where
   reply : Reply
   form : form_of_reply reply ≡ f
   fields : HasFields reply
+  is_in : IsIn r reply
   spelled : bytes ≡ reply_bytes reply
 
-abbrev NoReading : DataForm → List ℕ → Type 0
-NoReading f bytes = NoReply f bytes Message ⊎ NoReply f bytes Profile
+abbrev NoReading : Reading → DataForm → List ℕ → Type 0
+NoReading r f bytes = NoReply r f bytes Message ⊎ NoReply r f bytes Profile
 
 setup_of_changer : (bytes : List ℕ) → All IsByte bytes → 7 ≤ length bytes → (setup : ChangerSetup)
     × (bytes ≡ changer_setup_bytes setup)
@@ -156,84 +159,111 @@ stacker_of (a ∷ b ∷ []) low two = by (split 128 a)
     )
 stacker_of bytes low two = absurd (omega arith)
 
-reads_form : (f : DataForm) (bytes : List ℕ) → All IsByte bytes → IsDataLength f (length bytes)
-    → ReadsForm f bytes ⊎ NoReading f bytes
-reads_form form.ChangerSetup bytes low count =
+reads_form : (r : Reading) (f : DataForm) (bytes : List ℕ) → All IsByte bytes
+    → IsDataLength f (length bytes)
+    → ReadsForm r f bytes ⊎ NoReading r f bytes
+reads_form r form.ChangerSetup bytes low count =
     let found = setup_of_changer bytes low count.0 in
-    inl (record { reply = reply.ChangerSetup found.0; form = refl; fields = tt; spelled = found.1 })
-reads_form form.TubeStatus bytes low count =
+    inl (record {
+      reply = reply.ChangerSetup found.0;
+      form = refl;
+      fields = tt;
+      is_in = tt;
+      spelled = found.1;
+    })
+reads_form r form.TubeStatus bytes low count =
     let found = tubes_of bytes low count.0 in
-    inl (record { reply = reply.TubeStatus found.0; form = refl; fields = tt; spelled = found.1 })
-reads_form form.ChangerPoll bytes low count = by (changer_reads bytes low)
+    inl (record {
+      reply = reply.TubeStatus found.0;
+      form = refl;
+      fields = tt;
+      is_in = tt;
+      spelled = found.1;
+    })
+reads_form r form.ChangerPoll bytes low count = by (changer_reads bytes low)
   where
     by : Reads changer_msg_bytes IsChangerMsg bytes ⊎ Stops changer_msg_bytes IsChangerMsg
-        NoChangerMsg bytes → ReadsForm form.ChangerPoll bytes ⊎ NoReading form.ChangerPoll bytes
+        NoChangerMsg bytes → ReadsForm r form.ChangerPoll bytes ⊎ NoReading r form.ChangerPoll bytes
     by (inl read) =
         inl (record {
           reply = reply.ChangerPoll (record { items = read.list });
           form = refl;
           fields = read.messages;
+          is_in = tt;
           spelled = read.spelled;
         })
     by (inr stops) = inr stops
-reads_form form.ChangerIdentification bytes low count =
+reads_form r form.ChangerIdentification bytes low count =
     inl (record {
       reply = reply.ChangerIdentification bytes;
       form = refl;
       fields = tt;
+      is_in = tt;
       spelled = refl;
     })
-reads_form form.BillSetup bytes low count = by (setup_of_bill bytes low count.0)
+reads_form r form.BillSetup bytes low count = by (setup_of_bill bytes low count.0)
   where
     by : ((setup : BillSetup) × (bytes ≡ bill_setup_bytes setup))
         ⊎ ((slice_index bytes 10 ≢ 0) × (slice_index bytes 10 ≢ 255))
-        → ReadsForm form.BillSetup bytes ⊎ NoReading form.BillSetup bytes
+        → ReadsForm r form.BillSetup bytes ⊎ NoReading r form.BillSetup bytes
     by (inl found) =
         inl (record {
           reply = reply.BillSetup found.0;
           form = refl;
           fields = tt;
+          is_in = tt;
           spelled = found.1;
         })
     by (inr none) = inr (inl (refl, none.0, none.1))
-reads_form form.BillPoll bytes low count = by (bill_reads bytes low)
+reads_form r form.BillPoll bytes low count = by (bill_reads r bytes low)
   where
-    by : Reads bill_msg_bytes IsBillMsg bytes ⊎ Stops bill_msg_bytes IsBillMsg NoBillMsg bytes
-        → ReadsForm form.BillPoll bytes ⊎ NoReading form.BillPoll bytes
+    by : Reads bill_msg_bytes (IsBillMsg r) bytes ⊎ Stops bill_msg_bytes (IsBillMsg r) (NoBillMsg
+        r) bytes
+        → ReadsForm r form.BillPoll bytes ⊎ NoReading r form.BillPoll bytes
     by (inl read) =
         inl (record {
           reply = reply.BillPoll (record { items = read.list });
           form = refl;
-          fields = read.messages;
+          fields = all_extended r read.list read.messages;
+          is_in = read.messages;
           spelled = read.spelled;
         })
     by (inr stops) = inr stops
-reads_form form.Stacker bytes low count =
+reads_form r form.Stacker bytes low count =
     let found = stacker_of bytes low (omega (arith, count.0, count.1)) in
-    inl (record { reply = reply.Stacker found.0; form = refl; fields = found.1; spelled = found.2 })
-reads_form form.BillIdentification bytes low count =
+    inl (record {
+      reply = reply.Stacker found.0;
+      form = refl;
+      fields = found.1;
+      is_in = tt;
+      spelled = found.2;
+    })
+reads_form r form.BillIdentification bytes low count =
     inl (record {
       reply = reply.BillIdentification bytes;
       form = refl;
       fields = tt;
+      is_in = tt;
       spelled = refl;
     })
-reads_form form.BillIdentificationWithOptions bytes low count =
+reads_form r form.BillIdentificationWithOptions bytes low count =
     inl (record {
       reply = reply.BillIdentificationWithOptions bytes;
       form = refl;
       fields = tt;
+      is_in = tt;
       spelled = refl;
     })
-reads_form form.Reader bytes low count = by (reader_reads bytes count.1 low)
+reads_form r form.Reader bytes low count = by (reader_reads r bytes count.1 low)
   where
-    by : ReadsList bytes ⊎ ReaderStops bytes → ReadsForm form.Reader bytes
-        ⊎ NoReading form.Reader bytes
+    by : ReadsList r bytes ⊎ ReaderStops r bytes → ReadsForm r form.Reader bytes
+        ⊎ NoReading r form.Reader bytes
     by (inl read) =
         inl (record {
           reply = reply.Reader read.list;
           form = refl;
           fields = read.is_list;
+          is_in = read.is_in;
           spelled = read.spelled;
         })
     by (inr stops) = inr stops
@@ -253,22 +283,26 @@ kept_or_not true true = inr (λ h. h)
 kept_or_not true false = inl (refl, refl)
 kept_or_not false may = inr (λ h. refl)
 
-abbrev Decided : Command → List ℕ → Type 0
-Decided command bytes = ((reply : Reply) × IsReplyTo command reply × (bytes ≡ reply_bytes reply))
-    ⊎ ((fault : MsgFault) × IsReadFault command bytes fault)
+abbrev Decided : Reading → Command → List ℕ → Type 0
+Decided r command bytes = ((reply : Reply) × IsReplyTo command reply × IsIn r reply × (bytes ≡
+    reply_bytes reply))
+    ⊎ ((fault : MsgFault) × IsReadFault r command bytes fault)
 
-by_keeping : (command : Command) (bytes : List ℕ) (found : Reply) → IsAnswerTo command found
-    → bytes ≡ reply_bytes found
+by_keeping : (r : Reading) (command : Command) (bytes : List ℕ) (found : Reply)
+    → IsAnswerTo command found
+    → IsIn r found → bytes ≡ reply_bytes found
     → ((tells_of_sales found ≡ true) × (may_tell_of_sales command ≡ false))
-    ⊎ (may_tell_of_sales command ≡ false → tells_of_sales found ≡ false) → Decided command bytes
-by_keeping command bytes found answer spelled (inl kept) =
-    inr (Answer, inr (found, answer, spelled, kept.0, kept.1))
-by_keeping command bytes found answer spelled (inr free) =
-    inl (found, record { answer = answer; kept = free }, spelled)
+    ⊎ (may_tell_of_sales command ≡ false → tells_of_sales found ≡ false) → Decided r command bytes
+by_keeping r command bytes found answer is_in spelled (inl kept) =
+    inr (Answer, inr (found, answer, is_in, spelled, kept.0, kept.1))
+by_keeping r command bytes found answer is_in spelled (inr free) =
+    inl (found, record { answer = answer; kept = free }, is_in, spelled)
 
-by_reading : (command : Command) (bytes : List ℕ) (f : DataForm) → form_of command ≡ Some f
-    → IsDataLength f (length bytes) → ReadsForm f bytes ⊎ NoReading f bytes → Decided command bytes
-by_reading command bytes f e count (inl read) =
+by_reading : (r : Reading) (command : Command) (bytes : List ℕ) (f : DataForm)
+    → form_of command ≡ Some f
+    → IsDataLength f (length bytes) → ReadsForm r f bytes ⊎ NoReading r f bytes
+    → Decided r command bytes
+by_reading r command bytes f e count (inl read) =
     let P : DataForm → Type 0 = λ g. IsDataLength g (length bytes) in
     let Q : List ℕ → Type 0 = λ x. IsDataLength (form_of_reply read.reply) (length x) in
     let answer : IsAnswerTo command read.reply = record {
@@ -276,26 +310,28 @@ by_reading command bytes f e count (inl read) =
       count = subst Q read.spelled (subst P (sym read.form) count);
       fields = read.fields;
     } in
-    by_keeping command bytes read.reply answer read.spelled
+    by_keeping r command bytes read.reply answer read.is_in read.spelled
     (kept_or_not (tells_of_sales read.reply) (may_tell_of_sales command))
-by_reading command bytes f e count (inr (inl none)) = inr (Message, (f, e, count, none))
-by_reading command bytes f e count (inr (inr none)) = inr (Profile, (f, e, count, none))
+by_reading r command bytes f e count (inr (inl none)) = inr (Message, (f, e, count, none))
+by_reading r command bytes f e count (inr (inr none)) = inr (Profile, (f, e, count, none))
 
-by_length : (command : Command) (bytes : List ℕ) → All IsByte bytes → (f : DataForm)
+by_length : (r : Reading) (command : Command) (bytes : List ℕ) → All IsByte bytes → (f : DataForm)
     → form_of command ≡ Some f → IsDataLength f (length bytes) ⊎ (IsDataLength f (length bytes) → ⊥)
-    → Decided command bytes
-by_length command bytes low f e (inl count) = by_reading command bytes f e count
-    (reads_form f bytes low count)
-by_length command bytes low f e (inr wrong) = inr (Length, (f, e, wrong))
+    → Decided r command bytes
+by_length r command bytes low f e (inl count) = by_reading r command bytes f e count
+    (reads_form r f bytes low count)
+by_length r command bytes low f e (inr wrong) = inr (Length, (f, e, wrong))
 
-by_form : (command : Command) (bytes : List ℕ) → All IsByte bytes → (asked : Option DataForm)
-    → form_of command ≡ asked → Decided command bytes
-by_form command bytes low None e = inr (Answer, inl e)
-by_form command bytes low (Some f) e = by_length command bytes low f e
+by_form : (r : Reading) (command : Command) (bytes : List ℕ) → All IsByte bytes
+    → (asked : Option DataForm)
+    → form_of command ≡ asked → Decided r command bytes
+by_form r command bytes low None e = inr (Answer, inl e)
+by_form r command bytes low (Some f) e = by_length r command bytes low f e
     (allowed_or_not f (length bytes))
 
-pub decided : (command : Command) (bytes : List ℕ) → IsContent bytes → Decided command bytes
-decided command bytes content = by_form command bytes content.in_range (form_of command) refl
+pub decided : (r : Reading) (command : Command) (bytes : List ℕ) → IsContent bytes
+    → Decided r command bytes
+decided r command bytes content = by_form r command bytes content.in_range (form_of command) refl
 
 -- no form allows less than one byte or more than 35
 pub one_to_35 : (f : DataForm) (count : ℕ) → IsDataLength f count → (1 ≤ count) × (count ≤ 35)

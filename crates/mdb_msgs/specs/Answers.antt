@@ -28,8 +28,8 @@ bill_form_of bill.Identification = Some form.BillIdentification
 bill_form_of bill.IdentificationWithOptions = Some form.BillIdentificationWithOptions
 bill_form_of _ = None
 
--- a reader may answer every command with a list of messages: RESET, DISABLE and ENABLE by this
--- profile, the others by MDB/ICP 4.3, cashless device
+-- a reader may answer every command with a list of messages: RESET, DISABLE, ENABLE and ENABLE
+-- OPTIONS by this profile, the others by MDB/ICP 4.3, cashless device
 abbrev pub form_of : Command → Option DataForm
 form_of (command.Changer c) = changer_form_of c
 form_of (command.Bill c) = bill_form_of c

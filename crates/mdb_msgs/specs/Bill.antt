@@ -1,34 +1,45 @@
 -- The messages of the validator's POLL answer, byte by byte (MDB/ICP 4.3, bill validator).
-use Rattle.std.specs.Prelude.{◌≢◌, ℕ, ◌+◌, ◌<◌, ◌≤◌, ◌⊎◌, List, [], ◌∷◌}
+use Rattle.std.specs.Prelude.{◌≡◌, ◌≢◌, ℕ, ◌+◌, ◌<◌, ◌≤◌, ◌⊎◌, true, false, List, [], ◌∷◌}
 use Rattle.mdb_msgs.specs.declared.fault.MsgFault.{MsgFault}
 use Rattle.mdb_msgs.specs.declared.fault.MsgFault.TheVariants.{Message, Profile}
+use Rattle.mdb_msgs.specs.declared.reading.Reading.{Reading}
 use Rattle.mdb_msgs.specs.declared.reply.bill.BillMsg.{BillMsg}
-use Rattle.mdb_msgs.specs.declared.reply.bill.BillMsg.TheVariants.{Stacked, Escrow, Returned, Rejected, Attempts, Reset, Status}
+use Rattle.mdb_msgs.specs.declared.reply.bill.BillMsg.TheVariants.{Stacked, Escrow, Returned, Recycled, Rejected, Attempts, Reset, Status, RecyclerStatus}
+use Rattle.mdb_msgs.specs.Readings.{is_extended}
 
 -- the byte of a message
 abbrev pub bill_msg_bytes : BillMsg → List ℕ
 bill_msg_bytes (Stacked bill) = (128 + bill) ∷ []
 bill_msg_bytes (Escrow bill) = (144 + bill) ∷ []
 bill_msg_bytes (Returned bill) = (160 + bill) ∷ []
+bill_msg_bytes (Recycled bill) = (176 + bill) ∷ []
 bill_msg_bytes (Rejected bill) = (192 + bill) ∷ []
 bill_msg_bytes (Attempts count) = (64 + count) ∷ []
 bill_msg_bytes Reset = 6 ∷ []
 bill_msg_bytes (Status byte) = byte ∷ []
+bill_msg_bytes (RecyclerStatus byte) = byte ∷ []
 
--- its field is in its range; the status 06 is the message Reset, and 1B to 1F are no statuses
-abbrev pub IsBillMsg : BillMsg → Type 0
-IsBillMsg (Stacked bill) = bill < 16
-IsBillMsg (Escrow bill) = bill < 16
-IsBillMsg (Returned bill) = bill < 16
-IsBillMsg (Rejected bill) = bill < 16
-IsBillMsg (Attempts count) = count < 32
-IsBillMsg Reset = Unit {0}
-IsBillMsg (Status byte) = (byte ≢ 6) × ((byte < 27) ⊎ ((32 ≤ byte) × (byte < 64)))
+-- its field is in its range, and a reading has it: the recycler's messages are those of the
+-- extended profile; the status 06 is the message Reset, and 1B to 1F are no statuses
+abbrev pub IsBillMsg : Reading → BillMsg → Type 0
+IsBillMsg reading (Stacked bill) = bill < 16
+IsBillMsg reading (Escrow bill) = bill < 16
+IsBillMsg reading (Returned bill) = bill < 16
+IsBillMsg reading (Recycled bill) = (bill < 16) × (is_extended reading ≡ true)
+IsBillMsg reading (Rejected bill) = bill < 16
+IsBillMsg reading (Attempts count) = count < 32
+IsBillMsg reading Reset = Unit {0}
+IsBillMsg reading (Status byte) = (byte ≢ 6) × ((byte < 27) ⊎ ((32 ≤ byte) × (byte < 64)))
+IsBillMsg reading (RecyclerStatus byte) = (208 ≤ byte) × (is_extended reading ≡ true)
 
--- no message stands at the front of these bytes: 60 to 7F; 1B to 1F, B0 to BF and D0 to FF, which
--- this profile leaves out
-abbrev pub NoBillMsg : List ℕ → MsgFault → Type 0
-NoBillMsg (byte ∷ rest) Message = (96 ≤ byte) × (byte < 128)
-NoBillMsg (byte ∷ rest) Profile =
-    ((27 ≤ byte) × (byte < 32)) ⊎ ((176 ≤ byte) × (byte < 192)) ⊎ (208 ≤ byte)
-NoBillMsg _ _ = ⊥
+-- a byte of the recycler: B0 to BF, or D0 to FF
+abbrev pub IsOfRecycler : ℕ → Type 0
+IsOfRecycler byte = ((176 ≤ byte) × (byte < 192)) ⊎ (208 ≤ byte)
+
+-- in a reading no message stands at the front of these bytes: 60 to 7F; 1B to 1F, and those of the
+-- recycler, which the base profile leaves out
+abbrev pub NoBillMsg : Reading → List ℕ → MsgFault → Type 0
+NoBillMsg reading (byte ∷ rest) Message = (96 ≤ byte) × (byte < 128)
+NoBillMsg reading (byte ∷ rest) Profile =
+    ((27 ≤ byte) × (byte < 32)) ⊎ (IsOfRecycler byte × (is_extended reading ≡ false))
+NoBillMsg reading _ _ = ⊥

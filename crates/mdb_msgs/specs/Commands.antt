@@ -1,6 +1,6 @@
 -- The commands of the controller as bytes (MDB/ICP 4.3, coin changer, bill validator, cashless
 -- device).
-use Rattle.std.specs.Prelude.{◌≡◌, ℕ, ◌+◌, ◌<◌, List, [], ◌∷◌, ◌++◌, length, All}
+use Rattle.std.specs.Prelude.{◌≡◌, ℕ, ◌+◌, ◌<◌, ◌⊎◌, Bool, true, false, IsBitSet, List, [], ◌∷◌, ◌++◌, length, slice_index, All}
 use Rattle.mdb_blocks.specs.Block.{block_of}
 use Rattle.mdb_msgs.specs.declared.command.Device.{Device}
 use Rattle.mdb_msgs.specs.declared.command.Device.TheVariants as device
@@ -77,6 +77,7 @@ reader_bytes address reader.Disable = (address + 4) ∷ 0x00 ∷ []
 reader_bytes address reader.Enable = (address + 4) ∷ 0x01 ∷ []
 reader_bytes address reader.Cancel = (address + 4) ∷ 0x02 ∷ []
 reader_bytes address (reader.RequestId identity) = (address + 7) ∷ 0x00 ∷ identity
+reader_bytes address (reader.EnableOptions options) = (address + 7) ∷ 0x04 ∷ options
 
 -- the bytes of a command, without their sum
 abbrev pub command_bytes : Command → List ℕ
@@ -120,6 +121,7 @@ HasReaderFields (reader.VendRequest price item) = IsNumber price × IsNumber ite
 HasReaderFields (reader.VendSuccess item) = IsNumber item
 HasReaderFields (reader.CashSale price item) = IsNumber price × IsNumber item
 HasReaderFields (reader.RequestId identity) = AreBytes 29 identity
+HasReaderFields (reader.EnableOptions options) = AreBytes 4 options
 HasReaderFields _ = Unit {0}
 
 -- the fields of a command are in range
@@ -132,3 +134,22 @@ HasFields (Reader unit command) = HasReaderFields command
 pub record Spells (command : Command) (block : List ℕ) : Type 0 where
   pub fields : HasFields command
   pub bytes : block ≡ block_of (command_bytes command)
+
+-- whether it is ENABLE OPTIONS
+abbrev pub is_enable_options : Command → Bool
+is_enable_options (Reader unit (reader.EnableOptions options)) = true
+is_enable_options _ = false
+
+-- options that ask for other money, by Y5: of 32 bits, or of several currencies
+abbrev pub AskForOtherMoney : List ℕ → Type 0
+AskForOtherMoney options = IsBitSet (slice_index options 3) 1 ⊎ IsBitSet (slice_index options 3) 2
+
+-- options that ask for always idle, by Y5
+abbrev pub AskForAlwaysIdle : List ℕ → Type 0
+AskForAlwaysIdle options = IsBitSet (slice_index options 3) 5
+
+-- a command that asks for what this profile doesn't follow: ENABLE OPTIONS with such options
+abbrev pub EnablesMore : Command → Type 0
+EnablesMore (Reader unit (reader.EnableOptions options)) =
+    AskForOtherMoney options ⊎ AskForAlwaysIdle options
+EnablesMore _ = ⊥

@@ -1,18 +1,17 @@
 -- Laws about commands and replies.
-use Rattle.std.specs.Prelude.{◌≡◌, ◌≢◌, ◌<◌, ◌≤◌, ◌⊎◌, ◌++◌, List, [], ℕ, length, All}
+use Rattle.std.specs.Prelude.{◌≡◌, ◌≢◌, ◌<◌, ◌≤◌, ◌⊎◌, ◌++◌, List, [], ℕ, length, All, false}
 use Rattle.mdb_blocks.specs.Block.{IsContent}
 use Rattle.mdb_msgs.specs.declared.command.Command.{Command}
-use Rattle.mdb_msgs.specs.declared.command.Command.TheVariants as command
 use Rattle.mdb_msgs.specs.declared.fault.MsgFault.{MsgFault}
 use Rattle.mdb_msgs.specs.declared.command.Device.{Device}
+use Rattle.mdb_msgs.specs.declared.reading.Reading.{Reading}
 use Rattle.mdb_msgs.specs.declared.reply.Reply.{Reply}
-use Rattle.mdb_msgs.specs.declared.reply.Reply.TheVariants as reply
 use Rattle.mdb_msgs.specs.Answers.{HasDataAnswer}
-use Rattle.mdb_msgs.specs.Commands.{IsByte, Spells}
-use Rattle.mdb_msgs.specs.Needs.{IsOpen}
+use Rattle.mdb_msgs.specs.Commands.{IsByte, Spells, is_enable_options}
+use Rattle.mdb_msgs.specs.Needs.{IsOpen, begins_options}
 use Rattle.mdb_msgs.specs.declared.setups.Setups.{Setups}
 use Rattle.mdb_msgs.specs.SetupData.{IsSetupOf}
-use Rattle.mdb_msgs.specs.Replies.{reply_bytes, IsReplyTo, IsReadFault, SpellsReply}
+use Rattle.mdb_msgs.specs.Replies.{reply_bytes, IsIn, IsReplyTo, IsReadFault, SpellsReply}
 
 -- open bytes are the front of some command's block
 abbrev pub OpenIsAFront : Type 0
@@ -21,17 +20,26 @@ OpenIsAFront =
     → All IsByte bytes → IsOpen bytes
     → (command : Command) × (rest : List ℕ) × (rest ≢ []) × Spells command (bytes ++ rest)
 
+-- and where they don't begin as ENABLE OPTIONS does, of one that isn't it
+abbrev pub OpenIsAnothersFront : Type 0
+OpenIsAnothersFront =
+    (bytes : List ℕ)
+    → All IsByte bytes → IsOpen bytes → begins_options bytes ≡ false
+    → (command : Command) × (rest : List ℕ) × (rest ≢ []) × Spells command (bytes ++ rest)
+    × (is_enable_options command ≡ false)
+
 -- the front of a command's block is open, as long as it is not the whole block
 abbrev pub FrontIsOpen : Type 0
 FrontIsOpen =
     (front rest : List ℕ) (command : Command)
     → 0 < length front → rest ≢ [] → Spells command (front ++ rest) → IsOpen front
 
--- for a command, a block has at most one reply
+-- for a command and a reading, a block has at most one reply
 abbrev pub BlockHasOneReply : Type 0
 BlockHasOneReply =
-    (command : Command) (block : List ℕ) (one other : Reply)
-    → SpellsReply command one block → SpellsReply command other block → one ≡ other
+    (reading : Reading) (command : Command) (block : List ℕ) (one other : Reply)
+    → IsIn reading one → IsIn reading other → SpellsReply command one block
+    → SpellsReply command other block → one ≡ other
 
 -- the data bytes of a reply are as many as the command allows
 abbrev pub ReplyHasItsLength : Type 0
@@ -47,22 +55,24 @@ DataFitsABlock =
 -- data bytes are a reply to a command, or have a fault
 abbrev pub DataIsAReplyOrHasAFault : Type 0
 DataIsAReplyOrHasAFault =
-    (command : Command) (bytes : List ℕ)
+    (reading : Reading) (command : Command) (bytes : List ℕ)
     → IsContent bytes
-    → ((reply : Reply) × IsReplyTo command reply × (bytes ≡ reply_bytes reply))
-    ⊎ ((fault : MsgFault) × IsReadFault command bytes fault)
+    → ((reply : Reply) × IsReplyTo command reply × IsIn reading reply
+    × (bytes ≡ reply_bytes reply))
+    ⊎ ((fault : MsgFault) × IsReadFault reading command bytes fault)
 
 -- data bytes that are a reply have no fault
 abbrev pub ReplyHasNoFault : Type 0
 ReplyHasNoFault =
-    (command : Command) (reply : Reply) (fault : MsgFault)
-    → IsReplyTo command reply → IsReadFault command (reply_bytes reply) fault → ⊥
+    (reading : Reading) (command : Command) (reply : Reply) (fault : MsgFault)
+    → IsReplyTo command reply → IsIn reading reply
+    → IsReadFault reading command (reply_bytes reply) fault → ⊥
 
 -- data bytes have at most one fault
 abbrev pub BytesHaveOneFault : Type 0
 BytesHaveOneFault =
-    (command : Command) (bytes : List ℕ) (one other : MsgFault)
-    → IsReadFault command bytes one → IsReadFault command bytes other → one ≡ other
+    (reading : Reading) (command : Command) (bytes : List ℕ) (one other : MsgFault)
+    → IsReadFault reading command bytes one → IsReadFault reading command bytes other → one ≡ other
 
 -- with a device's answer to SETUP, one thing is known
 abbrev pub AnswerTellsOneSetup : Type 0

@@ -10,6 +10,7 @@ pub mod Lists
 pub mod Needs
 pub mod Reader
 pub mod ReaderBytes
+pub mod Readings
 pub mod Replies
 pub mod Setup
 pub mod SetupData

@@ -1,6 +1,6 @@
 -- What the first bytes of a block of the controller tell (MDB/ICP 4.3, commands of the four
 -- devices; what is outside and what is foreign, this profile).
-use Rattle.std.specs.Prelude.{◌≡◌, ◌<◌, ℕ, length, ◌/◌, ◌%◌, ◌==◌, Bool, false, List, Option, Some, None, slice_index, slice_get, if◌then◌else◌}
+use Rattle.std.specs.Prelude.{◌≡◌, ◌<◌, ℕ, length, ◌/◌, ◌%◌, ◌==◌, ◌||◌, ◌&&◌, Bool, false, List, Option, Some, None, slice_index, slice_get, if◌then◌else◌}
 use Rattle.mdb_msgs.specs.declared.command.Device.{Device}
 use Rattle.mdb_msgs.specs.declared.command.Device.TheVariants as device
 use Rattle.mdb_msgs.specs.declared.command.ReaderUnit.TheVariants.{First, Second}
@@ -88,6 +88,7 @@ enable_need second =
 abbrev pub reader_expansion : ℕ → Need
 reader_expansion second =
     if second == 0x00 then Exactly 32
+    else if second == 0x04 then Exactly 7
     else Foreign
 
 -- blocks to a cashless reader, by the lower three bits of their first byte
@@ -141,6 +142,12 @@ is_to_one_of set first =
 abbrev pub needed_without : DeviceSet → List ℕ → Need
 needed_without left_out prefix =
     if is_to_one_of left_out (slice_index prefix 0) then Foreign else needed prefix
+
+-- whether bytes begin as ENABLE OPTIONS does: by 17 04 or 67 04
+abbrev pub begins_options : List ℕ → Bool
+begins_options bytes =
+    (slice_index bytes 0 == 0x17 || slice_index bytes 0 == 0x67)
+    && elim (slice_get bytes 1) [ Some second ↦ second == 0x04 | None ↦ false ]
 
 -- the need of so many first bytes of a block tells its length, but one byte may leave that to the
 -- second

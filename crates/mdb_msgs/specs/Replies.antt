@@ -1,5 +1,5 @@
 -- Replies: what they spell, and which of them may answer a command.
-use Rattle.std.specs.Prelude.{◌≡◌, ◌≢◌, ℕ, ◌⊎◌, Bool, true, false, List, length, Some, None, slice_index}
+use Rattle.std.specs.Prelude.{◌≡◌, ◌≢◌, ℕ, ◌⊎◌, Bool, true, false, List, [], length, Some, None, slice_index}
 use Rattle.std.specs.List.{flat_map, list_any, AllByRecursion}
 use Rattle.mdb_blocks.specs.Block.{block_of}
 use Rattle.mdb_msgs.specs.declared.answer.DataForm.{DataForm}
@@ -7,13 +7,15 @@ use Rattle.mdb_msgs.specs.declared.answer.DataForm.TheVariants as form
 use Rattle.mdb_msgs.specs.declared.command.Command.{Command}
 use Rattle.mdb_msgs.specs.declared.fault.MsgFault.{MsgFault}
 use Rattle.mdb_msgs.specs.declared.fault.MsgFault.TheVariants as faults
+use Rattle.mdb_msgs.specs.declared.reading.Reading.{Reading}
+use Rattle.mdb_msgs.specs.declared.reading.Reading.TheVariants.{Long}
 use Rattle.mdb_msgs.specs.declared.reply.Reply.{Reply}
 use Rattle.mdb_msgs.specs.declared.reply.Reply.TheVariants as reply
 use Rattle.mdb_msgs.specs.Answers.{form_of, IsDataLength, may_tell_of_sales}
 use Rattle.mdb_msgs.specs.Bill.{bill_msg_bytes, IsBillMsg, NoBillMsg}
 use Rattle.mdb_msgs.specs.Changer.{changer_msg_bytes, IsChangerMsg, NoChangerMsg}
 use Rattle.mdb_msgs.specs.Lists.{StopsAt}
-use Rattle.mdb_msgs.specs.Reader.{is_kept, reader_list_bytes, IsReaderList, ReaderStopsAt}
+use Rattle.mdb_msgs.specs.Reader.{is_kept, reader_list_bytes, AreReaderMsgs, IsReaderList, ReaderStopsAt}
 use Rattle.mdb_msgs.specs.Setup.{changer_setup_bytes, tube_status_bytes, bill_setup_bytes, stacker_bytes, IsStacker}
 
 -- the form of a reply
@@ -42,13 +44,20 @@ reply_bytes (reply.BillIdentification id) = id
 reply_bytes (reply.BillIdentificationWithOptions id) = id
 reply_bytes (reply.Reader list) = reader_list_bytes list
 
--- its fields are in their ranges, and a display request is last
+-- its fields are in their ranges, a display request is last, and some reading has its messages: of
+-- the validator's, Long has all
 abbrev pub HasFields : Reply → Type 0
 HasFields (reply.ChangerPoll list) = AllByRecursion IsChangerMsg list.items
-HasFields (reply.BillPoll list) = AllByRecursion IsBillMsg list.items
+HasFields (reply.BillPoll list) = AllByRecursion (IsBillMsg Long) list.items
 HasFields (reply.Stacker stacker) = IsStacker stacker
 HasFields (reply.Reader list) = IsReaderList list
 HasFields _ = Unit {0}
+
+-- it is one of a reading: all are, but for the messages of a reader and of the validator
+abbrev pub IsIn : Reading → Reply → Type 0
+IsIn reading (reply.Reader list) = AreReaderMsgs reading list []
+IsIn reading (reply.BillPoll list) = AllByRecursion (IsBillMsg reading) list.items
+IsIn reading _ = Unit {0}
 
 -- whether it tells of sessions and sales
 abbrev pub tells_of_sales : Reply → Bool
@@ -73,36 +82,37 @@ pub record SpellsReply (command : Command) (reply : Reply) (block : List ℕ) : 
 
 -- why bytes of an allowed number are no reply of this form: the leftmost message that can't be
 -- taken, or a byte for the escrow that is neither FF nor 00
-abbrev pub NoReply : DataForm → List ℕ → MsgFault → Type 0
-NoReply form.ChangerPoll bytes fault =
+abbrev pub NoReply : Reading → DataForm → List ℕ → MsgFault → Type 0
+NoReply reading form.ChangerPoll bytes fault =
     StopsAt changer_msg_bytes IsChangerMsg NoChangerMsg bytes fault
-NoReply form.BillPoll bytes fault = StopsAt bill_msg_bytes IsBillMsg NoBillMsg bytes fault
-NoReply form.Reader bytes fault = ReaderStopsAt bytes fault
-NoReply form.BillSetup bytes fault =
+NoReply reading form.BillPoll bytes fault =
+    StopsAt bill_msg_bytes (IsBillMsg reading) (NoBillMsg reading) bytes fault
+NoReply reading form.Reader bytes fault = ReaderStopsAt reading bytes fault
+NoReply reading form.BillSetup bytes fault =
     (fault ≡ faults.Message) × (slice_index bytes 10 ≢ 0) × (slice_index bytes 10 ≢ 255)
-NoReply _ bytes fault = ⊥
+NoReply reading _ bytes fault = ⊥
 
 -- no reply of the command's form has these bytes, though their number is allowed
-abbrev pub IsNoReplyTo : Command → List ℕ → MsgFault → Type 0
-IsNoReplyTo command bytes fault =
+abbrev pub IsNoReplyTo : Reading → Command → List ℕ → MsgFault → Type 0
+IsNoReplyTo reading command bytes fault =
     (form : DataForm) × (form_of command ≡ Some form) × IsDataLength form (length bytes)
-    × NoReply form bytes fault
+    × NoReply reading form bytes fault
 
 -- they are a reply of the command's form, which tells of sessions and sales though the command may
 -- not have that
-abbrev pub IsKeptFault : Command → List ℕ → Type 0
-IsKeptFault command bytes =
-    (reply : Reply) × IsAnswerTo command reply × (bytes ≡ reply_bytes reply)
+abbrev pub IsKeptFault : Reading → Command → List ℕ → Type 0
+IsKeptFault reading command bytes =
+    (reply : Reply) × IsAnswerTo command reply × IsIn reading reply × (bytes ≡ reply_bytes reply)
     × (tells_of_sales reply ≡ true) × (may_tell_of_sales command ≡ false)
 
 -- why data bytes are no reply to a command, in the order in which the checks are made
-abbrev pub IsReadFault : Command → List ℕ → MsgFault → Type 0
-IsReadFault command bytes faults.Length =
+abbrev pub IsReadFault : Reading → Command → List ℕ → MsgFault → Type 0
+IsReadFault reading command bytes faults.Length =
     (form : DataForm) × (form_of command ≡ Some form) × (IsDataLength form (length bytes) → ⊥)
-IsReadFault command bytes faults.Message = IsNoReplyTo command bytes faults.Message
-IsReadFault command bytes faults.Profile = IsNoReplyTo command bytes faults.Profile
-IsReadFault command bytes faults.Answer =
-    (form_of command ≡ None) ⊎ IsKeptFault command bytes
+IsReadFault reading command bytes faults.Message = IsNoReplyTo reading command bytes faults.Message
+IsReadFault reading command bytes faults.Profile = IsNoReplyTo reading command bytes faults.Profile
+IsReadFault reading command bytes faults.Answer =
+    (form_of command ≡ None) ⊎ IsKeptFault reading command bytes
 
 -- why a reply to a command has no block, in the order in which the checks are made
 abbrev pub IsWriteFault : Command → Reply → MsgFault → Type 0

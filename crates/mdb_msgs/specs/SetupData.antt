@@ -17,7 +17,8 @@ use Rattle.mdb_msgs.specs.declared.reply.Reply.{Reply}
 use Rattle.mdb_msgs.specs.declared.reply.Reply.TheVariants as reply
 use Rattle.mdb_msgs.specs.declared.setups.ReaderConfig.{ReaderConfig}
 use Rattle.mdb_msgs.specs.declared.setups.Setups.{Setups}
-use Rattle.mdb_msgs.specs.Replies.{SpellsReply}
+use Rattle.mdb_msgs.specs.declared.reading.Reading.TheVariants.{Base}
+use Rattle.mdb_msgs.specs.Replies.{IsIn, SpellsReply}
 
 -- the command asks the device how it is set up: SETUP, of a reader SETUP config
 abbrev pub IsSetup : Device → Command → Type 0
@@ -65,5 +66,6 @@ pub record IsSetupOf (device : Device) (bytes : List ℕ) (before after : Setups
   pub asked : Command
   pub asks : IsSetup device asked
   pub answer : Reply
+  pub reading : IsIn Base answer
   pub spells : SpellsReply asked answer bytes
   pub told : known_with before device answer ≡ Some after

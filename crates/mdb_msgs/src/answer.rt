@@ -27,7 +27,8 @@ pub enum DataForm {
     /// To the validator's identification with options.
     BillIdentificationWithOptions,
     /// To every command of a reader: a list of messages. MDB/ICP 4.3 (cashless device) allows a
-    /// list as the answer to most of them. For RESET, DISABLE and ENABLE, this profile allows it.
+    /// list as the answer to most of them. For RESET, DISABLE, ENABLE and ENABLE OPTIONS, this
+    /// profile allows it.
     Reader,
 }
 

@@ -1,7 +1,7 @@
 //! Commands of the controller, device by device.
 
-ghost use Rattle.std.specs.Prelude.{◌≡◌, IfSome, Some};
-ghost use Rattle.mdb_msgs.specs.Commands.{device_of, poll_of, reader_address};
+ghost use Rattle.std.specs.Prelude.{◌≡◌, ◌↔◌, IfSome, IsTrue, Some};
+ghost use Rattle.mdb_msgs.specs.Commands.{EnablesMore, device_of, poll_of, reader_address};
 ghost use Rattle.mdb_msgs.specs.Devices.{device_word};
 
 use std::fmt;
@@ -130,6 +130,20 @@ impl Command {
     {
         *self
     }
+
+    /// Whether this is an ENABLE OPTIONS that asks for what this profile doesn't follow. Its last
+    /// byte Y5 has one of these bits: 1, money of 32 bits; 2, several currencies; 5, always idle
+    /// (MDB/ICP 4.3, cashless device).
+    pub fn enables_more(&self) -> bool
+        ensures { IsTrue result ↔ EnablesMore self.now }
+    {
+        match self {
+            Command::Reader(_, ReaderCommand::EnableOptions([_, _, _, last])) => {
+                *last & 0x02 != 0 || *last & 0x04 != 0 || *last & 0x20 != 0
+            }
+            _ => false,
+        }
+    }
 }
 
 /// A command to the coin changer (MDB/ICP 4.3, coin changer).
@@ -247,4 +261,6 @@ pub enum ReaderCommand {
     Cancel,
     /// EXPANSION REQUEST ID, 17 00, with its 29 bytes.
     RequestId([u8; 29]),
+    /// EXPANSION ENABLE OPTIONS, 17 04, with its four bytes Y2 to Y5. Y5 is the lowest one.
+    EnableOptions([u8; 4]),
 }

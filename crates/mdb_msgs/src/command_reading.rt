@@ -189,7 +189,8 @@ fn reader_command(address: u8, content: &[u8]) -> Result<ReaderCommand, MsgFault
         (7, [0x00, identity @ ..]) => identity_of(identity)
             .map(ReaderCommand::RequestId)
             .ok_or(MsgFault::Length),
-        (0 | 2, _) | (4, [0x00..=0x02, ..]) => Err(MsgFault::Length),
+        (7, [0x04, a, b, c, d]) => Ok(ReaderCommand::EnableOptions([*a, *b, *c, *d])),
+        (0 | 2, _) | (4, [0x00..=0x02, ..]) | (7, [0x04, ..]) => Err(MsgFault::Length),
         _ => Err(MsgFault::Profile),
     }
 }

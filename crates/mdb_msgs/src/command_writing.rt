@@ -85,6 +85,7 @@ fn reader_block(address: u8, command: ReaderCommand) -> Block
         ReaderCommand::Enable => block(&[enable, 0x01]),
         ReaderCommand::Cancel => block(&[enable, 0x02]),
         ReaderCommand::RequestId(identity) => identity_block(address + 7, &identity),
+        ReaderCommand::EnableOptions(options) => joined(&[address + 7, 0x04], &options),
     }
 }
 

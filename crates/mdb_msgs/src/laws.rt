@@ -1,14 +1,14 @@
 //! Laws of commands and replies. They follow from the grammars alone.
 
-ghost use Rattle.std.specs.Prelude.{◌≡◌, ◌<◌, ◌+◌, ◌++◌, List, ℕ, length, All, slice_index};
+ghost use Rattle.std.specs.Prelude.{◌≡◌, ◌<◌, ◌≤◌, ◌+◌, ◌++◌, List, ℕ, length, All, slice_index};
 ghost use Rattle.mdb_blocks.specs.Block.{block_of};
 ghost use Rattle.mdb_msgs.specs.declared.command.Command.{Command};
 ghost use Rattle.mdb_msgs.specs.declared.need.Need.TheVariants.{Exactly};
 ghost use Rattle.mdb_msgs.specs.declared.device_set.DeviceSet.{DeviceSet};
-ghost use Rattle.mdb_msgs.specs.Commands.{IsByte, Spells, device_of};
+ghost use Rattle.mdb_msgs.specs.Commands.{IsByte, Spells, device_of, is_enable_options};
 ghost use Rattle.mdb_msgs.specs.DeviceSets.{has};
-ghost use Rattle.mdb_msgs.specs.Needs.{TellsLength, is_to_one_of, needed};
-ghost use Rattle.mdb_msgs.specs.Laws.{OpenIsAFront, FrontIsOpen, BlockHasOneReply, ReplyHasItsLength, DataFitsABlock, DataIsAReplyOrHasAFault, ReplyHasNoFault, BytesHaveOneFault, AnswerTellsOneSetup};
+ghost use Rattle.mdb_msgs.specs.Needs.{TellsLength, begins_options, is_to_one_of, needed};
+ghost use Rattle.mdb_msgs.specs.Laws.{OpenIsAFront, OpenIsAnothersFront, FrontIsOpen, BlockHasOneReply, ReplyHasItsLength, DataFitsABlock, DataIsAReplyOrHasAFault, ReplyHasNoFault, BytesHaveOneFault, AnswerTellsOneSetup};
 
 /// A block has at most one command.
 pub fn block_has_one_command()
@@ -37,6 +37,13 @@ pub fn first_byte_tells_the_device()
         → is_to_one_of set (slice_index block 0) ≡ has set (device_of command) }
 {}
 
+/// The first two bytes of a command's block tell whether it is ENABLE OPTIONS.
+pub fn first_two_bytes_tell_enable_options()
+    ensures { (prefix rest : List ℕ) (command : Command) →
+        2 ≤ length prefix → Spells command (prefix ++ rest) →
+        begins_options prefix ≡ is_enable_options command }
+{}
+
 /// Bytes of the length that they need are those of a command.
 pub fn what_it_needs_is_a_command()
     ensures { (content : List ℕ) →
@@ -47,6 +54,11 @@ pub fn what_it_needs_is_a_command()
 /// Bytes that need more of them are the beginning of some command's block.
 pub fn need_leaves_a_command_open()
     ensures { OpenIsAFront }
+{}
+
+/// Such bytes that don't begin as ENABLE OPTIONS are the beginning of another command's block.
+pub fn need_leaves_another_command_open()
+    ensures { OpenIsAnothersFront }
 {}
 
 /// An incomplete beginning of a command's block needs more bytes.

@@ -1,7 +1,7 @@
 //! The length of a controller's block, from its first bytes.
 
 ghost use Rattle.std.specs.Prelude.{◌≡◌, ◌<◌, length};
-ghost use Rattle.mdb_msgs.specs.Needs.{bill_need, changer_need, needed, needed_without, reader_need};
+ghost use Rattle.mdb_msgs.specs.Needs.{begins_options, bill_need, changer_need, needed, needed_without, reader_need};
 
 use crate::device_set::DeviceSet;
 use crate::first_needs::FIRST;
@@ -34,6 +34,15 @@ pub fn need_without(left_out: DeviceSet, prefix: &[u8]) -> Need
     } else {
         need_of(prefix)
     }
+}
+
+/// Whether a block that begins with these bytes is an ENABLE OPTIONS to a cashless reader, 17 04 or
+/// 67 04 (MDB/ICP 4.3, cashless device).
+#[inline(always)]
+pub fn begins_options(prefix: &[u8]) -> bool
+    ensures { result ≡ begins_options prefix.now }
+{
+    matches!(prefix, [0x17 | 0x67, 0x04, ..])
 }
 
 /// What a block needs whose first byte leaves it to the second.
@@ -114,6 +123,7 @@ fn reader_need(command: u8, second: Option<u8>) -> Need
         (4, Some(0x02)) => Need::Exactly(3),
         (7, None) => Need::More,
         (7, Some(0x00)) => Need::Exactly(32),
+        (7, Some(0x04)) => Need::Exactly(7),
         (1 | 3 | 4, Some(_)) => Need::Outside,
         (5, _) => Need::Outside,
         (6, _) => Need::Outside,

@@ -5,7 +5,7 @@ ghost use Rattle.mdb_blocks.specs.Block.{block_of};
 ghost use Rattle.mdb_msgs.specs.Answers.{IsDataLength};
 ghost use Rattle.mdb_msgs.specs.declared.fault.MsgFault.{MsgFault};
 ghost use Rattle.mdb_msgs.specs.declared.reply.Reply.{Reply};
-ghost use Rattle.mdb_msgs.specs.Replies.{form_of_reply, reply_bytes, tells_of_sales, HasFields, IsReplyTo, NoReply, IsReadFault, IsWriteFault, SpellsReply};
+ghost use Rattle.mdb_msgs.specs.Replies.{form_of_reply, reply_bytes, tells_of_sales, HasFields, IsIn, IsReplyTo, NoReply, IsReadFault, IsWriteFault, SpellsReply};
 
 pub mod bill;
 pub mod changer;
@@ -16,6 +16,7 @@ pub mod setup;
 use crate::answer::{DataForm, may_tell_of_sales};
 use crate::command::Command;
 use crate::fault::MsgFault;
+use crate::reading::Reading;
 use arrayvec::ArrayVec;
 use bill::BillMsg;
 use changer::ChangerMsg;
@@ -164,12 +165,13 @@ fn array_of<const N: usize>(bytes: &[u8]) -> [u8; N]
 
 /// The reply of this form that these bytes are.
 #[inline(always)]
-fn read_form(form: DataForm, bytes: &[u8]) -> Result<Reply, MsgFault>
+fn read_form(reading: Reading, form: DataForm, bytes: &[u8]) -> Result<Reply, MsgFault>
     requires { IsDataLength form (length bytes.now) }
     ensures form { IfOk result (λ reply. form_of_reply reply ≡ form) }
     ensures fields { IfOk result HasFields }
+    ensures reading { IfOk result (IsIn reading) }
     ensures bytes { IfOk result (λ reply. bytes.now ≡ reply_bytes reply) }
-    ensures err { IfErr result (NoReply form bytes.now) }
+    ensures err { IfErr result (NoReply reading form bytes.now) }
 {
     Ok(match form {
         DataForm::ChangerSetup => Reply::ChangerSetup(setup::read_changer_setup(bytes)),
@@ -177,44 +179,47 @@ fn read_form(form: DataForm, bytes: &[u8]) -> Result<Reply, MsgFault>
         DataForm::ChangerPoll => Reply::ChangerPoll(changer::read_messages(bytes)?),
         DataForm::ChangerIdentification => Reply::ChangerIdentification(array_of(bytes)),
         DataForm::BillSetup => Reply::BillSetup(setup::read_bill_setup(bytes)?),
-        DataForm::BillPoll => Reply::BillPoll(bill::read_messages(bytes)?),
+        DataForm::BillPoll => Reply::BillPoll(bill::read_messages(reading, bytes)?),
         DataForm::Stacker => Reply::Stacker(setup::read_stacker(bytes)),
         DataForm::BillIdentification => Reply::BillIdentification(array_of(bytes)),
         DataForm::BillIdentificationWithOptions => {
             Reply::BillIdentificationWithOptions(array_of(bytes))
         }
-        DataForm::Reader => Reply::Reader(reader::read_messages(bytes)?),
+        DataForm::Reader => Reply::Reader(reader::read_messages(reading, bytes)?),
     })
 }
 
-/// The reply to a command that these data bytes are, their sum left out: `read_reply` for one who
-/// has the bytes alone, with the same faults.
+/// The reply to a command that these data bytes are in a reading, their sum left out:
+/// `read_reply` for one who has the bytes alone, with the same faults.
 // Inlined, like what it calls, so that a reply is moved less often.
 #[inline(always)]
-pub fn reply_of(command: &Command, content: &[u8]) -> Result<Reply, MsgFault>
+pub fn reply_of(reading: Reading, command: &Command, content: &[u8]) -> Result<Reply, MsgFault>
     ensures found { IfOk result (IsReplyTo command.now) }
+    ensures reading { IfOk result (IsIn reading) }
     ensures spelled { IfOk result (λ reply. content.now ≡ reply_bytes reply) }
     ensures only { (reply : Reply) →
-        IsReplyTo command.now reply → content.now ≡ reply_bytes reply → result ≡ Ok reply }
-    ensures fault { IfErr result (IsReadFault command.now content.now) }
+        IsReplyTo command.now reply → IsIn reading reply → content.now ≡ reply_bytes reply →
+        result ≡ Ok reply }
+    ensures fault { IfErr result (IsReadFault reading command.now content.now) }
     ensures refused { (fault : MsgFault) →
-        IsReadFault command.now content.now fault → result ≡ Err fault }
+        IsReadFault reading command.now content.now fault → result ≡ Err fault }
 {
-    read_content(command, content)
+    read_content(reading, command, content)
 }
 
 /// The reply to a command that these data bytes are.
 #[inline(always)]
-fn read_content(command: &Command, content: &[u8]) -> Result<Reply, MsgFault>
+fn read_content(reading: Reading, command: &Command, content: &[u8]) -> Result<Reply, MsgFault>
     ensures found { IfOk result (IsReplyTo command.now) }
+    ensures reading { IfOk result (IsIn reading) }
     ensures spelled { IfOk result (λ reply. content.now ≡ reply_bytes reply) }
-    ensures fault { IfErr result (IsReadFault command.now content.now) }
+    ensures fault { IfErr result (IsReadFault reading command.now content.now) }
 {
     let form = DataForm::of(command).ok_or(MsgFault::Answer)?;
     if !form.allows(content.len()) {
         return Err(MsgFault::Length);
     }
-    let read = read_form(form, content);
+    let read = read_form(reading, form, content);
     if let Ok(reply) = &read {
         if !may_tell_of_sales(command) && reply.tells_of_sales() {
             return Err(MsgFault::Answer);
@@ -223,7 +228,7 @@ fn read_content(command: &Command, content: &[u8]) -> Result<Reply, MsgFault>
     read
 }
 
-/// Reads a block as the reply to a command.
+/// Reads a block as the reply to a command, in a reading.
 ///
 /// # Errors
 ///
@@ -233,19 +238,21 @@ fn read_content(command: &Command, content: &[u8]) -> Result<Reply, MsgFault>
 /// - `Length`: the command's answer doesn't have this number of data bytes.
 /// - `Message` or `Profile`: the leftmost message that can't be read. `Message` too if the escrow
 ///   byte of a validator's SETUP is neither FF nor 00.
-/// - `Answer`: a reader's message about a session or a sale (03, 05, 06, 07) in an answer to
-///   another command than POLL and the five commands of a session. These are 13 00 to 13 04, or 63
-///   00 to 63 04.
-pub fn read_reply(command: &Command, block: &Block) -> Result<Reply, MsgFault>
+/// - `Answer`: a reader's message about a session or a sale (03, 05, 06, 07, 0D, 0E) in an answer
+///   to another command than POLL and the five commands of a session. These are 13 00 to 13 04, or
+///   63 00 to 63 04.
+pub fn read_reply(reading: Reading, command: &Command, block: &Block) -> Result<Reply, MsgFault>
     ensures found { IfOk result (λ reply. SpellsReply command.now reply block.now) }
-    ensures only { (reply : Reply) → SpellsReply command.now reply block.now → result ≡ Ok reply }
+    ensures reading { IfOk result (IsIn reading) }
+    ensures only { (reply : Reply) →
+        SpellsReply command.now reply block.now → IsIn reading reply → result ≡ Ok reply }
     ensures fault { IfErr result (λ fault. (content : List ℕ) →
-        block.now ≡ block_of content → IsReadFault command.now content fault) }
+        block.now ≡ block_of content → IsReadFault reading command.now content fault) }
     ensures refused { (content : List ℕ) (fault : MsgFault) →
-        block.now ≡ block_of content → IsReadFault command.now content fault →
+        block.now ≡ block_of content → IsReadFault reading command.now content fault →
         result ≡ Err fault }
 {
-    reply_of(command, block.content())
+    reply_of(reading, command, block.content())
 }
 
 /// The block that carries bytes, of which there are 1 to 35.
@@ -266,9 +273,9 @@ fn block_with(bytes: &[u8]) -> Block
 /// - `Answer`: the command can't have a data answer.
 /// - `Length`: the command's answer doesn't have as many bytes as the reply, whatever its form.
 /// - `Message`: the reply has the form of another command's, or a field is outside its range.
-/// - `Answer`: a reader's message about a session or a sale (03, 05, 06, 07) in an answer to
-///   another command than POLL and the five commands of a session. These are 13 00 to 13 04, or 63
-///   00 to 63 04.
+/// - `Answer`: a reader's message about a session or a sale (03, 05, 06, 07, 0D, 0E) in an answer
+///   to another command than POLL and the five commands of a session. These are 13 00 to 13 04, or
+///   63 00 to 63 04.
 pub fn write_reply(command: &Command, reply: &Reply) -> Result<Block, MsgFault>
     ensures exactly { IsOk result ↔ IsReplyTo command.now reply.now }
     ensures written { IfOk result (λ block. SpellsReply command.now reply.now block) }

@@ -7,6 +7,7 @@ ghost use Rattle.mdb_msgs.specs.declared.setups.Setups.{Setups};
 ghost use Rattle.mdb_msgs.specs.inner.SetupAsked.{setup_of};
 
 use crate::command::{BillCommand, ChangerCommand, Command, Device, ReaderCommand, ReaderUnit};
+use crate::reading::Reading;
 use crate::reply::reader::{ReaderList, ReaderMsg};
 use crate::reply::{Reply, read_reply};
 use crate::setups::{ReaderConfig, Setups};
@@ -31,7 +32,7 @@ impl Setups {
         ensures kept { result ≡ false → self.new ≡ self.old }
     {
         answer.bytes();
-        match read_reply(&setup_of(device), answer) {
+        match read_reply(Reading::Base, &setup_of(device), answer) {
             Ok(reply) => self.learn_reply(device, &reply),
             Err(_) => false,
         }

@@ -123,14 +123,15 @@ listed_not pieces piece stay before after are none = record {
         omega (arith, none, subst (λ n. place_in stay (length before) n < length before) same there)
 
 -- what an entry shows stays when it is given its rows
-shows_with : {kind device break : ℕ} {block : List ℕ} (entry : PageAct) (rows : Rows)
-    → Shows entry kind device block break
-    → Shows (with_rows entry rows) kind device block break
+shows_with : {kind device reading break : ℕ} {block : List ℕ} (entry : PageAct) (rows : Rows)
+    → Shows entry kind device block reading break
+    → Shows (with_rows entry rows) kind device block reading break
 shows_with entry rows shows = record {
   same_kind = shows.same_kind;
   same_device = shows.same_device;
   count = shows.count;
   bytes = shows.bytes;
+  read = shows.read;
   long = shows.long;
 }
 

@@ -9,6 +9,11 @@ use Rattle.mdb_msgs.specs.declared.command.Device.{Device}
 use Rattle.mdb_msgs.specs.declared.command.Device.TheVariants.{Changer, Bill, Reader}
 use Rattle.mdb_msgs.specs.declared.command.ReaderUnit.TheVariants.{First, Second}
 use Rattle.mdb_msgs.specs.Commands.{command_bytes, device_of}
+use Rattle.mdb_msgs.specs.declared.reading.Reading.{Reading}
+use Rattle.mdb_msgs.specs.declared.reading.Reading.TheVariants.{Base, Short, Long}
+use Rattle.mdb_msgs.specs.declared.reply.Reply.{Reply}
+use Rattle.mdb_msgs.specs.declared.reply.Reply.TheVariants as replies
+use Rattle.mdb_msgs.specs.Reader.{reading_of}
 use Rattle.mdb_msgs.specs.Replies.{reply_bytes}
 use Rattle.mdb_bus.specs.declared.act.Act.{Act}
 use Rattle.mdb_bus.specs.declared.act.Act.TheVariants as acts
@@ -30,37 +35,56 @@ device_number Bill = 2
 device_number (Reader First) = 3
 device_number (Reader Second) = 4
 
--- An entry shows the number of a kind, that of a device, the bytes of a block, and how long a break
--- was.
-pub record Shows (entry : PageAct) (kind device : ℕ) (block : List ℕ) (break : ℕ) : Type 0 where
+-- the number of a reading
+abbrev pub number_of_reading : Reading → ℕ
+number_of_reading Base = 0
+number_of_reading Short = 1
+number_of_reading Long = 2
+
+-- the number of the first reading that has the messages of a reader's reply. Other replies have 0:
+-- their bytes are the same messages in each reading
+abbrev pub reading_number : Reply → ℕ
+reading_number (replies.Reader list) = number_of_reading (reading_of list.messages)
+reading_number reply = 0
+
+-- An entry shows the number of a kind, that of a device, the bytes of a block, the number of the
+-- reading that says which messages these are, and how long a break was.
+pub record Shows (entry : PageAct) (kind device : ℕ) (block : List ℕ) (reading break : ℕ)
+    : Type 0 where
   pub same_kind : entry.kind ≡ kind
   pub same_device : entry.device ≡ device
   pub count : entry.count ≡ length block
   pub bytes : take entry.count entry.bytes ≡ block
+  pub read : entry.reading ≡ reading
   pub long : entry.length ≡ break
 
 -- An entry shows that a command was answered by a byte.
 abbrev pub ShowsAnswer : PageAct → ℕ → Command → Type 0
-ShowsAnswer entry kind command = Shows entry kind (device_number (device_of command)) [] 0
+ShowsAnswer entry kind command = Shows entry kind (device_number (device_of command)) [] 0 0
 
--- An entry shows the block of a command, or that of a reply to it.
-abbrev pub ShowsBlock : PageAct → ℕ → Command → List ℕ → Type 0
-ShowsBlock entry kind command content =
-    Shows entry kind (device_number (device_of command)) (block_of content) 0
+-- An entry shows a command, or a reply to it.
+abbrev pub ShowsCommand : PageAct → ℕ → Command → Type 0
+ShowsCommand entry kind command =
+    Shows entry kind (device_number (device_of command)) (block_of (command_bytes command)) 0 0
+
+abbrev pub ShowsReply : PageAct → ℕ → Command → Reply → Type 0
+ShowsReply entry kind command reply =
+    Shows entry kind (device_number (device_of command)) (block_of (reply_bytes reply))
+    (reading_number reply) 0
 
 -- An entry shows what was done, or that no act came of some words. A block has its sum at its end.
 abbrev pub ShowsAct : PageAct → Option Act → Type 0
-ShowsAct entry (Some (acts.Ask command)) = ShowsBlock entry 0 command (command_bytes command)
+ShowsAct entry (Some (acts.Ask command)) = ShowsCommand entry 0 command
 ShowsAct entry (Some (acts.Ack command)) = ShowsAnswer entry 1 command
 ShowsAct entry (Some (acts.Nak command)) = ShowsAnswer entry 2 command
-ShowsAct entry (Some (acts.Reply command reply)) = ShowsBlock entry 3 command (reply_bytes reply)
+ShowsAct entry (Some (acts.Reply command reply)) = ShowsReply entry 3 command reply
 ShowsAct entry (Some (acts.VmcAck command reply)) = ShowsAnswer entry 4 command
 ShowsAct entry (Some (acts.VmcNak command reply)) = ShowsAnswer entry 5 command
 ShowsAct entry (Some (acts.VmcRet command reply)) = ShowsAnswer entry 6 command
-ShowsAct entry (Some (acts.Repeat command reply)) = ShowsBlock entry 7 command (reply_bytes reply)
-ShowsAct entry (Some acts.Foreign) = Shows entry 8 0 [] 0
-ShowsAct entry (Some (acts.Break length)) = Shows entry 9 0 [] length
-ShowsAct entry None = Shows entry 10 0 [] 0
+ShowsAct entry (Some (acts.Repeat command reply)) = ShowsReply entry 7 command reply
+ShowsAct entry (Some acts.Foreign) = Shows entry 8 0 [] 0 0
+ShowsAct entry (Some (acts.Break length)) = Shows entry 9 0 [] 0 length
+ShowsAct entry None = Shows entry 10 0 [] 0 0
 
 -- The rows of events that have so many rows before them: the number of the first and of the last,
 -- and when these two started.

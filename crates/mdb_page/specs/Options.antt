@@ -1,5 +1,5 @@
 -- How the options say that a recording is taken.
-use Rattle.std.specs.Prelude.{◌≡◌, ◌≢◌, ◌≤◌, ℕ, List, [], Bool, false, not, nat_eq, slice_index_or, take}
+use Rattle.std.specs.Prelude.{◌≡◌, ◌≢◌, ◌≤◌, ℕ, List, [], Bool, false, not, nat_eq, slice_index_or, take, if◌then◌else◌}
 use Rattle.mdb_msgs.specs.declared.command.Device.{Device}
 use Rattle.mdb_msgs.specs.declared.command.Device.TheVariants.{Changer, Bill, Reader}
 use Rattle.mdb_msgs.specs.declared.command.ReaderUnit.TheVariants.{First, Second}
@@ -9,7 +9,8 @@ use Rattle.mdb_msgs.specs.DeviceSets.{has}
 use Rattle.mdb_msgs.specs.SetupData.{IsSetupOf}
 use Rattle.mdb_msgs.specs.Setups.{nothing_known}
 use Rattle.mdb_bus.specs.declared.scope.Beginning.TheVariants.{Joined, PowerOn}
-use Rattle.mdb_bus.specs.declared.scope.Profile.TheVariants.{Base}
+use Rattle.mdb_bus.specs.declared.scope.Profile.{Profile}
+use Rattle.mdb_bus.specs.declared.scope.Profile.TheVariants.{Base, Extended}
 use Rattle.mdb_bus.specs.declared.scope.Scope.{Scope}
 use Rattle.mdb_bus.specs.Scopes.{no_levels}
 use Rattle.mdb_page.specs.declared.options.PageOptions.{PageOptions}
@@ -18,6 +19,10 @@ use Rattle.mdb_page.specs.declared.options.PageSetup.{PageSetup}
 -- whether a mark isn't 0
 abbrev pub is_set : ℕ → Bool
 is_set mark = not (nat_eq mark 0)
+
+-- the profile that a mark asks for
+abbrev pub profile_by : ℕ → Profile
+profile_by mark = if is_set mark then Extended else Base
 
 -- the devices that are marked, in the order of a report
 abbrev pub devices_of : List ℕ → DeviceSet
@@ -63,12 +68,15 @@ pub record AreSetups (left_out : DeviceSet) (answers : List PageSetup) (setups :
   pub first : Adds left_out (Reader First) (given_at answers 2) with_bill with_first
   pub second : Adds left_out (Reader Second) (given_at answers 3) with_first setups
 
--- A recording that is taken so begins at power-on, with nothing given, or in mid-session, with the
--- setup data known that the answers tell. It is followed by the base profile. The devices are left
--- out that are marked, and no feature level is known that was told before.
+-- A recording that is taken so begins at power-on, with nothing given, and is followed by the
+-- profile that is asked for. Or it begins in mid-session, with the setup data known that the
+-- answers tell, and is followed by the base profile, where no other is asked for. The devices are
+-- left out that are marked, and no feature level is known that was told before.
 pub record IsTakenSo (options : PageOptions) (scope : Scope) : Type 0 where
-  pub power_on : options.joined ≡ 0 → (scope.begins ≡ PowerOn Base) × GivesNone options.setups
-  pub joined : options.joined ≢ 0 → (setups : Setups) × (scope.begins ≡ Joined setups Base)
-      × AreSetups (devices_of options.without) options.setups setups
+  pub power_on : options.joined ≡ 0
+      → (scope.begins ≡ PowerOn (profile_by options.extended)) × GivesNone options.setups
+  pub joined : options.joined ≢ 0 → (setups : Setups) × (options.extended ≡ 0)
+      × (scope.begins ≡ Joined setups Base) × AreSetups (devices_of options.without) options.setups
+      setups
   pub without : scope.without ≡ devices_of options.without
   pub levels : scope.levels ≡ no_levels

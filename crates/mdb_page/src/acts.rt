@@ -1,21 +1,23 @@
 //! The acts of a recording, as `show` lists them.
 
 ghost use Rattle.std.specs.Prelude.{◌<◌, ◌≡◌, ◌≤◌, ℕ, List, [], ◌∷◌, length, IfSome, None, Some};
+ghost use Rattle.std.specs.List.{list_any};
 ghost use Rattle.mdb_words.specs.declared.event.Event.{Event};
 ghost use Rattle.mdb_blocks.specs.Block.{block_of};
 ghost use Rattle.mdb_msgs.specs.Commands.{device_of};
+ghost use Rattle.mdb_msgs.specs.Reader.{has_long, has_options};
 ghost use Rattle.mdb_msgs.specs.Replies.{reply_bytes};
 ghost use Rattle.mdb_bus.specs.ActLists.{IsTail, Piece, Whole, events_of, piece_events};
 ghost use Rattle.mdb_bus.specs.Acts.{IsReply, NamesAReply};
 ghost use Rattle.mdb_follow.specs.declared.follower.TheConstants.{ROWS_MAX};
-ghost use Rattle.mdb_page.specs.Acts.{Shows, ShowsAct, device_number};
+ghost use Rattle.mdb_page.specs.Acts.{Shows, ShowsAct, ShowsReply, device_number, reading_number};
 ghost use Rattle.mdb_page.specs.declared.acts.PageAct.{PageAct};
 ghost use Rattle.mdb_page.specs.inner.Listing.{AreOf, HasListed, Moves, with_rows};
 
 use crate::rows::{Rows, device_number};
 use mdb_blocks::Block;
 use mdb_bus::Act;
-use mdb_msgs::{Command, Reply, write_command, write_reply};
+use mdb_msgs::{Command, ReaderList, ReaderMsg, Reply, write_command, write_reply};
 
 /// An act on the bus.
 #[repr(C)]
@@ -38,6 +40,10 @@ pub struct PageAct {
     pub device: u8,
     /// The number of its bytes.
     pub count: u8,
+    /// Which messages the bytes of a reader's reply are: 0 those of the base profile, 1 those of
+    /// the extended profile at feature level 1, 2 those of feature levels 2 and 3. It is the first
+    /// of these that has them all. Else 0.
+    pub reading: u8,
     /// Its bytes, at the beginning of this array.
     pub bytes: [u8; 36],
 }
@@ -156,17 +162,18 @@ fn put_act(place: &mut PageAct, act: &Act)
 
 /// Puts a kind, the number of a device, and how long a break was. There are no bytes.
 fn put(place: &mut PageAct, kind: u8, device: u8, length: u64)
-    ensures { Shows place.new kind device [] length }
+    ensures { Shows place.new kind device [] 0 length }
 {
     place.kind = kind;
     place.device = device;
     place.count = 0;
+    place.reading = 0;
     place.length = length;
 }
 
 /// Puts an answer of one byte.
 fn put_answer(place: &mut PageAct, kind: u8, command: &Command)
-    ensures { Shows place.new kind (device_number (device_of command.now)) [] 0 }
+    ensures { Shows place.new kind (device_number (device_of command.now)) [] 0 0 }
 {
     put(place, kind, device_number(command.device()), 0);
 }
@@ -174,21 +181,62 @@ fn put_answer(place: &mut PageAct, kind: u8, command: &Command)
 /// Puts a reply.
 fn put_reply(place: &mut PageAct, kind: u8, command: &Command, reply: &Reply)
     requires { IsReply command.now reply.now }
-    ensures { Shows place.new kind (device_number (device_of command.now))
-        (block_of (reply_bytes reply.now)) 0 }
+    ensures { ShowsReply place.new kind command.now reply.now }
 {
     let Ok(block) = write_reply(command, reply) else {
         unreachable!()
     };
     put_block(place, kind, command, &block);
+    place.reading = reading_number(reply);
 }
 
 /// Puts the block of a command or of a reply to it.
 fn put_block(place: &mut PageAct, kind: u8, command: &Command, block: &Block)
-    ensures { Shows place.new kind (device_number (device_of command.now)) block.now 0 }
+    ensures { Shows place.new kind (device_number (device_of command.now)) block.now 0 0 }
 {
     put_answer(place, kind, command);
     let bytes = block.bytes();
     place.bytes[..bytes.len()].copy_from_slice(bytes);
     place.count = bytes.len() as u8;
+}
+
+/// The number of the first reading that has the messages of a reader's reply; of other replies 0.
+fn reading_number(reply: &Reply) -> u8
+    ensures { result ≡ reading_number reply.now }
+{
+    match reply {
+        Reply::Reader(list) if have_long(list) => 2,
+        Reply::Reader(list) if have_options(list) => 1,
+        _ => 0,
+    }
+}
+
+/// Whether one of the messages is of feature levels 2 and 3 alone.
+fn have_long(list: &ReaderList) -> bool
+    ensures { result ≡ list_any has_long list.now.messages }
+{
+    for message in list.iter() {
+        match message {
+            ReaderMsg::BeginSessionLong { .. }
+            | ReaderMsg::OutOfSequenceIn(_)
+            | ReaderMsg::RevalueApproved
+            | ReaderMsg::RevalueDenied
+            | ReaderMsg::RevalueLimit(_)
+            | ReaderMsg::TimeAsked => return true,
+            _ => {}
+        }
+    }
+    false
+}
+
+/// Whether one of the messages is an identification with options.
+fn have_options(list: &ReaderList) -> bool
+    ensures { result ≡ list_any has_options list.now.messages }
+{
+    for message in list.iter() {
+        if let ReaderMsg::PeripheralIdWithOptions { .. } = message {
+            return true;
+        }
+    }
+    false
 }

@@ -13,7 +13,7 @@ ghost use Rattle.mdb_page.specs.Options.{IsTakenSo};
 
 use crate::judge::Judge;
 use crate::lines::{LineFault, first_line, row_of, without_mark, without_return};
-use crate::options::{PageOptions, taken_so};
+use crate::options::{PageOptions, profile_asked, taken_so};
 use crate::sheet::PageText;
 use mdb_bus::Scope;
 use mdb_explained_runs::Replay;
@@ -139,7 +139,7 @@ pub extern "C" fn mdb_page_replay(
         return BAD_OPTIONS;
     };
     judge(
-        &mut Replay::leaving_out(scope.without),
+        &mut Replay::from_power_on(profile_asked(options), scope.without),
         &scope,
         text,
         told,

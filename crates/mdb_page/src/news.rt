@@ -42,7 +42,7 @@ pub struct PageNews {
     /// 3 coins ordered by DISPENSE, 4 bill stacked, 5 bill in escrow, 6 bill returned, 7 vend
     /// request, 8 cash sale, 9 vend approved, 10 vend denied, 11 vend success, 12 vend cancel, 13
     /// vend failure, 14 session begun, 15 session complete, 16 session ended, 17 reset told, 18
-    /// RESET commanded, 19 break, 20 silence, 21 set-up told.
+    /// RESET commanded, 19 break, 20 silence, 21 set-up told, 22 bill to the recycler.
     pub kind: u8,
     /// The device: 0 none, 1 changer, 2 bill, 3 cashless, 4 cashless-2.
     pub device: u8,
@@ -82,6 +82,7 @@ enum Kind {
     Break,
     Silence,
     SetupTold,
+    Recycled,
 }
 
 impl Kind {
@@ -112,6 +113,7 @@ impl Kind {
             Kind::Break => 19,
             Kind::Silence => 20,
             Kind::SetupTold => 21,
+            Kind::Recycled => 22,
         }
     }
 }
@@ -462,6 +464,7 @@ fn bill_told(setup: &Option<BillSetup>, message: BillMsg) -> Option<Fact>
         BillMsg::Stacked(number) => Some(Fact::of_bill(Kind::Stacked, setup, number)),
         BillMsg::Escrow(number) => Some(Fact::of_bill(Kind::Escrow, setup, number)),
         BillMsg::Returned(number) => Some(Fact::of_bill(Kind::Returned, setup, number)),
+        BillMsg::Recycled(number) => Some(Fact::of_bill(Kind::Recycled, setup, number)),
         BillMsg::Reset => Some(Fact::plain(Kind::ResetTold)),
         _ => None,
     }
@@ -473,7 +476,7 @@ fn reader_told(config: Option<ReaderConfig>, message: ReaderMsg) -> Option<Fact>
 {
     match message {
         ReaderMsg::JustReset => Some(Fact::plain(Kind::ResetTold)),
-        ReaderMsg::BeginSession { funds } => {
+        ReaderMsg::BeginSession { funds } | ReaderMsg::BeginSessionLong { funds, .. } => {
             let worth = match funds {
                 0xFFFF => Worth::Nothing,
                 _ => amount(config, funds),

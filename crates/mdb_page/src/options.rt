@@ -5,9 +5,10 @@ ghost use Rattle.mdb_bus.specs.declared.scope.Scope.{Scope};
 ghost use Rattle.mdb_msgs.specs.DeviceSets.{with_device};
 ghost use Rattle.mdb_msgs.specs.declared.setups.Setups.{Setups};
 ghost use Rattle.mdb_page.specs.Options.{Adds, AreSetups, GivesNone, IsTakenSo, devices_of};
+ghost use Rattle.mdb_page.specs.Options.{profile_by};
 
 use mdb_blocks::unseal;
-use mdb_bus::Scope;
+use mdb_bus::{Profile, Scope};
 use mdb_msgs::{Device, DeviceSet, ReaderUnit, Setups, laws};
 
 /// A device's answer to SETUP: a whole block, with its sum at the end.
@@ -26,6 +27,9 @@ pub struct PageSetup {
 pub struct PageOptions {
     /// Not 0: the recording begins while the machine was running.
     pub joined: u8,
+    /// Not 0: the extended profile is followed. Not for a recording that begins while the machine
+    /// was running.
+    pub extended: u8,
     /// Not 0: this device is left out. The order is that of a report: the changer, the bill
     /// validator, the cashless reader at 10H, the cashless reader at 60H.
     pub without: [u8; 4],
@@ -34,7 +38,8 @@ pub struct PageOptions {
 }
 
 /// The scope that the options name. `None` if an answer to SETUP is none, if it is that of a device
-/// that is left out, or if it is given for a recording from power-on.
+/// that is left out, or if it is given for a recording from power-on. `None` too if the extended
+/// profile is asked for another recording than one from power-on.
 pub(crate) fn taken_so(options: &PageOptions) -> Option<Scope>
     ensures taken { IfSome result (IsTakenSo options.now) }
     ensures refused { IfNone result ((scope : Scope) → IsTakenSo options.now scope → ⊥) }
@@ -44,12 +49,26 @@ pub(crate) fn taken_so(options: &PageOptions) -> Option<Scope>
         if !gives_none(&options.setups) {
             return None;
         }
-        return Some(Scope::leaving_out(without));
+        return Some(Scope::from_power_on(profile_asked(options), without));
+    }
+    if options.extended != 0 {
+        return None;
     }
     let Some(setups) = setups_of(without, &options.setups) else {
         return None;
     };
     Some(Scope::joined(setups, without))
+}
+
+/// The profile that the options ask for.
+pub(crate) fn profile_asked(options: &PageOptions) -> Profile
+    ensures { result ≡ profile_by options.now.extended }
+{
+    if options.extended != 0 {
+        Profile::Extended
+    } else {
+        Profile::Base
+    }
 }
 
 /// The devices that are marked.

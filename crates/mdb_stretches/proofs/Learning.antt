@@ -1,5 +1,6 @@
 -- What is told, and what was said last.
 use Rattle.std.proofs.Common.{refl, ap, ◌∙◌, ◌≡◌, List, [], ◌∷◌, Option, Some, None, option_map}
+use Rattle.mdb_msgs.specs.declared.command.Command.{Command}
 use Rattle.mdb_msgs.specs.declared.command.Command.TheVariants as commands
 use Rattle.mdb_msgs.specs.declared.command.Device.{Device}
 use Rattle.mdb_msgs.specs.declared.command.Device.TheVariants as devices
@@ -11,6 +12,7 @@ use Rattle.mdb_msgs.specs.declared.reply.Reply.TheVariants as replies
 use Rattle.mdb_msgs.specs.declared.setups.ReaderConfig.{ReaderConfig}
 use Rattle.mdb_msgs.specs.declared.setups.Setups.{Setups}
 use Rattle.mdb_msgs.specs.Commands.{device_of}
+use Rattle.mdb_msgs.specs.Reader.{ReaderMessages}
 use Rattle.mdb_msgs.specs.SetupData as setup
 use Rattle.mdb_msgs.specs.SetupData.{known_with, last_config, with_config}
 use Rattle.mdb_msgs.specs.Setups.{config_known, nothing_known}
@@ -18,7 +20,8 @@ use Rattle.mdb_bus.specs.declared.act.Act.{Act}
 use Rattle.mdb_bus.specs.declared.act.Act.TheVariants as acts
 use Rattle.mdb_bus.specs.declared.scope.Beginning.{Beginning}
 use Rattle.mdb_bus.specs.declared.scope.Beginning.TheVariants.{PowerOn, Joined}
-use Rattle.mdb_bus.specs.ActLists.{Piece, Whole, acts_of, levels_after, levels_of}
+use Rattle.mdb_bus.specs.declared.scope.Profile.{Profile}
+use Rattle.mdb_bus.specs.ActLists.{Piece, Whole, acts_of, levels_by, levels_of, levels_told}
 use Rattle.mdb_cash.specs.BillFacts as bill
 use Rattle.mdb_cash.specs.ChangerFacts as changer
 use Rattle.mdb_machine.specs.Keeper.{setup_by}
@@ -31,22 +34,26 @@ use Rattle.mdb_stretches.specs.Learning.{AreKnown}
 use Rattle.mdb_stretches.specs.Told.{learnt_by, setups_of, told_after, with_answer}
 
 -- the feature levels
-answer_asks_nothing : (device : Device) (known : Option Setups) (told : Told)
-    → (with_answer device known told).asked ≡ told.asked
-answer_asks_nothing device None told = refl
-answer_asks_nothing device (Some setups) told = refl
+answer_leaves_levels : (device : Device) (known : Option Setups) (told : Told)
+    → (with_answer device known told).levels ≡ told.levels
+answer_leaves_levels device None told = refl
+answer_leaves_levels device (Some setups) told = refl
 
-pub asked_after : (told : Told) (pieces : List Piece)
-    → (told_after told (acts_of pieces)).asked ≡ levels_of told.asked pieces
-asked_after told [] = refl
-asked_after told (Whole (acts.Ask command) events ∷ pieces) =
-    ap (levels_after command) (asked_after told pieces)
-asked_after told (Whole (acts.Reply command reply) events ∷ pieces) =
-    let before : Told = told_after told (acts_of pieces) in
-    answer_asks_nothing (device_of command) (known_with before.setups (device_of command) reply)
-    before ∙ asked_after told pieces
-asked_after told (Whole act events ∷ pieces) = asked_after told pieces
-asked_after told (piece ∷ pieces) = asked_after told pieces
+levels_step : (profile : Profile) (act : Act) (told : Told)
+    → (learnt_by profile act told).levels ≡ levels_by profile act told.levels
+levels_step profile (acts.Ask command) told = refl
+levels_step profile (acts.Reply command reply) told =
+    answer_leaves_levels (device_of command) (known_with told.setups (device_of command) reply)
+    (record told { levels = levels_told profile command reply told.levels })
+levels_step profile act told = refl
+
+pub levels_later : (profile : Profile) (told : Told) (pieces : List Piece)
+    → (told_after profile told (acts_of pieces)).levels ≡ levels_of profile told.levels pieces
+levels_later profile told [] = refl
+levels_later profile told (Whole act events ∷ pieces) =
+    levels_step profile act (told_after profile told (acts_of pieces))
+    ∙ ap (levels_by profile act) (levels_later profile told pieces)
+levels_later profile told (piece ∷ pieces) = levels_later profile told pieces
 
 -- what is told last
 or_else_both : {X : Type 0} (one other last : Option X)
@@ -55,16 +62,16 @@ or_else_both (Some x) other last = refl
 or_else_both None other last = refl
 
 -- what is known of a device, where an act tells it or leaves it
-known_last : {X : Type 0} (of : Setups → Option X) (tells : Act → Option X)
-    → ((act : Act) (told : Told) → of (learnt_by act told).setups
+known_last : {X : Type 0} (of : Setups → Option X) (tells : Act → Option X) (profile : Profile)
+    → ((act : Act) (told : Told) → of (learnt_by profile act told).setups
     ≡ or_else (tells act) (of told.setups))
     → (begins : Beginning) (told : Told) → of told.setups ≡ known_before of begins
-    → (acts : List Act) → of (told_after told acts).setups
+    → (acts : List Act) → of (told_after profile told acts).setups
     ≡ or_else (last_told tells acts) (known_before of begins)
-known_last of tells step begins told is [] = is
-known_last of tells step begins told is (act ∷ acts) =
-    step act (told_after told acts)
-    ∙ ap (or_else (tells act)) (known_last of tells step begins told is acts)
+known_last of tells profile step begins told is [] = is
+known_last of tells profile step begins told is (act ∷ acts) =
+    step act (told_after profile told acts)
+    ∙ ap (or_else (tells act)) (known_last of tells profile step begins told is acts)
     ∙ or_else_both (tells act) (last_told tells acts) (known_before of begins)
 
 -- what is known before
@@ -84,27 +91,38 @@ config_leaves unit None told = (refl, refl)
 config_leaves First (Some config) told = (refl, refl)
 config_leaves Second (Some config) told = (refl, refl)
 
-changer_step : (act : Act) (told : Told) → (learnt_by act told).setups.changer
-    ≡ or_else (setup_by changer.tables act) told.setups.changer
-changer_step (acts.Reply (commands.Changer command) (replies.ChangerSetup table)) told = refl
-changer_step (acts.Reply (commands.Changer command) reply) told = refl
-changer_step (acts.Reply (commands.Bill command) (replies.BillSetup table)) told = refl
-changer_step (acts.Reply (commands.Bill command) reply) told = refl
-changer_step (acts.Reply (commands.Reader unit command) (replies.Reader list)) told =
-    (config_leaves unit (last_config list.messages) told).0
-changer_step (acts.Reply (commands.Reader unit command) reply) told = refl
-changer_step act told = refl
+-- what is told once a reader's level is
+abbrev pub heard : Profile → Command → ReaderMessages → Told → Told
+heard profile command list told = record told {
+  levels = levels_told profile command (replies.Reader list) told.levels;
+}
 
-bill_step : (act : Act) (told : Told) → (learnt_by act told).setups.bill
+changer_step : (profile : Profile) (act : Act) (told : Told)
+    → (learnt_by profile act told).setups.changer
+    ≡ or_else (setup_by changer.tables act) told.setups.changer
+changer_step profile (acts.Reply (commands.Changer command) (replies.ChangerSetup table)) told =
+    refl
+changer_step profile (acts.Reply (commands.Changer command) reply) told = refl
+changer_step profile (acts.Reply (commands.Bill command) (replies.BillSetup table)) told = refl
+changer_step profile (acts.Reply (commands.Bill command) reply) told = refl
+changer_step profile (acts.Reply (commands.Reader unit command) (replies.Reader list)) told =
+    (config_leaves unit (last_config list.messages)
+    (heard profile (commands.Reader unit command) list told)).0
+changer_step profile (acts.Reply (commands.Reader unit command) reply) told = refl
+changer_step profile act told = refl
+
+bill_step : (profile : Profile) (act : Act) (told : Told)
+    → (learnt_by profile act told).setups.bill
     ≡ or_else (setup_by bill.tables act) told.setups.bill
-bill_step (acts.Reply (commands.Changer command) (replies.ChangerSetup table)) told = refl
-bill_step (acts.Reply (commands.Changer command) reply) told = refl
-bill_step (acts.Reply (commands.Bill command) (replies.BillSetup table)) told = refl
-bill_step (acts.Reply (commands.Bill command) reply) told = refl
-bill_step (acts.Reply (commands.Reader unit command) (replies.Reader list)) told =
-    (config_leaves unit (last_config list.messages) told).1
-bill_step (acts.Reply (commands.Reader unit command) reply) told = refl
-bill_step act told = refl
+bill_step profile (acts.Reply (commands.Changer command) (replies.ChangerSetup table)) told = refl
+bill_step profile (acts.Reply (commands.Changer command) reply) told = refl
+bill_step profile (acts.Reply (commands.Bill command) (replies.BillSetup table)) told = refl
+bill_step profile (acts.Reply (commands.Bill command) reply) told = refl
+bill_step profile (acts.Reply (commands.Reader unit command) (replies.Reader list)) told =
+    (config_leaves unit (last_config list.messages)
+    (heard profile (commands.Reader unit command) list told)).1
+bill_step profile (acts.Reply (commands.Reader unit command) reply) told = refl
+bill_step profile act told = refl
 
 -- the config of a reader's last config message, in one way and the other
 same_config : (message : ReaderMsg) → setup.config_in message ≡ config_in message
@@ -139,52 +157,62 @@ other_config : (config : Option ReaderConfig) (told : Told)
 other_config None told = (refl, refl)
 other_config (Some config) told = (refl, refl)
 
-first_step : (act : Act) (told : Told) → (learnt_by act told).setups.first_reader.config
+first_step : (profile : Profile) (act : Act) (told : Told)
+    → (learnt_by profile act told).setups.first_reader.config
     ≡ or_else (reader.config_by First act) told.setups.first_reader.config
-first_step (acts.Reply (commands.Changer command) (replies.ChangerSetup table)) told = refl
-first_step (acts.Reply (commands.Changer command) reply) told = refl
-first_step (acts.Reply (commands.Bill command) (replies.BillSetup table)) told = refl
-first_step (acts.Reply (commands.Bill command) reply) told = refl
-first_step (acts.Reply (commands.Reader First command) (replies.Reader list)) told =
-    own_config First (last_config list.messages) told
+first_step profile (acts.Reply (commands.Changer command) (replies.ChangerSetup table)) told = refl
+first_step profile (acts.Reply (commands.Changer command) reply) told = refl
+first_step profile (acts.Reply (commands.Bill command) (replies.BillSetup table)) told = refl
+first_step profile (acts.Reply (commands.Bill command) reply) told = refl
+first_step profile (acts.Reply (commands.Reader First command) (replies.Reader list)) told =
+    own_config First (last_config list.messages)
+    (heard profile (commands.Reader First command) list told)
     ∙ ap (λ c. or_else c told.setups.first_reader.config) (same_last list.messages)
-first_step (acts.Reply (commands.Reader Second command) (replies.Reader list)) told =
-    ap (λ r. r.config) (other_config (last_config list.messages) told).0
-first_step (acts.Reply (commands.Reader First command) reply) told = refl
-first_step (acts.Reply (commands.Reader Second command) reply) told = refl
-first_step act told = refl
+first_step profile (acts.Reply (commands.Reader Second command) (replies.Reader list)) told =
+    ap (λ r. r.config) (other_config (last_config list.messages)
+    (heard profile (commands.Reader Second command) list told)).0
+first_step profile (acts.Reply (commands.Reader First command) reply) told = refl
+first_step profile (acts.Reply (commands.Reader Second command) reply) told = refl
+first_step profile act told = refl
 
-second_step : (act : Act) (told : Told) → (learnt_by act told).setups.second_reader.config
+second_step : (profile : Profile) (act : Act) (told : Told)
+    → (learnt_by profile act told).setups.second_reader.config
     ≡ or_else (reader.config_by Second act) told.setups.second_reader.config
-second_step (acts.Reply (commands.Changer command) (replies.ChangerSetup table)) told = refl
-second_step (acts.Reply (commands.Changer command) reply) told = refl
-second_step (acts.Reply (commands.Bill command) (replies.BillSetup table)) told = refl
-second_step (acts.Reply (commands.Bill command) reply) told = refl
-second_step (acts.Reply (commands.Reader Second command) (replies.Reader list)) told =
-    own_config Second (last_config list.messages) told
+second_step profile (acts.Reply (commands.Changer command) (replies.ChangerSetup table)) told = refl
+second_step profile (acts.Reply (commands.Changer command) reply) told = refl
+second_step profile (acts.Reply (commands.Bill command) (replies.BillSetup table)) told = refl
+second_step profile (acts.Reply (commands.Bill command) reply) told = refl
+second_step profile (acts.Reply (commands.Reader Second command) (replies.Reader list)) told =
+    own_config Second (last_config list.messages)
+    (heard profile (commands.Reader Second command) list told)
     ∙ ap (λ c. or_else c told.setups.second_reader.config) (same_last list.messages)
-second_step (acts.Reply (commands.Reader First command) (replies.Reader list)) told =
-    ap (λ r. r.config) (other_config (last_config list.messages) told).1
-second_step (acts.Reply (commands.Reader First command) reply) told = refl
-second_step (acts.Reply (commands.Reader Second command) reply) told = refl
-second_step act told = refl
+second_step profile (acts.Reply (commands.Reader First command) (replies.Reader list)) told =
+    ap (λ r. r.config) (other_config (last_config list.messages)
+    (heard profile (commands.Reader First command) list told)).1
+second_step profile (acts.Reply (commands.Reader First command) reply) told = refl
+second_step profile (acts.Reply (commands.Reader Second command) reply) told = refl
+second_step profile act told = refl
 
-config_known_of : (begins : Beginning) (told : Told) (acts : List Act) (unit : ReaderUnit)
-    → told.setups ≡ setups_of begins
-    → config_known (told_after told acts).setups unit ≡ (reader.known_of begins unit acts).config
-config_known_of begins told acts First is =
-    known_last (λ setups. config_known setups First) (reader.config_by First) first_step begins told
+config_known_of : (begins : Beginning) (profile : Profile) (told : Told) (acts : List Act)
+    (unit : ReaderUnit) → told.setups ≡ setups_of begins
+    → config_known (told_after profile told acts).setups unit
+    ≡ (reader.known_of begins unit acts).config
+config_known_of begins profile told acts First is =
+    known_last (λ setups. config_known setups First) (reader.config_by First) profile
+    (first_step profile) begins told
     (known_first (λ setups. config_known setups First) refl begins told is) acts
-config_known_of begins told acts Second is =
-    known_last (λ setups. config_known setups Second) (reader.config_by Second) second_step begins
-    told (known_first (λ setups. config_known setups Second) refl begins told is) acts
+config_known_of begins profile told acts Second is =
+    known_last (λ setups. config_known setups Second) (reader.config_by Second) profile
+    (second_step profile) begins told
+    (known_first (λ setups. config_known setups Second) refl begins told is) acts
 
-pub setups_after : (begins : Beginning) (told : Told) (acts : List Act)
-    → told.setups ≡ setups_of begins → AreKnown begins (told_after told acts).setups acts
-setups_after begins told acts is = record {
-  changer = known_last (λ setups. setups.changer) (setup_by changer.tables) changer_step begins told
+pub setups_after : (begins : Beginning) (profile : Profile) (told : Told) (acts : List Act)
+    → told.setups ≡ setups_of begins → AreKnown begins (told_after profile told acts).setups acts
+setups_after begins profile told acts is = record {
+  changer = known_last (λ setups. setups.changer) (setup_by changer.tables) profile
+      (changer_step profile) begins told
       (known_first (λ setups. setups.changer) refl begins told is) acts;
-  bill = known_last (λ setups. setups.bill) (setup_by bill.tables) bill_step begins told
-      (known_first (λ setups. setups.bill) refl begins told is) acts;
-  reader = λ unit. config_known_of begins told acts unit is;
+  bill = known_last (λ setups. setups.bill) (setup_by bill.tables) profile (bill_step profile)
+      begins told (known_first (λ setups. setups.bill) refl begins told is) acts;
+  reader = λ unit. config_known_of begins profile told acts unit is;
 }

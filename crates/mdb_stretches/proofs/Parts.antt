@@ -16,7 +16,7 @@ use Rattle.mdb_bus.specs.declared.fault.Rule.TheVariants as rules
 use Rattle.mdb_bus.specs.declared.scope.Scope.{Scope}
 use Rattle.mdb_bus.specs.ActLists.{acts_of}
 use Rattle.mdb_bus.specs.LinkFaults.{blame_on}
-use Rattle.mdb_bus.specs.Scopes.{IsFollowed, IsLeftOut}
+use Rattle.mdb_bus.specs.Scopes.{IsFollowed, IsLeftOut, profile_of}
 use Rattle.mdb_follow.specs.declared.offence.Offence.{Offence}
 use Rattle.mdb_follow.specs.declared.report.Report.{Report}
 use Rattle.mdb_follow.specs.Offences.{IsOffence}
@@ -165,7 +165,8 @@ stays_left_out start rows [] running place device lead is =
     subst (λ (p : StretchStart). IsLeftOut p.scope device) (sym lead.1) is
 stays_left_out start rows (it ∷ earlier) running place device goes is =
     subst (λ (p : StretchStart). IsLeftOut p.scope device) (sym goes.ends.on)
-    (for_stays goes.ends.offence.rule (told_after goes.from.told (acts_of goes.ends.pieces))
+    (for_stays goes.ends.offence.rule
+    (told_after (profile_of goes.from.scope.begins) goes.from.told (acts_of goes.ends.pieces))
     goes.ends.offence.blame goes.from.scope.without device
     (stays_left_out start goes.front earlier goes.before goes.from device goes.lead is))
 
@@ -342,7 +343,8 @@ left_out_why : (start : StretchStart) (rows : List Event) (ended : List Ended)
 left_out_why start rows [] running place device lead out =
     inl (subst (λ (p : StretchStart). IsLeftOut p.scope device) lead.1 out)
 left_out_why start rows (it ∷ earlier) running place device goes out =
-    elim (for_came goes.ends.offence.rule (told_after goes.from.told (acts_of goes.ends.pieces))
+    elim (for_came goes.ends.offence.rule
+    (told_after (profile_of goes.from.scope.begins) goes.from.told (acts_of goes.ends.pieces))
     goes.ends.offence.blame goes.from.scope.without device
     (subst (λ (p : StretchStart). IsLeftOut p.scope device) goes.ends.on out)) [
       | inl before ↦ elim (left_out_why start goes.front earlier goes.before goes.from device

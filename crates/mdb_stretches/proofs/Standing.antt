@@ -6,7 +6,9 @@ use Rattle.mdb_words.specs.declared.event.Event.{Event}
 use Rattle.mdb_msgs.specs.declared.device_set.DeviceSet.{DeviceSet}
 use Rattle.mdb_bus.specs.declared.act.Act.{Act}
 use Rattle.mdb_bus.specs.declared.scope.Scope.{Scope}
+use Rattle.mdb_bus.specs.declared.scope.Profile.{Profile}
 use Rattle.mdb_bus.specs.ActLists.{IsActList, Piece, acts_of, with_act}
+use Rattle.mdb_bus.specs.Scopes.{profile_of}
 use Rattle.mdb_follow.specs.declared.offence.Offence.{Offence}
 use Rattle.mdb_follow.specs.declared.report.Report.{Report}
 use Rattle.mdb_follow.specs.EndedActs.{IsEndedAct}
@@ -41,15 +43,17 @@ no_acts one scope pieces list =
     ap acts_of (one scope [] pieces [] list (record { in_order = tt; whole = refl }))
 
 pub told_nothing : OneActList → (scope : Scope) (told : Told) (pieces : List Piece)
-    → IsActList scope pieces [] → told ≡ told_after told (acts_of pieces)
+    → IsActList scope pieces []
+    → told ≡ told_after (profile_of scope.begins) told (acts_of pieces)
 told_nothing one scope told pieces list =
-    ap (told_after told) (sym (no_acts one scope pieces list))
+    ap (told_after (profile_of scope.begins) told) (sym (no_acts one scope pieces list))
 
 -- what is told with one act more, if there is one
-learnt_more : (told : Told) (act : Option Act) (acts : List Act)
-    → learnt_if act (told_after told acts) ≡ told_after told (with_act act acts)
-learnt_more told None acts = refl
-learnt_more told (Some act) acts = refl
+learnt_more : (profile : Profile) (told : Told) (act : Option Act) (acts : List Act)
+    → learnt_if profile act (told_after profile told acts)
+    ≡ told_after profile told (with_act act acts)
+learnt_more profile told None acts = refl
+learnt_more profile told (Some act) acts = refl
 
 -- a row is taken
 pub taken_more : OneActList → (old new : Surveyor) (scope : Scope) (rows : List Event)
@@ -59,13 +63,15 @@ pub taken_more : OneActList → (old new : Surveyor) (scope : Scope) (rows : Lis
     → follow.scope_of new.follower ≡ follow.scope_of old.follower
     → ((events : List Event) → follow.StandsFor old.follower events
     → IsEndedAct (follow.scope_of old.follower) events row act)
-    → new.told ≡ learnt_if act old.told → new.scope ≡ old.scope → new.before ≡ old.before
+    → new.told ≡ learnt_if (profile_of old.scope.begins) act old.told → new.scope ≡ old.scope
+    → new.before ≡ old.before
     → new.faults ≡ old.faults → new.totals ≡ old.totals
     → StandsFor new scope (rows ++ row ∷ []) ended
 taken_more one old new scope rows ended row act on follows same_scope ends learnt so before faults
     totals =
     let it : IsEndedAct on.place.scope on.running row act =
     subst (λ s. IsEndedAct s on.running row act) on.followed_so (ends on.running on.follows) in
+    let profile : Profile = profile_of on.place.scope.begins in
     record {
       running = on.running ++ row ∷ [];
       place = on.place;
@@ -74,10 +80,11 @@ taken_more one old new scope rows ended row act on follows same_scope ends learn
       followed_so = same_scope ∙ on.followed_so;
       taken_so = so ∙ on.taken_so;
       told = λ pieces list.
-          learnt ∙ ap (learnt_if act) (on.told it.before it.shorter)
-          ∙ learnt_more on.place.told act (acts_of it.before)
-          ∙ ap (told_after on.place.told) (sym it.acts)
-          ∙ ap (λ ps. told_after on.place.told (acts_of ps)) (one on.place.scope
+          learnt ∙ ap (λ (s : Scope). learnt_if (profile_of s.begins) act old.told) on.taken_so
+          ∙ ap (learnt_if profile act) (on.told it.before it.shorter)
+          ∙ learnt_more profile on.place.told act (acts_of it.before)
+          ∙ ap (told_after profile on.place.told) (sym it.acts)
+          ∙ ap (λ ps. told_after profile on.place.told (acts_of ps)) (one on.place.scope
           (on.running ++ row ∷ []) (it.newest ∷ it.earlier) pieces it.act_list list);
       before = before ∙ on.before;
       faults = faults ∙ on.faults;
@@ -206,7 +213,9 @@ next_stands one old new scope rows row ended offence report stretch on noted rep
     let pieces : List Piece = on.accepted.pieces in
     let list : IsActList on.place.scope pieces on.running =
     subst (λ s. IsActList s pieces on.running) on.followed_so on.accepted.act_list in
-    let known : old.told ≡ told_after on.place.told (acts_of pieces) = on.told pieces list in
+    let known : old.told
+    ≡ told_after (profile_of on.place.scope.begins) on.place.told (acts_of pieces) =
+    on.told pieces list in
     let next : StretchStart = place_after on.place (length on.running) (acts_of pieces) offence in
     let after : scope_after old.told offence old.scope ≡ next.scope =
     ap (λ (t : Told). scope_after t offence old.scope) known

@@ -14,21 +14,24 @@ use Rattle.mdb_msgs.specs.Reader.{ReaderMessages}
 use Rattle.mdb_msgs.specs.SetupData.{known_with, last_config, with_config}
 use Rattle.mdb_bus.specs.declared.act.Act.{Act}
 use Rattle.mdb_bus.specs.declared.act.Act.TheVariants as acts
+use Rattle.mdb_bus.specs.declared.scope.Profile.{Profile}
 use Rattle.mdb_stretches.specs.declared.told.Told.{Told}
-use Rattle.mdb_stretches.specs.Told.{learnt_by, told_after, with_answer}
-use Rattle.mdb_stretches.specs.Unanswered.{HasConfig, IsNeither, IsUnanswered, TellsLevel, level_of}
+use Rattle.mdb_stretches.specs.Told.{learnt_by, level_of, told_after, with_answer}
+use Rattle.mdb_stretches.specs.Unanswered.{HasConfig, IsNeither, IsUnanswered, TellsLevel}
+use Rattle.mdb_stretches.proofs.Learning.{heard}
 
 -- what is told on of a reader
 abbrev kept : ReaderUnit → Told → Option ℕ
 kept unit told = level_of unit told.unanswered
 
 -- what an act does to that
-data Does (unit : ReaderUnit) (act : Act) (told : Told) : Type 0 where
+data Does (profile : Profile) (unit : ReaderUnit) (act : Act) (told : Told) : Type 0 where
   tells : (level : ℕ) → TellsLevel unit level act
-      → kept unit (learnt_by act told) ≡ Some level → Does unit act told
-  answers : HasConfig unit act → kept unit (learnt_by act told) ≡ None → Does unit act told
-  neither : IsNeither unit act → kept unit (learnt_by act told) ≡ kept unit told
-      → Does unit act told
+      → kept unit (learnt_by profile act told) ≡ Some level → Does profile unit act told
+  answers : HasConfig unit act → kept unit (learnt_by profile act told) ≡ None
+      → Does profile unit act told
+  neither : IsNeither unit act → kept unit (learnt_by profile act told) ≡ kept unit told
+      → Does profile unit act told
 
 -- a reply of another reader
 second_keeps : (setups : Option Setups) (told : Told)
@@ -54,12 +57,12 @@ own_answer First told (Some config) = refl
 own_answer Second told None = refl
 own_answer Second told (Some config) = refl
 
-own_reply : (unit : ReaderUnit) (asked : ReaderCommand) (list : ReaderMessages) (told : Told)
-    (config : Option ReaderConfig) → last_config list.messages ≡ config
-    → kept unit (learnt_by (acts.Reply (commands.Reader unit asked) (replies.Reader list)) told)
-    ≡ answered_by unit told config
-    → Does unit (acts.Reply (commands.Reader unit asked) (replies.Reader list)) told
-own_reply unit asked list told None none step =
+own_reply : (profile : Profile) (unit : ReaderUnit) (asked : ReaderCommand) (list : ReaderMessages)
+    (told : Told) (config : Option ReaderConfig) → last_config list.messages ≡ config
+    → kept unit (learnt_by profile (acts.Reply (commands.Reader unit asked) (replies.Reader list))
+    told) ≡ answered_by unit told config
+    → Does profile unit (acts.Reply (commands.Reader unit asked) (replies.Reader list)) told
+own_reply profile unit asked list told None none step =
     neither (
       λ level tells. cc (tells.is),
       λ has. let same : list ≡ has.list = cc (has.is) in
@@ -67,83 +70,101 @@ own_reply unit asked list told None none step =
           sym none ∙ ap (λ l. last_config l.messages) same ∙ has.has in
           cc clash,
     ) step
-own_reply unit asked list told (Some config) is step =
+own_reply profile unit asked list told (Some config) is step =
     answers (record { asked = asked; list = list; is = refl; config = config; has = is }) step
 
 -- each act
-does : (unit : ReaderUnit) (act : Act) (told : Told) → Does unit act told
-does First (acts.Ask (commands.Reader First (readers.SetupConfig level columns rows display)))
+does : (profile : Profile) (unit : ReaderUnit) (act : Act) (told : Told)
+    → Does profile unit act told
+does profile First (acts.Ask (commands.Reader First
+    (readers.SetupConfig level columns rows display)))
     told = tells level (record { columns = columns; rows = rows; display = display; is = refl })
     refl
-does Second (acts.Ask (commands.Reader Second (readers.SetupConfig level columns rows display)))
+does profile Second (acts.Ask (commands.Reader Second
+    (readers.SetupConfig level columns rows display)))
     told = tells level (record { columns = columns; rows = rows; display = display; is = refl })
     refl
-does First (acts.Ask (commands.Reader Second (readers.SetupConfig level columns rows display)))
+does profile First (acts.Ask (commands.Reader Second
+    (readers.SetupConfig level columns rows display)))
     told = neither (λ other tells. cc (tells.is), λ has. cc (has.is)) refl
-does Second (acts.Ask (commands.Reader First (readers.SetupConfig level columns rows display)))
+does profile Second (acts.Ask (commands.Reader First
+    (readers.SetupConfig level columns rows display)))
     told = neither (λ other tells. cc (tells.is), λ has. cc (has.is)) refl
-does First (acts.Reply (commands.Reader First asked) (replies.Reader list)) told =
-    own_reply First asked list told (last_config list.messages) refl
-    (own_answer First told (last_config list.messages))
-does Second (acts.Reply (commands.Reader Second asked) (replies.Reader list)) told =
-    own_reply Second asked list told (last_config list.messages) refl
-    (own_answer Second told (last_config list.messages))
-does First (acts.Reply (commands.Reader Second asked) (replies.Reader list)) told =
+does profile First (acts.Reply (commands.Reader First asked) (replies.Reader list)) told =
+    own_reply profile First asked list told (last_config list.messages) refl
+    (own_answer First (heard profile (commands.Reader First asked) list told)
+    (last_config list.messages))
+does profile Second (acts.Reply (commands.Reader Second asked) (replies.Reader list)) told =
+    own_reply profile Second asked list told (last_config list.messages) refl
+    (own_answer Second (heard profile (commands.Reader Second asked) list told)
+    (last_config list.messages))
+does profile First (acts.Reply (commands.Reader Second asked) (replies.Reader list)) told =
     neither (λ level tells. cc (tells.is), λ has. cc (has.is))
-    (second_keeps (known_with told.setups (devices.Reader Second) (replies.Reader list)) told)
-does Second (acts.Reply (commands.Reader First asked) (replies.Reader list)) told =
+    (second_keeps (known_with told.setups (devices.Reader Second) (replies.Reader list))
+    (heard profile (commands.Reader Second asked) list told))
+does profile Second (acts.Reply (commands.Reader First asked) (replies.Reader list)) told =
     neither (λ level tells. cc (tells.is), λ has. cc (has.is))
-    (first_keeps (known_with told.setups (devices.Reader First) (replies.Reader list)) told)
-does unit (acts.Reply (commands.Changer asked) (replies.ChangerSetup table)) told =
+    (first_keeps (known_with told.setups (devices.Reader First) (replies.Reader list))
+    (heard profile (commands.Reader First asked) list told))
+does profile unit (acts.Reply (commands.Changer asked) (replies.ChangerSetup table)) told =
     neither (λ level tells. cc (tells.is), λ has. cc (has.is)) refl
-does unit (acts.Reply (commands.Bill asked) (replies.BillSetup table)) told =
+does profile unit (acts.Reply (commands.Bill asked) (replies.BillSetup table)) told =
     neither (λ level tells. cc (tells.is), λ has. cc (has.is)) refl
-does unit act told = neither (λ level tells. cc (tells.is), λ has. cc (has.is)) refl
+does profile unit act told = neither (λ level tells. cc (tells.is), λ has. cc (has.is)) refl
 
-tells_by : (unit : ReaderUnit) (level : ℕ) (act : Act) (told : Told) → TellsLevel unit level act
-    → Does unit act told → kept unit (learnt_by act told) ≡ Some level
-tells_by unit level act told it (tells other also is) =
+tells_by : (profile : Profile) (unit : ReaderUnit) (level : ℕ) (act : Act) (told : Told)
+    → TellsLevel unit level act
+    → Does profile unit act told → kept unit (learnt_by profile act told) ≡ Some level
+tells_by profile unit level act told it (tells other also is) =
     let same : other ≡ level = cc (it.is, also.is) in
     is ∙ ap (λ l. Some l) same
-tells_by unit level act told it (answers has is) =
+tells_by profile unit level act told it (answers has is) =
     let clash : acts.Ask (commands.Reader unit
     (readers.SetupConfig level it.columns it.rows it.display))
     ≡ acts.Reply (commands.Reader unit has.asked) (replies.Reader has.list) = sym it.is ∙ has.is in
     cc clash
-tells_by unit level act told it (neither is_neither is) = absurd (is_neither.0 level it)
+tells_by profile unit level act told it (neither is_neither is) = absurd (is_neither.0 level it)
 
-leaves_by : (unit : ReaderUnit) (act : Act) (told : Told) → IsNeither unit act
-    → Does unit act told → kept unit (learnt_by act told) ≡ kept unit told
-leaves_by unit act told is_neither (tells level it is) = absurd (is_neither.0 level it)
-leaves_by unit act told is_neither (answers has is) = absurd (is_neither.1 has)
-leaves_by unit act told is_neither (neither so is) = is
+leaves_by : (profile : Profile) (unit : ReaderUnit) (act : Act) (told : Told) → IsNeither unit act
+    → Does profile unit act told → kept unit (learnt_by profile act told) ≡ kept unit told
+leaves_by profile unit act told is_neither (tells level it is) = absurd (is_neither.0 level it)
+leaves_by profile unit act told is_neither (answers has is) = absurd (is_neither.1 has)
+leaves_by profile unit act told is_neither (neither so is) = is
 
-leave : (unit : ReaderUnit) (told : Told) (done : List Act) → All (IsNeither unit) done
-    → kept unit (told_after told done) ≡ kept unit told
-leave unit told [] since = refl
-leave unit told (act ∷ done) since =
-    leaves_by unit act (told_after told done) (All-head (IsNeither unit) act done since)
-    (does unit act (told_after told done))
-    ∙ leave unit told done (All-tail (IsNeither unit) act done since)
+leave : (profile : Profile) (unit : ReaderUnit) (told : Told) (done : List Act)
+    → All (IsNeither unit) done
+    → kept unit (told_after profile told done) ≡ kept unit told
+leave profile unit told [] since = refl
+leave profile unit told (act ∷ done) since =
+    leaves_by profile unit act (told_after profile told done)
+    (All-head (IsNeither unit) act done since)
+    (does profile unit act (told_after profile told done))
+    ∙ leave profile unit told done (All-tail (IsNeither unit) act done since)
 
-told_last : (unit : ReaderUnit) (level : ℕ) (told : Told) (later before : List Act) (ask : Act)
+told_last : (profile : Profile) (unit : ReaderUnit) (level : ℕ) (told : Told)
+    (later before : List Act) (ask : Act)
     → TellsLevel unit level ask → All (IsNeither unit) later
-    → kept unit (told_after told (later ++ ask ∷ before)) ≡ Some level
-told_last unit level told [] before ask it since =
-    tells_by unit level ask (told_after told before) it (does unit ask (told_after told before))
-told_last unit level told (act ∷ later) before ask it since =
-    let so_far : Told = told_after told (later ++ ask ∷ before) in
-    leaves_by unit act so_far (All-head (IsNeither unit) act later since) (does unit act so_far)
-    ∙ told_last unit level told later before ask it (All-tail (IsNeither unit) act later since)
+    → kept unit (told_after profile told (later ++ ask ∷ before)) ≡ Some level
+told_last profile unit level told [] before ask it since =
+    tells_by profile unit level ask (told_after profile told before) it
+    (does profile unit ask (told_after profile told before))
+told_last profile unit level told (act ∷ later) before ask it since =
+    let so_far : Told = told_after profile told (later ++ ask ∷ before) in
+    leaves_by profile unit act so_far (All-head (IsNeither unit) act later since)
+    (does profile unit act so_far)
+    ∙ told_last profile unit level told later before ask it
+    (All-tail (IsNeither unit) act later since)
 
 -- what is told on, and why
-abbrev Why : ReaderUnit → ℕ → Told → List Act → Type 0
-Why unit level told done =
+abbrev Why : Profile → ReaderUnit → ℕ → Told → List Act → Type 0
+Why profile unit level told done =
     IsUnanswered unit level done ⊎ (All (IsNeither unit) done × (kept unit told ≡ Some level))
 
-further : (unit : ReaderUnit) (level : ℕ) (told : Told) (act : Act) (done : List Act)
-    → IsNeither unit act → Why unit level told done → Why unit level told (act ∷ done)
-further unit level told act done is_neither (inl last) = inl (record {
+further : (profile : Profile) (unit : ReaderUnit) (level : ℕ) (told : Told) (act : Act)
+    (done : List Act)
+    → IsNeither unit act → Why profile unit level told done
+    → Why profile unit level told (act ∷ done)
+further profile unit level told act done is_neither (inl last) = inl (record {
   later = act ∷ last.later;
   ask = last.ask;
   before = last.before;
@@ -151,15 +172,16 @@ further unit level told act done is_neither (inl last) = inl (record {
   tells = last.tells;
   since = All-cons (IsNeither unit) act last.later is_neither last.since;
 })
-further unit level told act done is_neither (inr none) =
+further profile unit level told act done is_neither (inr none) =
     inr (All-cons (IsNeither unit) act done is_neither none.0, none.1)
 
-why_by : (unit : ReaderUnit) (level : ℕ) (told : Told) (act : Act) (done : List Act)
-    → (kept unit (told_after told done) ≡ Some level → Why unit level told done)
-    → Does unit act (told_after told done)
-    → kept unit (learnt_by act (told_after told done)) ≡ Some level
-    → Why unit level told (act ∷ done)
-why_by unit level told act done why (tells other it is) kept_is =
+why_by : (profile : Profile) (unit : ReaderUnit) (level : ℕ) (told : Told) (act : Act)
+    (done : List Act)
+    → (kept unit (told_after profile told done) ≡ Some level → Why profile unit level told done)
+    → Does profile unit act (told_after profile told done)
+    → kept unit (learnt_by profile act (told_after profile told done)) ≡ Some level
+    → Why profile unit level told (act ∷ done)
+why_by profile unit level told act done why (tells other it is) kept_is =
     let clash : Some other ≡ Some level = sym is ∙ kept_is in
     let same : other ≡ level = cc clash in
     inl (record {
@@ -170,29 +192,30 @@ why_by unit level told act done why (tells other it is) kept_is =
       tells = subst (λ l. TellsLevel unit l act) same it;
       since = All-nil (IsNeither unit);
     })
-why_by unit level told act done why (answers has is) kept_is =
+why_by profile unit level told act done why (answers has is) kept_is =
     let clash : None ≡ Some level = sym is ∙ kept_is in
     cc clash
-why_by unit level told act done why (neither is_neither is) kept_is =
-    further unit level told act done is_neither (why (sym is ∙ kept_is))
+why_by profile unit level told act done why (neither is_neither is) kept_is =
+    further profile unit level told act done is_neither (why (sym is ∙ kept_is))
 
-why_kept : (unit : ReaderUnit) (level : ℕ) (told : Told) (done : List Act)
-    → kept unit (told_after told done) ≡ Some level → Why unit level told done
-why_kept unit level told [] is = inr (All-nil (IsNeither unit), is)
-why_kept unit level told (act ∷ done) is =
-    why_by unit level told act done (why_kept unit level told done)
-    (does unit act (told_after told done)) is
+why_kept : (profile : Profile) (unit : ReaderUnit) (level : ℕ) (told : Told) (done : List Act)
+    → kept unit (told_after profile told done) ≡ Some level → Why profile unit level told done
+why_kept profile unit level told [] is = inr (All-nil (IsNeither unit), is)
+why_kept profile unit level told (act ∷ done) is =
+    why_by profile unit level told act done (why_kept profile unit level told done)
+    (does profile unit act (told_after profile told done)) is
 
-kept_why : (unit : ReaderUnit) (level : ℕ) (told : Told) (done : List Act)
-    → Why unit level told done → kept unit (told_after told done) ≡ Some level
-kept_why unit level told done (inl last) =
-    ap (λ l. kept unit (told_after told l)) last.order
-    ∙ told_last unit level told last.later last.before last.ask last.tells last.since
-kept_why unit level told done (inr none) = leave unit told done none.0 ∙ none.1
+kept_why : (profile : Profile) (unit : ReaderUnit) (level : ℕ) (told : Told) (done : List Act)
+    → Why profile unit level told done → kept unit (told_after profile told done) ≡ Some level
+kept_why profile unit level told done (inl last) =
+    ap (λ l. kept unit (told_after profile told l)) last.order
+    ∙ told_last profile unit level told last.later last.before last.ask last.tells last.since
+kept_why profile unit level told done (inr none) = leave profile unit told done none.0 ∙ none.1
 
-pub unanswered_after : (told : Told) (done : List Act) (unit : ReaderUnit) (level : ℕ)
-    → (level_of unit (told_after told done).unanswered ≡ Some level)
+pub unanswered_after : (profile : Profile) (told : Told) (done : List Act) (unit : ReaderUnit)
+    (level : ℕ)
+    → (level_of unit (told_after profile told done).unanswered ≡ Some level)
     ↔ (IsUnanswered unit level done
     ⊎ (All (IsNeither unit) done × (level_of unit told.unanswered ≡ Some level)))
-unanswered_after told done unit level =
-    (why_kept unit level told done, kept_why unit level told done)
+unanswered_after profile told done unit level =
+    (why_kept profile unit level told done, kept_why profile unit level told done)

@@ -23,7 +23,7 @@ use Rattle.mdb_follow.specs.Report.{IsReport}
 use Rattle.mdb_stretches.specs.declared.stretch.Ended.{Ended}
 use Rattle.mdb_stretches.specs.declared.stretch.Stretch.{Stretch}
 use Rattle.mdb_stretches.specs.declared.told.Told.{Told}
-use Rattle.mdb_stretches.specs.Told.{is_told_below_2, told_after, told_before}
+use Rattle.mdb_stretches.specs.Told.{is_told_below_2, levels_on, told_after, told_before}
 
 -- Where a stretch begins.
 pub record StretchStart : Type 0 where
@@ -66,13 +66,13 @@ abbrev pub scope_after : Told → Offence → Scope → Scope
 scope_after told offence scope = record {
   begins = Joined told.setups (profile_of scope.begins);
   without = left_out_after told offence scope.without;
-  levels = told.unanswered;
+  levels = levels_on (profile_of scope.begins) told;
 }
 
 -- where the next stretch begins, after so many rows with these acts, and a fault
 abbrev pub place_after : StretchStart → ℕ → List Act → Offence → StretchStart
 place_after place rows acts offence =
-    let told : Told = told_after place.told acts in
+    let told : Told = told_after (profile_of place.scope.begins) place.told acts in
     record {
       faults = place.faults + 1;
       rows = place.rows + (rows + 1);

@@ -14,8 +14,10 @@ use Rattle.mdb_bus.specs.declared.act.Act.TheVariants as acts
 use Rattle.mdb_bus.specs.declared.levels.Levels.{Levels}
 use Rattle.mdb_bus.specs.declared.scope.Beginning.{Beginning}
 use Rattle.mdb_bus.specs.declared.scope.Beginning.TheVariants.{PowerOn, Joined}
+use Rattle.mdb_bus.specs.declared.scope.Profile.{Profile}
+use Rattle.mdb_bus.specs.declared.scope.Profile.TheVariants.{Base, Extended}
 use Rattle.mdb_bus.specs.declared.scope.Scope.{Scope}
-use Rattle.mdb_bus.specs.ActLists.{levels_after}
+use Rattle.mdb_bus.specs.ActLists.{levels_after, levels_told}
 use Rattle.mdb_stretches.specs.declared.told.Told.{Told}
 
 -- the setup data that are known before a recording that begins so
@@ -27,7 +29,7 @@ setups_of (Joined setups profile) = setups
 abbrev pub told_before : Scope → Told
 told_before scope = record {
   setups = setups_of scope.begins;
-  asked = scope.levels;
+  levels = scope.levels;
   unanswered = scope.levels;
 }
 
@@ -46,32 +48,40 @@ with_answer device (Some setups) told =
     record told { setups = setups; unanswered = answered device told.unanswered }
 
 -- what is told after an act: a SETUP config ask tells a feature level; a reply tells how its device
--- is set up where it is an answer to SETUP, or has a config message, whoever heard it
-abbrev pub learnt_by : Act → Told → Told
-learnt_by (acts.Ask command) told = record told {
-  asked = levels_after command told.asked;
+-- is set up where it is an answer to SETUP, or has a config message, whoever heard it, and by the
+-- extended profile the reader's own level
+abbrev pub learnt_by : Profile → Act → Told → Told
+learnt_by profile (acts.Ask command) told = record told {
+  levels = levels_after command told.levels;
   unanswered = levels_after command told.unanswered;
 }
-learnt_by (acts.Reply command reply) told =
-    with_answer (device_of command) (known_with told.setups (device_of command) reply) told
-learnt_by act told = told
+learnt_by profile (acts.Reply command reply) told =
+    with_answer (device_of command) (known_with told.setups (device_of command) reply)
+    (record told { levels = levels_told profile command reply told.levels })
+learnt_by profile act told = told
 
 -- what is told after an act, if there is one
-abbrev pub learnt_if : Option Act → Told → Told
-learnt_if None told = told
-learnt_if (Some act) told = learnt_by act told
+abbrev pub learnt_if : Profile → Option Act → Told → Told
+learnt_if profile None told = told
+learnt_if profile (Some act) told = learnt_by profile act told
 
 -- what is told after acts
-abbrev pub told_after : Told → List Act → Told
-told_after told [] = told
-told_after told (act ∷ acts) = learnt_by act (told_after told acts)
+abbrev pub told_after : Profile → Told → List Act → Told
+told_after profile told [] = told
+told_after profile told (act ∷ acts) = learnt_by profile act (told_after profile told acts)
 
--- what the controller has last told a reader of its feature level
-abbrev pub asked_level : Told → ReaderUnit → Option ℕ
-asked_level told First = told.asked.first.asked
-asked_level told Second = told.asked.second.asked
+-- the levels that a stretch is told: by the base profile those of the controller that no config
+-- message has answered, by the extended one the last of either side
+abbrev pub levels_on : Profile → Told → Levels
+levels_on Base told = told.unanswered
+levels_on Extended told = told.levels
 
--- whether that is a level below 2
+-- the level that the controller has told a reader
+abbrev pub level_of : ReaderUnit → Levels → Option ℕ
+level_of First levels = levels.first.asked
+level_of Second levels = levels.second.asked
+
+-- whether the last one is below 2
 abbrev pub is_told_below_2 : Told → ReaderUnit → Bool
 is_told_below_2 told unit =
-    elim (asked_level told unit) [ Some level ↦ nat_lt level 2 | None ↦ false ]
+    elim (level_of unit told.levels) [ Some level ↦ nat_lt level 2 | None ↦ false ]

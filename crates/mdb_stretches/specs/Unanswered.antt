@@ -1,24 +1,17 @@
--- Which feature level a stretch is told of a reader (this profile): the last one that the
--- controller told it, if the reader has sent no config message since. Lists of acts stand newest
--- first.
-use Rattle.std.specs.Prelude.{◌≡◌, ◌++◌, ℕ, List, ◌∷◌, All, Option, Some}
+-- Which feature level a stretch is told of a reader by the base profile (this profile): the last
+-- one that the controller told it, if the reader has sent no config message since. Lists of acts
+-- stand newest first.
+use Rattle.std.specs.Prelude.{◌≡◌, ◌++◌, ℕ, List, ◌∷◌, All, Some}
 use Rattle.mdb_msgs.specs.declared.command.Command.TheVariants as commands
 use Rattle.mdb_msgs.specs.declared.command.ReaderCommand.{ReaderCommand}
 use Rattle.mdb_msgs.specs.declared.command.ReaderCommand.TheVariants as readers
 use Rattle.mdb_msgs.specs.declared.command.ReaderUnit.{ReaderUnit}
-use Rattle.mdb_msgs.specs.declared.command.ReaderUnit.TheVariants.{First, Second}
 use Rattle.mdb_msgs.specs.declared.reply.Reply.TheVariants as replies
 use Rattle.mdb_msgs.specs.declared.setups.ReaderConfig.{ReaderConfig}
 use Rattle.mdb_msgs.specs.Reader.{ReaderMessages}
 use Rattle.mdb_msgs.specs.SetupData.{last_config}
 use Rattle.mdb_bus.specs.declared.act.Act.{Act}
 use Rattle.mdb_bus.specs.declared.act.Act.TheVariants as acts
-use Rattle.mdb_bus.specs.declared.levels.Levels.{Levels}
-
--- the level of a reader
-abbrev pub level_of : ReaderUnit → Levels → Option ℕ
-level_of First levels = levels.first.asked
-level_of Second levels = levels.second.asked
 
 -- An act tells this reader this level: it is a whole SETUP config ask.
 pub record TellsLevel (unit : ReaderUnit) (level : ℕ) (act : Act) : Type 0 where

@@ -137,7 +137,8 @@ impl Surveyor {
         links::transcripts_have_one_act_list();
         match self.follower.feed_ending(event) {
             Some(has_ended) => {
-                self.told.learn_if(has_ended, self.follower.act());
+                self.told
+                    .learn_if(&self.scope, has_ended, self.follower.act());
                 true
             }
             None => false,
@@ -229,7 +230,7 @@ fn scope_after(told: &Told, fault: &Offence, scope: &Scope) -> Scope
     Scope {
         begins: Beginning::Joined(told.setups.copy(), scope.begins.profile()),
         without: left_out_after(told, fault, scope.without),
-        levels: told.unanswered,
+        levels: told.levels_on(scope.begins.profile()),
     }
 }
 

@@ -65,27 +65,39 @@ setup changer cashless\nwithout bill\n";
 const HELP: &[u8] = b"mdbcheck: commands: check (verdict), survey (all faults), show (acts), \
 explain (bound), replay (explanation); all: mdbcheck manual\n";
 
-const CHECK_HELP: &[u8] = b"mdbcheck: usage: mdbcheck check [--joined] \
-[--setup 'DEVICE BYTES'].. [--without DEVICE].. [--json] < TRANSCRIPT; \
+const CHECK_HELP: &[u8] = b"mdbcheck: usage: mdbcheck check [--joined|--extended] \
+[--setup 'DEVICE ..'].. [--without DEVICE].. [--json] < FILE; \
 all: mdbcheck manual check\n";
 
-const SHOW_HELP: &[u8] = b"mdbcheck: usage: mdbcheck show [--without DEVICE].. [--json] \
+const SHOW_HELP: &[u8] =
+    b"mdbcheck: usage: mdbcheck show [--extended] [--without DEVICE].. [--json] \
 < TRANSCRIPT; all: mdbcheck manual show\n";
 
 const EXPLAIN_HELP: &[u8] = b"mdbcheck: usage: mdbcheck explain ACCOUNT SIDE BOUND \
-[--without DEVICE].. < TRANSCRIPT; all: mdbcheck manual explain\n";
+[--extended] [--without ..] < FILE; all: mdbcheck manual explain\n";
 
-const REPLAY_HELP: &[u8] = b"mdbcheck: usage: mdbcheck replay [--without DEVICE].. [--json] \
+const REPLAY_HELP: &[u8] =
+    b"mdbcheck: usage: mdbcheck replay [--extended] [--without DEVICE].. [--json] \
 < EXPLANATION; all: mdbcheck manual replay\n";
 
 /// What is told of one that asks for the version.
-const VERSION: &[u8] = b"mdbcheck 0.3.1\n";
+const VERSION: &[u8] = b"mdbcheck 0.4.0\n";
+
+/// A recording whose row isn't followed, its report, and what is told of it.
+const REVALUE: &[u8] = b"1000,M,115\n";
+
+const REVALUE_REPORT: &[u8] = b"verdict no\nrow 1\nrule Profile\nblame controller\n";
+
+const REVALUE_TOLD: &[u8] = b"mdbcheck: row 1: the controller sends a command that isn't followed \
+(leave out the device that it is sent to: --without DEVICE)\n";
 
 /// Runs of the program.
-static RUNS: [Run; 34] = [
+static RUNS: [Run; 36] = [
     // Recordings with a verdict.
     (CHECK, ROWS, (0, REPORT, b"")),
     (CHECK, WRONG_SUM, (1, WRONG_SUM_REPORT, b"")),
+    (CHECK, REVALUE, (1, REVALUE_REPORT, REVALUE_TOLD)),
+    (REPLAY, REVALUE, (1, REVALUE_REPORT, b"")),
     // Recordings that begin in mid-session.
     (JOINED, b"", (0, NOTHING_JOINED, b"")),
     (TOLD, b"", (0, NOTHING_TOLD, b"")),
@@ -264,17 +276,17 @@ fn runs_have_their_status_and_their_texts(rt: HostRuntime) {
 }
 
 /// The usage lines of the commands.
-const CHECK_USAGE: &str = "check [--joined] [--setup 'DEVICE BYTES'].. [--without DEVICE].. \
-[--json] < TRANSCRIPT";
+const CHECK_USAGE: &str =
+    "check [--joined|--extended] [--setup 'DEVICE ..'].. [--without DEVICE].. [--json] < FILE";
 
 const SURVEY_USAGE: &str = "survey [--joined] [--setup 'DEVICE BYTES'].. [--without DEVICE].. \
 [--json] < TRANSCRIPT";
 
-const SHOW_USAGE: &str = "show [--without DEVICE].. [--json] < TRANSCRIPT";
+const SHOW_USAGE: &str = "show [--extended] [--without DEVICE].. [--json] < TRANSCRIPT";
 
-const EXPLAIN_USAGE: &str = "explain ACCOUNT SIDE BOUND [--without DEVICE].. < TRANSCRIPT";
+const EXPLAIN_USAGE: &str = "explain ACCOUNT SIDE BOUND [--extended] [--without ..] < FILE";
 
-const REPLAY_USAGE: &str = "replay [--without DEVICE].. [--json] < EXPLANATION";
+const REPLAY_USAGE: &str = "replay [--extended] [--without DEVICE].. [--json] < EXPLANATION";
 
 /// Which commands there are.
 const COMMANDS: &str = "commands: check (verdict), survey (all faults), show (acts), \
@@ -857,4 +869,17 @@ fn refused_output_is_told_and_a_refused_line_changes_no_status(rt: HostRuntime) 
     for (words, text, is_output, told) in &FAILED_WRITES {
         fails_to_write(&rt, rt.alloc(), *words, *text, (*is_output, *told));
     }
+}
+
+#[test]
+fn a_refused_line_beside_a_no_changes_nothing_else(rt: HostRuntime) {
+    let alloc = rt.alloc();
+    let list = words_of(alloc, CHECK).expect(&rt, "memory");
+    let mut out = Sheet::failing(alloc, 0, ErrorKind::BrokenPipe);
+    let mut err = Sheet::failing(alloc, 1, ErrorKind::BrokenPipe);
+    let status = run(alloc, list, REVALUE, &mut out, &mut err);
+    same_at(&rt, CHECK, (status, err.has_failed()), (1, true));
+    let nothing: &[u8] = b"";
+    let written = (out.text.as_slice(), err.text.as_slice());
+    same_at(&rt, CHECK, written, (REVALUE_REPORT, nothing));
 }

@@ -5,7 +5,7 @@ use arrayvec::ArrayVec;
 use mdb_blocks::seal;
 use mdb_msgs::{
     BillCommand, ChangerCommand, ChangerSetup, Command, MsgFault, ReaderCommand, ReaderList,
-    ReaderMsg, ReaderUnit, Reply, read_reply, write_reply,
+    ReaderMsg, ReaderUnit, Reading, Reply, read_reply, write_reply,
 };
 use std::process::Abort;
 
@@ -24,7 +24,7 @@ fn is_kept(command: &Command, bytes: &[u8]) -> bool {
     let Ok(block) = seal(bytes) else {
         return false;
     };
-    let Ok(reply) = read_reply(command, &block) else {
+    let Ok(reply) = read_reply(Reading::Base, command, &block) else {
         return false;
     };
     match write_reply(command, &reply.copy()) {
@@ -103,7 +103,11 @@ fn is_setup(rt: &impl Abort, data: &[u8], credits: &[u8]) {
     let setup = setup_with(credits);
     let written = write_reply(&CHANGER_SETUP, &setup).expect(rt, "a block");
     same(rt, written.bytes(), block.bytes());
-    same(rt, &read_reply(&CHANGER_SETUP, &block), &Ok(setup));
+    same(
+        rt,
+        &read_reply(Reading::Base, &CHANGER_SETUP, &block),
+        &Ok(setup),
+    );
 }
 
 /// Data bytes of a SETUP without credits, and of one whose credits are all 0.

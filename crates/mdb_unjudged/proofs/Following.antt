@@ -18,7 +18,6 @@ use Rattle.mdb_follow.specs.Offences.{IsOffence}
 use Rattle.mdb_verdict.specs.Ending.{HasTakenOrStopped}
 use Rattle.mdb_unjudged.specs.declared.judging.Judging.{Judging}
 use Rattle.mdb_unjudged.specs.declared.judging.Met.{Met}
-use Rattle.mdb_unjudged.specs.declared.reported.Reported.{Reported}
 use Rattle.mdb_unjudged.specs.Unjudged.{begins_block, is_joined, known_before, last_begun, reported, reported_if, unjudged}
 use Rattle.mdb_unjudged.specs.inner.Steps.{HasFollowed, IsMet, MeetsAmong}
 
@@ -44,14 +43,14 @@ last_more (first ∷ rows) row =
     ∙ ap (λ last. option_or last (begins_block first)) (last_more rows row)
 
 -- the levels with one act more, if there is one
-reported_more : (known : Reported) (act : Option Act) (acts : List Act)
+reported_more : (known : Levels) (act : Option Act) (acts : List Act)
     → reported_if act (reported known acts) ≡ reported known (with_act act acts)
 reported_more known None acts = refl
 reported_more known (Some act) acts = refl
 
 -- nothing was followed yet
 pub nothing : OneActList
-    → (scope : Scope) (readers : Levels) (so_far : Reported) (pieces : List Piece)
+    → (scope : Scope) (readers : Levels) (so_far : Levels) (pieces : List Piece)
     → so_far ≡ reported (known_before scope readers) [] → IsActList scope pieces []
     → so_far ≡ reported (known_before scope readers) (acts_of pieces)
 nothing one scope readers so_far pieces is list =

@@ -18,7 +18,6 @@ use Rattle.mdb_verdict.specs.Verdict.{IsAnswer, IsImpossible, IsYes}
 use Rattle.mdb_verdict.proofs.Rows.{IsReadUpTo, are_rows, read_up_to}
 use Rattle.mdb_unjudged.specs.declared.judging.Judging.{Judging}
 use Rattle.mdb_unjudged.specs.declared.judging.Met.{Met}
-use Rattle.mdb_unjudged.specs.declared.reported.Reported.{Reported}
 use Rattle.mdb_unjudged.specs.Unjudged.{is_joined, known_before, last_begun, reported, unjudged}
 use Rattle.mdb_unjudged.specs.Verdict.{IsJudgedAnswer, IsJudgedNo}
 use Rattle.mdb_unjudged.specs.inner.Steps.{HasFollowed, MeetsAmong}
@@ -125,7 +124,7 @@ no_from_power_on : {profile : Profile} (scope : Scope) (readers : Levels)
     → IsImpossible scope limit all offence
     → IsJudgedNo scope readers limit all offence None
 no_from_power_on scope readers from limit all offence at =
-    let so_far : Reported =
+    let so_far : Levels =
     reported (known_before scope readers) (acts_of at.is.reached.1.pieces) in
     let begun : Option ℕ = last_begun (at.rows ++ at.row ∷ []) in
     record {

@@ -30,12 +30,12 @@ use Rattle.mdb_bus.specs.declared.fault.Blame.TheVariants as blames
 use Rattle.mdb_bus.specs.declared.fault.Rule.{Rule}
 use Rattle.mdb_bus.specs.declared.fault.Rule.TheVariants as rules
 use Rattle.mdb_bus.specs.declared.levels.Levels.{Levels}
+use Rattle.mdb_bus.specs.declared.levels.ReaderLevels.{ReaderLevels}
 use Rattle.mdb_bus.specs.declared.scope.Beginning.{Beginning}
 use Rattle.mdb_bus.specs.declared.scope.Beginning.TheVariants.{PowerOn, Joined}
 use Rattle.mdb_bus.specs.declared.scope.Scope.{Scope}
 use Rattle.mdb_bus.specs.ActLists.{IsActList, Piece, acts_of, levels_after}
 use Rattle.mdb_follow.specs.declared.offence.Offence.{Offence}
-use Rattle.mdb_unjudged.specs.declared.reported.Reported.{Reported}
 
 -- ---- with whom the controller speaks
 
@@ -70,35 +70,30 @@ level_told (Config level code scale decimals response options ∷ messages) = So
 level_told messages = None
 
 -- what is reported once an act was done, heard or not
-abbrev pub reported_by : Act → Reported → Reported
-reported_by (acts.Ask command) before =
-    record before { by_controller = levels_after command before.by_controller }
+abbrev pub reported_by : Act → Levels → Levels
+reported_by (acts.Ask command) before = levels_after command before
 reported_by (acts.Reply (commands.Reader First command) (replies.Reader list)) before =
     record before {
-      by_reader = record before.by_reader {
-        first = record before.by_reader.first {
-          asked = option_or (level_told list.messages) before.by_reader.first.asked;
-        };
+      first = record before.first {
+        told = option_or (level_told list.messages) before.first.told;
       };
     }
 reported_by (acts.Reply (commands.Reader Second command) (replies.Reader list)) before =
     record before {
-      by_reader = record before.by_reader {
-        second = record before.by_reader.second {
-          asked = option_or (level_told list.messages) before.by_reader.second.asked;
-        };
+      second = record before.second {
+        told = option_or (level_told list.messages) before.second.told;
       };
     }
 reported_by act before = before
 
 -- what is reported after an act, if one ended
-abbrev pub reported_if : Option Act → Reported → Reported
+abbrev pub reported_if : Option Act → Levels → Levels
 reported_if None before = before
 reported_if (Some act) before = reported_by act before
 
 -- the levels that were reported last in these acts, by the controller to each reader (Y2 of SETUP
 -- config) and by each reader (Z2), where these are known from before them
-abbrev pub reported : Reported → List Act → Reported
+abbrev pub reported : Levels → List Act → Levels
 reported known [] = known
 reported known (act ∷ acts) = reported_by act (reported known acts)
 
@@ -109,20 +104,22 @@ level_before without unit known = if has without (Reader unit) then Some 1 else 
 
 -- what is known before a recording that is taken so, where these levels of the readers are known
 -- from elsewhere
-abbrev pub known_before : Scope → Levels → Reported
+abbrev pub known_before : Scope → Levels → Levels
 known_before scope readers = record {
-  by_controller = scope.levels;
-  by_reader = record {
-    first = record { asked = level_before scope.without First readers.first.asked };
-    second = record { asked = level_before scope.without Second readers.second.asked };
+  first = record scope.levels.first {
+    told = level_before scope.without First readers.first.told;
+  };
+  second = record scope.levels.second {
+    told = level_before scope.without Second readers.second.told;
   };
 }
 
 -- ---- what is judged
 
-abbrev pub level_of : ReaderUnit → Levels → Option ℕ
-level_of First levels = levels.first.asked
-level_of Second levels = levels.second.asked
+-- the levels of one reader
+abbrev pub of_reader : ReaderUnit → Levels → ReaderLevels
+of_reader First levels = levels.first
+of_reader Second levels = levels.second
 
 -- a level is known, and is below 2, or at least 2
 abbrev pub is_low : Option ℕ → Bool
@@ -134,9 +131,8 @@ is_high None = false
 is_high (Some level) = nat_le 2 level
 
 -- a session with the reader is known to be of level 1: one of the two sides reported that
-abbrev pub is_of_level_1 : ReaderUnit → Reported → Bool
-is_of_level_1 unit so_far =
-    is_low (level_of unit so_far.by_controller) || is_low (level_of unit so_far.by_reader)
+abbrev pub is_of_level_1 : ReaderLevels → Bool
+is_of_level_1 levels = is_low levels.asked || is_low levels.told
 
 -- whether it is the controller's row
 abbrev pub is_controller : Blame → Bool
@@ -160,15 +156,15 @@ depends_on_level rules.Mode blamed level begun = is_controller blamed && may_hav
 depends_on_level broken blamed level begun = false
 
 -- the reader of a no that isn't judged, where the last block begins so; None where it is judged
-abbrev pub unjudged_with : ReaderUnit → Reported → Rule → Blame → ℕ → Option ReaderUnit
+abbrev pub unjudged_with : ReaderUnit → Levels → Rule → Blame → ℕ → Option ReaderUnit
 unjudged_with unit so_far broken blamed begun =
-    if not (is_of_level_1 unit so_far)
-    && depends_on_level broken blamed (level_of unit so_far.by_controller) begun
+    let levels = of_reader unit so_far in
+    if not (is_of_level_1 levels) && depends_on_level broken blamed levels.asked begun
     then Some unit else None
 
 -- the same where the last block, if there is one, is to any device; of a recording from power-on
 -- each no is judged
-abbrev pub unjudged : Bool → Reported → Rule → Blame → Option ℕ → Option ReaderUnit
+abbrev pub unjudged : Bool → Levels → Rule → Blame → Option ℕ → Option ReaderUnit
 unjudged false so_far broken blamed begun = None
 unjudged true so_far broken blamed None = None
 unjudged true so_far broken blamed (Some begun) =

@@ -9,7 +9,7 @@ ghost use Rattle.mdb_follow.specs.Follower.{offence_of, rows_of, scope_of};
 ghost use Rattle.mdb_unjudged.specs.Unjudged as spec;
 ghost use Rattle.mdb_unjudged.specs.inner.Steps.{HasFollowed, IsMet, MeetsAmong};
 
-use super::reported::Reported;
+use super::reported::{known_before, reported_if};
 use super::unjudged::unjudged;
 use mdb_bus::{Beginning, Levels, Scope, laws as links};
 use mdb_follow::{Follower, Offence};
@@ -34,8 +34,9 @@ pub(crate) struct Judging {
     pub(crate) follower: Follower,
     /// Whether the recording begins while the machine was running.
     pub(crate) joined: bool,
-    /// The levels that the rows so far report.
-    pub(crate) reported: Reported,
+    /// The levels that the rows so far report: of each reader Y2 of the last SETUP config ask, and
+    /// Z2 of the last config message with which an answer of it begins.
+    pub(crate) reported: Levels,
     /// The byte with which the last block of the controller begins.
     pub(crate) begun: Option<u8>,
 }
@@ -50,7 +51,7 @@ impl Judging {
         Judging {
             follower: Follower::scoped(scope),
             joined: is_joined(&scope.begins),
-            reported: Reported::before(scope, readers),
+            reported: known_before(scope, readers),
             begun: None,
         }
     }
@@ -96,7 +97,7 @@ impl Judging {
         self.begun = begins_block(&event).or(self.begun);
         match self.follower.feed_ending(event) {
             Some(ended) => {
-                self.reported.learn_if(ended, self.follower.act());
+                self.reported = reported_if(ended, self.follower.act(), self.reported);
                 None
             }
             None => Some(self.met()),

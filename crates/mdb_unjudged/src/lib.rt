@@ -12,5 +12,4 @@ mod reported;
 mod unjudged;
 mod verdict;
 
-pub use reported::Reported;
 pub use verdict::{Judged, judge_records};

@@ -1,4 +1,4 @@
-//! The feature levels that controller and readers have reported.
+//! The feature levels that controller and readers have reported (MDB/ICP 4.3, cashless device).
 
 ghost use Rattle.std.specs.Prelude.{◌≡◌};
 ghost use Rattle.mdb_msgs.specs.declared.command.Command.TheVariants as commands;
@@ -8,76 +8,58 @@ ghost use Rattle.mdb_bus.specs.declared.act.Act.TheVariants as acts;
 ghost use Rattle.mdb_bus.specs.Bus.{ended_act};
 ghost use Rattle.mdb_unjudged.specs.Unjudged as spec;
 
-use mdb_bus::{Act, Levels, ReaderLevels, Scope};
+use mdb_bus::{Act, Levels, Scope};
 use mdb_msgs::{Command, Device, DeviceSet, ReaderList, ReaderMsg, ReaderUnit, Reply};
 
-/// The feature levels that were reported last (MDB/ICP 4.3, cashless device). `None` where none is
-/// known.
-#[derive(Clone, Copy, PartialEq, Eq, Debug)]
-pub struct Reported {
-    /// What the controller reported to each reader: Y2 of SETUP config.
-    pub by_controller: Levels,
-    /// What each reader reported, as `asked`: Z2 of the config message with which an answer of it
-    /// begins.
-    pub by_reader: Levels,
+/// The levels that are known before a recording that is taken so, where these levels (Z2) of the
+/// readers are known from elsewhere. A reader that is left out counts as one of level 1.
+pub(crate) fn known_before(scope: &Scope, readers: Levels) -> Levels
+    ensures { result ≡ spec.known_before scope.now readers }
+{
+    let Levels { first, second } = readers;
+    let mut known = scope.levels;
+    known.first.told = level_before(scope.without, ReaderUnit::First, first.told);
+    known.second.told = level_before(scope.without, ReaderUnit::Second, second.told);
+    known
 }
 
-impl Reported {
-    /// What is known before a recording that is taken so, where these levels of the readers are
-    /// known from elsewhere. A reader that is left out counts as one of level 1.
-    pub fn before(scope: &Scope, readers: Levels) -> Reported
-        ensures { result ≡ spec.known_before scope.now readers }
-    {
-        let Levels { first, second } = readers;
-        Reported {
-            by_controller: scope.levels,
-            by_reader: Levels {
-                first: ReaderLevels {
-                    asked: level_before(scope.without, ReaderUnit::First, first.asked),
-                },
-                second: ReaderLevels {
-                    asked: level_before(scope.without, ReaderUnit::Second, second.asked),
-                },
-            },
-        }
+/// The levels after an act, if one ended.
+#[inline(always)]
+pub(crate) fn reported_if(ended: bool, act: &Act, levels: Levels) -> Levels
+    ensures { result ≡ spec.reported_if (ended_act ended act.now) levels }
+{
+    if ended {
+        reported_by(act, levels)
+    } else {
+        levels
     }
+}
 
-    /// Learns what an act reports.
-    #[inline(always)]
-    pub fn learn(&mut self, act: &Act)
-        ensures { self.new ≡ spec.reported_by act.now self.old }
-    {
-        match act {
-            Act::Ask(command) => self.by_controller = self.by_controller.after(*command),
-            Act::Reply(Command::Reader(unit, _), Reply::Reader(list)) => self.hear(*unit, list),
-            _ => {}
-        }
+/// The levels after an act.
+#[inline(always)]
+fn reported_by(act: &Act, levels: Levels) -> Levels
+    ensures { result ≡ spec.reported_by act.now levels }
+{
+    match act {
+        Act::Ask(command) => levels.after(*command),
+        Act::Reply(Command::Reader(unit, _), Reply::Reader(list)) => heard(*unit, list, levels),
+        _ => levels,
     }
+}
 
-    /// Learns what an act reports, if one ended.
-    #[inline(always)]
-    pub(crate) fn learn_if(&mut self, ended: bool, act: &Act)
-        ensures { self.new ≡ spec.reported_if (ended_act ended act.now) self.old }
-    {
-        if ended {
-            self.learn(act);
-        }
+/// The levels after an answer of a reader to a command.
+fn heard(unit: ReaderUnit, list: &ReaderList, levels: Levels) -> Levels
+    ensures { (command : ReaderCommand) → result
+        ≡ spec.reported_by (acts.Reply (commands.Reader unit command) (replies.Reader list.now))
+        levels }
+{
+    let level = level_told(list);
+    let mut reported = levels;
+    match unit {
+        ReaderUnit::First => reported.first.told = level.or(levels.first.told),
+        ReaderUnit::Second => reported.second.told = level.or(levels.second.told),
     }
-
-    /// Learns what an answer of a reader to a command reports.
-    fn hear(&mut self, unit: ReaderUnit, list: &ReaderList)
-        ensures { (command : ReaderCommand) → self.new
-            ≡ spec.reported_by (acts.Reply (commands.Reader unit command) (replies.Reader
-            list.now)) self.old }
-    {
-        let level = level_told(list);
-        match unit {
-            ReaderUnit::First => self.by_reader.first.asked = level.or(self.by_reader.first.asked),
-            ReaderUnit::Second => {
-                self.by_reader.second.asked = level.or(self.by_reader.second.asked)
-            }
-        }
-    }
+    reported
 }
 
 /// What is known of the level of a reader before a recording, where these devices are left out.

@@ -3,8 +3,7 @@
 ghost use Rattle.std.specs.Prelude.{◌≡◌};
 ghost use Rattle.mdb_unjudged.specs.Unjudged as spec;
 
-use super::reported::Reported;
-use mdb_bus::{Blame, Levels, Rule};
+use mdb_bus::{Blame, Levels, ReaderLevels, Rule};
 use mdb_follow::Offence;
 use mdb_msgs::ReaderUnit;
 
@@ -13,7 +12,7 @@ use mdb_msgs::ReaderUnit;
 /// byte. `None` where the no is judged.
 pub(crate) fn unjudged(
     joined: bool,
-    reported: Reported,
+    reported: Levels,
     offence: Offence,
     begun: Option<u8>,
 ) -> Option<ReaderUnit>
@@ -24,9 +23,9 @@ pub(crate) fn unjudged(
     }
     let begun = begun?;
     let unit = reader_of(begun)?;
-    let level = level_of(unit, reported.by_controller);
-    if !is_of_level_1(unit, reported)
-        && depends_on_level(offence.rule, offence.blame, level, begun)
+    let levels = of_reader(unit, reported);
+    if !is_of_level_1(levels)
+        && depends_on_level(offence.rule, offence.blame, levels.asked, begun)
     {
         Some(unit)
     } else {
@@ -52,13 +51,13 @@ fn may_have_amounts(byte: u8) -> bool
     byte % 8 == 1 || byte % 8 == 3
 }
 
-/// The level of a reader.
-fn level_of(unit: ReaderUnit, levels: Levels) -> Option<u8>
-    ensures { result ≡ spec.level_of unit levels }
+/// The levels of one reader.
+fn of_reader(unit: ReaderUnit, levels: Levels) -> ReaderLevels
+    ensures { result ≡ spec.of_reader unit levels }
 {
     match unit {
-        ReaderUnit::First => levels.first.asked,
-        ReaderUnit::Second => levels.second.asked,
+        ReaderUnit::First => levels.first,
+        ReaderUnit::Second => levels.second,
     }
 }
 
@@ -83,10 +82,10 @@ fn is_high(level: Option<u8>) -> bool
 }
 
 /// Whether a session with a reader is known to be of level 1.
-fn is_of_level_1(unit: ReaderUnit, reported: Reported) -> bool
-    ensures { result ≡ spec.is_of_level_1 unit reported }
+fn is_of_level_1(levels: ReaderLevels) -> bool
+    ensures { result ≡ spec.is_of_level_1 levels }
 {
-    is_low(level_of(unit, reported.by_controller)) || is_low(level_of(unit, reported.by_reader))
+    is_low(levels.asked) || is_low(levels.told)
 }
 
 /// Whether a row that breaks a rule may be right at a higher level.

@@ -30,8 +30,8 @@ pub struct Judged {
 }
 
 /// Does what [`check_records`] does, and also returns the reader of a no that isn't judged. The
-/// levels of the readers are those that are known from elsewhere: Z2 of a config message of an
-/// earlier recording.
+/// levels of the readers are those that are known from elsewhere, as `told`: Z2 of a config message
+/// of an earlier recording.
 pub fn judge_records<R: Read + Drop, W: Write>(
     alloc: Global,
     form: Form,

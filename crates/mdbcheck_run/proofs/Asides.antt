@@ -1,6 +1,6 @@
 -- What standard error is told where there is an answer, and which levels words give.
-use Rattle.std.proofs.Common.{arith, inl, inr, ◌≡◌, ◌<◌, ◌⊎◌, ℕ, List, [], ◌∷◌, ◌++◌}
-use Rattle.std.proofs.Common.{Option, None, Result, Ok, Err, Global, length, map, get_or, zero, suc}
+use Rattle.std.proofs.Common.{arith, inl, inr, refl, ◌≡◌, ◌<◌, ℕ, List, [], ◌∷◌, ◌++◌}
+use Rattle.std.proofs.Common.{Option, Result, Ok, Err, Global, length, map, get_or, zero, suc}
 use Rattle.std.proofs.lemmas.Option.{IfSome_then}
 use Rattle.std.specs.Prelude.{IfSome, String, string_bytes}
 use Rattle.std.specs.Str.Iter.{HasSubslice}
@@ -13,30 +13,25 @@ use Rattle.mdb_follow.specs.declared.follower.TheConstants.{ROWS_MAX}
 use Rattle.mdb_text.specs.declared.outcome.Outcome.{Outcome}
 use Rattle.mdb_text.specs.declared.outcome.Outcome.TheVariants.{Yes, No}
 use Rattle.mdb_verdict.specs.declared.fault.RunFault.{RunFault}
-use Rattle.mdb_unjudged.specs.Verdict.{IsJudgedAnswer, IsNo}
-use Rattle.mdbcheck_run.specs.Aside.{HasLevel1, IsAsideOfCheck}
+use Rattle.mdb_unjudged.specs.Verdict.{IsJudgedAnswer}
+use Rattle.mdbcheck_run.specs.Aside.{HasLevel1, IsAsideOfCheck, aside_of}
 use Rattle.mdbcheck_run.specs.Program.{setup_text, status_of}
-
-no_no : (reader : Option ReaderUnit) → ⊥ ⊎ (reader ≡ None) → reader ≡ None
-no_no reader (inl never) = absurd never
-no_no reader (inr is) = is
 
 -- what an answer of `check` tells aside
 pub aside_of_check : (scope : Scope) (readers : Levels) (text : Option (List ℕ)) (status : ℕ)
     (answer : Result Outcome RunFault) (reader : Option ReaderUnit) → status ≡ status_of answer
-    → IsNo answer ⊎ (reader ≡ None)
     → IfSome text (λ bytes. IsJudgedAnswer scope readers ROWS_MAX
     (records default_config (strip_bom bytes)) answer reader)
-    → IsAsideOfCheck scope readers text status reader
-aside_of_check scope readers text status (Ok (Yes report)) reader is other judged = record {
-  possible = λ e. no_no reader other;
+    → IsAsideOfCheck scope readers text status (aside_of scope.begins answer reader)
+aside_of_check scope readers text status (Ok (Yes report)) reader is judged = record {
+  possible = λ e. refl;
   impossible = λ e. absurd (omega (arith, is, e));
 }
-aside_of_check scope readers text status (Ok (No offence)) reader is other judged = record {
+aside_of_check scope readers text status (Ok (No offence)) reader is judged = record {
   possible = λ e. absurd (omega (arith, is, e));
-  impossible = λ e. IfSome_then text judged (λ bytes has. (offence, has));
+  impossible = λ e. IfSome_then text judged (λ bytes has. (offence, reader, has, refl));
 }
-aside_of_check scope readers text status (Err fault) reader is other judged = record {
+aside_of_check scope readers text status (Err fault) reader is judged = record {
   possible = λ e. absurd (omega (arith, is, e));
   impossible = λ e. absurd (omega (arith, is, e));
 }

@@ -17,12 +17,13 @@ use Rattle.mdb_msgs.specs.declared.device_set.DeviceSet.{DeviceSet}
 use Rattle.mdb_msgs.specs.Laws.{AnswerTellsOneSetup}
 use Rattle.mdb_msgs.specs.Setups.{nothing_known}
 use Rattle.mdb_bus.specs.declared.scope.Scope.{Scope}
-use Rattle.mdb_bus.specs.Scopes.{leaving_out, joined as in_mid_session}
+use Rattle.mdb_bus.specs.Scopes.{from_power_on, joined as in_mid_session}
 use Rattle.mdb_follow.specs.declared.goal.Goal.{Goal}
 use Rattle.mdbcheck_run.specs.Program.{AreSetups, AskForGoal, AskToCheck, AskToShow, NameAReading}
 use Rattle.mdbcheck_run.specs.Program.{NamesCheck, NamesExplain, NamesManual, NamesReplay}
 use Rattle.mdbcheck_run.specs.Program.{NamesShow, NamesSurvey, check_command, explain_command}
-use Rattle.mdbcheck_run.specs.Program.{form_of, manual_command, replay_command, show_command}
+use Rattle.mdbcheck_run.specs.Program.{form_of, manual_command, profile_by, replay_command}
+use Rattle.mdbcheck_run.specs.Program.{show_command}
 use Rattle.mdbcheck_run.specs.Program.{mdbcheck_manual, survey_command}
 use Rattle.mdbcheck_run.specs.inner.CommandLine.{AsksFor, FindTask, IsOwnRefusal, IsRefusalBy}
 use Rattle.mdbcheck_run.specs.inner.CommandLine.{commands}
@@ -31,7 +32,7 @@ use Rattle.mdbcheck_run.specs.declared.command_line.Task.TheVariants.{Check, Sho
 use Rattle.mdbcheck_run.specs.declared.command_line.Task.TheVariants.{Manual, Survey}
 use Rattle.mdb_text.specs.declared.form.Form.{Form}
 use Rattle.mdbcheck_run.specs.declared.refusal.Refusal.{Refusal}
-use Rattle.mdbcheck_run.specs.declared.refusal.Refusal.TheVariants.{Words, Setup}
+use Rattle.mdbcheck_run.specs.declared.refusal.Refusal.TheVariants.{Words, Setup, Extended}
 use Rattle.mdbcheck_run.proofs.Devices.{one_set}
 use Rattle.mdbcheck_run.proofs.Goals.{one_goal}
 use Rattle.mdbcheck_run.proofs.KnownSetups.{one_setups}
@@ -51,9 +52,9 @@ names_a_command words (Survey scope form) (uses, names, asks, in_form) =
     (survey_command, uses, refl, names)
 names_a_command words (Show scope form) (uses, names, asks, in_form) =
     (show_command, uses, refl, names)
-names_a_command words (Explain goal without) (uses, names, of_goal, asks) =
+names_a_command words (Explain goal profile without) (uses, names, of_goal, asks) =
     (explain_command, uses, refl, names)
-names_a_command words (Replay without form) (uses, names, asks, in_form) =
+names_a_command words (Replay profile without form) (uses, names, asks, in_form) =
     (replay_command, uses, refl, names)
 names_a_command words (Manual part) (uses, names, asks) = (manual_command, uses, refl, names)
 
@@ -65,10 +66,10 @@ abbrev Checks : Scope → Form → Values → Flags → Type 0
 Checks scope form values used = AskToCheck values used scope × InForm form used
 
 abbrev Shows : Scope → Form → Values → Flags → Type 0
-Shows scope form values used = AskToShow values scope × InForm form used
+Shows scope form values used = AskToShow values used scope × InForm form used
 
 abbrev Explains : Goal → Scope → Values → Flags → Type 0
-Explains goal scope values used = AskForGoal values goal × AskToShow values scope
+Explains goal scope values used = AskForGoal values goal × AskToShow values used scope
 
 abbrev Tells : Text → Values → Flags → Type 0
 Tells text values used = AskForManual mdbcheck_manual (values (codes "COMMAND")) text
@@ -85,12 +86,13 @@ module _ (words : List Text) (found : Named) (read : IsReadFrom commands words f
   asked (Show scope form) (is, asks, in_form) =
       let of = asked_by found read.uses read.has (Shows scope form) (asks, in_form) in
       (read.uses, named_as commands words found read show_command refl is, of.0, of.1)
-  asked (Explain goal without) (is, of_goal, asks) =
-      let of = asked_by found read.uses read.has (Explains goal (leaving_out without))
+  asked (Explain goal profile without) (is, of_goal, asks) =
+      let of = asked_by found read.uses read.has (Explains goal (from_power_on profile without))
       (of_goal, asks) in
       (read.uses, named_as commands words found read explain_command refl is, of.0, of.1)
-  asked (Replay without form) (is, asks, in_form) =
-      let of = asked_by found read.uses read.has (Shows (leaving_out without) form) (asks, in_form)
+  asked (Replay profile without form) (is, asks, in_form) =
+      let of = asked_by found read.uses read.has (Shows (from_power_on profile without) form)
+      (asks, in_form)
       in
       (read.uses, named_as commands words found read replay_command refl is, of.0, of.1)
   asked (Manual part) (is, asks) =
@@ -112,13 +114,15 @@ module _ (words : List Text) (found : Named) (read : IsReadFrom commands words f
       let (is, has) = found_as commands words found read show_command uses refl names in
       let of = found_by found uses has (Shows scope form) (asks, in_form) in
       (is, of.0, of.1)
-  finds (Explain goal without) (uses, names, of_goal, asks) =
+  finds (Explain goal profile without) (uses, names, of_goal, asks) =
       let (is, has) = found_as commands words found read explain_command uses refl names in
-      let of = found_by found uses has (Explains goal (leaving_out without)) (of_goal, asks) in
+      let of = found_by found uses has (Explains goal (from_power_on profile without))
+      (of_goal, asks) in
       (is, of.0, of.1)
-  finds (Replay without form) (uses, names, asks, in_form) =
+  finds (Replay profile without form) (uses, names, asks, in_form) =
       let (is, has) = found_as commands words found read replay_command uses refl names in
-      let of = found_by found uses has (Shows (leaving_out without) form) (asks, in_form) in
+      let of = found_by found uses has (Shows (from_power_on profile without) form) (asks, in_form)
+      in
       (is, of.0, of.1)
   finds (Manual part) (uses, names, asks) =
       let (is, has) = found_as commands words found read manual_command uses refl names in (
@@ -145,6 +149,7 @@ own_refusal kinds (Words kind) none (inl memory) = inl memory
 own_refusal kinds (Words kind) none (inr invalid) =
     inr (subst (λ ks. IsAmong kind (or_else ks (InvalidValue ∷ []))) (sym none) (inl invalid))
 own_refusal kinds (Setup fault) none own = none
+own_refusal kinds Extended none own = none
 
 -- ---- names that differ
 
@@ -204,9 +209,9 @@ check_found found named (Survey scope form) (is, asks, in_form) =
     absurd (check_not_survey (sym named ∙ is))
 check_found found named (Show scope form) (is, asks, in_form) =
     absurd (check_not_show (sym named ∙ is))
-check_found found named (Explain goal without) (is, of_goal, asks) =
+check_found found named (Explain goal profile without) (is, of_goal, asks) =
     absurd (check_not_explain (sym named ∙ is))
-check_found found named (Replay without form) (is, asks, in_form) =
+check_found found named (Replay profile without form) (is, asks, in_form) =
     absurd (check_not_replay (sym named ∙ is))
 check_found found named (Manual part) (is, asks) = absurd (check_not_manual (sym named ∙ is))
 
@@ -217,9 +222,9 @@ survey_found found named (Check scope form) (is, asks, in_form) =
 survey_found found named (Survey scope form) (is, asks, in_form) = (scope, asks)
 survey_found found named (Show scope form) (is, asks, in_form) =
     absurd (survey_not_show (sym named ∙ is))
-survey_found found named (Explain goal without) (is, of_goal, asks) =
+survey_found found named (Explain goal profile without) (is, of_goal, asks) =
     absurd (survey_not_explain (sym named ∙ is))
-survey_found found named (Replay without form) (is, asks, in_form) =
+survey_found found named (Replay profile without form) (is, asks, in_form) =
     absurd (survey_not_replay (sym named ∙ is))
 survey_found found named (Manual part) (is, asks) = absurd (survey_not_manual (sym named ∙ is))
 
@@ -231,8 +236,8 @@ explain_found found named (Survey scope form) (is, asks, in_form) =
     absurd (survey_not_explain (sym is ∙ named))
 explain_found found named (Show scope form) (is, asks, in_form) =
     absurd (show_not_explain (sym is ∙ named))
-explain_found found named (Explain goal without) (is, of_goal, asks) = (goal, of_goal)
-explain_found found named (Replay without form) (is, asks, in_form) =
+explain_found found named (Explain goal profile without) (is, of_goal, asks) = (goal, of_goal)
+explain_found found named (Replay profile without form) (is, asks, in_form) =
     absurd (explain_not_replay (sym named ∙ is))
 explain_found found named (Manual part) (is, asks) = absurd (explain_not_manual (sym named ∙ is))
 
@@ -245,9 +250,9 @@ manual_found found named (Survey scope form) (is, asks, in_form) =
     absurd (survey_not_manual (sym is ∙ named))
 manual_found found named (Show scope form) (is, asks, in_form) =
     absurd (show_not_manual (sym is ∙ named))
-manual_found found named (Explain goal without) (is, of_goal, asks) =
+manual_found found named (Explain goal profile without) (is, of_goal, asks) =
     absurd (explain_not_manual (sym is ∙ named))
-manual_found found named (Replay without form) (is, asks, in_form) =
+manual_found found named (Replay profile without form) (is, asks, in_form) =
     absurd (replay_not_manual (sym is ∙ named))
 manual_found found named (Manual part) (is, asks) =
     (manual_text mdbcheck_manual (option_map (λ text. text.now) part), asks)
@@ -255,19 +260,19 @@ manual_found found named (Manual part) (is, asks) =
 -- any other task takes no recording from mid-session on
 pub others_found : (found : Named) (name : Text) → name_in found ≡ name → codes "check" ≢ name
     → codes "survey" ≢ name → name ≢ codes "manual" → (task : Task) → FindTask found task
-    → (scope : Scope) × AskToShow (values_in found) scope
+    → (scope : Scope) × AskToShow (values_in found) (used_in found) scope
 others_found found name named other no_survey no_manual (Check scope form) (is, asks, in_form) =
     absurd (other (sym is ∙ named))
 others_found found name named other no_survey no_manual (Survey scope form) (is, asks, in_form) =
     absurd (no_survey (sym is ∙ named))
 others_found found name named other no_survey no_manual (Show scope form) (is, asks, in_form) =
     (scope, asks)
-others_found found name named other no_survey no_manual (Explain goal without)
+others_found found name named other no_survey no_manual (Explain goal profile without)
     (is, of_goal, asks) =
-    (leaving_out without, asks)
-others_found found name named other no_survey no_manual (Replay without form)
+    (from_power_on profile without, asks)
+others_found found name named other no_survey no_manual (Replay profile without form)
     (is, asks, in_form) =
-    (leaving_out without, asks)
+    (from_power_on profile without, asks)
 others_found found name named other no_survey no_manual (Manual part) (is, asks) =
     absurd (no_manual (sym named ∙ is))
 
@@ -277,7 +282,9 @@ others_found found name named other no_survey no_manual (Manual part) (is, asks)
 one_checked : (one_told : AnswerTellsOneSetup) (values : Values) (used : Flags) (a b : Scope)
     → AskToCheck values used a → AskToCheck values used b → a ≡ b
 one_checked one_told values used a b (set, are, inl from) (other, too, inl from_too) =
-    from.is ∙ ap leaving_out (one_set _ set other are too) ∙ sym from_too.is
+    from.is
+    ∙ ap (from_power_on (profile_by (used (codes "extended")))) (one_set _ set other are too)
+    ∙ sym from_too.is
 one_checked one_told values used a b (set, are, inl from) (other, too, inr joined) =
     absurd (true≢false (sym joined.joined ∙ from.not_joined))
 one_checked one_told values used a b (set, are, inr joined) (other, too, inl from) =
@@ -290,9 +297,11 @@ one_checked one_told values used a b (set, are, inr joined) (other, too, inr als
     (one_setups one_told set nothing_known (values (codes "setup")) joined.setups also.setups
     joined.told (subst With (sym same) also.told)) same ∙ sym also.is
 
-one_shown : (values : Values) (a b : Scope) → AskToShow values a → AskToShow values b → a ≡ b
-one_shown values a b (set, are, is) (other, too, also) =
-    is ∙ ap leaving_out (one_set _ set other are too) ∙ sym also
+one_shown : (values : Values) (used : Flags) (a b : Scope) → AskToShow values used a
+    → AskToShow values used b → a ≡ b
+one_shown values used a b (set, are, is) (other, too, also) =
+    is ∙ ap (from_power_on (profile_by (used (codes "extended")))) (one_set _ set other are too)
+    ∙ sym also
 
 -- and words ask for one text of the manual
 some_same : {a b : Text} → ◌≡◌ {A = Option Text} (Some a) (Some b) → a ≡ b
@@ -348,15 +357,19 @@ module _ (one : WordsNameOneCommand) where
       → NamesShow words b other → (a ≡ b) × (form ≡ other)
   one_show words a b form other (uses, named, asks, in_form) (also, too, asks_too, in_form_too) =
       let of = same_asked words show_command uses also refl named too (Shows b other)
-      (asks_too, in_form_too) in
-      (one_shown (λ name. chosen name uses) a b asks of.0, in_form ∙ sym of.1)
+      (asks_too, in_form_too) in (
+        one_shown (λ name. chosen name uses) (λ name. is_used name uses) a b asks of.0,
+        in_form ∙ sym of.1,
+      )
 
   pub one_replay : (words : List Text) (a b : Scope) (form other : Form) → NamesReplay words a form
       → NamesReplay words b other → (a ≡ b) × (form ≡ other)
   one_replay words a b form other (uses, named, asks, in_form) (also, too, asks_too, in_form_too) =
       let of = same_asked words replay_command uses also refl named too (Shows b other)
-      (asks_too, in_form_too) in
-      (one_shown (λ name. chosen name uses) a b asks of.0, in_form ∙ sym of.1)
+      (asks_too, in_form_too) in (
+        one_shown (λ name. chosen name uses) (λ name. is_used name uses) a b asks of.0,
+        in_form ∙ sym of.1,
+      )
 
   pub one_explain : (words : List Text) (goal other : Goal) (a b : Scope)
       → NamesExplain words goal a → NamesExplain words other b → (goal ≡ other) × (a ≡ b)
@@ -365,7 +378,7 @@ module _ (one : WordsNameOneCommand) where
       (of_goal_too, asks_too) in (
         one_goal (λ name. chosen name uses) goal other of_goal of.0,
         one_shown
-            (λ name. chosen name uses) a b asks of.1,
+            (λ name. chosen name uses) (λ name. is_used name uses) a b asks of.1,
       )
 
   -- and no other task

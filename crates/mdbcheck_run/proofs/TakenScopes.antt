@@ -8,8 +8,8 @@ use Rattle.mdb_msgs.specs.declared.device_set.DeviceSet.{DeviceSet}
 use Rattle.mdb_msgs.specs.declared.setups.Setups.{Setups}
 use Rattle.mdb_msgs.specs.Setups.{nothing_known}
 use Rattle.mdb_bus.specs.declared.scope.Scope.{Scope}
-use Rattle.mdb_bus.specs.Scopes.{leaving_out, joined as in_mid_session}
-use Rattle.mdbcheck_run.specs.Program.{AreDevices, AreSetups, AskToCheck}
+use Rattle.mdb_bus.specs.Scopes.{from_power_on, joined as in_mid_session}
+use Rattle.mdbcheck_run.specs.Program.{AreDevices, AreSetups, AskToCheck, profile_by}
 use Rattle.mdbcheck_run.proofs.Devices.{one_set}
 
 -- the values of an option, or none
@@ -29,15 +29,15 @@ module _ (values : Text → List Text) (used : Text → Bool) (words : List (Bor
     (left_out : DeviceSet) (are : map (λ v. v.now) words ≡ values (codes "setup"))
     (devices : AreDevices (values (codes "without")) left_out) where
   pub joined_asked : (setups : Setups) (scope : Scope) → used (codes "joined") ≡ true
-      → AreSetups left_out nothing_known (map (λ v. v.now) words) setups
-      → scope ≡ in_mid_session setups left_out
-      → AskToCheck values used scope
-  joined_asked setups scope joined told is = (
+      → used (codes "extended") ≡ false → AreSetups left_out nothing_known (map (λ v. v.now) words)
+      setups → scope ≡ in_mid_session setups left_out → AskToCheck values used scope
+  joined_asked setups scope joined base told is = (
     left_out,
     devices,
     inr
         (record {
           joined = joined;
+          base = base;
           setups = setups;
           told = subst
               (λ all. AreSetups left_out nothing_known all setups) are told;
@@ -46,7 +46,8 @@ module _ (values : Text → List Text) (used : Text → Bool) (words : List (Bor
   )
 
   pub power_on_asked : (scope : Scope) → used (codes "joined") ≡ false → words ≡ []
-      → scope ≡ leaving_out left_out → AskToCheck values used scope
+      → scope ≡ from_power_on (profile_by (used (codes "extended"))) left_out
+      → AskToCheck values used scope
   power_on_asked scope joined none is = (
     left_out,
     devices,
@@ -60,6 +61,12 @@ module _ (values : Text → List Text) (used : Text → Bool) (words : List (Bor
   not_joined scope no_flag (other, of, inl from) = none_mapped words (are ∙ from.no_setups)
   not_joined scope no_flag (other, of, inr joined) =
       absurd (true≢false (sym joined.joined ∙ no_flag))
+
+  -- no recording in mid-session is asked for by the extended profile
+  pub joined_base : (scope : Scope) → used (codes "joined") ≡ true → AskToCheck values used scope
+      → used (codes "extended") ≡ false
+  joined_base scope flag (other, of, inl from) = absurd (true≢false (sym flag ∙ from.not_joined))
+  joined_base scope flag (other, of, inr joined) = joined.base
 
   -- else something is known with them
   pub joined_told : (scope : Scope) → used (codes "joined") ≡ true → AskToCheck values used scope

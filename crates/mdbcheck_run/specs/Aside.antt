@@ -1,18 +1,31 @@
 -- What standard error is told where there is an answer.
 use Rattle.std.specs.Prelude.{◌≡◌, ◌⊎◌, ◌++◌, ℕ, List, [], ◌∷◌, codes, Option, Some, None, IfSome}
+use Rattle.std.specs.Prelude.{Bool, true, false, if◌then◌else◌, Result, Ok, Err}
+use Rattle.std.specs.Fmt.{decimal}
 use Rattle.std.specs.Str.Iter.{HasSubslice}
 use Rattle.csv.specs.Reading.{default_config, records, strip_bom}
 use Rattle.mdb_msgs.specs.declared.command.Device.TheVariants.{Reader}
 use Rattle.mdb_msgs.specs.declared.command.ReaderUnit.{ReaderUnit}
 use Rattle.mdb_msgs.specs.declared.command.ReaderUnit.TheVariants.{First, Second}
 use Rattle.mdb_msgs.specs.Devices.{device_word}
+use Rattle.mdb_bus.specs.declared.fault.Blame.{Blame}
+use Rattle.mdb_bus.specs.declared.fault.Blame.TheVariants as blames
+use Rattle.mdb_bus.specs.declared.fault.Rule.{Rule}
+use Rattle.mdb_bus.specs.declared.fault.Rule.TheVariants as rules
 use Rattle.mdb_bus.specs.declared.levels.Levels.{Levels}
+use Rattle.mdb_bus.specs.declared.scope.Beginning.{Beginning}
+use Rattle.mdb_bus.specs.declared.scope.Beginning.TheVariants.{PowerOn}
+use Rattle.mdb_bus.specs.declared.scope.Profile.TheVariants.{Base}
 use Rattle.mdb_bus.specs.declared.scope.Scope.{Scope}
+use Rattle.mdb_bus.specs.FaultWords.{blame_word}
 use Rattle.mdb_follow.specs.declared.follower.TheConstants.{ROWS_MAX}
 use Rattle.mdb_follow.specs.declared.goal.Goal.{Goal}
 use Rattle.mdb_follow.specs.declared.offence.Offence.{Offence}
 use Rattle.mdb_text.specs.Text.{line}
+use Rattle.mdb_text.specs.declared.outcome.Outcome.{Outcome}
+use Rattle.mdb_text.specs.declared.outcome.Outcome.TheVariants.{Yes, No}
 use Rattle.mdb_unjudged.specs.Verdict.{IsJudgedNo}
+use Rattle.mdb_verdict.specs.declared.fault.RunFault.{RunFault}
 use Rattle.mdb_writing.specs.Written.{HasTaken}
 use Rattle.mdb_text.specs.declared.form.Form.{Form}
 use Rattle.mdbcheck_run.specs.Program.{NamesCheck, NamesExplain, NamesManual, NamesReplay, NamesShow, NamesSurvey, setup_text}
@@ -24,16 +37,55 @@ unjudged_line unit =
     ++ codes " and the controller speak feature level 1; a recording of the machine's start would"
     ++ codes " (or leave it out: --without " ++ device_word (Reader unit) ++ codes ")")
 
--- a writer was told nothing, or the line on this reader, or a front of that
-abbrev pub HasHeard : {E : Type 0} → (E → Option (List ℕ)) → E → E → Option ReaderUnit → Type 0
-HasHeard contents old new None = new ≡ old
-HasHeard contents old new (Some unit) = HasTaken (contents old) (contents new) (unjudged_line unit)
+-- whether the extended profile may follow what the base profile doesn't: it is for recordings from
+-- power-on
+abbrev pub may_extend : Beginning → Bool
+may_extend (PowerOn Base) = true
+may_extend begins = false
 
--- It was told nothing but of a reader that is one of these, if there is one.
+-- why a row isn't followed, and the words to type: by who sent it, and by whether the extended
+-- profile may follow it
+abbrev pub beyond_text : Bool → Blame → List ℕ
+beyond_text true blames.Bill = codes "bill reports a recycler or a file transfer: add --extended"
+beyond_text true blames.Cashless = codes "cashless goes beyond feature level 1: add --extended"
+beyond_text true blames.Cashless2 = codes "cashless-2 goes beyond feature level 1: add --extended"
+beyond_text extends blames.Controller =
+    codes "the controller sends a command that isn't followed (leave out the device that it is sent"
+    ++ codes " to: --without DEVICE)"
+beyond_text extends blames.Other =
+    codes "a device sends a message that isn't followed (leave it out: --without DEVICE)"
+beyond_text extends sender =
+    blame_word sender ++ codes " sends a message that isn't followed (leave it out: --without "
+    ++ blame_word sender ++ codes ")"
+
+-- the line on a row that isn't followed
+abbrev pub beyond_line : Beginning → Offence → List ℕ
+beyond_line begins offence =
+    line (codes "mdbcheck: row " ++ decimal offence.row ++ codes ": "
+    ++ beyond_text (may_extend begins) offence.blame)
+
+-- whether a row that breaks a rule isn't followed
+abbrev pub is_beyond : Rule → Bool
+is_beyond rules.Profile = true
+is_beyond broken = false
+
+-- the line on a no: on the reader for which it isn't judged, else on a row that isn't followed; any
+-- other no has none
+abbrev pub aside_line : Beginning → Offence → Option ReaderUnit → Option (List ℕ)
+aside_line begins offence (Some unit) = Some (unjudged_line unit)
+aside_line begins offence None =
+    if is_beyond offence.rule then Some (beyond_line begins offence) else None
+
+-- a writer was told nothing, or this line, or a front of it
+abbrev pub HasHeard : {E : Type 0} → (E → Option (List ℕ)) → E → E → Option (List ℕ) → Type 0
+HasHeard contents old new None = new ≡ old
+HasHeard contents old new (Some told) = HasTaken (contents old) (contents new) told
+
+-- It was told nothing but a line that is one of these, if there is one.
 abbrev pub HasToldAside : {E : Type 0} → (E → Option (List ℕ)) → E → E
-    → (Option ReaderUnit → Type 0) → Type 0
-HasToldAside contents old new IsAside = (reader : Option ReaderUnit)
-    × HasHeard contents old new reader × IsAside reader
+    → (Option (List ℕ) → Type 0) → Type 0
+HasToldAside contents old new IsAside = (aside : Option (List ℕ))
+    × HasHeard contents old new aside × IsAside aside
 
 -- The front of an answer to SETUP stands in one of some words, after the word of the reader, as
 -- `--setup` has it: a config message of level 1.
@@ -48,30 +100,38 @@ IsLevelGiven words unit None = HasLevel1 words unit → ⊥
 IsLevelGiven words unit (Some level) = (level ≡ 1) × HasLevel1 words unit
 
 pub record AreLevelsGiven (words : List (List ℕ)) (readers : Levels) : Type 0 where
-  pub first : IsLevelGiven words First readers.first.asked
-  pub second : IsLevelGiven words Second readers.second.asked
+  pub first : IsLevelGiven words First readers.first.told
+  pub second : IsLevelGiven words Second readers.second.told
 
--- The reader of an answer of `check` to a text, with this status: of a no that isn't judged, and of
--- no other answer.
+-- The line on an answer of `check` to a text, with this status: on a no that isn't judged, or at a
+-- row that isn't followed, and on no other answer.
 pub record IsAsideOfCheck (scope : Scope) (readers : Levels) (text : Option (List ℕ)) (status : ℕ)
-    (reader : Option ReaderUnit) : Type 0 where
-  pub possible : status ≡ 0 → reader ≡ None
+    (aside : Option (List ℕ)) : Type 0 where
+  pub possible : status ≡ 0 → aside ≡ None
   pub impossible : status ≡ 1 → IfSome text (λ bytes. (offence : Offence)
-      × IsJudgedNo scope readers ROWS_MAX (records default_config (strip_bom bytes)) offence reader)
+      × (reader : Option ReaderUnit)
+      × IsJudgedNo scope readers ROWS_MAX (records default_config (strip_bom bytes)) offence reader
+      × (aside ≡ aside_line scope.begins offence reader))
 
 -- The same of the task that words name. The other tasks have none.
 pub data IsAside (words : List (List ℕ)) (text : Option (List ℕ)) (status : ℕ)
-    (reader : Option ReaderUnit) : Type 0 where
+    (aside : Option (List ℕ)) : Type 0 where
   of_check : (scope : Scope) (form : Form) (readers : Levels) → NamesCheck words scope form
-      → AreLevelsGiven words readers → IsAsideOfCheck scope readers text status reader
-      → IsAside words text status reader
-  of_survey : (scope : Scope) (form : Form) → NamesSurvey words scope form → reader ≡ None
-      → IsAside words text status reader
-  of_show : (scope : Scope) (form : Form) → NamesShow words scope form → reader ≡ None
-      → IsAside words text status reader
-  of_explain : (scope : Scope) (goal : Goal) → NamesExplain words goal scope → reader ≡ None
-      → IsAside words text status reader
-  of_replay : (scope : Scope) (form : Form) → NamesReplay words scope form → reader ≡ None
-      → IsAside words text status reader
-  of_manual : (manual : List ℕ) → NamesManual words manual → reader ≡ None
-      → IsAside words text status reader
+      → AreLevelsGiven words readers → IsAsideOfCheck scope readers text status aside
+      → IsAside words text status aside
+  of_survey : (scope : Scope) (form : Form) → NamesSurvey words scope form → aside ≡ None
+      → IsAside words text status aside
+  of_show : (scope : Scope) (form : Form) → NamesShow words scope form → aside ≡ None
+      → IsAside words text status aside
+  of_explain : (scope : Scope) (goal : Goal) → NamesExplain words goal scope → aside ≡ None
+      → IsAside words text status aside
+  of_replay : (scope : Scope) (form : Form) → NamesReplay words scope form → aside ≡ None
+      → IsAside words text status aside
+  of_manual : (manual : List ℕ) → NamesManual words manual → aside ≡ None
+      → IsAside words text status aside
+
+-- The rest serves private functions: the line on an answer of `check`.
+abbrev pub aside_of : Beginning → Result Outcome RunFault → Option ReaderUnit → Option (List ℕ)
+aside_of begins (Ok (No offence)) reader = aside_line begins offence reader
+aside_of begins (Ok (Yes report)) reader = None
+aside_of begins (Err fault) reader = None

@@ -36,8 +36,10 @@ use Rattle.mdb_text.specs.declared.outcome.Outcome.{Outcome}
 use Rattle.mdb_text.specs.declared.outcome.Outcome.TheVariants.{Yes, No}
 use Rattle.mdb_verdict.specs.declared.fault.RunFault.{RunFault}
 use Rattle.mdb_verdict.specs.declared.verdict.TheConstants.{BYTES_MAX}
+use Rattle.mdb_bus.specs.declared.scope.Profile.{Profile}
+use Rattle.mdb_bus.specs.declared.scope.Profile.TheVariants.{Base, Extended}
 use Rattle.mdb_bus.specs.declared.scope.Scope.{Scope}
-use Rattle.mdb_bus.specs.Scopes.{leaving_out, joined as in_mid_session}
+use Rattle.mdb_bus.specs.Scopes.{from_power_on, joined as in_mid_session}
 use Rattle.mdb_writing.specs.Written.{HasTaken}
 use Rattle.mdbcheck_run.specs.declared.manual.TheConstants.{ABOUT, CHECK, EXPLAIN, MANUAL, REPLAY, REST, SHOW, SURVEY}
 use Rattle.mdb_text.specs.declared.form.Form.{Form}
@@ -80,21 +82,24 @@ abbrev pub check_command : Command
 check_command = record {
   name = codes "check";
   options = codes "setup" ∷ codes "without" ∷ [];
-  flags = codes "joined" ∷ codes "json" ∷ [];
+  flags = codes "joined" ∷ codes "extended" ∷ codes "json" ∷ [];
   words = [];
   further = [];
 }
 
--- `survey` knows the same
+-- `survey` knows the same, but for the profile
 abbrev pub survey_command : Command
-survey_command = record check_command { name = codes "survey" }
+survey_command = record check_command {
+  name = codes "survey";
+  flags = codes "joined" ∷ codes "json" ∷ [];
+}
 
 -- what `show` and `replay` know
 abbrev pub show_command : Command
 show_command = record {
   name = codes "show";
   options = codes "without" ∷ [];
-  flags = codes "json" ∷ [];
+  flags = codes "extended" ∷ codes "json" ∷ [];
   words = [];
   further = [];
 }
@@ -107,7 +112,7 @@ abbrev pub explain_command : Command
 explain_command = record {
   name = codes "explain";
   options = codes "without" ∷ [];
-  flags = [];
+  flags = codes "extended" ∷ [];
   words = codes "ACCOUNT" ∷ codes "SIDE" ∷ codes "BOUND" ∷ [];
   further = [];
 }
@@ -145,6 +150,11 @@ abbrev pub form_of : Bool → Form
 form_of true = Json
 form_of false = Text
 
+-- the profile that is asked for, by whether there is `--extended`
+abbrev pub profile_by : Bool → Profile
+profile_by true = Extended
+profile_by false = Base
+
 -- A value of `--setup`, the next after those with which this was known: the answer to SETUP of a
 -- device that isn't left out, and of which nothing was known.
 pub record AddsSetup (left_out : DeviceSet) (before : Setups) (text : List ℕ) (after : Setups)
@@ -162,17 +172,20 @@ AreSetups left_out before [] after = after ≡ before
 AreSetups left_out before (text ∷ more) after = (next : Setups)
     × AddsSetup left_out before text next × AreSetups left_out next more after
 
--- A recording from power-on on is asked for, with no setup data, and it is taken so.
+-- A recording from power-on on is asked for, with no setup data, and it is taken so, by the profile
+-- that is asked for.
 pub record IsFromPowerOn (values : List ℕ → List (List ℕ)) (used : List ℕ → Bool)
     (left_out : DeviceSet) (scope : Scope) : Type 0 where
   pub not_joined : used (codes "joined") ≡ false
   pub no_setups : values (codes "setup") ≡ []
-  pub is : scope ≡ leaving_out left_out
+  pub is : scope ≡ from_power_on (profile_by (used (codes "extended"))) left_out
 
--- A recording in mid-session is asked for, with these setup data, and it is taken so.
+-- A recording in mid-session is asked for, with these setup data, and it is taken so. It is of the
+-- base profile alone.
 pub record IsJoined (values : List ℕ → List (List ℕ)) (used : List ℕ → Bool)
     (left_out : DeviceSet) (scope : Scope) : Type 0 where
   pub joined : used (codes "joined") ≡ true
+  pub base : used (codes "extended") ≡ false
   pub setups : Setups
   pub told : AreSetups left_out nothing_known (values (codes "setup")) setups
   pub is : scope ≡ in_mid_session setups left_out
@@ -185,9 +198,10 @@ AskToCheck values used scope = (left_out : DeviceSet)
     × (IsFromPowerOn values used left_out scope ⊎ IsJoined values used left_out scope)
 
 -- Those of `show`, `explain` and `replay`, which take no recording from mid-session on.
-abbrev pub AskToShow : (List ℕ → List (List ℕ)) → Scope → Type 0
-AskToShow values scope = (left_out : DeviceSet)
-    × AreDevices (values (codes "without")) left_out × (scope ≡ leaving_out left_out)
+abbrev pub AskToShow : (List ℕ → List (List ℕ)) → (List ℕ → Bool) → Scope → Type 0
+AskToShow values used scope = (left_out : DeviceSet)
+    × AreDevices (values (codes "without")) left_out
+    × (scope ≡ from_power_on (profile_by (used (codes "extended"))) left_out)
 
 -- The words of `explain` are those of this goal.
 pub record AskForGoal (values : List ℕ → List (List ℕ)) (goal : Goal) : Type 0 where
@@ -213,17 +227,20 @@ NamesSurvey words scope form = (uses : Uses) × NameCommand words survey_command
 -- they name `show`
 abbrev pub NamesShow : List (List ℕ) → Scope → Form → Type 0
 NamesShow words scope form = (uses : Uses) × NameCommand words show_command uses
-    × AskToShow (λ name. chosen name uses) scope × (form ≡ form_of (is_used (codes "json") uses))
+    × AskToShow (λ name. chosen name uses) (λ name. is_used name uses) scope
+    × (form ≡ form_of (is_used (codes "json") uses))
 
 -- they name `replay`
 abbrev pub NamesReplay : List (List ℕ) → Scope → Form → Type 0
 NamesReplay words scope form = (uses : Uses) × NameCommand words replay_command uses
-    × AskToShow (λ name. chosen name uses) scope × (form ≡ form_of (is_used (codes "json") uses))
+    × AskToShow (λ name. chosen name uses) (λ name. is_used name uses) scope
+    × (form ≡ form_of (is_used (codes "json") uses))
 
 -- they name `explain` with a goal; it writes text alone
 abbrev pub NamesExplain : List (List ℕ) → Goal → Scope → Type 0
 NamesExplain words goal scope = (uses : Uses) × NameCommand words explain_command uses
-    × AskForGoal (λ name. chosen name uses) goal × AskToShow (λ name. chosen name uses) scope
+    × AskForGoal (λ name. chosen name uses) goal
+    × AskToShow (λ name. chosen name uses) (λ name. is_used name uses) scope
 
 -- they name `manual`, and ask for this text of it
 abbrev pub NamesManual : List (List ℕ) → List ℕ → Type 0

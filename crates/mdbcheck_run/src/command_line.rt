@@ -8,9 +8,10 @@ ghost use Rattle.command_words.specs.Manual.{AskForManual, manual_text};
 ghost use Rattle.command_words.specs.Named.{name_in, used_in, values_in};
 ghost use Rattle.mdb_msgs.specs.declared.device_set.DeviceSet.{DeviceSet};
 ghost use Rattle.mdb_bus.specs.declared.scope.Scope.{Scope};
-ghost use Rattle.mdb_bus.specs.Scopes.{leaving_out};
+ghost use Rattle.mdb_bus.specs.Scopes as scopes;
 ghost use Rattle.mdb_follow.specs.declared.goal.Goal.{Goal};
 ghost use Rattle.mdbcheck_run.specs.Program.{AreDevices, AskForGoal, AskToCheck, AskToShow, form_of};
+ghost use Rattle.mdbcheck_run.specs.Program.{profile_by};
 ghost use Rattle.mdbcheck_run.specs.Program.{mdbcheck_manual};
 ghost use Rattle.mdbcheck_run.specs.inner.CommandLine.{AsksFor, Fails, FindTask, IsOwnRefusal};
 ghost use Rattle.mdbcheck_run.specs.inner.CommandLine.{mdbcheck, names};
@@ -22,14 +23,14 @@ use super::refusal::{Refusal, SetupFault};
 use super::setup_value::setups_of;
 use clap::error::{Error, ErrorKind};
 use command_words::{CommandRow, Named, Program, manual_asked, read};
-use mdb_bus::Scope;
+use mdb_bus::{Profile, Scope};
 use mdb_follow::Goal;
 use mdb_msgs::{Device, DeviceSet};
 use mdb_text::Form;
 use std::alloc::Global;
 
 /// The program's version.
-pub(crate) const VERSION: &str = "0.3.1";
+pub(crate) const VERSION: &str = "0.4.0";
 
 /// The option that says that the recording begins in mid-session.
 const JOINED: &str = "joined";
@@ -39,6 +40,9 @@ pub(crate) const SETUP: &str = "setup";
 
 /// The option that leaves out a device.
 pub(crate) const WITHOUT: &str = "without";
+
+/// The option that asks for the extended profile.
+const EXTENDED: &str = "extended";
 
 /// The option that asks for JSON in the place of text.
 const JSON: &str = "json";
@@ -63,11 +67,12 @@ pub(crate) const PROGRAM: Program<'static> = Program {
         CommandRow {
             name: "check",
             options: &[SETUP, WITHOUT],
-            flags: &[JOINED, JSON],
+            flags: &[JOINED, EXTENDED, JSON],
             words: &[],
             further: &[],
-            usage: "check [--joined] [--setup 'DEVICE BYTES'].. [--without DEVICE].. [--json] \
-< TRANSCRIPT",
+            // (so short that a line of 200 has room for a refused value before it)
+            usage: "check [--joined|--extended] [--setup 'DEVICE ..'].. [--without DEVICE].. \
+[--json] < FILE",
             manual: manual::CHECK,
         },
         CommandRow {
@@ -83,28 +88,29 @@ pub(crate) const PROGRAM: Program<'static> = Program {
         CommandRow {
             name: "show",
             options: &[WITHOUT],
-            flags: &[JSON],
+            flags: &[EXTENDED, JSON],
             words: &[],
             further: &[],
-            usage: "show [--without DEVICE].. [--json] < TRANSCRIPT",
+            usage: "show [--extended] [--without DEVICE].. [--json] < TRANSCRIPT",
             manual: manual::SHOW,
         },
         CommandRow {
             name: "explain",
             options: &[WITHOUT],
-            flags: &[],
+            flags: &[EXTENDED],
             words: &[ACCOUNT, SIDE, BOUND],
             further: &[],
-            usage: "explain ACCOUNT SIDE BOUND [--without DEVICE].. < TRANSCRIPT",
+            // (so short for the same reason)
+            usage: "explain ACCOUNT SIDE BOUND [--extended] [--without ..] < FILE",
             manual: manual::EXPLAIN,
         },
         CommandRow {
             name: "replay",
             options: &[WITHOUT],
-            flags: &[JSON],
+            flags: &[EXTENDED, JSON],
             words: &[],
             further: &[],
-            usage: "replay [--without DEVICE].. [--json] < EXPLANATION",
+            usage: "replay [--extended] [--without DEVICE].. [--json] < EXPLANATION",
             manual: manual::REPLAY,
         },
         CommandRow {
@@ -133,11 +139,12 @@ pub(crate) enum Task {
     Survey(Scope, Form),
     /// `show`: its acts.
     Show(Scope, Form),
-    /// `explain`: its rows, with the marks of a run that comes to this goal. These devices are left
-    /// out.
-    Explain(Goal, DeviceSet),
-    /// `replay`: what its run with the marks before it tells. These devices are left out.
-    Replay(DeviceSet, Form),
+    /// `explain`: its rows, with the marks of a run that comes to this goal, by this profile. These
+    /// devices are left out.
+    Explain(Goal, Profile, DeviceSet),
+    /// `replay`: what its run with the marks before it tells, by this profile. These devices are
+    /// left out.
+    Replay(Profile, DeviceSet, Form),
     /// `manual`: this part of it, or, where there is none, the whole manual.
     Manual(Option<&'static str>),
 }
@@ -173,8 +180,15 @@ fn task_in(alloc: Global, found: &Named<'_>) -> Result<Task, Refusal>
         "check" => Ok(Task::Check(scope_of_check(alloc, found)?, form_asked(found))),
         "survey" => Ok(Task::Survey(scope_of_check(alloc, found)?, form_asked(found))),
         "show" => Ok(Task::Show(scope_of_show(found)?, form_asked(found))),
-        "explain" => Ok(Task::Explain(goal_of_explain(found)?, left_out_of(found)?)),
-        "replay" => Ok(Task::Replay(left_out_of(found)?, form_asked(found))),
+        "explain" => {
+            let goal = goal_of_explain(found)?;
+            let (profile, without) = start_asked(found)?;
+            Ok(Task::Explain(goal, profile, without))
+        }
+        "replay" => {
+            let (profile, without) = start_asked(found)?;
+            Ok(Task::Replay(profile, without, form_asked(found)))
+        }
         "manual" => Ok(Task::Manual(part_asked(found)?)),
         _ => unreachable!(),
     }
@@ -191,10 +205,15 @@ fn scope_of_check(alloc: Global, found: &Named<'_>) -> Result<Scope, Refusal>
     let without = left_out_by(found).ok_or(Refusal::Words(ErrorKind::InvalidValue))?;
     let texts = found.values(SETUP).unwrap_or(&[]);
     if found.is_used(JOINED) {
+        if found.is_used(EXTENDED) {
+            return Err(Refusal::Extended);
+        }
         let setups = setups_of(alloc, without, texts)?;
         Ok(Scope::joined(setups, without))
     } else if texts.is_empty() {
-        Ok(Scope::leaving_out(without))
+        Ok(Scope::from_power_on(profile_asked(found), without))
+    } else if found.is_used(EXTENDED) {
+        Err(Refusal::Extended)
     } else {
         Err(Refusal::Setup(SetupFault::NotJoined))
     }
@@ -202,13 +221,24 @@ fn scope_of_check(alloc: Global, found: &Named<'_>) -> Result<Scope, Refusal>
 
 /// How the recording is taken that the options of `show` ask for.
 fn scope_of_show(found: &Named<'_>) -> Result<Scope, Refusal>
-    ensures asked { IfOk result (AskToShow (values_in found.now)) }
+    ensures asked { IfOk result (AskToShow (values_in found.now) (used_in found.now)) }
     ensures refused { IfErr result (λ refusal. (scope : Scope)
-        → AskToShow (values_in found.now) scope → refusal ≡ no_memory) }
+        → AskToShow (values_in found.now) (used_in found.now) scope → refusal ≡ no_memory) }
     ensures own { IfErr result IsOwnRefusal }
 {
-    let without = left_out_by(found).ok_or(Refusal::Words(ErrorKind::InvalidValue))?;
-    Ok(Scope::leaving_out(without))
+    let (profile, without) = start_asked(found)?;
+    Ok(Scope::from_power_on(profile, without))
+}
+
+/// The profile that the options of a command ask for.
+fn profile_asked(found: &Named<'_>) -> Profile
+    ensures { result ≡ profile_by (used_in found.now (codes "extended")) }
+{
+    if found.is_used(EXTENDED) {
+        Profile::Extended
+    } else {
+        Profile::Base
+    }
 }
 
 /// The form that the options of `check`, `survey`, `show` or `replay` ask for.
@@ -269,15 +299,17 @@ fn word_in<'a>(found: &Named<'a>, name: &str) -> Option<&'a str>
     }
 }
 
-/// The devices that the options of `explain` or of `replay` leave out.
-fn left_out_of(found: &Named<'_>) -> Result<DeviceSet, Refusal>
-    ensures asked { IfOk result (λ devices.
-        AskToShow (values_in found.now) (leaving_out devices)) }
+/// The profile that the options of `show`, `explain` or `replay` ask for, and the devices that they
+/// leave out.
+fn start_asked(found: &Named<'_>) -> Result<(Profile, DeviceSet), Refusal>
+    ensures asked { IfOk result (λ start. AskToShow (values_in found.now) (used_in found.now)
+        (scopes.from_power_on start.0 start.1)) }
     ensures refused { IfErr result (λ refusal. (scope : Scope)
-        → AskToShow (values_in found.now) scope → refusal ≡ no_memory) }
+        → AskToShow (values_in found.now) (used_in found.now) scope → refusal ≡ no_memory) }
     ensures own { IfErr result IsOwnRefusal }
 {
-    left_out_by(found).ok_or(Refusal::Words(ErrorKind::InvalidValue))
+    let without = left_out_by(found).ok_or(Refusal::Words(ErrorKind::InvalidValue))?;
+    Ok((profile_asked(found), without))
 }
 
 /// The devices that the option `--without` leaves out, if each of its values is a device's word.

@@ -1,11 +1,9 @@
-//! What standard error is told: why there is no answer, or that a no isn't judged.
+//! Why there is no answer, as standard error is told.
 
 ghost use Rattle.std.specs.Prelude.{◌≡◌};
 ghost use Rattle.mdb_writing.specs.Written.{HasTaken};
-ghost use Rattle.mdbcheck_run.specs.Aside.{HasHeard, unjudged_line};
 ghost use Rattle.mdbcheck_run.specs.Complaint.{IsToldCause, cause_line, excess_line};
 
-use mdb_msgs::ReaderUnit;
 use mdb_records::{ReadCause, Record, Records};
 use mdb_verdict::RunFault;
 use mdb_words::RowFault;
@@ -47,18 +45,8 @@ pub(crate) fn complain<R: Read + Drop, E: Write>(
     }
 }
 
-/// Writes one line on a no that isn't judged, which names the reader. Where there is none, nothing
-/// is written.
-pub(crate) fn tell_unjudged<E: Write>(reader: Option<ReaderUnit>, err: &mut E)
-    ensures { HasHeard E.contents err.old err.new reader }
-{
-    if let Some(unit) = reader {
-        tell(err, text_of_unjudged(unit));
-    }
-}
-
 /// Writes a line, or a front of it where that fails.
-fn tell<E: Write>(err: &mut E, line: &str)
+pub(crate) fn tell<E: Write>(err: &mut E, line: &str)
     ensures { HasTaken (E.contents err.old) (E.contents err.new) line.now }
 {
     let _ = write_text(err, line.as_bytes());
@@ -114,23 +102,5 @@ fn text_of_cause(cause: ReadCause) -> &'static str
             "mdbcheck: the input can't be read: it would have to be waited for\n"
         }
         ReadCause::OverLimit => "mdbcheck: the input has more than 6400000000 bytes\n",
-    }
-}
-
-/// The line on a no that isn't judged.
-fn text_of_unjudged(unit: ReaderUnit) -> &'static str
-    ensures { result.now ≡ unjudged_line unit }
-{
-    match unit {
-        ReaderUnit::First => {
-            "mdbcheck: not judged: the rows don't show whether cashless and the controller speak \
-             feature level 1; a recording of the machine's start would (or leave it out: \
-             --without cashless)\n"
-        }
-        ReaderUnit::Second => {
-            "mdbcheck: not judged: the rows don't show whether cashless-2 and the controller speak \
-             feature level 1; a recording of the machine's start would (or leave it out: \
-             --without cashless-2)\n"
-        }
     }
 }

@@ -14,10 +14,12 @@ pub(crate) fn levels_given(words: &[String]) -> Levels
 {
     Levels {
         first: ReaderLevels {
-            asked: level_given(words, ReaderUnit::First),
+            asked: None,
+            told: level_given(words, ReaderUnit::First),
         },
         second: ReaderLevels {
-            asked: level_given(words, ReaderUnit::Second),
+            asked: None,
+            told: level_given(words, ReaderUnit::Second),
         },
     }
 }

@@ -1,10 +1,11 @@
 //! The program `mdbcheck`, as a function of its words.
 //!
 //! [`run`] does what the words of a command line ask, and writes to standard error why there is no
-//! answer.
+//! answer, or why nobody did wrong by a no.
 #![tactic(auto)]
 
 mod apart;
+mod aside;
 mod command_line;
 mod complaint;
 mod goal_words;

@@ -38,7 +38,7 @@ DESCRIPTION
 /// `check`.
 pub const CHECK: &str = "\
 CHECK
-        mdbcheck check [--joined] [--setup 'DEVICE BYTES']..
+        mdbcheck check [--joined|--extended] [--setup 'DEVICE BYTES']..
             [--without DEVICE].. [--json] < TRANSCRIPT
 
     Prints the verdict. The first line is \"verdict yes\" or \"verdict no\".
@@ -46,6 +46,9 @@ CHECK
     --joined         The recording began while the machine was running.
                      Without this option the first row counts as power-on,
                      and the checker may blame the innocent.
+    --extended       Also follows card readers of feature levels 2 and 3, and
+                     bills that go to a recycler. Use it for each recording
+                     from power-on. Not with --joined or --setup.
     --setup 'DEVICE BYTES'
                      With --joined: gives the device's answer to SETUP, from
                      an earlier recording: the line that \"mdbcheck show\"
@@ -56,8 +59,8 @@ CHECK
                      Leaves a device out: all words to and from it are passed
                      over. Repeat it for more devices. DEVICE is changer,
                      bill, cashless (the reader at 10H) or cashless-2 (the
-                     reader at 60H). Use it if the rule is Profile and you ask
-                     about another device.
+                     reader at 60H). Use it if the rule is Profile, also with
+                     --extended, and you ask about another device.
     --json           Writes the report as JSON, for programs: one object on
                      one line. Statuses and standard error stay the same.
 
@@ -104,13 +107,14 @@ SURVEY
 /// `show`.
 pub const SHOW: &str = "\
 SHOW
-        mdbcheck show [--without DEVICE].. [--json] < TRANSCRIPT
+        mdbcheck show [--extended] [--without DEVICE].. [--json] < TRANSCRIPT
 
     Prints what was said: one line for each command, answer and
     acknowledgement, with its rows, its device and its bytes. It knows the
     rules of the link alone. If a row breaks one, the last line is \"fault ROW
     RULE BLAME\".
 
+    --extended       Follows the extended profile, as with check.
     --without DEVICE
                      Leaves a device out, as with check.
     --json           Writes one JSON object on each line.
@@ -120,7 +124,8 @@ SHOW
 /// `explain`.
 pub const EXPLAIN: &str = "\
 EXPLAIN
-        mdbcheck explain ACCOUNT SIDE BOUND [--without DEVICE].. < TRANSCRIPT
+        mdbcheck explain ACCOUNT SIDE BOUND [--extended]
+            [--without DEVICE].. < TRANSCRIPT
 
     Shows how a bound of check can have come about. It writes the fewest
     marks that lead to it, and after them the rows of the transcript. replay
@@ -130,6 +135,7 @@ EXPLAIN
                      or sold-2
     SIDE             device, controller or difference
     BOUND            least or greatest
+    --extended       Follows the extended profile, as with check.
     --without DEVICE
                      Leaves a device out, as with check.
 
@@ -138,7 +144,8 @@ EXPLAIN
 /// `replay`.
 pub const REPLAY: &str = "\
 REPLAY
-        mdbcheck replay [--without DEVICE].. [--json] < EXPLANATION
+        mdbcheck replay [--extended] [--without DEVICE].. [--json]
+            < EXPLANATION
 
     Prints the verdict on the one course of events that the marks before a
     transcript describe. In its report both ends of each range are the same.
@@ -150,6 +157,8 @@ REPLAY
 
     Rows are counted from 1, without the marks.
 
+    --extended       Follows the extended profile, as with check. Give it to
+                     both explain and replay, or to neither.
     --without DEVICE
                      Leaves a device out, as with check. Give the same
                      devices to explain and replay.
@@ -222,6 +231,7 @@ RULES
                      A block has a wrong length, a wrong sum, or a message
                      that can't be read.
     Profile          The checker doesn't follow this row: nobody did wrong.
+                     Try --extended.
     Changer, Bill, Cashless
                      The row is well formed, but no state of that device and
                      the controller allows it.
@@ -277,6 +287,9 @@ EXAMPLES
         mdbcheck replay < why.csv
 
 DIAGNOSTICS
+    row 107: cashless goes beyond feature level 1: add --extended
+                     With the rule Profile, check says what it doesn't follow,
+                     and which words to type.
     row 7: BadValue: wanted TIME,LINE,VALUE, found \"1200,M,8\"
                      The row isn't a row. The word after its number says why:
                      FieldCount (not three fields, as with semicolons or
@@ -293,9 +306,10 @@ SEE ALSO
     mdbimport(1), sigrok-cli(1)
 
 CAVEATS
-    Record from before power-on, or use --joined. Sessions of higher reader
-    levels, alternative payout, recyclers and file transfer aren't followed:
-    they end at the rule Profile. With --joined, reader levels are known only
-    if the rows show them. Nobody can prove that the recorder heard every
-    word.
+    Record from before power-on, or use --joined. Alternative payout, file
+    transfer, and of card readers revalue, always idle and money of 32 bits
+    aren't followed: they end at the rule Profile. Without --extended so do
+    reader levels 2 and 3, and recyclers. What a recycler pays out is in no
+    sum. With --joined, reader levels are known only if the rows show them.
+    Nobody can prove that the recorder heard every word.
 ";

@@ -12,20 +12,21 @@ ghost use Rattle.mdbcheck_run.specs.Program.{SaysExplained, SaysManual, SaysOf, 
 ghost use Rattle.mdbcheck_run.specs.Program.{mdbcheck_manual, show_status_of, status_of};
 ghost use Rattle.mdbcheck_run.specs.Program.{survey_status_of};
 ghost use Rattle.mdb_verdict.specs.Forms.{answer_text};
-ghost use Rattle.mdb_bus.specs.Scopes.{leaving_out};
+ghost use Rattle.mdb_bus.specs.Scopes.{from_power_on};
 ghost use Rattle.mdb_verdict.specs.declared.verdict.TheConstants.{BYTES_MAX};
 ghost use Rattle.mdb_writing.specs.Written.{HasTaken};
 ghost use Rattle.mdb_records.specs.ToCome.{IsOverLimit, ToCome, limit_of};
 ghost use Rattle.csv.specs.Reading.{default_config, records, strip_bom};
 
 use super::apart::Apart;
+use super::aside::tell_aside;
 use super::command_line::{PROGRAM, Task, task_of};
-use super::complaint::{Wanted, complain, tell_unjudged};
+use super::complaint::{Wanted, complain};
 use super::levels::levels_given;
 use super::refusal::Refusal;
 use super::refused::tell_refusal;
 use command_words::write_manual;
-use mdb_bus::{Levels, LinkFault, Scope};
+use mdb_bus::{Levels, LinkFault, Profile, Scope};
 use mdb_explain::{MarkedFault, explain_records, replay_records};
 use mdb_follow::{Goal, ROWS_MAX};
 use mdb_msgs::DeviceSet;
@@ -84,9 +85,11 @@ const NO_VERDICT: u8 = 2;
 ///
 /// - 0: the manual, or the part on the command that is named, is on `out`. It needs no input.
 ///
-/// With status 0 and 1 nothing is written to `err`, with one exception: if `check` says no, and the
-/// no isn't judged because the rows don't show the feature level of a reader, one line says so and
-/// names the reader. If `err` refuses the line, the status is the same.
+/// With status 0 and 1 nothing is written to `err`, with one exception: `check` writes one line if
+/// nobody did wrong by its no. Either the no isn't judged because the rows don't show the feature
+/// level of a reader, and the line names the reader. Or the rule is `Profile`, and the line has the
+/// row, what isn't followed, and which words to type. If `err` refuses the line, the status is the
+/// same.
 ///
 /// With status 2 there is no such answer. Either the task met a fault, or the words aren't a
 /// command of the program. Words that ask for help or for the version count as none too. One line
@@ -119,8 +122,12 @@ pub fn run<R: Read + Drop, W: Write, E: Write>(
         }
         Ok(Task::Survey(scope, form)) => run_survey(alloc, &scope, form, reader, out, err),
         Ok(Task::Show(scope, form)) => run_show(alloc, &scope, form, reader, out, err),
-        Ok(Task::Explain(goal, without)) => { run_explain(alloc, without, &goal, reader, out, err) }
-        Ok(Task::Replay(without, form)) => run_replay(alloc, without, form, reader, out, err),
+        Ok(Task::Explain(goal, profile, without)) => {
+            run_explain(alloc, profile, without, &goal, reader, out, err)
+        }
+        Ok(Task::Replay(profile, without, form)) => {
+            run_replay(alloc, profile, without, form, reader, out, err)
+        }
         Ok(Task::Manual(part)) => run_manual(part, out, err),
         Err(refusal) => refuse(alloc, refusal, words.as_slice(), err),
     }
@@ -146,7 +153,7 @@ fn run_check<R: Read + Drop, W: Write, E: Write>(
 {
     let mut records = input_of(alloc, reader);
     let judged = judge_records(alloc, form, scope, readers, &mut records, out, ROWS_MAX);
-    tell_unjudged(judged.unjudged, err);
+    tell_aside(&scope.begins, &judged, err);
     finish_check(judged.answer, Wanted::Row, &records, err)
 }
 
@@ -191,6 +198,7 @@ fn run_show<R: Read + Drop, W: Write, E: Write>(
 /// Replays the text that the reader has left: marks, and then a transcript.
 fn run_replay<R: Read + Drop, W: Write, E: Write>(
     alloc: Global,
+    profile: Profile,
     without: DeviceSet,
     form: Form,
     reader: R,
@@ -198,20 +206,22 @@ fn run_replay<R: Read + Drop, W: Write, E: Write>(
     err: &mut E,
 ) -> u8
     ensures status { result < 3 }
-    ensures says { SaysOf (λ all. SaysAnswered (IsReplayAnswer (leaving_out without) ROWS_MAX all)
-        (answer_text form (leaving_out without)) (W.contents out.old) (W.contents out.new))
-        (R.remaining reader) result }
+    ensures says { SaysOf (λ all. SaysAnswered
+        (IsReplayAnswer (from_power_on profile without) ROWS_MAX all)
+        (answer_text form (from_power_on profile without)) (W.contents out.old)
+        (W.contents out.new)) (R.remaining reader) result }
     ensures silent { result < 2 → err.new ≡ err.old }
 {
     // Apart, so that reading marks leaves reading rows as fast as it is alone.
     let mut records = input_of(alloc, Apart { inner: reader });
-    let answer = replay_records(alloc, form, without, &mut records, out);
+    let answer = replay_records(alloc, form, profile, without, &mut records, out);
     finish_replay(answer, &records, err)
 }
 
 /// Explains the text that the reader has left.
 fn run_explain<R: Read + Drop, W: Write, E: Write>(
     alloc: Global,
+    profile: Profile,
     without: DeviceSet,
     goal: &Goal,
     reader: R,
@@ -219,12 +229,12 @@ fn run_explain<R: Read + Drop, W: Write, E: Write>(
     err: &mut E,
 ) -> u8
     ensures status { result < 3 }
-    ensures says { SaysOf (λ all. SaysExplained (leaving_out without) goal.now all
+    ensures says { SaysOf (λ all. SaysExplained (from_power_on profile without) goal.now all
         (W.contents out.old) (W.contents out.new)) (R.remaining reader) result }
     ensures silent { result < 2 → err.new ≡ err.old }
 {
     let mut records = input_of(alloc, reader);
-    let answer = explain_records(alloc, without, &mut records, out, goal);
+    let answer = explain_records(alloc, profile, without, &mut records, out, goal);
     finish_check(answer, Wanted::Row, &records, err)
 }
 

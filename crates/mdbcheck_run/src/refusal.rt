@@ -11,6 +11,8 @@ pub(crate) enum Refusal {
     Words(ErrorKind),
     /// For the values of `--setup`.
     Setup(SetupFault),
+    /// For `--extended` beside `--joined` or `--setup`.
+    Extended,
 }
 
 /// Why the values of `--setup` are refused.

@@ -64,6 +64,7 @@ fn line_on_values(
     }
     match refusal {
         Refusal::Setup(SetupFault::NotJoined) => line.add(&["--setup ", reason_of(refusal)]),
+        Refusal::Extended => line.add(&["--extended ", reason_of(refusal)]),
         Refusal::Setup(_) => {
             if let Some((text, reason)) = refused_setup(alloc, found) {
                 if is_memory(reason) {
@@ -141,7 +142,7 @@ fn refused_value<'a>(found: &Named<'a>, name: &str) -> Option<&'a str> {
     None
 }
 
-/// Why words, or values of `--setup`, are refused.
+/// Why words, values of `--setup`, or `--extended` are refused.
 fn reason_of(refusal: Refusal) -> &'static str {
     match refusal {
         Refusal::Words(kind) => kind.as_str().unwrap_or(""),
@@ -151,5 +152,6 @@ fn reason_of(refusal: Refusal) -> &'static str {
         Refusal::Setup(SetupFault::NoAnswer) => "is no answer of its device to SETUP",
         Refusal::Setup(SetupFault::Twice) => "names its device again",
         Refusal::Setup(SetupFault::LeftOut) => "names a device that is left out",
+        Refusal::Extended => "can't stand beside --joined or --setup",
     }
 }

@@ -3,9 +3,11 @@ use Rattle.std.specs.Prelude.{◌≡◌, Option, Some}
 use Rattle.mdb_words.specs.declared.event.Event.{Event}
 use Rattle.mdb_bus.specs.declared.act.Act.{Act}
 use Rattle.mdb_bus.specs.declared.bus.Bus.{Bus}
+use Rattle.mdb_bus.specs.ActLists.{levels_if}
 use Rattle.mdb_bus.specs.Bus.{position_at}
+use Rattle.mdb_bus.specs.Scopes.{profile_of}
 use Rattle.mdb_bus.specs.inner.Step.{Step}
-use Rattle.mdb_bus.specs.inner.Steps.{HasAdvanced, asked_after, levels_after_step}
+use Rattle.mdb_bus.specs.inner.Steps.{HasAdvanced, asked_after}
 
 -- A bus has gone a step by a row.
 pub record HasGone (old : Bus) (next : Step) (row : Event) (new : Bus)
@@ -13,5 +15,5 @@ pub record HasGone (old : Bus) (next : Step) (row : Event) (new : Bus)
   pub scope : new.scope ≡ old.scope
   pub advanced : HasAdvanced (position_at old.place) next (position_at new.place) act
   pub last : new.last ≡ Some row
-  pub levels : new.levels ≡ levels_after_step old.levels next
+  pub levels : new.levels ≡ levels_if (profile_of old.scope.begins) act old.levels
   pub asked : new.asked ≡ asked_after old.asked next

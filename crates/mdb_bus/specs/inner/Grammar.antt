@@ -7,9 +7,11 @@ use Rattle.mdb_msgs.specs.declared.need.Need.TheVariants.{Exactly}
 use Rattle.mdb_msgs.specs.declared.reply.Reply.{Reply}
 use Rattle.mdb_msgs.specs.Commands.{IsByte}
 use Rattle.mdb_msgs.specs.Needs.{IsShort, IsTold}
-use Rattle.mdb_msgs.specs.Replies.{IsReadFault, IsReplyTo, reply_bytes}
+use Rattle.mdb_msgs.specs.Replies.{IsReplyTo, reply_bytes}
 use Rattle.mdb_msgs.specs.Answers.{HasDataAnswer}
 use Rattle.mdb_bus.specs.declared.scope.Scope.{Scope}
+use Rattle.mdb_bus.specs.declared.format.Format.{Format}
+use Rattle.mdb_bus.specs.Formats.{HasFault, IsReadAs}
 use Rattle.mdb_bus.specs.Scopes.{Asks, needed_in}
 
 -- open bytes are the front of some command's block
@@ -31,13 +33,15 @@ pub record Grammar (scope : Scope) : Type 0 where
       → Asks scope command (prefix ++ rest)
       → IsTold (needed_in scope prefix) (length prefix) (length (prefix ++ rest))
   pub open_front : OpenIsAFront scope
-  -- for a command, data bytes have at most one reply
-  pub one_reply : (command : Command) (one other : Reply) → IsReplyTo command one
+  -- for a command and a format, data bytes have at most one reply
+  pub one_reply : (format : Format) (command : Command) (one other : Reply)
+      → IsReadAs format command one → IsReadAs format command other → IsReplyTo command one
       → IsReplyTo command other
       → reply_bytes one ≡ reply_bytes other → one ≡ other
   -- data bytes that are a reply have no fault
-  pub no_fault : (command : Command) (reply : Reply) (fault : MsgFault) → IsReplyTo command reply
-      → IsReadFault command (reply_bytes reply) fault → ⊥
+  pub no_fault : (format : Format) (command : Command) (reply : Reply) (fault : MsgFault)
+      → IsReplyTo command reply → IsReadAs format command reply
+      → HasFault format command (reply_bytes reply) fault → ⊥
   -- a reply has a number of bytes that the command allows
   pub counted : (command : Command) (reply : Reply) → IsReplyTo command reply
       → HasDataAnswer command (length (reply_bytes reply))

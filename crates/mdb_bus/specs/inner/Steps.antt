@@ -1,5 +1,5 @@
 -- How a row leads from one situation to the next.
-use Rattle.std.specs.Prelude.{◌≡◌, ◌≢◌, ◌+◌, ◌%◌, ◌<◌, ◌≤◌, ◌⊎◌, ℕ, true, List, [], ◌∷◌, ◌++◌, length, slice_get, sum, Option, Some, None, Result, Ok, Err}
+use Rattle.std.specs.Prelude.{◌≡◌, ◌≢◌, ◌+◌, ◌%◌, ◌<◌, ◌≤◌, ◌⊎◌, ℕ, List, [], ◌∷◌, ◌++◌, length, slice_get, sum, Option, Some, None, Result, Ok, Err}
 use Rattle.mdb_words.specs.declared.limits.TheConstants.{WORD_GAP_MIN, BLOCK_GAP_MAX, ANSWER_GAP_MAX, BREAK_LENGTH_MIN}
 use Rattle.mdb_words.specs.declared.event.Event.{Event}
 use Rattle.mdb_words.specs.declared.event.Event.TheVariants.{Word, Break}
@@ -15,9 +15,9 @@ use Rattle.mdb_msgs.specs.declared.fault.MsgFault.{MsgFault}
 use Rattle.mdb_msgs.specs.declared.fault.MsgFault.TheVariants as reading
 use Rattle.mdb_msgs.specs.declared.need.Need.TheVariants as need
 use Rattle.mdb_msgs.specs.Answers.{HasDataAnswer, MayHaveData}
-use Rattle.mdb_msgs.specs.Commands.{Spells, device_of}
+use Rattle.mdb_msgs.specs.Commands.{EnablesMore, Spells, device_of}
 use Rattle.mdb_msgs.specs.Needs.{IsOpen, needed}
-use Rattle.mdb_msgs.specs.Replies.{IsReadFault, reply_bytes}
+use Rattle.mdb_msgs.specs.Replies.{reply_bytes}
 use Rattle.mdb_bus.specs.declared.act.Act.{Act}
 use Rattle.mdb_bus.specs.declared.act.Act.TheVariants as acts
 use Rattle.mdb_bus.specs.declared.fault.Rule.{Rule}
@@ -31,10 +31,11 @@ use Rattle.mdb_bus.specs.inner.Step.{Step, SomeStep, word_in}
 use Rattle.mdb_bus.specs.inner.Step as step
 use Rattle.mdb_bus.specs.declared.scope.Profile.{Profile}
 use Rattle.mdb_bus.specs.declared.scope.Scope.{Scope}
-use Rattle.mdb_bus.specs.Scopes.{Asks, profile_of}
+use Rattle.mdb_bus.specs.Formats.{HasFault, format_for}
+use Rattle.mdb_bus.specs.Scopes.{Asks, HasCommand, needed_by, profile_of}
 use Rattle.mdb_bus.specs.Acts.{IsForeignOpening, IsReply, reply_words}
-use Rattle.mdb_bus.specs.ActLists.{Piece, Whole, AskTail, ReplyTail, RepeatTail, Position, Quiet, InAsk, Asked, InReply, Replied, Returned, InRepeat, InForeign, BlockMayCome, BreakMayCome, Within, IsAskFront, IsRepeatFront, IsReplyFront, NotBefore, ReplyFits, act_in, left_by, levels_after, position_of}
-use Rattle.mdb_bus.specs.LinkFaults.{HasHighLevels, IsBefore, IsAfter, IsOutside, Situation}
+use Rattle.mdb_bus.specs.ActLists.{Piece, Whole, AskTail, ReplyTail, RepeatTail, Position, Quiet, InAsk, Asked, InReply, Replied, Returned, InRepeat, InForeign, BlockMayCome, BreakMayCome, Within, IsAskFront, IsRepeatFront, IsReplyFront, NotBefore, ReplyFits, act_in, left_by, position_of}
+use Rattle.mdb_bus.specs.LinkFaults.{LeavesProfile, IsBefore, IsAfter, IsOutside, Situation}
 use Rattle.mdb_bus.specs.inner.RulePlaces.{IsFirstByPlace}
 
 -- the rule of time that a row breaks which doesn't come in time: it is early, or it is late by this
@@ -59,7 +60,7 @@ GoesOnAsking scope bytes from to word (step.AskByte byte) =
     (word ≡ byte) × (word < 256) × IsAskFront scope (bytes ++ byte ∷ [])
     × Within WORD_GAP_MIN BLOCK_GAP_MAX from to
 GoesOnAsking scope bytes from to word (step.Ask command) =
-    (word < 256) × Asks scope command (bytes ++ word ∷ [])
+    (word < 256) × Asks scope command (bytes ++ word ∷ []) × ¬ EnablesMore command
     × Within WORD_GAP_MIN BLOCK_GAP_MAX from to
 GoesOnAsking scope bytes from to word step.Foreign =
     (word < 256) × IsForeignOpening scope (bytes ++ word ∷ [])
@@ -158,11 +159,15 @@ Leads s (Break at length) _ = ⊥
 abbrev pub IsRead : Profile → Command → List ℕ → Levels → Result Reply Rule → Type 0
 IsRead profile command bytes levels (Ok reply) = IsReply command reply
     × (bytes ≡ reply_bytes reply) × ReplyFits profile levels command reply
-IsRead profile command bytes levels (Err rule.Length) = IsReadFault command bytes reading.Length
-IsRead profile command bytes levels (Err rule.Message) = IsReadFault command bytes reading.Message
-IsRead profile command bytes levels (Err rule.Answer) = IsReadFault command bytes reading.Answer
+IsRead profile command bytes levels (Err rule.Length) =
+    HasFault (format_for profile levels command) command bytes reading.Length
+IsRead profile command bytes levels (Err rule.Message) =
+    HasFault (format_for profile levels command) command bytes reading.Message
+IsRead profile command bytes levels (Err rule.Answer) =
+    HasFault (format_for profile levels command) command bytes reading.Answer
 IsRead profile command bytes levels (Err rule.Profile) =
-    IsReadFault command bytes reading.Profile ⊎ HasHighLevels profile command bytes levels
+    HasFault (format_for profile levels command) command bytes reading.Profile
+    ⊎ LeavesProfile profile command bytes levels
 IsRead profile command bytes levels (Err _) = ⊥
 
 -- the same for the bytes at a position: only inside a reply something can be read
@@ -207,34 +212,40 @@ IsOpened scope least from to word (Err rule.Profile) =
     IsOutside scope word × NotBefore least from to
 IsOpened scope least from to word (Err _) = ⊥
 
--- bytes that begin a command's block, whoever it is to, and don't end it
-pub record IsCommandFront (bytes : List ℕ) : Type 0 where
+-- bytes that begin the block of a command that a profile has, whoever it is to, and don't end it
+pub record IsCommandFront (profile : Profile) (bytes : List ℕ) : Type 0 where
   pub some : bytes ≢ []
   pub command : Command
+  pub known : HasCommand profile command
   pub rest : List ℕ
   pub open_end : rest ≢ []
   pub spelled : Spells command (bytes ++ rest)
 
--- the first byte of an EXPANSION, and a subcommand that this profile doesn't know
-abbrev pub IsUnknownExpansion : List ℕ → Type 0
-IsUnknownExpansion (first ∷ second ∷ []) =
-    (needed (first ∷ []) ≡ need.More) × (needed (first ∷ second ∷ []) ≡ need.Foreign)
-    × (second < 256)
-IsUnknownExpansion _ = ⊥
+-- the first byte of an EXPANSION, and a subcommand that a profile doesn't know
+abbrev pub IsUnknownExpansion : Profile → List ℕ → Type 0
+IsUnknownExpansion profile (first ∷ second ∷ []) =
+    (needed (first ∷ []) ≡ need.More)
+    × (needed_by profile (first ∷ second ∷ []) ≡ need.Foreign) × (second < 256)
+IsUnknownExpansion profile _ = ⊥
 
 -- what is made of an unmarked word that comes in time inside a block of the controller, whoever it
 -- is to
-abbrev pub IsGoingOn : List ℕ → ℕ → Result Judged Rule → Type 0
-IsGoingOn bytes word (Ok judged.AskByte) =
-    (word ≡ word % 256) × IsCommandFront (bytes ++ word % 256 ∷ [])
-IsGoingOn bytes word (Ok judged.Ask) = (command : Command) × Spells command (bytes ++ word ∷ [])
-IsGoingOn bytes word (Ok judged.Foreign) = IsUnknownExpansion (bytes ++ word ∷ [])
-IsGoingOn bytes word (Ok _) = ⊥
-IsGoingOn bytes word (Err rule.Sum) =
-    (needed bytes ≡ need.Exactly (length bytes + 1)) × (word ≢ sum bytes % 256)
-IsGoingOn bytes word (Err rule.Profile) =
-    (needed bytes ≡ need.More) × (needed (bytes ++ word ∷ []) ≡ need.Outside)
-IsGoingOn bytes word (Err _) = ⊥
+abbrev pub IsGoingOn : Profile → List ℕ → ℕ → Result Judged Rule → Type 0
+IsGoingOn profile bytes word (Ok judged.AskByte) =
+    (word ≡ word % 256) × IsCommandFront profile (bytes ++ word % 256 ∷ [])
+IsGoingOn profile bytes word (Ok judged.Ask) =
+    (command : Command) × Spells command (bytes ++ word ∷ []) × HasCommand profile command
+    × ¬ EnablesMore command
+IsGoingOn profile bytes word (Ok judged.Foreign) = IsUnknownExpansion profile (bytes ++ word ∷ [])
+IsGoingOn profile bytes word (Ok _) = ⊥
+IsGoingOn profile bytes word (Err rule.Sum) =
+    (needed_by profile bytes ≡ need.Exactly (length bytes + 1)) × (word ≢ sum bytes % 256)
+IsGoingOn profile bytes word (Err rule.Profile) =
+    ((needed_by profile bytes ≡ need.More)
+    × (needed_by profile (bytes ++ word ∷ []) ≡ need.Outside))
+    ⊎ ((command : Command) × Spells command (bytes ++ word ∷ []) × HasCommand profile command
+    × EnablesMore command)
+IsGoingOn profile bytes word (Err _) = ⊥
 
 -- what is made of the marked word of a reply that comes in time
 abbrev pub IsReplyEnd : Command → List ℕ → ℕ → Result Judged Rule → Type 0
@@ -340,11 +351,7 @@ position_after position next = left_by (piece_after position next [])
 abbrev pub act_after : Position → Step → Option Act
 act_after position next = act_in (piece_after position next [])
 
--- the levels after a step, and the device that was asked last
-abbrev pub levels_after_step : Levels → Step → Levels
-levels_after_step levels (step.Ask command) = levels_after command levels
-levels_after_step levels _ = levels
-
+-- the device that was asked last, after a step
 abbrev pub asked_after : Option Device → Step → Option Device
 asked_after asked (step.Ask command) = Some (device_of command)
 asked_after asked step.Foreign = None

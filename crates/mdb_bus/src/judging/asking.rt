@@ -1,11 +1,16 @@
 //! Words of the controller that begin a block, and those that go on with one.
 
-ghost use Rattle.std.specs.Prelude.{◌≡◌, ◌+◌, ◌<◌, ◌≤◌, ◌^◌, ◌∷◌, [], ℕ, List, false, length, slice_index, IfOk};
+ghost use Rattle.std.specs.Prelude.{◌≡◌, ◌&&◌, ◌↔◌, ◌+◌, ◌<◌, ◌≤◌, ◌^◌, ◌∷◌, [], ℕ, List, false, length, slice_index, IfOk, IsTrue};
 ghost use Rattle.mdb_words.specs.declared.event.Event.{Event};
+ghost use Rattle.mdb_blocks.specs.Block.{block_of};
+ghost use Rattle.mdb_msgs.specs.declared.command.Command.{Command};
 ghost use Rattle.mdb_msgs.specs.declared.need.Need.TheVariants.{Exactly};
-ghost use Rattle.mdb_msgs.specs.Needs.{IsOpen, is_to_one_of, needed};
+ghost use Rattle.mdb_msgs.specs.Commands.{EnablesMore, Spells};
+ghost use Rattle.mdb_msgs.specs.Needs.{IsOpen, begins_options, is_to_one_of, needed};
 ghost use Rattle.mdb_bus.specs.declared.levels.Levels.{Levels};
+ghost use Rattle.mdb_bus.specs.declared.scope.Profile.{Profile as Prof};
 ghost use Rattle.mdb_bus.specs.declared.scope.Scope.{Scope};
+ghost use Rattle.mdb_bus.specs.Scopes.{leaves_options, profile_of};
 ghost use Rattle.mdb_bus.specs.declared.phase.Phase.{Phase};
 ghost use Rattle.mdb_bus.specs.ActLists as lists;
 ghost use Rattle.mdb_bus.specs.LinkFaults.{OutOfOrder};
@@ -16,9 +21,9 @@ use crate::fault::Rule;
 use crate::gaps::{in_block_time, is_sooner_than, word_row};
 use crate::judged::Judged;
 use crate::phase::Phase;
-use crate::scope::Scope;
+use crate::scope::{Profile, Scope};
 use mdb_blocks::sum_of;
-use mdb_msgs::{Need, laws, need_of, need_without};
+use mdb_msgs::{Need, begins_options, command_of, laws, need_of};
 use mdb_words::{Event, Line, Time, Word};
 
 /// A word of the controller where a block may begin, at least so long after the row before it.
@@ -42,10 +47,10 @@ pub(crate) fn begin_block(
     if is_sooner_than(last, &row, least) {
         return Err(Rule::Early);
     }
-    laws::need_leaves_a_command_open();
+    laws::need_leaves_another_command_open();
     laws::front_of_a_command_is_open();
     laws::first_byte_tells_the_device();
-    match need_without(scope.without, &[word.byte()]) {
+    match scope.first_need(word.byte()) {
         Need::Outside => Err(Rule::Profile),
         Need::Foreign => Ok(Judged::Foreign),
         Need::More | Need::Exactly(_) => Ok(Judged::AskByte),
@@ -55,6 +60,7 @@ pub(crate) fn begin_block(
 /// A word of the controller inside its block, which is to a device that is followed.
 #[inline(always)]
 pub(crate) fn go_on_asking(
+    profile: Profile,
     bytes: &Begun,
     last: &Option<Event>,
     at: Time,
@@ -62,7 +68,8 @@ pub(crate) fn go_on_asking(
 ) -> Result<Judged, Rule>
     requires in_order { OutOfOrder last.now (Event.Word at Line.Controller word) → ⊥ }
     requires begun { IsOpen bytes.now }
-    ensures judged { (scope : Scope) (levels : Levels)
+    ensures judged { (scope : Scope) (levels : Levels) → profile ≡ profile_of scope.begins
+        → (leaves_options profile && begins_options bytes.now) ≡ false
         → is_to_one_of scope.without (slice_index bytes.now 0) ≡ false
         → IsJudged (record {
           scope = scope;
@@ -82,24 +89,25 @@ pub(crate) fn go_on_asking(
     laws::front_of_a_command_is_open();
     laws::first_byte_tells_the_device();
     match bytes.as_slice() {
-        [first] => second_byte(bytes, *first, word),
+        [first] => second_byte(profile, bytes, *first, word),
         more => further_byte(bytes, more, word),
     }
 }
 
 /// The second byte of a block: its sum, a field, or a subcommand, which may make the block foreign.
 #[inline(always)]
-fn second_byte(bytes: &Begun, first: u8, word: Word) -> Result<Judged, Rule>
+fn second_byte(profile: Profile, bytes: &Begun, first: u8, word: Word) -> Result<Judged, Rule>
     requires is { bytes.now ≡ first ∷ [] }
     requires unmarked { word < 256 }
     requires begun { IsOpen bytes.now }
-    ensures { IsGoingOn bytes.now word result }
+    ensures { IsGoingOn profile bytes.now word result }
 {
     laws::need_leaves_a_command_open();
+    laws::first_two_bytes_tell_enable_options();
     if need_of(&[first]) == Need::Exactly(2) {
         return judge_end_of_ask(bytes, word);
     }
-    match need_of(&[first, word.byte()]) {
+    match profile.need_of(&[first, word.byte()]) {
         Need::Outside => Err(Rule::Profile),
         Need::Foreign => Ok(Judged::Foreign),
         Need::More | Need::Exactly(_) => Ok(Judged::AskByte),
@@ -112,9 +120,11 @@ fn further_byte(bytes: &Begun, so_far: &[u8], word: Word) -> Result<Judged, Rule
     requires two { 2 ≤ length so_far.now }
     requires unmarked { word < 256 }
     requires begun { IsOpen bytes.now }
-    ensures { IsGoingOn bytes.now word result }
+    ensures { (profile : Prof) → (leaves_options profile && begins_options bytes.now) ≡ false
+        → IsGoingOn profile bytes.now word result }
 {
     laws::need_leaves_a_command_open();
+    laws::first_two_bytes_tell_enable_options();
     match need_of(so_far) {
         Need::Exactly(length) if so_far.len() + 1 < length => Ok(Judged::AskByte),
         _ => judge_end_of_ask(bytes, word),
@@ -125,12 +135,38 @@ fn further_byte(bytes: &Begun, so_far: &[u8], word: Word) -> Result<Judged, Rule
 fn judge_end_of_ask(bytes: &Begun, word: Word) -> Result<Judged, Rule>
     requires unmarked { word < 256 }
     requires last { needed bytes.now ≡ Exactly (length bytes.now + 1) }
-    ensures { IsGoingOn bytes.now word result }
+    ensures { (profile : Prof) → (leaves_options profile && begins_options bytes.now) ≡ false
+        → IsGoingOn profile bytes.now word result }
 {
     laws::what_it_needs_is_a_command();
-    if word.byte() == sum_of(bytes.as_slice()) {
-        Ok(Judged::Ask)
-    } else {
-        Err(Rule::Sum)
+    laws::first_two_bytes_tell_enable_options();
+    if word.byte() != sum_of(bytes.as_slice()) {
+        return Err(Rule::Sum);
     }
+    if enables_more(bytes) {
+        return Err(Rule::Profile);
+    }
+    Ok(Judged::Ask)
+}
+
+/// Whether a command's bytes are an ENABLE OPTIONS that asks for what isn't followed.
+#[inline(always)]
+fn enables_more(bytes: &Begun) -> bool
+    requires { (command : Command) × Spells command (block_of bytes.now) }
+    ensures { (command : Command) → Spells command (block_of bytes.now)
+        → IsTrue result ↔ EnablesMore command }
+{
+    laws::first_two_bytes_tell_enable_options();
+    begins_options(bytes.as_slice()) && asks_for_more(bytes)
+}
+
+/// The same, of a command that may be one.
+// Not inlined, since no machine sends it often.
+#[inline(never)]
+fn asks_for_more(bytes: &Begun) -> bool
+    requires { (command : Command) × Spells command (block_of bytes.now) }
+    ensures { (command : Command) → Spells command (block_of bytes.now)
+        → IsTrue result ↔ EnablesMore command }
+{
+    command_of(bytes.as_slice()).unwrap().enables_more()
 }

@@ -58,6 +58,7 @@ moves_one : (facts : Facts) (asked : Option Infallible) (kept : List BillActivit
 moves_one facts asked kept (activity.Stacked number) before after moves = moves
 moves_one facts asked kept (activity.Escrow number) before after moves = moves
 moves_one facts asked kept (activity.Returned number) before after moves = moves
+moves_one facts asked kept (activity.Recycled number) before after moves = moves
 
 moves_all : (facts : Facts) (asked : Option Infallible) (kept news : List BillActivity)
     (before after : Escrow) → MovesBills facts news before after

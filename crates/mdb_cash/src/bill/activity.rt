@@ -14,6 +14,8 @@ pub enum BillActivity {
     Escrow(u8),
     /// A0 to AF: a bill of this type was returned.
     Returned(u8),
+    /// B0 to BF of the extended profile: a bill of this type went to the recycler.
+    Recycled(u8),
 }
 
 impl Default for BillActivity {
@@ -38,6 +40,7 @@ impl KeptAmong for BillActivity {
             BillMsg::Stacked(bill) => Part::Kept(BillActivity::Stacked(bill)),
             BillMsg::Escrow(bill) => Part::Kept(BillActivity::Escrow(bill)),
             BillMsg::Returned(bill) => Part::Kept(BillActivity::Returned(bill)),
+            BillMsg::Recycled(bill) => Part::Kept(BillActivity::Recycled(bill)),
             BillMsg::Reset => Part::Reset,
             _ => Part::Other,
         }

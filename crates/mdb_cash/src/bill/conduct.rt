@@ -81,7 +81,10 @@ impl Conduct for Bill {
     }
 
     fn tells_amount(message: BillActivity) -> bool {
-        matches!(message, BillActivity::Stacked(_))
+        matches!(
+            message,
+            BillActivity::Stacked(_) | BillActivity::Recycled(_)
+        )
     }
 
     fn heard_reset(state: BillState) -> BillState {
@@ -105,13 +108,8 @@ fn move_bill(facts: &BillFacts, message: BillActivity, escrow: Escrow) -> Option
     ensures { IsOnly (spec.MovesBill (facts_in facts.now) message escrow) result }
 {
     match message {
-        BillActivity::Stacked(number) => {
-            let bill = BillType::new(number)?;
-            if facts.past.is_enabled(number) && escrow.may_stack(bill) {
-                Some(Escrow::Empty)
-            } else {
-                None
-            }
+        BillActivity::Stacked(number) | BillActivity::Recycled(number) => {
+            stack_bill(facts, number, escrow)
         }
         BillActivity::Escrow(number) => {
             let bill = BillType::new(number)?;
@@ -129,5 +127,18 @@ fn move_bill(facts: &BillFacts, message: BillActivity, escrow: Escrow) -> Option
                 None
             }
         }
+    }
+}
+
+/// What is in escrow after a new message that a bill was stacked, or went to the recycler. `None`
+/// where it can't have.
+fn stack_bill(facts: &BillFacts, number: u8, escrow: Escrow) -> Option<Escrow>
+    ensures { IsOnly (spec.StacksBill (facts_in facts.now) number escrow) result }
+{
+    let bill = BillType::new(number)?;
+    if facts.past.is_enabled(number) && escrow.may_stack(bill) {
+        Some(Escrow::Empty)
+    } else {
+        None
     }
 }

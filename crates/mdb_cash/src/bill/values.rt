@@ -18,13 +18,13 @@ fn bill_value(setup: &Option<BillSetup>, bill: u8) -> u64
     }
 }
 
-/// What a kept message adds to bills-in.
+/// What a kept message adds to bills-in, in smallest units of money.
 pub(crate) fn stacked(setup: &Option<BillSetup>, message: BillActivity) -> u64
     ensures value { result ≡ spec.stacked setup.now message }
     ensures small { result ≤ 16711425 }
 {
     match message {
-        BillActivity::Stacked(bill) => bill_value(setup, bill),
+        BillActivity::Stacked(bill) | BillActivity::Recycled(bill) => bill_value(setup, bill),
         _ => 0,
     }
 }

@@ -1,11 +1,16 @@
 -- What the code finds in a reader's messages: it serves private functions.
-use Rattle.std.specs.Prelude.{◌≡◌, List, map}
+use Rattle.std.specs.Prelude.{◌≡◌, Bool, List, map}
 use Rattle.std.specs.List.{list_any}
+use Rattle.std.specs.Option.{is_some}
 use Rattle.mdb_msgs.specs.declared.reply.reader.ReaderMsg.{ReaderMsg}
-use Rattle.mdb_machine.specs.Kept.{IsSummary}
+use Rattle.mdb_machine.specs.Kept.{IsSummary, kept_by}
 use Rattle.mdb_machine.specs.Past.{is_out_of_sequence}
 use Rattle.mdb_cashless.specs.declared.reader.messages.Said.{Said}
-use Rattle.mdb_cashless.specs.ReaderMessages.{amount_in, begin_session, config_in, last_said, part_of}
+use Rattle.mdb_cashless.specs.ReaderMessages.{amount_in, begin_session, config_in, last_said, level_in, part_of}
+
+-- whether the reader keeps one of some messages
+abbrev pub keeps_some : List ReaderMsg → Bool
+keeps_some messages = list_any (λ message. is_some (kept_by (part_of message))) messages
 
 -- what messages say is this
 pub record IsSaid (said : Said) (messages : List ReaderMsg) : Type 0 where
@@ -15,3 +20,4 @@ pub record IsSaid (said : Said) (messages : List ReaderMsg) : Type 0 where
   pub amount_is : said.amount ≡ last_said amount_in messages
   pub begins_is : said.begins ≡ begin_session messages
   pub refused_is : said.refused ≡ list_any is_out_of_sequence messages
+  pub level_is : said.level ≡ last_said level_in messages

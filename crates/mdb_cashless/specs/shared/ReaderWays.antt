@@ -1,7 +1,7 @@
 -- That acts of other devices change nothing and tell nothing, so that a reader's facts and steps
 -- depend on its own acts alone. This proves laws of the trait `Pair` for the readers.
-use Rattle.std.specs.Prelude.{◌≡◌, ◌↔◌, ℕ, ◌+◌, Bool, true, false, ◌&&◌, ◌||◌, List, [], ◌∷◌, map, sum_by, Option, Some, None, option_map, refl, if◌then◌else◌}
-use Rattle.std.specs.List.{All}
+use Rattle.std.specs.Prelude.{◌≡◌, ◌↔◌, ℕ, ◌+◌, Bool, true, false, ◌&&◌, ◌||◌, List, [], ◌∷◌, map, sum_by, Option, Some, None, option_map, refl, if◌then◌else◌, unwrap_or}
+use Rattle.std.specs.List.{All, list_any}
 use Rattle.std.proofs.Common.{ap, subst, sym, ◌∙◌}
 use Rattle.std.proofs.Math.Nat.{zero-add}
 use Rattle.mdb_msgs.specs.declared.command.Command.{Command}
@@ -17,6 +17,8 @@ use Rattle.mdb_msgs.specs.Setups.{config_known}
 use Rattle.mdb_bus.specs.declared.act.Act.{Act}
 use Rattle.mdb_bus.specs.declared.act.Act.TheVariants as acts
 use Rattle.mdb_bus.specs.declared.scope.Beginning.{Beginning}
+use Rattle.mdb_bus.specs.declared.scope.Beginning.TheVariants.{PowerOn, Joined}
+use Rattle.mdb_bus.specs.declared.scope.Profile.TheVariants.{Base, Extended}
 use Rattle.mdb_machine.specs.declared.choice.Choice.{Choice}
 use Rattle.mdb_machine.specs.declared.choice.Choice.TheVariants.{Plain}
 use Rattle.mdb_machine.specs.declared.gains.Gains.{Gains}
@@ -38,9 +40,9 @@ use Rattle.mdb_cashless.specs.inner.PlainReader.{as_plain}
 use Rattle.mdb_machine.specs.shared.StepWays as step_ways
 use Rattle.mdb_machine.specs.shared.StepWays.{IsOwnOf}
 use Rattle.mdb_cashless.specs.Reader.{ReaderStep, StepKnowing, asks_sale, is_approval, is_unpriced, machine, power_on, unvalued, unvalued_by}
-use Rattle.mdb_cashless.specs.ReaderFacts.{Facts, KnownFacts, asked_by, config_by, effect_of, effect_of_own, known_of, messages_by, own_of, own_transaction, parts_by, taken_told, transaction_taken_by}
-use Rattle.mdb_cashless.specs.ReaderMessages.{amount_in, begin_session, config_in, last_said, messages_of, part_of}
-use Rattle.mdb_cashless.specs.ReaderValues.{known_with}
+use Rattle.mdb_cashless.specs.ReaderFacts.{Facts, KnownFacts, asked_by, config_by, effect_of, effect_of_own, extended_of, extended_since, known_of, level_asked_by, level_of, level_told_by, messages_by, own_of, own_transaction, parts_by, refusal_by, taken_told, transaction_taken_by}
+use Rattle.mdb_cashless.specs.ReaderMessages.{amount_in, begin_session, config_in, last_said, level_in, messages_of, part_of, refuses}
+use Rattle.mdb_cashless.specs.ReaderValues.{extended_after, extended_with, known_with}
 use Rattle.mdb_cashless.specs.Units.{own}
 
 -- a command to another device is none to this reader
@@ -63,32 +65,40 @@ pub elsewhere : (unit : ReaderUnit) (facts : Facts) (act : Act) (choice : Choice
 elsewhere unit facts = step_ways.elsewhere (own unit) _ (no_own unit)
 
 -- what is known after one act more, by what that act is to the reader
-abbrev more : KnownFacts → List ReaderMsg → Option Transaction → Option Transaction → Effect → Bool
-    → KnownFacts
-more known messages asked taken effect powers =
+abbrev more : KnownFacts → List ReaderMsg → Option Transaction → Option ℕ → Option Bool
+    → Option Transaction → Effect → Bool → KnownFacts
+more known messages asked level refused taken effect powers =
     record {
       config = or_else (last_said config_in messages) known.config;
       asked = known_more (option_map (λ transaction. Some transaction) asked) known.asked;
       taken = known_more (if powers || begin_session messages then Some None
           else option_map (λ transaction. Some transaction) taken) known.taken;
       amount = or_else (last_said amount_in messages) known.amount;
+      extended = extended_after level (last_said level_in messages) refused known.extended;
       past = known_past_after powers effect (map part_of messages) known.past;
     }
 
 -- an act that is nothing to the reader leaves it
 still_known : (unit : ReaderUnit) (act : Act) (known : KnownFacts) → messages_by unit act ≡ []
-    → asked_by unit act ≡ None → transaction_taken_by unit act ≡ None
+    → asked_by unit act ≡ None → level_asked_by unit act ≡ None → refusal_by unit act ≡ None
+    → transaction_taken_by unit act ≡ None
     → effect_by (effect_of unit) act ≡ effects.Other → powers_on (effect_of unit) act ≡ false
     → known ≡ known_with unit act known
-still_known unit act known messages asked taken effect powers =
-    sym (ap (λ m. more known m (asked_by unit act) (transaction_taken_by unit act)
-    (effect_by (effect_of unit) act) (powers_on (effect_of unit) act)) messages
-    ∙ ap (λ a. more known [] a (transaction_taken_by unit act)
-    (effect_by (effect_of unit) act) (powers_on (effect_of unit) act)) asked
-    ∙ ap (λ t. more known [] None t (effect_by (effect_of unit) act)
+still_known unit act known messages asked level refused taken effect powers =
+    sym (ap (λ m. more known m (asked_by unit act) (level_asked_by unit act) (refusal_by unit act)
+    (transaction_taken_by unit act) (effect_by (effect_of unit) act)
+    (powers_on (effect_of unit) act)) messages
+    ∙ ap (λ a. more known [] a (level_asked_by unit act) (refusal_by unit act)
+    (transaction_taken_by unit act) (effect_by (effect_of unit) act)
+    (powers_on (effect_of unit) act)) asked
+    ∙ ap (λ l. more known [] None l (refusal_by unit act) (transaction_taken_by unit act)
+    (effect_by (effect_of unit) act) (powers_on (effect_of unit) act)) level
+    ∙ ap (λ r. more known [] None None r (transaction_taken_by unit act)
+    (effect_by (effect_of unit) act) (powers_on (effect_of unit) act)) refused
+    ∙ ap (λ t. more known [] None None None t (effect_by (effect_of unit) act)
     (powers_on (effect_of unit) act)) taken
-    ∙ ap (λ e. more known [] None None e (powers_on (effect_of unit) act)) effect
-    ∙ ap (λ b. more known [] None None effects.Other b) powers)
+    ∙ ap (λ e. more known [] None None None None e (powers_on (effect_of unit) act)) effect
+    ∙ ap (λ b. more known [] None None None None effects.Other b) powers)
 
 -- a command to another device is no transaction that the reader takes, whatever the answer tells
 answered_none : (unit : ReaderUnit) (command : Command) (reply : Reply) → own unit command ≡ None
@@ -104,27 +114,38 @@ known_still : (unit : ReaderUnit) (known : KnownFacts) (act : Act)
     → (IsActOf (devices.Reader unit) act → ⊥) → known ≡ known_with unit act known
 known_still unit known (acts.Ask c) other =
     let none = no_own unit c other in
-    still_known unit (acts.Ask c) known refl (ap own_transaction none) refl refl refl
+    still_known unit (acts.Ask c) known refl (ap own_transaction none) (ap level_of none)
+    (ap (λ o. option_map (λ t. false) (own_transaction o)) none) refl refl refl
 known_still unit known (acts.Ack c) other =
     let none = no_own unit c other in
     let effect : effect_of unit c ≡ effects.Other = ap effect_of_own none in
-    still_known unit (acts.Ack c) known refl refl (ap own_transaction none) effect
+    still_known unit (acts.Ack c) known refl refl refl refl (ap own_transaction none) effect
     (ap resets effect)
+known_still unit known (acts.Nak c) other =
+    let none = no_own unit c other in
+    still_known unit (acts.Nak c) known refl refl refl
+    (ap (λ o. option_map (λ t. true) (own_transaction o)) none) refl refl refl
 known_still unit known (acts.Reply c r) other =
     let none = no_own unit c other in
     let effect = past_ways.answered_still (effect_of unit) c r (ap effect_of_own none) in
     still_known unit (acts.Reply c r) known
-    (ap (λ found. elim found [ Some c ↦ messages_of r | None ↦ [] ]) none) refl
+    (ap (λ found. elim found [ Some c ↦ messages_of r | None ↦ [] ]) none) refl refl refl
     (answered_none unit c r none) effect (ap resets effect)
+known_still unit known (acts.VmcAck c r) other =
+    let none = no_own unit c other in
+    still_known unit (acts.VmcAck c r) known refl refl refl
+    (ap (λ found. if list_any refuses (elim found [ Some c ↦ messages_of r | None ↦ [] ])
+    then Some true else None) none) refl refl refl
 known_still unit known (acts.Break n) other = absurd (other tt)
-known_still unit known act other = still_known unit act known refl refl refl refl refl
+known_still unit known act other = still_known unit act known refl refl refl refl refl refl refl
 
 -- what is known is the same where its fields are
 pub same_fields : {one other : KnownFacts} → one.config ≡ other.config → one.asked ≡ other.asked
-    → one.taken ≡ other.taken → one.amount ≡ other.amount → one.past ≡ other.past → one ≡ other
-same_fields {one} {other} config asked taken amount past =
+    → one.taken ≡ other.taken → one.amount ≡ other.amount → one.extended ≡ other.extended
+    → one.past ≡ other.past → one ≡ other
+same_fields {one} {other} config asked taken amount extended past =
     let same : record one { config = one.config } ≡ record other { config = other.config } =
-    cc (config, asked, taken, amount, past) in
+    cc (config, asked, taken, amount, extended, past) in
     same
 
 first_of_three : {X : Type 0} (first second third : Option X)
@@ -139,6 +160,52 @@ asked_more : (first second : Option Transaction)
 asked_more (Some x) second = refl
 asked_more None second = refl
 
+-- what counts by the extended profile goes on act by act
+since_more : (joined : Bool) (asked told one_asked one_told : Option ℕ) (refused one : Option Bool)
+    → extended_after one_asked one_told one (Some (record {
+      joined = joined;
+      asked = asked;
+      told = told;
+      refused = unwrap_or refused joined;
+    }))
+    ≡ Some (record {
+      joined = joined;
+      asked = or_else one_asked asked;
+      told = or_else one_told told;
+      refused = unwrap_or (or_else one refused) joined;
+    })
+since_more joined asked told None None refused None = refl
+since_more joined asked told (Some level) one_told refused None = refl
+since_more joined asked told None (Some level) refused None = refl
+since_more joined asked told (Some level) one_told refused (Some one) = refl
+since_more joined asked told None (Some level) refused (Some one) = refl
+since_more joined asked told None None refused (Some one) = refl
+
+extended_more : (begins : Beginning) (unit : ReaderUnit) (act : Act) (so_far : List Act)
+    → extended_with unit act (extended_of begins unit so_far)
+    ≡ extended_of begins unit (act ∷ so_far)
+extended_more begins unit act so_far = by begins
+  where
+    since : (joined : Bool) → extended_with unit act (Some (extended_since joined unit so_far))
+        ≡ Some (extended_since joined unit (act ∷ so_far))
+    since joined = since_more joined (last_told (level_asked_by unit) so_far)
+        (last_told (level_told_by unit) so_far) (level_asked_by unit act) (level_told_by unit act)
+        (last_told (refusal_by unit) so_far) (refusal_by unit act)
+
+    none : (asked told : Option ℕ) (refused : Option Bool)
+        → extended_after asked told refused None ≡ None
+    none None None None = refl
+    none asked told refused = refl
+
+    by : (begins : Beginning) → extended_with unit act (extended_of begins unit so_far)
+        ≡ extended_of begins unit (act ∷ so_far)
+    by (PowerOn Extended) = since false
+    by (Joined setups Extended) = since true
+    by (PowerOn Base) =
+        none (level_asked_by unit act) (level_told_by unit act) (refusal_by unit act)
+    by (Joined setups Base) =
+        none (level_asked_by unit act) (level_told_by unit act) (refusal_by unit act)
+
 -- what is known after one act more, from what was known before it
 pub goes_on : (unit : ReaderUnit) (begins : Beginning) (act : Act) (so_far : List Act)
     → known_with unit act (known_of begins unit so_far) ≡ known_of begins unit (act ∷ so_far)
@@ -152,6 +219,7 @@ goes_on unit begins act so_far = same_fields
     (asked_more (asked_by unit act) (last_told (asked_by unit) so_far)))
     (past_ways.known_by_more begins None (taken_told unit act) (last_told (taken_told unit) so_far))
     refl
+    (extended_more begins unit act so_far)
     (past_ways.known_past_more begins (effect_of unit) (parts_by unit) act so_far)
 
 pub unmoved : (unit : ReaderUnit) (begins : Beginning) (known : KnownFacts) (before : List Act)

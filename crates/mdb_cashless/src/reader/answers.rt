@@ -8,8 +8,8 @@ ghost use Rattle.mdb_machine.specs.Kept.{MayBeRead, holds_acked, kept_of};
 ghost use Rattle.mdb_machine.specs.Past.{is_out_of_sequence};
 ghost use Rattle.mdb_msgs.specs.declared.reply.Reply.{Reply};
 ghost use Rattle.mdb_msgs.specs.declared.reply.reader.ReaderMsg.{ReaderMsg};
-ghost use Rattle.mdb_msgs.specs.Reader.{is_kept};
 ghost use Rattle.mdb_cashless.specs.ReaderMessages.{messages_of, part_of, parts_of};
+ghost use Rattle.mdb_cashless.specs.inner.ReaderSaid.{keeps_some};
 ghost use Rattle.mdb_machine.specs.Pair.{IsOnlyStep};
 ghost use Rattle.mdb_cashless.specs.Reader as spec;
 ghost use Rattle.mdb_cashless.specs.ReaderDevice as reader_device;
@@ -218,7 +218,7 @@ fn hear(config: Option<ReaderConfig>, before: View, messages: ReaderIter<'_>) ->
     ensures view { result.view ≡ reader_view.all_heard messages.entry before }
     ensures approved { result.approved ≡ spec.all_approved_to config before messages.entry }
     ensures small { result.approved < 2 ^ 32 }
-    ensures keeps { result.keeps ≡ list_any is_kept messages.entry }
+    ensures keeps { result.keeps ≡ keeps_some messages.entry }
 {
     let mut view = before;
     let mut approved = 0;
@@ -239,7 +239,7 @@ fn hear(config: Option<ReaderConfig>, before: View, messages: ReaderIter<'_>) ->
 
 /// Whether the reader holds after the controller's ACK of messages of which it keeps one, or none.
 fn holds_on(choice: Choice, keeps: bool, holds: bool) -> bool
-    ensures { (messages : List ReaderMsg) → keeps ≡ list_any is_kept messages
+    ensures { (messages : List ReaderMsg) → keeps ≡ keeps_some messages
         → result ≡ holds_acked choice (kept_of (map part_of messages)) holds }
 {
     match choice {

@@ -188,9 +188,10 @@ impl DeviceState {
         ensures { result ≡ spec.told last message self }
     {
         match (message, self) {
-            (ReaderActivity::SessionBegun { .. }, DeviceState::Enabled) => {
-                Some(DeviceState::Idle(Home::Enabled))
-            }
+            (
+                ReaderActivity::SessionBegun { .. } | ReaderActivity::SessionBegunLong { .. },
+                DeviceState::Enabled,
+            ) => Some(DeviceState::Idle(Home::Enabled)),
             (ReaderActivity::VendApproved { .. }, DeviceState::Vend(home)) if is_request(last) => {
                 Some(DeviceState::Approved(home))
             }

@@ -3,7 +3,8 @@
 ghost use Rattle.std.specs.Prelude.{◌≡◌, ◌≤◌, length, List, Some};
 ghost use Rattle.mdb_cashless.specs.ReaderFacts.{effect_of_own};
 
-use super::messages::{ReaderActivity, Said, messages_of};
+use super::extended::{ExtendedFacts, start, with_asked, with_refused, with_told};
+use super::messages::{ReaderActivity, Said, messages_of, refuses};
 use super::transaction::{Transaction, transaction_of};
 use super::unit::own;
 use arrayvec::ArrayVec;
@@ -23,12 +24,14 @@ pub struct ReaderFacts {
     pub(crate) taken: Option<Transaction>,
     /// The amount of the last approval, in units of the scale factor, where there was one.
     pub(crate) amount: Option<u16>,
+    /// What counts by the extended profile alone; `None` by the base profile.
+    pub(crate) extended: Option<ExtendedFacts>,
     /// The reset message, and the last kept list.
     pub(crate) past: Past<ReaderActivity, 35>,
 }
 
 impl ReaderFacts {
-    ghost use Rattle.std.specs.Prelude.{◌≤◌, None, length};
+    ghost use Rattle.std.specs.Prelude.{◌≤◌, [], None, false, length, option_map};
     ghost use Rattle.mdb_msgs.specs.Setups.{config_known};
     ghost use Rattle.mdb_bus.specs.declared.act.Act.TheVariants as acts;
     ghost use Rattle.mdb_machine.specs.Known.{known_before};
@@ -38,7 +41,8 @@ impl ReaderFacts {
     ghost use Rattle.mdb_machine.specs.Past.{or_else};
     ghost use Rattle.mdb_msgs.specs.declared.reply.reader.ReaderMsg.{ReaderMsg};
     ghost use Rattle.mdb_cashless.specs.inner.ReaderSaid.{IsSaid};
-    ghost use Rattle.mdb_cashless.specs.ReaderValues.{facts_in, powered, taken, told, told_in, told_with};
+    ghost use Rattle.mdb_cashless.specs.ReaderFacts.{extended_of};
+    ghost use Rattle.mdb_cashless.specs.ReaderValues.{asked, denied, extended_after, facts_in, heard, powered, taken, told, told_in, told_with};
     ghost use Rattle.mdb_cashless.specs.inner.Guesses.{keeping};
     ghost use Rattle.mdb_cashless.specs.Transactions.{transaction_of as transaction};
 
@@ -50,14 +54,17 @@ impl ReaderFacts {
         ensures asked { result.asked ≡ None }
         ensures taken { result.taken ≡ None }
         ensures amount { result.amount ≡ None }
+        ensures extended { result.extended ≡ extended_of begins.now unit [] }
         ensures past { past_in result.past ≡ first_past begins.now }
     {
+        let extended = start(begins);
         match begins {
             Beginning::PowerOn(_) => ReaderFacts {
                 config: None,
                 asked: None,
                 taken: None,
                 amount: None,
+                extended,
                 past: Past::start(),
             },
             Beginning::Joined(setups, _) => ReaderFacts {
@@ -65,6 +72,7 @@ impl ReaderFacts {
                 asked: None,
                 taken: None,
                 amount: None,
+                extended,
                 past: Past::running(),
             },
         }
@@ -79,6 +87,7 @@ impl ReaderFacts {
             asked: self.asked,
             taken: self.taken,
             amount: self.amount,
+            extended: self.extended,
             past: self.past.copy(),
         }
     }
@@ -120,7 +129,9 @@ impl ReaderFacts {
         match act {
             Act::Ask(command) => self.ask(unit, command),
             Act::Ack(command) => self.acknowledge(unit, command),
+            Act::Nak(command) => self.deny(unit, command),
             Act::Reply(command, reply) => self.reply(unit, command, reply),
+            Act::VmcAck(command, reply) => self.hear(unit, command, reply),
             Act::Break(_) => self.power_on(),
             _ => {}
         }
@@ -133,9 +144,75 @@ impl ReaderFacts {
             ≡ told_with unit (acts.Ask command.now) (told_in self.old) }
     {
         if let Some(command) = own(unit, command) {
-            if let Some(transaction) = transaction_of(command) {
-                self.asked = Some(transaction);
+            self.note_asked(command);
+        }
+    }
+
+    /// The controller sends the reader a command.
+    #[inline(always)]
+    fn note_asked(&mut self, command: ReaderCommand)
+        ensures { told_in self.new ≡ asked command (told_in self.old) }
+    {
+        match command {
+            ReaderCommand::SetupConfig { level, .. } => {
+                self.extended = with_asked(self.extended, level)
             }
+            _ => self.note_sent(command),
+        }
+    }
+
+    /// The controller sends the reader a command that tells no level.
+    #[inline(always)]
+    fn note_sent(&mut self, command: ReaderCommand)
+        ensures { told_in self.new ≡ record (told_in self.old) {
+          asked = or_else (transaction command) self.old.asked;
+          extended = extended_after None None
+              (option_map (λ transaction. false) (transaction command)) self.old.extended;
+        } }
+    {
+        if let Some(transaction) = transaction_of(command) {
+            self.asked = Some(transaction);
+            self.extended = with_refused(self.extended, false);
+        }
+    }
+
+    /// A device refuses a command by NAK.
+    fn deny(&mut self, unit: ReaderUnit, command: &Command)
+        ensures { told_in self.new
+            ≡ told_with unit (acts.Nak command.now) (told_in self.old) }
+    {
+        if let Some(command) = own(unit, command) {
+            self.note_denied(command);
+        }
+    }
+
+    /// The reader refuses a command by NAK.
+    fn note_denied(&mut self, command: ReaderCommand)
+        ensures { told_in self.new ≡ denied command (told_in self.old) }
+    {
+        if transaction_of(command).is_some() {
+            self.extended = with_refused(self.extended, true);
+        }
+    }
+
+    /// The controller acknowledges a reply of a device.
+    #[inline(always)]
+    fn hear(&mut self, unit: ReaderUnit, command: &Command, reply: &Reply)
+        ensures { told_in self.new
+            ≡ told_with unit (acts.VmcAck command.now reply.now) (told_in self.old) }
+    {
+        if own(unit, command).is_some() {
+            self.note_heard(reply);
+        }
+    }
+
+    /// The controller acknowledges a reply of the reader.
+    #[inline(always)]
+    fn note_heard(&mut self, reply: &Reply)
+        ensures { told_in self.new ≡ heard (messages_of reply.now) (told_in self.old) }
+    {
+        if self.extended.is_some() && refuses(messages_of(reply)) {
+            self.extended = with_refused(self.extended, true);
         }
     }
 
@@ -215,6 +292,7 @@ impl ReaderFacts {
     {
         self.config = said.config.or(self.config);
         self.amount = said.amount.or(self.amount);
+        self.extended = with_told(self.extended, said.level);
         if said.begins {
             self.taken = None;
         }

@@ -2,8 +2,8 @@
 
 ghost use Rattle.std.specs.Prelude.{◌≡◌, ◌≤◌, length};
 ghost use Rattle.std.specs.List.{list_any};
-ghost use Rattle.mdb_msgs.specs.Reader.{is_kept};
-ghost use Rattle.mdb_machine.specs.Kept.{IsSummary, is_reset};
+ghost use Rattle.std.specs.Option.{is_some};
+ghost use Rattle.mdb_machine.specs.Kept.{IsSummary, is_reset, kept_by};
 ghost use Rattle.mdb_cashless.specs.ReaderMessages as spec;
 
 use mdb_machine::kept::{KeptMessage, Part, Summary};
@@ -11,8 +11,19 @@ use mdb_msgs::{ReaderConfig, ReaderIter, ReaderMsg, Reply};
 
 /// The meaning of a kept message of a cashless reader (MDB/ICP 4.3, cashless device; which messages
 /// are kept, this profile). Two such messages are the same if all their bytes are.
-#[derive(Clone, Copy, PartialEq, Eq, Debug, Default)]
+#[derive(Clone, Copy, PartialEq, Eq, Debug)]
 pub enum ReaderActivity {
+    /// 03 of feature levels 2 and 3: a session begins.
+    SessionBegunLong {
+        /// The funds, in units of the scale factor.
+        funds: u16,
+        /// The payment media's number.
+        media: u32,
+        /// The payment type.
+        kind: u8,
+        /// The payment data.
+        details: u16,
+    },
     /// 03: a session begins.
     SessionBegun {
         /// The funds, in units of the scale factor.
@@ -24,10 +35,22 @@ pub enum ReaderActivity {
         amount: u16,
     },
     /// 06: a sale is denied.
-    #[default]
     VendDenied,
     /// 07: the session has ended.
     SessionEnded,
+}
+
+/// What fills the places of a list that no message has yet. All its bytes are 0, as they are of the
+/// first variant alone, so that a list is cleared at once.
+impl Default for ReaderActivity {
+    fn default() -> Self {
+        ReaderActivity::SessionBegunLong {
+            funds: 0,
+            media: 0,
+            kind: 0,
+            details: 0,
+        }
+    }
 }
 
 impl KeptMessage for ReaderActivity {
@@ -43,6 +66,17 @@ fn part_of(message: ReaderMsg) -> Part<ReaderActivity>
     match message {
         ReaderMsg::JustReset => Part::Reset,
         ReaderMsg::BeginSession { funds } => Part::Kept(ReaderActivity::SessionBegun { funds }),
+        ReaderMsg::BeginSessionLong {
+            funds,
+            media,
+            kind,
+            details,
+        } => Part::Kept(ReaderActivity::SessionBegunLong {
+            funds,
+            media,
+            kind,
+            details,
+        }),
         ReaderMsg::VendApproved { amount } => Part::Kept(ReaderActivity::VendApproved { amount }),
         ReaderMsg::VendDenied => Part::Kept(ReaderActivity::VendDenied),
         ReaderMsg::EndSession => Part::Kept(ReaderActivity::SessionEnded),
@@ -76,6 +110,8 @@ pub(crate) struct Said {
     pub(crate) begins: bool,
     /// Whether the command came out of sequence.
     pub(crate) refused: bool,
+    /// The feature level of the last config message.
+    pub(crate) level: Option<u8>,
 }
 
 impl Said {
@@ -98,6 +134,7 @@ impl Said {
             amount: None,
             begins: false,
             refused: false,
+            level: None,
         }
     }
 
@@ -130,24 +167,29 @@ impl Said {
         ensures amount { self.new.amount ≡ or_else (spec.amount_in message) self.old.amount }
         ensures begins { self.new.begins ≡ (spec.begins_session message || self.old.begins) }
         ensures refused { self.new.refused ≡ (is_out_of_sequence message || self.old.refused) }
+        ensures level { self.new.level ≡ or_else (spec.level_in message) self.old.level }
     {
         self.summary.add(part_of(message));
         match message {
             ReaderMsg::Config {
+                level,
                 scale,
                 decimals,
                 response,
                 ..
             } => {
+                self.level = Some(level);
                 self.config = Some(ReaderConfig {
                     scale,
                     decimals,
                     response,
-                })
+                });
             }
-            ReaderMsg::BeginSession { .. } => self.begins = true,
+            ReaderMsg::BeginSession { .. } | ReaderMsg::BeginSessionLong { .. } => {
+                self.begins = true
+            }
             ReaderMsg::VendApproved { amount } => self.amount = Some(amount),
-            ReaderMsg::OutOfSequence => self.refused = true,
+            ReaderMsg::OutOfSequence | ReaderMsg::OutOfSequenceIn(_) => self.refused = true,
             _ => {}
         }
     }
@@ -155,7 +197,7 @@ impl Said {
 
 /// Whether the reader keeps a message.
 pub(crate) fn is_kept(message: ReaderMsg) -> bool
-    ensures { result ≡ is_kept message }
+    ensures { result ≡ is_some (kept_by (spec.part_of message)) }
 {
     matches!(part_of(message), Part::Kept(_))
 }
@@ -180,4 +222,29 @@ fn tells_reset(message: ReaderMsg) -> bool
     ensures { result ≡ is_reset (spec.part_of message) }
 {
     matches!(message, ReaderMsg::JustReset)
+}
+
+/// Whether one of a reader's messages refuses what the controller sent before.
+// Not inlined, since only the extended profile asks so.
+#[inline(never)]
+pub(crate) fn refuses(messages: ReaderIter<'_>) -> bool
+    ensures { result ≡ list_any spec.refuses messages.entry }
+{
+    for message in messages {
+        if is_refusal(message) {
+            return true;
+        }
+    }
+    false
+}
+
+/// Whether a message is 0B with a status 01 to 04, or with none.
+fn is_refusal(message: ReaderMsg) -> bool
+    ensures { result ≡ spec.refuses message }
+{
+    match message {
+        ReaderMsg::OutOfSequence => true,
+        ReaderMsg::OutOfSequenceIn(status) => 0 < status && status < 5,
+        _ => false,
+    }
 }

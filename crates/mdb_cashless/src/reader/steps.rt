@@ -17,6 +17,7 @@ ghost use Rattle.mdb_cashless.specs.ReaderValues.{changes_view, facts_in};
 ghost use Rattle.mdb_cashless.specs.Transactions.{amounts};
 
 use super::answers::{answer, vmc_ack};
+use super::extended::is_refused;
 use super::facts::ReaderFacts;
 use super::messages::tells_of_reset;
 use super::state::ReaderState;
@@ -95,7 +96,7 @@ fn asked(facts: &ReaderFacts, command: ReaderCommand, view: View) -> Option<View
     match command {
         ReaderCommand::Reset => Some(View::NoSession),
         _ => match transaction_of(command) {
-            Some(transaction) => view.sent(facts.asked, transaction),
+            Some(transaction) => { view.sent(is_refused(facts.extended), facts.asked, transaction) }
             None => Some(view),
         },
     }

@@ -59,9 +59,12 @@ fn unvalued_in(config: Option<ReaderConfig>, reply: &Reply) -> u64
         (sum_by (λ message. one_if (spec.is_approval message)) (messages_of reply.now)) }
     ensures small { result ≤ 35 }
 {
+    if config.is_some() {
+        return 0;
+    }
     let mut said = Said::nothing();
     said.read(messages_of(reply));
-    match said.config.or(config) {
+    match said.config {
         Some(_) => 0,
         None => approvals(messages_of(reply)),
     }

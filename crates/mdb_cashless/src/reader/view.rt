@@ -64,9 +64,31 @@ impl View {
     }
 
     /// The view after a transaction command that the controller sends in it, where this was the
-    /// last one sent; `None` where it may not send it.
-    pub(crate) fn sent(self, last: Option<Transaction>, transaction: Transaction) -> Option<View>
-        ensures { result ≡ spec.sent last transaction self }
+    /// last one sent, which the reader refused or didn't; `None` where it may not send it.
+    pub(crate) fn sent(
+        self,
+        refused: bool,
+        last: Option<Transaction>,
+        transaction: Transaction,
+    ) -> Option<View>
+        ensures { result ≡ spec.sent refused last transaction self }
+    {
+        match self.sent_in_turn(last, transaction) {
+            None if refused && self.waits() => View::Idle.sent_in_turn(last, transaction),
+            view => view,
+        }
+    }
+
+    /// Whether the controller waits for the reader.
+    fn waits(self) -> bool
+        ensures { result ≡ spec.waits self }
+    {
+        !matches!(self, View::NoSession | View::Idle | View::Approved)
+    }
+
+    /// The view after a transaction command that the controller sends where it wasn't refused.
+    fn sent_in_turn(self, last: Option<Transaction>, transaction: Transaction) -> Option<View>
+        ensures { result ≡ spec.sent_in_turn last transaction self }
     {
         match (self, transaction) {
             (View::Idle, Transaction::Request { .. }) => Some(View::Asked),
@@ -117,7 +139,10 @@ impl View {
     {
         match (self, message) {
             (_, ReaderMsg::JustReset) | (View::Ending, ReaderMsg::EndSession) => View::NoSession,
-            (View::NoSession, ReaderMsg::BeginSession { .. }) => View::Idle,
+            (
+                View::NoSession,
+                ReaderMsg::BeginSession { .. } | ReaderMsg::BeginSessionLong { .. },
+            ) => View::Idle,
             (View::Asked | View::Waiting, ReaderMsg::VendApproved { .. }) => View::Approved,
             (View::Asked | View::Waiting, ReaderMsg::VendDenied) => View::Idle,
             _ => self,

@@ -1,4 +1,5 @@
--- The best ways of each device, for a goal. This serves private functions.
+-- The best ways of each device, for a goal, in a recording from power-on. This serves private
+-- functions.
 use Rattle.std.specs.Prelude.{◌≡◌, ◌<◌, ◌+◌, ◌^◌, ℕ, List, ◌∷◌, ◌++◌, length, if◌then◌else◌}
 use Rattle.mdb_words.specs.declared.event.Event.{Event}
 use Rattle.mdb_msgs.specs.declared.command.Device.{Device}
@@ -6,7 +7,7 @@ use Rattle.mdb_msgs.specs.declared.command.Device.TheVariants as devices
 use Rattle.mdb_msgs.specs.declared.command.ReaderUnit.TheVariants as units
 use Rattle.mdb_bus.specs.declared.act.Act.{Act}
 use Rattle.mdb_bus.specs.declared.scope.Beginning.TheVariants.{PowerOn}
-use Rattle.mdb_bus.specs.declared.scope.Profile.TheVariants.{Base}
+use Rattle.mdb_bus.specs.declared.scope.Profile.{Profile}
 use Rattle.mdb_bus.specs.ActLists.{Piece, Whole, acts_of, events_of}
 use Rattle.mdb_follow.specs.declared.account_name.AccountName.{AccountName}
 use Rattle.mdb_explained_runs.specs.declared.explain.all_paths.AllPaths.{AllPaths}
@@ -49,15 +50,15 @@ paths_in all (devices.Reader units.First) = all.first_reader
 paths_in all (devices.Reader units.Second) = all.second_reader
 
 -- They are those through the acts of pieces.
-abbrev pub ArePathsOf : Goal → List Piece → AllPaths → Device → Type 0
-ArePathsOf goal pieces all device =
-    ArePaths (stands_for (PowerOn Base) device) (code_of device) device
-    (machine_of (PowerOn Base) device) (weight_for goal device) all.chains.links.items pieces
+abbrev pub ArePathsOf : Profile → Goal → List Piece → AllPaths → Device → Type 0
+ArePathsOf profile goal pieces all device =
+    ArePaths (stands_for (PowerOn profile) device) (code_of device) device
+    (machine_of (PowerOn profile) device) (weight_for goal device) all.chains.links.items pieces
     (paths_in all device)
 
 -- and those of each device are
-abbrev pub AreAllPaths : Goal → List Piece → AllPaths → Type 0
-AreAllPaths goal pieces all = (device : Device) → ArePathsOf goal pieces all device
+abbrev pub AreAllPaths : Profile → Goal → List Piece → AllPaths → Type 0
+AreAllPaths profile goal pieces all = (device : Device) → ArePathsOf profile goal pieces all device
 
 -- the values and the marks of a device's entries are at most so far from 0
 abbrev pub AreWithinOf : ℕ → AllPaths → Device → Type 0
@@ -70,18 +71,19 @@ abbrev pub AreAllWithin : ℕ → AllPaths → Type 0
 AreAllWithin limit all = (device : Device) → AreWithinOf limit all device
 
 -- what is kept of a device's facts is what is known after acts, and so it is of each device
-abbrev pub AreFactsOf : List Act → AllPaths → Device → Type 0
-AreFactsOf acts all device = stands_for (PowerOn Base) device (paths_in all device).facts acts
+abbrev pub AreFactsOf : Profile → List Act → AllPaths → Device → Type 0
+AreFactsOf profile acts all device =
+    stands_for (PowerOn profile) device (paths_in all device).facts acts
 
-abbrev pub AreAllFacts : List Act → AllPaths → Type 0
-AreAllFacts acts all = (device : Device) → AreFactsOf acts all device
+abbrev pub AreAllFacts : Profile → List Act → AllPaths → Type 0
+AreAllFacts profile acts all = (device : Device) → AreFactsOf profile acts all device
 
 -- The paths of a device were led over an act that ends at a row.
 pub record LeadsPathsOf (goal : Goal) (act : Act) (row : ℕ) (old new : AllPaths) (device : Device)
     : Type 0 where
-  pub led : (pieces : List Piece) (events : List Event)
-      → row ≡ length (events_of pieces ++ events) → ArePathsOf goal pieces old device
-      → ArePathsOf goal (Whole act events ∷ pieces) new device
+  pub led : (profile : Profile) (pieces : List Piece) (events : List Event)
+      → row ≡ length (events_of pieces ++ events) → ArePathsOf profile goal pieces old device
+      → ArePathsOf profile goal (Whole act events ∷ pieces) new device
   pub within : (limit : ℕ) → AreWithinOf limit old device → AreWithinOf (limit + 2 ^ 32) new device
 
 -- those of one device were, and those of each other are what they were
@@ -91,36 +93,36 @@ pub record OneLeadsPaths (device : Device) (goal : Goal) (act : Act) (row : ℕ)
   pub others : (other : Device) → (other ≡ device → ⊥) → paths_in new other ≡ paths_in old other
 
 -- A device has no way over an act after pieces.
-abbrev pub HasNoWay : List Piece → Act → Device → Type 0
-HasNoWay pieces act device =
+abbrev pub HasNoWay : Profile → List Piece → Act → Device → Type 0
+HasNoWay profile pieces act device =
     (choices : Choices (act ∷ acts_of pieces)) (state : StateOf device) (sums : Sums)
-    → Follows (machine_of (PowerOn Base) device) (act ∷ acts_of pieces) choices state sums → ⊥
+    → Follows (machine_of (PowerOn profile) device) (act ∷ acts_of pieces) choices state sums → ⊥
 
 -- a device has a way through the acts of pieces
-abbrev pub HasWay : List Piece → Device → Type 0
-HasWay pieces device =
+abbrev pub HasWay : Profile → List Piece → Device → Type 0
+HasWay profile pieces device =
     (state : StateOf device) × (sums : Sums) × (choices : Choices (acts_of pieces))
-    × Follows (machine_of (PowerOn Base) device) (acts_of pieces) choices state sums
+    × Follows (machine_of (PowerOn profile) device) (acts_of pieces) choices state sums
 
 -- Marks are those of a best way of a device through the acts of pieces: each of its ways counts at
 -- least as much for the goal, and where it counts the same it has at least as many marks.
-pub record AreBestMarks (goal : Goal) (pieces : List Piece) (device : Device)
+pub record AreBestMarks (profile : Profile) (goal : Goal) (pieces : List Piece) (device : Device)
     (marks : List (ℕ × Mark)) : Type 0 where
   pub state : StateOf device
   pub sums : Sums
   pub choices : Choices (acts_of pieces)
-  pub way : Follows (machine_of (PowerOn Base) device) (acts_of pieces) choices state sums
+  pub way : Follows (machine_of (PowerOn profile) device) (acts_of pieces) choices state sums
   pub are : marks ≡ own_marks device pieces choices
   pub least : (other_state : StateOf device) (other_sums : Sums)
       (other : Choices (acts_of pieces))
-      → Follows (machine_of (PowerOn Base) device) (acts_of pieces) other other_state other_sums
+      → Follows (machine_of (PowerOn profile) device) (acts_of pieces) other other_state other_sums
       → IsAsGood (weigh (weight_for goal device) sums) (length marks)
       (weigh (weight_for goal device) other_sums) (length (own_marks device pieces other))
 
 -- Marks are those of a best way of each device whose place is below a number, as one list.
-pub record AreBestBelow (goal : Goal) (pieces : List Piece) (count : ℕ) (marks : List (ℕ × Mark))
-    : Type 0 where
+pub record AreBestBelow (profile : Profile) (goal : Goal) (pieces : List Piece) (count : ℕ)
+    (marks : List (ℕ × Mark)) : Type 0 where
   pub of : Device → List (ℕ × Mark)
   pub best : (device : Device) → device_place device < count
-      → AreBestMarks goal pieces device (of device)
+      → AreBestMarks profile goal pieces device (of device)
   pub merge : IsMergeBelow count of marks

@@ -5,7 +5,7 @@ use Rattle.mdb_msgs.specs.declared.command.Device.{Device}
 use Rattle.mdb_bus.specs.declared.act.Act.{Act}
 use Rattle.mdb_bus.specs.declared.fault.Rule.{Rule}
 use Rattle.mdb_bus.specs.declared.scope.Beginning.TheVariants.{PowerOn}
-use Rattle.mdb_bus.specs.declared.scope.Profile.TheVariants.{Base}
+use Rattle.mdb_bus.specs.declared.scope.Profile.{Profile}
 use Rattle.mdb_machine.specs.declared.choice.Choice.{Choice}
 use Rattle.mdb_machine.specs.Choices.{CanStand}
 use Rattle.mdb_machine.specs.Machine.{Machine}
@@ -45,8 +45,8 @@ pub record Leads {Facts State : Type 0} (stands_for : Facts → List Act → Typ
 -- the track of a device was
 abbrev pub LeadsOf : Act → Choice → (device : Device) → TrackOf device → TrackOf device → Type 0
 LeadsOf act choice device old new =
-    Leads (stands_for (PowerOn Base) device) (machine_of (PowerOn Base) device)
-    (unvalued_of (PowerOn Base) device) old act choice new
+    (profile : Profile) → Leads (stands_for (PowerOn profile) device)
+    (machine_of (PowerOn profile) device) (unvalued_of (PowerOn profile) device) old act choice new
 
 -- the track of one device was, and each other is what it was
 abbrev pub OneLeads : Device → Tracks → Act → Choice → Tracks → Type 0
@@ -62,9 +62,9 @@ TracksLead old act choice new =
 pub record TrackStops (device : Device) (tracks : Tracks) (act : Act) (choice : Choice)
     (broken : Rule) : Type 0 where
   pub rule : broken ≡ rule_of device
-  pub none : (acts : List Act) (chosen : Choices acts)
-      → IsTrackOf device (track_in tracks device) acts chosen
-      → HasNoStepFrom (machine_of (PowerOn Base) device) acts act choice
+  pub none : (profile : Profile) (acts : List Act) (chosen : Choices acts)
+      → IsTrackOf profile device (track_in tracks device) acts chosen
+      → HasNoStepFrom (machine_of (PowerOn profile) device) acts act choice
       (track_in tracks device).state
 
 -- that of some device has none

@@ -5,6 +5,7 @@ ghost use Rattle.std.specs.Bool.{OnFalse, OnTrue};
 ghost use Rattle.mdb_words.specs.declared.event.Event.{Event};
 ghost use Rattle.mdb_msgs.specs.declared.command.Device.{Device};
 ghost use Rattle.mdb_bus.specs.declared.act.Act.{Act};
+ghost use Rattle.mdb_bus.specs.declared.scope.Profile.{Profile};
 ghost use Rattle.mdb_bus.specs.ActLists.{Piece, Whole, events_of};
 ghost use Rattle.mdb_follow.specs.declared.goal.Goal.{Goal};
 ghost use Rattle.mdb_explained_runs.specs.inner.AllPaths.{AreAllFacts, AreAllPaths, AreAllWithin};
@@ -20,7 +21,7 @@ use super::best::{Best, Weight};
 use super::chains::Chains;
 use super::paths::{self, Paths};
 use crate::Mark;
-use mdb_bus::Act;
+use mdb_bus::{Act, Profile};
 use mdb_cash::{BILL_STATES, Bill, BillKnown, CHANGER_STATES, Changer, ChangerKnown};
 use mdb_cashless::{READER_STATES, Reader, ReaderKnown};
 use mdb_follow::{Goal, Owner, Report, owner_of};
@@ -56,19 +57,19 @@ fn weight_of(goal: &Goal, device: Device) -> Weight
 }
 
 impl AllPaths {
-    /// The paths through no act.
+    /// The paths through no act, by a profile.
     ///
     /// # Errors
     ///
     /// Memory was refused.
-    pub(crate) fn start(alloc: Global) -> Result<AllPaths, AllocError>
-        ensures stands { IfOk result (λ all. (goal : Goal) → AreAllPaths goal [] all) }
+    pub(crate) fn start(alloc: Global, profile: Profile) -> Result<AllPaths, AllocError>
+        ensures stands { IfOk result (λ all. (goal : Goal) → AreAllPaths profile goal [] all) }
         ensures within { IfOk result (AreAllWithin 0) }
     {
-        let changer = paths::start::<Changer, _>(alloc)?;
-        let bill = paths::start::<Bill, _>(alloc)?;
-        let first_reader = paths::start::<FirstReader, _>(alloc)?;
-        let second_reader = paths::start::<SecondReader, _>(alloc)?;
+        let changer = paths::start::<Changer, _>(alloc, profile)?;
+        let bill = paths::start::<Bill, _>(alloc, profile)?;
+        let first_reader = paths::start::<FirstReader, _>(alloc, profile)?;
+        let second_reader = paths::start::<SecondReader, _>(alloc, profile)?;
         Ok(AllPaths {
             chains: Chains::new(alloc),
             changer,
@@ -86,15 +87,16 @@ impl AllPaths {
     /// Memory was refused.
     #[inline(always)]
     pub(crate) fn lead(&mut self, goal: &Goal, act: &Act, row: u64) -> Result<bool, AllocError>
-        requires stands { (acts : List Act) × AreAllFacts acts self.old }
+        requires stands { (profile : Profile) × (acts : List Act)
+            × AreAllFacts profile acts self.old }
         requires within { AreAllWithin (2 ^ 62) self.old }
-        ensures led { IfOk result (λ goes. OnTrue goes ((pieces : List Piece)
+        ensures led { IfOk result (λ goes. OnTrue goes ((profile : Profile) (pieces : List Piece)
             (events : List Event) → row ≡ length (events_of pieces ++ events)
-            → AreAllPaths goal.now pieces self.old
-            → AreAllPaths goal.now (Whole act.now events ∷ pieces) self.new)) }
-        ensures none { IfOk result (λ goes. OnFalse goes ((pieces : List Piece)
-            → AreAllPaths goal.now pieces self.old
-            → (device : Device) × HasNoWay pieces act.now device)) }
+            → AreAllPaths profile goal.now pieces self.old
+            → AreAllPaths profile goal.now (Whole act.now events ∷ pieces) self.new)) }
+        ensures none { IfOk result (λ goes. OnFalse goes ((profile : Profile) (pieces : List Piece)
+            → AreAllPaths profile goal.now pieces self.old
+            → (device : Device) × HasNoWay profile pieces act.now device)) }
         ensures within { IfOk result (λ goes. OnTrue goes ((limit : ℕ)
             → AreAllWithin limit self.old → AreAllWithin (limit + 2 ^ 32) self.new)) }
         ensures kept { KeepChains self.old.chains.links.items self.new.chains.links.items }
@@ -113,15 +115,16 @@ impl AllPaths {
     /// Memory was refused.
     #[inline(never)]
     fn lead_all(&mut self, goal: &Goal, act: &Act, row: u64) -> Result<bool, AllocError>
-        requires stands { (acts : List Act) × AreAllFacts acts self.old }
+        requires stands { (profile : Profile) × (acts : List Act)
+            × AreAllFacts profile acts self.old }
         requires within { AreAllWithin (2 ^ 62) self.old }
-        ensures led { IfOk result (λ goes. OnTrue goes ((pieces : List Piece)
+        ensures led { IfOk result (λ goes. OnTrue goes ((profile : Profile) (pieces : List Piece)
             (events : List Event) → row ≡ length (events_of pieces ++ events)
-            → AreAllPaths goal.now pieces self.old
-            → AreAllPaths goal.now (Whole act.now events ∷ pieces) self.new)) }
-        ensures none { IfOk result (λ goes. OnFalse goes ((pieces : List Piece)
-            → AreAllPaths goal.now pieces self.old
-            → (device : Device) × HasNoWay pieces act.now device)) }
+            → AreAllPaths profile goal.now pieces self.old
+            → AreAllPaths profile goal.now (Whole act.now events ∷ pieces) self.new)) }
+        ensures none { IfOk result (λ goes. OnFalse goes ((profile : Profile) (pieces : List Piece)
+            → AreAllPaths profile goal.now pieces self.old
+            → (device : Device) × HasNoWay profile pieces act.now device)) }
         ensures within { IfOk result (λ goes. OnTrue goes ((limit : ℕ)
             → AreAllWithin limit self.old → AreAllWithin (limit + 2 ^ 32) self.new)) }
         ensures kept { KeepChains self.old.chains.links.items self.new.chains.links.items }
@@ -148,12 +151,14 @@ impl AllPaths {
         act: &Act,
         row: u64,
     ) -> Result<bool, AllocError>
-        requires stands { (acts : List Act) × AreFactsOf acts self.old device }
+        requires stands { (profile : Profile) × (acts : List Act)
+            × AreFactsOf profile acts self.old device }
         requires within { AreWithinOf (2 ^ 62) self.old device }
         ensures led { IfOk result (λ goes.
             OnTrue goes (OneLeadsPaths device goal.now act.now row self.old self.new)) }
-        ensures none { IfOk result (λ goes. OnFalse goes ((pieces : List Piece)
-            → ArePathsOf goal.now pieces self.old device → HasNoWay pieces act.now device)) }
+        ensures none { IfOk result (λ goes. OnFalse goes ((profile : Profile) (pieces : List Piece)
+            → ArePathsOf profile goal.now pieces self.old device
+            → HasNoWay profile pieces act.now device)) }
         ensures kept { KeepChains self.old.chains.links.items self.new.chains.links.items }
     {
         let weight = weight_of(goal, device);
@@ -201,11 +206,11 @@ impl AllPaths {
         alloc: Global,
         device: Device,
     ) -> Result<Vec<(u64, Mark)>, AllocError>
-        requires { (goal : Goal) × (pieces : List Piece) × AreAllPaths goal pieces self.now
-            × HasWay pieces device }
-        ensures { IfOk result (λ marks. (goal : Goal) (pieces : List Piece)
-            → AreAllPaths goal pieces self.now → HasWay pieces device
-            → AreBestMarks goal pieces device marks.items) }
+        requires { (profile : Profile) × (goal : Goal) × (pieces : List Piece)
+            × AreAllPaths profile goal pieces self.now × HasWay profile pieces device }
+        ensures { IfOk result (λ marks. (profile : Profile) (goal : Goal) (pieces : List Piece)
+            → AreAllPaths profile goal pieces self.now → HasWay profile pieces device
+            → AreBestMarks profile goal pieces device marks.items) }
     {
         let best = self.best(device);
         self.chains.read(alloc, best.chain)

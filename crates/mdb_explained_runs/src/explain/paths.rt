@@ -5,7 +5,7 @@ ghost use Rattle.std.specs.Prelude.{Contains, IfOk, IfSome, length};
 ghost use Rattle.std.specs.Bool.{OnFalse, OnTrue};
 ghost use Rattle.mdb_bus.specs.declared.act.Act.{Act};
 ghost use Rattle.mdb_bus.specs.declared.scope.Beginning.TheVariants.{PowerOn};
-ghost use Rattle.mdb_bus.specs.declared.scope.Profile.TheVariants.{Base};
+ghost use Rattle.mdb_bus.specs.declared.scope.Profile.{Profile};
 ghost use Rattle.mdb_bus.specs.ActLists.{Piece, Whole, acts_of, events_of};
 ghost use Rattle.mdb_machine.specs.Choices.{CanStand};
 ghost use Rattle.mdb_machine.specs.Pair.{IsActOf};
@@ -50,23 +50,24 @@ struct Room<const N: usize> {
     places: [usize; N],
 }
 
-/// The paths through no act.
+/// The paths through no act, by a profile.
 ///
 /// # Errors
 ///
 /// Memory was refused.
 pub(crate) fn start<P: Pair, const N: usize>(
     alloc: Global,
+    profile: Profile,
 ) -> Result<Paths<P::Facts, N>, AllocError>
     requires { N ≡ P.CODES }
     ensures stands { IfOk result (λ paths. (weight : Weight) (links : List Link)
-        → ArePaths (P.stands_for (PowerOn Base)) P.code_of P.device (P.machine (PowerOn Base))
+        → ArePaths (P.stands_for (PowerOn profile)) P.code_of P.device (P.machine (PowerOn profile))
         weight links [] paths) }
     ensures within { IfOk result (λ paths. (links : List Link)
         → AreEntriesWithin P.CODES 0 links paths.entries.items) }
 {
-    let entries = starts::<P>(alloc)?;
-    let facts = P::facts_start(&Beginning::PowerOn(Profile::Base));
+    let entries = starts::<P>(alloc, profile)?;
+    let facts = P::facts_start(&Beginning::PowerOn(profile));
     Ok(Paths {
         facts,
         entries,
@@ -77,18 +78,18 @@ pub(crate) fn start<P: Pair, const N: usize>(
     })
 }
 
-/// The entries of the states in which the pair may start.
+/// The entries of the states in which the pair may start, by a profile.
 ///
 /// # Errors
 ///
 /// Memory was refused.
-fn starts<P: Pair>(alloc: Global) -> Result<Vec<(usize, Best)>, AllocError>
-    ensures { IfOk result (λ entries. AreStarts P.CODES P.code_of (P.machine (PowerOn Base)) P.CODES
-        entries.items) }
+fn starts<P: Pair>(alloc: Global, profile: Profile) -> Result<Vec<(usize, Best)>, AllocError>
+    ensures { IfOk result (λ entries. AreStarts P.CODES P.code_of (P.machine (PowerOn profile))
+        P.CODES entries.items) }
 {
     let mut entries = Vec::new(alloc);
     for code in 0..P::CODES {
-        if P::may_start(&Beginning::PowerOn(Profile::Base), P::state(code)) {
+        if P::may_start(&Beginning::PowerOn(profile), P::state(code)) {
             entries.push((code, Best::NOTHING))?;
         }
     }
@@ -109,20 +110,22 @@ pub(crate) fn lead<P: Pair, const N: usize>(
     row: u64,
 ) -> Result<bool, AllocError>
     requires size { N ≡ P.CODES }
-    requires stands { (acts : List Act) × P.stands_for (PowerOn Base) paths.old.facts acts }
+    requires stands { (profile : Profile) × (acts : List Act)
+        × P.stands_for (PowerOn profile) paths.old.facts acts }
     requires within { AreEntriesWithin P.CODES (2 ^ 62) chains.old.links.items
         paths.old.entries.items }
-    ensures led { IfOk result (λ goes. OnTrue goes ((pieces : List Piece) (events : List Event)
-        → row ≡ length (events_of pieces ++ events)
-        → ArePaths (P.stands_for (PowerOn Base)) P.code_of P.device (P.machine (PowerOn Base))
+    ensures led { IfOk result (λ goes. OnTrue goes ((profile : Profile) (pieces : List Piece)
+        (events : List Event) → row ≡ length (events_of pieces ++ events)
+        → ArePaths (P.stands_for (PowerOn profile)) P.code_of P.device (P.machine (PowerOn profile))
         weight.now chains.old.links.items pieces paths.old
-        → ArePaths (P.stands_for (PowerOn Base)) P.code_of P.device (P.machine (PowerOn Base))
+        → ArePaths (P.stands_for (PowerOn profile)) P.code_of P.device (P.machine (PowerOn profile))
         weight.now chains.new.links.items (Whole act.now events ∷ pieces) paths.new)) }
-    ensures none { IfOk result (λ goes. OnFalse goes ((pieces : List Piece)
-        → ArePaths (P.stands_for (PowerOn Base)) P.code_of P.device (P.machine (PowerOn Base))
+    ensures none { IfOk result (λ goes. OnFalse goes ((profile : Profile) (pieces : List Piece)
+        → ArePaths (P.stands_for (PowerOn profile)) P.code_of P.device (P.machine (PowerOn profile))
         weight.now chains.old.links.items pieces paths.old
         → (choices : Choices (act.now ∷ acts_of pieces)) (state : P.State) (sums : Sums)
-        → Follows (P.machine (PowerOn Base)) (act.now ∷ acts_of pieces) choices state sums → ⊥)) }
+        → Follows (P.machine (PowerOn profile)) (act.now ∷ acts_of pieces) choices state sums
+        → ⊥)) }
     ensures within { IfOk result (λ _. (limit : ℕ)
         → AreEntriesWithin P.CODES limit chains.old.links.items paths.old.entries.items
         → AreEntriesWithin P.CODES (limit + 2 ^ 32) chains.new.links.items
@@ -154,8 +157,8 @@ pub(crate) fn lead<P: Pair, const N: usize>(
 fn matters<P: Pair, const N: usize>(act: &Act, paths: &Paths<P::Facts, N>) -> bool
     requires { AreBelow P.CODES paths.now.entries.items }
     ensures own { OnTrue result (IsActOf P.device act.now) }
-    ensures still { OnFalse result (AllRest P.code_of (P.machine (PowerOn Base)) act.now
-        paths.now.entries.items) }
+    ensures still { OnFalse result ((profile : Profile)
+        → AllRest P.code_of (P.machine (PowerOn profile)) act.now paths.now.entries.items) }
 {
     if !P::concerns(act) {
         return false;
@@ -169,7 +172,8 @@ fn matters<P: Pair, const N: usize>(act: &Act, paths: &Paths<P::Facts, N>) -> bo
 /// Whether an act leaves the states of all entries, and the sums.
 fn all_rest<P: Pair>(act: &Act, entries: &[(usize, Best)]) -> bool
     requires { AreBelow P.CODES entries.now }
-    ensures { OnTrue result (AllRest P.code_of (P.machine (PowerOn Base)) act.now entries.now) }
+    ensures { OnTrue result ((profile : Profile)
+        → AllRest P.code_of (P.machine (PowerOn profile)) act.now entries.now) }
 {
     for (code, _) in entries {
         if !P::rests(act, P::state(*code)) {
@@ -213,9 +217,11 @@ fn fill<P: Pair, const N: usize>(
     requires size { N ≡ P.CODES }
     requires settled { P.settled facts.now act.now ≡ true }
     requires within { AreEntriesWithin P.CODES (2 ^ 62) chains.old.links.items from.now }
-    ensures led { IfOk result (λ _. (acts : List Act) → P.stands_for (PowerOn Base) facts.now acts
-        → AreLed P.CODES (CanStand act.now) P.code_of ((P.machine (PowerOn Base)).Step acts act.now)
-        weight.now row chains.old.links.items chains.new.links.items from.now
+    ensures led { IfOk result (λ _. (profile : Profile) (acts : List Act)
+        → P.stands_for (PowerOn profile) facts.now acts
+        → AreLed P.CODES (CanStand act.now) P.code_of
+        ((P.machine (PowerOn profile)).Step acts act.now) weight.now row
+        chains.old.links.items chains.new.links.items from.now
         room.new.entries.items) }
     ensures kept { KeepChains chains.old.links.items chains.new.links.items }
 {
@@ -243,9 +249,10 @@ fn take_steps<P: Pair, const N: usize>(
     requires size { N ≡ P.CODES }
     requires settled { P.settled facts.now act.now ≡ true }
     requires within { IsEntryWithin P.CODES (2 ^ 62) chains.old.links.items entry.now }
-    ensures takes { IfOk result (λ _. (acts : List Act) → P.stands_for (PowerOn Base) facts.now acts
+    ensures takes { IfOk result (λ _. (profile : Profile) (acts : List Act)
+        → P.stands_for (PowerOn profile) facts.now acts
         → TakesSteps P.CODES (CanStand act.now) P.code_of
-        ((P.machine (PowerOn Base)).Step acts act.now) weight.now row chains.old.links.items
+        ((P.machine (PowerOn profile)).Step acts act.now) weight.now row chains.old.links.items
         chains.new.links.items entry.now room.old.entries.items room.new.entries.items) }
     ensures kept { KeepChains chains.old.links.items chains.new.links.items }
 {
@@ -279,9 +286,10 @@ fn take_step<P: Pair, const N: usize>(
     requires settled { P.settled facts.now act.now ≡ true }
     requires can { CanStand act.now choice }
     requires within { IsEntryWithin P.CODES (2 ^ 62) chains.old.links.items entry.now }
-    ensures takes { IfOk result (λ _. (acts : List Act) → P.stands_for (PowerOn Base) facts.now acts
+    ensures takes { IfOk result (λ _. (profile : Profile) (acts : List Act)
+        → P.stands_for (PowerOn profile) facts.now acts
         → TakesSteps P.CODES (λ one. one ≡ choice) P.code_of
-        ((P.machine (PowerOn Base)).Step acts act.now) weight.now row chains.old.links.items
+        ((P.machine (PowerOn profile)).Step acts act.now) weight.now row chains.old.links.items
         chains.new.links.items entry.now room.old.entries.items room.new.entries.items) }
     ensures kept { KeepChains chains.old.links.items chains.new.links.items }
 {

@@ -4,7 +4,7 @@ ghost use Rattle.std.specs.Prelude.{◌≡◌, ◌<◌, ◌≤◌, ◌+◌, [], 
 ghost use Rattle.mdb_words.specs.declared.event.Event.{Event};
 ghost use Rattle.mdb_bus.specs.Bus.{scope_of};
 ghost use Rattle.mdb_bus.specs.declared.scope.Beginning.TheVariants.{PowerOn};
-ghost use Rattle.mdb_bus.specs.declared.scope.Profile.TheVariants.{Base};
+ghost use Rattle.mdb_bus.specs.Scopes.{profile_of};
 ghost use Rattle.mdb_follow.specs.declared.goal.Goal.{Goal};
 ghost use Rattle.mdb_explained_runs.specs.inner.Seekers.{IsSeeker};
 ghost use Rattle.mdb_follow.specs.Runs.{IsReached};
@@ -27,16 +27,17 @@ pub(crate) struct Seeker {
 }
 
 impl Seeker {
-    /// The seeker before the first row.
+    /// The seeker before the first row of a recording from power-on.
     ///
     /// # Errors
     ///
     /// Memory was refused.
     fn start(alloc: Global, scope: &Scope) -> Result<Seeker, AllocError>
+        requires { scope.now.begins ≡ PowerOn (profile_of scope.now.begins) }
         ensures stands { IfOk result (λ seeker. (goal : Goal) → IsSeeker goal [] seeker) }
         ensures scope { IfOk result (λ seeker. scope_of seeker.bus ≡ scope.now) }
     {
-        let all = AllPaths::start(alloc)?;
+        let all = AllPaths::start(alloc, scope.begins.profile())?;
         Ok(Seeker {
             bus: Bus::scoped(scope),
             all,
@@ -51,7 +52,6 @@ impl Seeker {
     ///
     /// Memory was refused.
     fn take(&mut self, goal: &Goal, event: Event) -> Result<(), AllocError>
-        requires begins { (scope_of self.old.bus).begins ≡ PowerOn Base }
         requires room { self.old.rows < ROWS_MAX }
         requires reached { (events : List Event) × IsSeeker goal.now events self.old
             × IsReached (scope_of self.old.bus) (events ++ event ∷ []) }
@@ -86,7 +86,7 @@ pub(crate) fn seek(
     events: &[Event],
     goal: &Goal,
 ) -> Result<Seeker, AllocError>
-    requires begins { scope.now.begins ≡ PowerOn Base }
+    requires begins { scope.now.begins ≡ PowerOn (profile_of scope.now.begins) }
     requires few { length events.now ≤ ROWS_MAX }
     requires reached { IsReached scope.now events.now }
     ensures stands { IfOk result (IsSeeker goal.now events.now) }

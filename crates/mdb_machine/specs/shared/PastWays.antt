@@ -1,8 +1,7 @@
--- That what counts of the acts goes on act by act, and that an act by which a device takes nothing,
--- tells nothing and isn't put into its power-on state leaves it. This proves laws of the trait
--- `Pair` and of machines.
+-- That what is known of what counts goes on act by act, and that a command of no effect has none
+-- whatever is replied. This proves laws of the trait `Pair` and of machines.
 use Rattle.std.specs.Prelude.{◌≡◌, ℕ, Bool, true, false, not, ◌&&◌, ◌||◌, List, [], ◌∷◌, refl}
-use Rattle.std.specs.Prelude.{Option, None, Some, if◌then◌else◌, ltb, unwrap_or}
+use Rattle.std.specs.Prelude.{Option, None, Some, if◌then◌else◌, ltb}
 use Rattle.std.proofs.Common.{ap, sym, ◌∙◌}
 use Rattle.std.proofs.Math.Path.{fun_ext}
 use Rattle.std.specs.List.{list_any}
@@ -17,8 +16,8 @@ use Rattle.mdb_machine.specs.Kept.{has_reset, kept_of}
 use Rattle.mdb_bus.specs.declared.scope.Beginning.{Beginning}
 use Rattle.mdb_bus.specs.declared.scope.Beginning.TheVariants.{PowerOn, Joined}
 use Rattle.mdb_machine.specs.Known.{known_by}
-use Rattle.mdb_machine.specs.Past.{KnownPast, PastFacts, known_past, last_list, runs_on, acts_from, effect_by, effect_taken, enables, last_told, or_else, past_of, powers_on, tells_out_of_sequence, unless_empty}
-use Rattle.mdb_machine.specs.PastValues.{known_more, known_past_with, past_with}
+use Rattle.mdb_machine.specs.Past.{KnownPast, PastFacts, known_past, last_list, runs_on, acts_from, effect_by, effect_taken, enables, or_else, powers_on, tells_out_of_sequence, unless_empty}
+use Rattle.mdb_machine.specs.PastValues.{known_more, known_past_with}
 
 -- what counts is the same where its fields are
 pub same_past : {M : Type 0} {one other : PastFacts M}
@@ -29,70 +28,6 @@ same_past {M} {one} {other} enabled reset_owed kept =
     let same : record one { last_kept = one.last_kept }
     ≡ record other { last_kept = other.last_kept } = cc (masks, reset_owed, kept) in
     same
-
--- whether one of the acts from the last boundary on passes a test
-any_from : (p : Act → Bool) (act : Act) (rest : List Act) (b : Bool)
-    → (p act || (if b then false else list_any p rest))
-    ≡ list_any p (act ∷ (if b then [] else rest))
-any_from p act rest true = refl
-any_from p act rest false = refl
-
-none_from : (p : Act → Bool) (act : Act) (rest : List Act) (b : Bool)
-    → (not (p act) && (b || not (list_any p rest)))
-    ≡ not (list_any p (act ∷ (if b then [] else rest)))
-none_from p act rest true =
-    elim (p act) as (λ x. (not x && (true || not (list_any p rest))) ≡ not (x || list_any p [])) [
-      | true ↦ refl
-      | false ↦ refl
-    ]
-none_from p act rest false =
-    elim (p act) as (λ x. (not x && (false || not (list_any p rest)))
-    ≡ not (x || list_any p rest)) [
-      | true ↦ refl
-      | false ↦ refl
-    ]
-
-first_of_two : {X : Type 0} (first second : Option X) (x : X)
-    → unwrap_or first (unwrap_or second x) ≡ unwrap_or (or_else first second) x
-first_of_two (Some y) second x = refl
-first_of_two None second x = refl
-
--- what counts after one act more, from what did before it
-pub past_more : {M : Type 0} (effect_of : Command → Effect) (parts_by : Act → List (Part M))
-    (act : Act) (acts : List Act)
-    → past_with effect_of parts_by act (past_of effect_of parts_by acts)
-    ≡ past_of effect_of parts_by (act ∷ acts)
-past_more effect_of parts_by act acts =
-    let powers = powers_on effect_of act in
-    let rest = acts_from (powers_on effect_of) acts in
-    same_past (λ kind. any_from (λ a. enables kind (effect_by effect_of a)) act rest powers)
-    (none_from (λ a. has_reset (parts_by a)) act rest powers)
-    (first_of_two (unless_empty (kept_of (parts_by act)))
-    (last_told (λ a. unless_empty (kept_of (parts_by a))) acts) [])
-
--- what counts after one act more, by what that act is to the device
-abbrev pub one_more : {M : Type 0} → (Command → Effect) → (Act → List (Part M)) → List Act → Effect
-    → Bool → List (Part M) → PastFacts M
-one_more effect_of parts_by acts effect powers parts =
-    record {
-      enabled = λ kind. enables kind effect
-          || list_any (λ act. enables kind (effect_by effect_of act))
-          (if powers then [] else acts_from (powers_on effect_of) acts);
-      reset_owed = not (has_reset parts || list_any (λ act. has_reset (parts_by act))
-          (if powers then [] else acts_from (powers_on effect_of) acts));
-      last_kept = unwrap_or (or_else (unless_empty (kept_of parts))
-          (last_told (λ act. unless_empty (kept_of (parts_by act))) acts)) [];
-    }
-
-pub still : {M : Type 0} (effect_of : Command → Effect) (parts_by : Act → List (Part M))
-    (act : Act) (acts : List Act) → effect_by effect_of act ≡ effects.Other
-    → powers_on effect_of act ≡ false → parts_by act ≡ []
-    → past_of effect_of parts_by acts ≡ past_of effect_of parts_by (act ∷ acts)
-still effect_of parts_by act acts effect powers parts =
-    sym (ap (λ e. one_more effect_of parts_by acts e (powers_on effect_of act) (parts_by act))
-    effect
-    ∙ ap (λ b. one_more effect_of parts_by acts effects.Other b (parts_by act)) powers
-    ∙ ap (one_more effect_of parts_by acts effects.Other false) parts)
 
 -- a command of no effect is none that its device takes, whether it says so or not
 pub answered_still : (effect_of : Command → Effect) (command : Command) (reply : Reply)

@@ -3,10 +3,12 @@
 ghost use Rattle.std.specs.Prelude.{◌≡◌, ℕ, ◌≤◌, List, [], ◌∷◌, ◌↔◌, length, IsTrue, IfOk, IfErr};
 ghost use Rattle.std.specs.List.{flat_map, AllByRecursion};
 ghost use Rattle.mdb_msgs.specs.Bill.{bill_msg_bytes, IsBillMsg, NoBillMsg};
+ghost use Rattle.mdb_msgs.specs.declared.reading.Reading.TheVariants.{Long};
 ghost use Rattle.mdb_msgs.specs.Lists.{StopsAt};
 
 use super::list::Bytes;
 use crate::fault::MsgFault;
+use crate::reading::Reading;
 use arrayvec::ArrayVec;
 
 /// A message of the validator's POLL answer.
@@ -18,6 +20,8 @@ pub enum BillMsg {
     Escrow(u8),
     /// A0 to AF: a bill of this type, 0 to 15, was returned.
     Returned(u8),
+    /// B0 to BF of the extended profile: a bill of this type, 0 to 15, went to the recycler.
+    Recycled(u8),
     /// C0 to CF: a bill of this type, 0 to 15, was rejected, since it is disabled.
     Rejected(u8),
     /// 40 to 5F: attempts to put a bill in while the validator is disabled, 0 to 31 of them.
@@ -27,46 +31,51 @@ pub enum BillMsg {
     Reset,
     /// Another status, by its byte, 00 to 1A or 20 to 3F.
     Status(u8),
+    /// A status of the recycler in the extended profile, by its byte, D0 to FF.
+    RecyclerStatus(u8),
 }
 
 impl BillMsg {
     /// Whether its field is in its range.
     fn is_valid(self) -> bool
-        ensures { IsTrue result ↔ IsBillMsg self }
+        ensures { IsTrue result ↔ IsBillMsg Long self }
     {
         match self {
             BillMsg::Stacked(bill)
             | BillMsg::Escrow(bill)
             | BillMsg::Returned(bill)
+            | BillMsg::Recycled(bill)
             | BillMsg::Rejected(bill) => bill < 16,
             BillMsg::Attempts(count) => count < 32,
             BillMsg::Reset => true,
             BillMsg::Status(byte) => byte != 0x06 && matches!(byte, 0x00..=0x1A | 0x20..=0x3F),
+            BillMsg::RecyclerStatus(byte) => byte >= 0xD0,
         }
     }
 
     /// Its byte.
     fn byte(self) -> u8
-        requires { IsBillMsg self }
+        requires { IsBillMsg Long self }
         ensures { bill_msg_bytes self ≡ result ∷ [] }
     {
         match self {
             BillMsg::Stacked(bill) => 0x80 + bill,
             BillMsg::Escrow(bill) => 0x90 + bill,
             BillMsg::Returned(bill) => 0xA0 + bill,
+            BillMsg::Recycled(bill) => 0xB0 + bill,
             BillMsg::Rejected(bill) => 0xC0 + bill,
             BillMsg::Attempts(count) => 0x40 + count,
             BillMsg::Reset => 0x06,
-            BillMsg::Status(byte) => byte,
+            BillMsg::Status(byte) | BillMsg::RecyclerStatus(byte) => byte,
         }
     }
 }
 
-/// The message that is this byte.
-fn read_message(byte: u8) -> Result<BillMsg, MsgFault>
-    ensures fields { IfOk result IsBillMsg }
+/// The message of a reading that is this byte.
+fn read_message(reading: Reading, byte: u8) -> Result<BillMsg, MsgFault>
+    ensures fields { IfOk result (IsBillMsg reading) }
     ensures bytes { IfOk result (λ message. bill_msg_bytes message ≡ byte ∷ []) }
-    ensures err { IfErr result (λ fault. (rest : List ℕ) → NoBillMsg (byte ∷ rest) fault) }
+    ensures err { IfErr result (λ fault. (rest : List ℕ) → NoBillMsg reading (byte ∷ rest) fault) }
 {
     match byte {
         0x06 => Ok(BillMsg::Reset),
@@ -78,27 +87,35 @@ fn read_message(byte: u8) -> Result<BillMsg, MsgFault>
         0x90..=0x9F => Ok(BillMsg::Escrow(byte - 0x90)),
         0xA0..=0xAF => Ok(BillMsg::Returned(byte - 0xA0)),
         0xC0..=0xCF => Ok(BillMsg::Rejected(byte - 0xC0)),
-        _ => Err(MsgFault::Profile),
+        _ if !reading.is_extended() => Err(MsgFault::Profile),
+        0xB0..=0xBF => Ok(BillMsg::Recycled(byte - 0xB0)),
+        _ => Ok(BillMsg::RecyclerStatus(byte)),
     }
 }
 
-/// The messages that these bytes are, or the fault of the leftmost that can't be taken.
-pub(crate) fn read_messages(bytes: &[u8]) -> Result<ArrayVec<BillMsg, 16>, MsgFault>
+/// The messages of a reading that these bytes are, or the fault of the leftmost that can't be
+/// taken.
+pub(crate) fn read_messages(
+    reading: Reading,
+    bytes: &[u8],
+) -> Result<ArrayVec<BillMsg, 16>, MsgFault>
     requires { length bytes.now ≤ 16 }
-    ensures fields { IfOk result (λ list. AllByRecursion IsBillMsg list.items) }
+    ensures fields { IfOk result (λ list. AllByRecursion (IsBillMsg Long) list.items) }
+    ensures reading { IfOk result (λ list. AllByRecursion (IsBillMsg reading) list.items) }
     ensures bytes { IfOk result (λ list. bytes.now ≡ flat_map bill_msg_bytes list.items) }
-    ensures err { IfErr result (StopsAt bill_msg_bytes IsBillMsg NoBillMsg bytes.now) }
+    ensures err { IfErr result (StopsAt bill_msg_bytes (IsBillMsg reading) (NoBillMsg reading)
+        bytes.now) }
 {
     let mut messages = ArrayVec::new();
     for byte in bytes {
-        messages.push(read_message(*byte)?);
+        messages.push(read_message(reading, *byte)?);
     }
     Ok(messages)
 }
 
 /// Whether the fields of all messages are in their ranges.
 pub(crate) fn are_valid(messages: &[BillMsg]) -> bool
-    ensures { IsTrue result ↔ AllByRecursion IsBillMsg messages.now }
+    ensures { IsTrue result ↔ AllByRecursion (IsBillMsg Long) messages.now }
 {
     messages.iter().all(|message| message.is_valid())
 }
@@ -112,7 +129,7 @@ pub(crate) fn count_of(messages: &[BillMsg]) -> usize
 
 /// The bytes of the messages, put end to end.
 pub(crate) fn bytes_of(messages: &[BillMsg]) -> Bytes
-    requires fields { AllByRecursion IsBillMsg messages.now }
+    requires fields { AllByRecursion (IsBillMsg Long) messages.now }
     requires room { length messages.now ≤ 16 }
     ensures { result.items ≡ flat_map bill_msg_bytes messages.now }
 {

@@ -4,14 +4,16 @@ ghost use Rattle.std.specs.Prelude.{◌≡◌, ◌≢◌, ◌≤◌, ◌<◌, tr
 ghost use Rattle.std.specs.List.{flat_map, list_any};
 ghost use Rattle.mdb_msgs.specs.declared.fault.MsgFault.{MsgFault as Fault};
 ghost use Rattle.mdb_msgs.specs.declared.fault.MsgFault.TheVariants.{Message};
-ghost use Rattle.mdb_msgs.specs.TwoBytes.{two_bytes};
-ghost use Rattle.mdb_msgs.specs.Reader.{head_bytes, reader_msg_bytes, reader_list_bytes, is_display, is_id, is_kept, tells_level, text_of, IsListFault, IsReaderBlock, IsReaderList, IsTextOf, NoReaderMsg, ReaderStopsAt};
+ghost use Rattle.mdb_msgs.specs.declared.reading.Reading.{Reading as Read};
+ghost use Rattle.mdb_msgs.specs.TwoBytes.{two_bytes, four_bytes};
+ghost use Rattle.mdb_msgs.specs.Reader.{head_bytes, reader_msg_bytes, reader_list_bytes, is_display, is_id, is_kept, foot_bytes, has_long, has_options, own_reading, reading_of, session_bytes, tells_level, text_of, AreReaderMsgs, IsListFault, IsReaderBlock, IsReaderList, IsTextOf, NoReaderMsg, ReaderStopsAt};
 ghost use Rattle.mdb_msgs.specs.ReaderBytes.{messages_of, no_messages};
 ghost use Rattle.mdb_msgs.specs.inner.ReaderSteps.{IsNextMessage, StandAsMessages};
 
 use super::list::{Bytes, append, list_of};
 use crate::fault::MsgFault;
-use crate::two_bytes::{high, low, number};
+use crate::reading::Reading;
+use crate::two_bytes::{high, high_half, long_number, low, low_half, number};
 use arrayvec::ArrayVec;
 use std::marker::Model;
 
@@ -46,6 +48,17 @@ pub enum ReaderMsg {
         /// The funds, in units of the scale factor.
         funds: u16,
     },
+    /// 03 of feature levels 2 and 3: a session begins.
+    BeginSessionLong {
+        /// The funds, in units of the scale factor.
+        funds: u16,
+        /// The payment media's number.
+        media: u32,
+        /// The payment type.
+        kind: u8,
+        /// The payment data.
+        details: u16,
+    },
     /// 04: the reader asks for the session's end.
     CancelRequest,
     /// 05: a sale is approved.
@@ -61,25 +74,44 @@ pub enum ReaderMsg {
     Cancelled,
     /// 09: the peripheral's identification. Its bytes are [`ReaderList::id`].
     PeripheralId,
+    /// 09 of the extended profile, where at least 34 bytes are left: the peripheral's
+    /// identification with its options. Its other bytes are [`ReaderList::id`].
+    PeripheralIdWithOptions {
+        /// The options, Z31-Z34.
+        options: u32,
+    },
     /// 0A: a malfunction, with its code.
     Malfunction(u8),
     /// 0B: the command came out of sequence.
     OutOfSequence,
+    /// 0B of feature levels 2 and 3, where it isn't the last byte: its status.
+    OutOfSequenceIn(u8),
+    /// 0D of feature levels 2 and 3: a revalue is approved.
+    RevalueApproved,
+    /// 0E of feature levels 2 and 3: a revalue is denied.
+    RevalueDenied,
+    /// 0F of feature levels 2 and 3: how much may be put on the card, in units of the scale factor.
+    RevalueLimit(u16),
+    /// 11 of feature levels 2 and 3: the reader asks for time and date.
+    TimeAsked,
 }
 
 impl ReaderMsg {
-    /// Whether the message tells of a session or a sale (03, 05, 06 and 07), and so may stand in
-    /// answers to POLL and the five commands of a session alone: 12 and 13 00 to 13 04 of the first
-    /// reader, 62 and 63 00 to 63 04 of the second (this profile).
+    /// Whether the message tells of a session or a sale (03, 05, 06, 07, 0D and 0E), and so may
+    /// stand in answers to POLL and the five commands of a session alone: 12 and 13 00 to 13 04 of
+    /// the first reader, 62 and 63 00 to 63 04 of the second (this profile).
     fn is_kept(self) -> bool
         ensures { result ≡ is_kept self }
     {
         matches!(
             self,
             ReaderMsg::BeginSession { .. }
+                | ReaderMsg::BeginSessionLong { .. }
                 | ReaderMsg::VendApproved { .. }
                 | ReaderMsg::VendDenied
                 | ReaderMsg::EndSession
+                | ReaderMsg::RevalueApproved
+                | ReaderMsg::RevalueDenied
         )
     }
 
@@ -93,6 +125,21 @@ impl ReaderMsg {
         }
     }
 
+    /// Whether the message is one of feature levels 2 and 3 alone.
+    fn has_long(self) -> bool
+        ensures { result ≡ has_long self }
+    {
+        matches!(
+            self,
+            ReaderMsg::BeginSessionLong { .. }
+                | ReaderMsg::OutOfSequenceIn(_)
+                | ReaderMsg::RevalueApproved
+                | ReaderMsg::RevalueDenied
+                | ReaderMsg::RevalueLimit(_)
+                | ReaderMsg::TimeAsked
+        )
+    }
+
     fn is_display(self) -> bool
         ensures { result ≡ is_display self }
     {
@@ -102,11 +149,36 @@ impl ReaderMsg {
     fn is_id(self) -> bool
         ensures { result ≡ is_id self }
     {
-        matches!(self, ReaderMsg::PeripheralId)
+        matches!(
+            self,
+            ReaderMsg::PeripheralId | ReaderMsg::PeripheralIdWithOptions { .. }
+        )
     }
 
-    /// Its bytes, but for its text.
-    fn head(self) -> ArrayVec<u8, 8>
+    /// Whether the message is an identification with options.
+    fn has_options(self) -> bool
+        ensures { result ≡ has_options self }
+    {
+        matches!(self, ReaderMsg::PeripheralIdWithOptions { .. })
+    }
+
+    /// Its options, of an identification with options.
+    fn foot(self) -> ArrayVec<u8, 4>
+        ensures { result.items ≡ foot_bytes self }
+    {
+        match self {
+            ReaderMsg::PeripheralIdWithOptions { options } => list_of(&[
+                high(high_half(options)),
+                low(high_half(options)),
+                high(low_half(options)),
+                low(low_half(options)),
+            ]),
+            _ => ArrayVec::new(),
+        }
+    }
+
+    /// Its bytes, but for its text and its options.
+    fn head(self) -> ArrayVec<u8, 10>
         ensures { result.items ≡ head_bytes self }
     {
         match self {
@@ -130,14 +202,38 @@ impl ReaderMsg {
             ]),
             ReaderMsg::Display { time } => list_of(&[0x02, time]),
             ReaderMsg::BeginSession { funds } => list_of(&[0x03, high(funds), low(funds)]),
+            ReaderMsg::BeginSessionLong {
+                funds,
+                media,
+                kind,
+                details,
+            } => list_of(&[
+                0x03,
+                high(funds),
+                low(funds),
+                high(high_half(media)),
+                low(high_half(media)),
+                high(low_half(media)),
+                low(low_half(media)),
+                kind,
+                high(details),
+                low(details),
+            ]),
             ReaderMsg::CancelRequest => list_of(&[0x04]),
             ReaderMsg::VendApproved { amount } => list_of(&[0x05, high(amount), low(amount)]),
             ReaderMsg::VendDenied => list_of(&[0x06]),
             ReaderMsg::EndSession => list_of(&[0x07]),
             ReaderMsg::Cancelled => list_of(&[0x08]),
-            ReaderMsg::PeripheralId => list_of(&[0x09]),
+            ReaderMsg::PeripheralId | ReaderMsg::PeripheralIdWithOptions { .. } => {
+                list_of(&[0x09])
+            }
             ReaderMsg::Malfunction(code) => list_of(&[0x0A, code]),
             ReaderMsg::OutOfSequence => list_of(&[0x0B]),
+            ReaderMsg::OutOfSequenceIn(status) => list_of(&[0x0B, status]),
+            ReaderMsg::RevalueApproved => list_of(&[0x0D]),
+            ReaderMsg::RevalueDenied => list_of(&[0x0E]),
+            ReaderMsg::RevalueLimit(amount) => list_of(&[0x0F, high(amount), low(amount)]),
+            ReaderMsg::TimeAsked => list_of(&[0x11]),
         }
     }
 }
@@ -145,29 +241,34 @@ impl ReaderMsg {
 /// A reader's answer: its messages in order, and the two long texts, of which a block holds at most
 /// one each. A display request is last (this profile).
 ///
-/// It keeps the bytes of its messages, one after the other, and reads them on request.
+/// It keeps the bytes of its messages, one after the other, and reads them on request. The reading
+/// that it keeps is told by the messages.
 #[derive(PartialEq, Eq, Debug, Drop)]
 pub struct ReaderList {
     bytes: Bytes,
+    reading: Reading,
 }
 
 impl Model for ReaderList {
-    ghost use Rattle.mdb_msgs.specs.Reader.{ReaderMessages, reader_list_bytes};
+    ghost use Rattle.mdb_msgs.specs.Reader.{ReaderMessages, reader_list_bytes, reading_of};
     ghost use Rattle.mdb_msgs.specs.ReaderBytes.{messages_of, AreMessages};
 
     ghost Value = { ReaderMessages };
 
-    ghost view = { λ list. messages_of list.bytes.items };
+    ghost view = { λ list. messages_of list.reading list.bytes.items };
 
-    ghost invariant = { λ list. AreMessages list.bytes.items };
+    ghost invariant = { λ list. AreMessages list.reading list.bytes.items };
 
-    ghost inverse = { λ list. record { bytes = record { items = reader_list_bytes list } } };
+    ghost inverse = { λ list. record {
+      bytes = record { items = reader_list_bytes list };
+      reading = reading_of list.messages;
+    } };
 }
 
 impl ReaderList {
-    /// The list of these messages. `id` has the 29 bytes of the message `PeripheralId`, and `text`
-    /// the text of the message `Display`. Without such a message, `id` is all 0 and `text` is
-    /// empty.
+    /// The list of these messages. `id` has the 29 bytes of the identification, with options or
+    /// without, and `text` the text of the message `Display`. Without such a message, `id` is all 0
+    /// and `text` is empty.
     ///
     /// # Errors
     ///
@@ -175,8 +276,9 @@ impl ReaderList {
     ///
     /// - `Length`: there is no message, or the bytes are more than the 35 that a block carries
     ///   (MDB/ICP 4.3, block format).
-    /// - `Message`: a display request isn't last (this profile), a display text has more than 32
-    ///   bytes, or `id` or `text` is given without its message.
+    /// - `Message`: no reading has all of the messages, a display request isn't last (this
+    ///   profile), a display text has more than 32 bytes, or `id` or `text` is given without its
+    ///   message.
     pub fn new(messages: &[ReaderMsg], id: &[u8; 29], text: &[u8]) -> Result<Self, MsgFault>
         ensures exactly { IsOk result ↔ IsReaderBlock
             (record { messages = messages.now; id = id.now; text = text.now }) }
@@ -214,6 +316,7 @@ impl ReaderList {
     {
         ReaderList {
             bytes: list_of(self.bytes.as_slice()),
+            reading: self.reading,
         }
     }
 
@@ -224,7 +327,7 @@ impl ReaderList {
     {
         let mut messages = ArrayVec::new();
         let mut rest = self.bytes.as_slice();
-        while let Some((message, _, after)) = next_message(rest) {
+        while let Some((message, _, after)) = next_message(self.reading, rest) {
             messages.push(message);
             rest = after;
         }
@@ -238,19 +341,20 @@ impl ReaderList {
         ensures few { length result ≤ 35 }
     {
         ReaderIter {
+            reading: self.reading,
             rest: self.bytes.as_slice(),
         }
     }
 
-    /// The 29 bytes of the message `PeripheralId`, all 0 where there is none.
+    /// The 29 bytes of the identification, with options or without, all 0 where there is none.
     pub fn id(&self) -> [u8; 29]
         ensures { result ≡ self.now.id }
     {
         let mut id = [0; 29];
         let mut rest = self.bytes.as_slice();
-        while let Some((message, text, after)) = next_message(rest) {
+        while let Some((message, text, after)) = next_message(self.reading, rest) {
             if message.is_id() {
-                id.copy_from_slice(text);
+                id.copy_from_slice(text.split_at(29).0);
                 return id;
             }
             rest = after;
@@ -263,7 +367,7 @@ impl ReaderList {
         ensures { result.now ≡ self.now.text }
     {
         let mut rest = self.bytes.as_slice();
-        while let Some((message, text, after)) = next_message(rest) {
+        while let Some((message, text, after)) = next_message(self.reading, rest) {
             if message.is_display() {
                 return text;
             }
@@ -277,7 +381,7 @@ impl ReaderList {
         ensures { result ≡ list_any (tells_level least) self.now.messages }
     {
         let mut rest = self.bytes.as_slice();
-        while let Some((message, _, after)) = next_message(rest) {
+        while let Some((message, _, after)) = next_message(self.reading, rest) {
             if message.tells_level(least) {
                 return true;
             }
@@ -291,7 +395,7 @@ impl ReaderList {
         ensures { result ≡ list_any is_kept self.now.messages }
     {
         let mut rest = self.bytes.as_slice();
-        while let Some((message, _, after)) = next_message(rest) {
+        while let Some((message, _, after)) = next_message(self.reading, rest) {
             if message.is_kept() {
                 return true;
             }
@@ -322,6 +426,7 @@ impl ReaderList {
 /// The messages of a reader's answer that are still to be read.
 #[derive(Debug, Drop)]
 pub struct ReaderIter<'a> {
+    reading: Reading,
     rest: &'a [u8],
 }
 
@@ -333,9 +438,9 @@ impl<'a> Model for ReaderIter<'a> {
 
     ghost Value = { List ReaderMsg };
 
-    ghost view = { λ messages. (messages_of messages.rest.now).messages };
+    ghost view = { λ messages. (messages_of messages.reading messages.rest.now).messages };
 
-    ghost invariant = { λ messages. StandAsMessages messages.rest.now };
+    ghost invariant = { λ messages. StandAsMessages messages.reading messages.rest.now };
 }
 
 impl<'a> ReaderIter<'a> {
@@ -343,7 +448,10 @@ impl<'a> ReaderIter<'a> {
     pub fn none() -> Self
         ensures { result ≡ [] }
     {
-        ReaderIter { rest: &[] }
+        ReaderIter {
+            reading: Reading::Base,
+            rest: &[],
+        }
     }
 }
 
@@ -358,18 +466,19 @@ impl<'a> Iterator for ReaderIter<'a> {
 
     #[inline(always)]
     fn next(&mut self) -> Option<ReaderMsg> {
-        let (message, _, after) = next_message(self.rest)?;
+        let (message, _, after) = next_message(self.reading, self.rest)?;
         self.rest = after;
         Some(message)
     }
 }
 
-/// The text of a message: the identification, the text of a display request, and else nothing.
+/// The text of a message but for its options: the identification, the text of a display request,
+/// and else nothing.
 fn text_of<'a>(message: ReaderMsg, id: &'a [u8; 29], text: &'a [u8]) -> &'a [u8]
-    ensures { result.now ≡ text_of id.now text.now message }
+    ensures { text_of id.now text.now message ≡ result.now ++ foot_bytes message }
 {
     match message {
-        ReaderMsg::PeripheralId => id,
+        ReaderMsg::PeripheralId | ReaderMsg::PeripheralIdWithOptions { .. } => id,
         ReaderMsg::Display { .. } => text,
         _ => &[],
     }
@@ -386,11 +495,13 @@ fn bytes_of(messages: &[ReaderMsg], id: &[u8; 29], text: &[u8]) -> Option<Bytes>
     for message in messages {
         let head = message.head();
         let text = text_of(*message, id, text);
-        if bytes.remaining_capacity() < head.len() + text.len() {
+        let foot = message.foot();
+        if bytes.remaining_capacity() < head.len() + text.len() + foot.len() {
             return None;
         }
         append(&mut bytes, head.as_slice());
         append(&mut bytes, text);
+        append(&mut bytes, foot.as_slice());
     }
     Some(bytes)
 }
@@ -402,6 +513,39 @@ fn are_same(messages: &[ReaderMsg], others: &[ReaderMsg]) -> bool
     messages == others
 }
 
+/// The reading that messages are kept in.
+fn reading_of(messages: &[ReaderMsg]) -> Reading
+    ensures { result ≡ reading_of messages.now }
+{
+    own_reading(have_long(messages), have_options(messages))
+}
+
+/// Whether one of the messages is an identification with options.
+fn have_options(messages: &[ReaderMsg]) -> bool
+    ensures { result ≡ list_any has_options messages.now }
+{
+    messages.iter().any(|message| message.has_options())
+}
+
+/// Whether one of the messages is of feature levels 2 and 3 alone.
+fn have_long(messages: &[ReaderMsg]) -> bool
+    ensures { result ≡ list_any has_long messages.now }
+{
+    messages.iter().any(|message| message.has_long())
+}
+
+/// The reading that messages are kept in, by whether one of them is of feature levels 2 and 3, and
+/// whether one is an identification with options.
+fn own_reading(has_long: bool, has_options: bool) -> Reading
+    ensures { result ≡ own_reading has_long has_options }
+{
+    match (has_long, has_options) {
+        (true, _) => Reading::Long,
+        (false, true) => Reading::Short,
+        (false, false) => Reading::Base,
+    }
+}
+
 /// The list of these messages and texts, if it is what their bytes are read as.
 fn read_as(bytes: &[u8], messages: &[ReaderMsg], id: &[u8; 29], text: &[u8]) -> Option<ReaderList>
     requires few { length bytes.now ≤ 35 }
@@ -411,7 +555,7 @@ fn read_as(bytes: &[u8], messages: &[ReaderMsg], id: &[u8; 29], text: &[u8]) -> 
     ensures list { IfSome result (λ list.
         list ≡ record { messages = messages.now; id = id.now; text = text.now }) }
 {
-    let list = read_messages(bytes).ok()?;
+    let list = read_messages(reading_of(messages), bytes).ok()?;
     if list.has(messages, id, text) {
         Some(list)
     } else {
@@ -435,7 +579,7 @@ fn read_number(bytes: &[u8]) -> Result<(u16, &[u8]), MsgFault>
 #[inline(always)]
 fn read_config(further: &[u8]) -> Result<(ReaderMsg, &[u8]), MsgFault>
     ensures bytes { IfOk result (λ x. 1 ∷ further.now ≡ head_bytes x.0 ++ x.1.now) }
-    ensures text { IfOk result (λ x. IsTextOf x.0 [] x.1.now) }
+    ensures text { IfOk result (λ x. (reading : Read) → IsTextOf reading x.0 [] x.1.now) }
     ensures err { IfErr result (λ fault. (fault ≡ Message) × (length further.now < 7)) }
 {
     match further {
@@ -463,23 +607,84 @@ fn read_config(further: &[u8]) -> Result<(ReaderMsg, &[u8]), MsgFault>
     }
 }
 
-/// The message without a text that begins with `first` and goes on with `further`, and the bytes
-/// after it.
+/// The message 03 of a reading that goes on so after its first byte, and the bytes after it.
+// Not inlined, like `read_above` and `read_id`, so that reading the other messages stays short.
+#[inline(never)]
+fn read_session(reading: Reading, further: &[u8]) -> Result<(ReaderMsg, &[u8]), MsgFault>
+    ensures bytes { IfOk result (λ x. 3 ∷ further.now ≡ head_bytes x.0 ++ x.1.now) }
+    ensures text { IfOk result (λ x. IsTextOf reading x.0 [] x.1.now) }
+    ensures err { IfErr result (λ fault. (fault ≡ Message)
+        × (length further.now < session_bytes reading)) }
+{
+    if !reading.is_long() {
+        let (funds, rest) = read_number(further)?;
+        return Ok((ReaderMsg::BeginSession { funds }, rest));
+    }
+    match further {
+        [a, b, c, d, e, f, kind, g, h, rest @ ..] => {
+            let session = ReaderMsg::BeginSessionLong {
+                funds: number(*a, *b),
+                media: long_number(number(*c, *d), number(*e, *f)),
+                kind: *kind,
+                details: number(*g, *h),
+            };
+            Ok((session, rest))
+        }
+        _ => Err(MsgFault::Message),
+    }
+}
+
+/// The message 0B of a reading that goes on so after its first byte, and the bytes after it.
 #[inline(always)]
-fn read_short(first: u8, further: &[u8]) -> Result<(ReaderMsg, &[u8]), MsgFault>
+fn read_out_of_sequence(reading: Reading, further: &[u8]) -> (ReaderMsg, &[u8])
+    ensures bytes { 11 ∷ further.now ≡ head_bytes result.0 ++ result.1.now }
+    ensures text { IsTextOf reading result.0 [] result.1.now }
+{
+    match further {
+        [status, rest @ ..] if reading.is_long() => (ReaderMsg::OutOfSequenceIn(*status), rest),
+        _ => (ReaderMsg::OutOfSequence, further),
+    }
+}
+
+/// The message of a reading that begins with `first`, 0C or above, and goes on with `further`, and
+/// the bytes after it.
+#[inline(never)]
+fn read_above(reading: Reading, first: u8, further: &[u8]) -> Result<(ReaderMsg, &[u8]), MsgFault>
+    requires { 12 ≤ first }
+    ensures bytes { IfOk result (λ x. first ∷ further.now ≡ head_bytes x.0 ++ x.1.now) }
+    ensures text { IfOk result (λ x. IsTextOf reading x.0 [] x.1.now) }
+    ensures err { IfErr result (NoReaderMsg reading (first ∷ further.now)) }
+{
+    if !reading.is_long() {
+        return Err(MsgFault::Profile);
+    }
+    let message = match first {
+        0x0D => ReaderMsg::RevalueApproved,
+        0x0E => ReaderMsg::RevalueDenied,
+        0x0F => {
+            let (amount, rest) = read_number(further)?;
+            return Ok((ReaderMsg::RevalueLimit(amount), rest));
+        }
+        0x11 => ReaderMsg::TimeAsked,
+        _ => return Err(MsgFault::Profile),
+    };
+    Ok((message, further))
+}
+
+/// The message of a reading without a text that begins with `first` and goes on with `further`,
+/// and the bytes after it.
+#[inline(always)]
+fn read_short(reading: Reading, first: u8, further: &[u8]) -> Result<(ReaderMsg, &[u8]), MsgFault>
     requires no_display { first ≢ 2 }
     requires no_id { first ≢ 9 }
     ensures bytes { IfOk result (λ x. first ∷ further.now ≡ head_bytes x.0 ++ x.1.now) }
-    ensures text { IfOk result (λ x. IsTextOf x.0 [] x.1.now) }
-    ensures err { IfErr result (NoReaderMsg (first ∷ further.now)) }
+    ensures text { IfOk result (λ x. IsTextOf reading x.0 [] x.1.now) }
+    ensures err { IfErr result (NoReaderMsg reading (first ∷ further.now)) }
 {
     let message = match first {
         0x00 => ReaderMsg::JustReset,
         0x01 => return read_config(further),
-        0x03 => {
-            let (funds, rest) = read_number(further)?;
-            return Ok((ReaderMsg::BeginSession { funds }, rest));
-        }
+        0x03 => return read_session(reading, further),
         0x04 => ReaderMsg::CancelRequest,
         0x05 => {
             let (amount, rest) = read_number(further)?;
@@ -492,20 +697,50 @@ fn read_short(first: u8, further: &[u8]) -> Result<(ReaderMsg, &[u8]), MsgFault>
             let (code, rest) = further.split_first().ok_or(MsgFault::Message)?;
             return Ok((ReaderMsg::Malfunction(*code), rest));
         }
-        0x0B => ReaderMsg::OutOfSequence,
-        _ => return Err(MsgFault::Profile),
+        0x0B => return Ok(read_out_of_sequence(reading, further)),
+        _ => return read_above(reading, first, further),
     };
     Ok((message, further))
 }
 
-/// The message that begins with `first` and goes on with `further`, its text, and the bytes after
+/// The message 09 of a reading that goes on so after its first byte, its text, and the bytes after
 /// it.
-#[inline(always)]
-fn read_message(first: u8, further: &[u8]) -> Result<(ReaderMsg, &[u8], &[u8]), MsgFault>
-    ensures bytes { IfOk result (λ x. first ∷ further.now ≡ head_bytes x.0 ++ x.1.now ++ x.2.now) }
-    ensures text { IfOk result (λ x. IsTextOf x.0 x.1.now x.2.now) }
+#[inline(never)]
+fn read_id(reading: Reading, further: &[u8]) -> Result<(ReaderMsg, &[u8], &[u8]), MsgFault>
+    ensures bytes { IfOk result (λ x. 9 ∷ further.now ≡ head_bytes x.0 ++ x.1.now ++ x.2.now) }
+    ensures text { IfOk result (λ x. IsTextOf reading x.0 x.1.now x.2.now) }
     ensures rest { IfOk result (λ x. length x.2.now ≤ length further.now) }
-    ensures err { IfErr result (NoReaderMsg (first ∷ further.now)) }
+    ensures err { IfErr result (λ fault. (fault ≡ Message) × (length further.now < 29)) }
+{
+    if further.len() < 29 {
+        return Err(MsgFault::Message);
+    }
+    if !reading.is_extended() || further.len() < 33 {
+        let (id, rest) = further.split_at(29);
+        return Ok((ReaderMsg::PeripheralId, id, rest));
+    }
+    let (text, rest) = further.split_at(33);
+    match text.split_at(29).1 {
+        [a, b, c, d] => {
+            let options = long_number(number(*a, *b), number(*c, *d));
+            Ok((ReaderMsg::PeripheralIdWithOptions { options }, text, rest))
+        }
+        _ => Err(MsgFault::Message),
+    }
+}
+
+/// The message of a reading that begins with `first` and goes on with `further`, its text, and the
+/// bytes after it.
+#[inline(always)]
+fn read_message(
+    reading: Reading,
+    first: u8,
+    further: &[u8],
+) -> Result<(ReaderMsg, &[u8], &[u8]), MsgFault>
+    ensures bytes { IfOk result (λ x. first ∷ further.now ≡ head_bytes x.0 ++ x.1.now ++ x.2.now) }
+    ensures text { IfOk result (λ x. IsTextOf reading x.0 x.1.now x.2.now) }
+    ensures rest { IfOk result (λ x. length x.2.now ≤ length further.now) }
+    ensures err { IfErr result (NoReaderMsg reading (first ∷ further.now)) }
 {
     match first {
         0x02 => match further {
@@ -514,43 +749,46 @@ fn read_message(first: u8, further: &[u8]) -> Result<(ReaderMsg, &[u8], &[u8]), 
             }
             _ => Err(MsgFault::Message),
         },
-        0x09 if further.len() < 29 => Err(MsgFault::Message),
-        0x09 => {
-            let (id, rest) = further.split_at(29);
-            Ok((ReaderMsg::PeripheralId, id, rest))
-        }
+        0x09 => read_id(reading, further),
         _ => {
-            let (message, rest) = read_short(first, further)?;
+            let (message, rest) = read_short(reading, first, further)?;
             Ok((message, &[], rest))
         }
     }
 }
 
-/// The message at the front of bytes that are messages, its text, and the bytes after it; `None`
-/// where none are left.
+/// The message at the front of bytes that are messages of a reading, its text, and the bytes after
+/// it; `None` where none are left.
 #[inline(always)]
-fn next_message(rest: &[u8]) -> Option<(ReaderMsg, &[u8], &[u8])>
-    requires { StandAsMessages rest.now }
-    ensures some { IfSome result (λ x. IsNextMessage rest.now x.0 x.1.now x.2.now) }
-    ensures none { IsNone result → messages_of rest.now ≡ no_messages }
+fn next_message(reading: Reading, rest: &[u8]) -> Option<(ReaderMsg, &[u8], &[u8])>
+    requires { StandAsMessages reading rest.now }
+    ensures some { IfSome result (λ x. IsNextMessage reading rest.now x.0 x.1.now x.2.now) }
+    ensures none { IsNone result → messages_of reading rest.now ≡ no_messages }
 {
     let (first, further) = rest.split_first()?;
-    read_message(*first, further).ok()
+    read_message(reading, *first, further).ok()
 }
 
-/// The messages that these bytes are, or the fault of the leftmost that can't be taken.
-pub(crate) fn read_messages(bytes: &[u8]) -> Result<ReaderList, MsgFault>
+/// The messages of a reading that these bytes are, or the fault of the leftmost that can't be
+/// taken.
+pub(crate) fn read_messages(reading: Reading, bytes: &[u8]) -> Result<ReaderList, MsgFault>
     requires { length bytes.now ≤ 35 }
     ensures fields { IfOk result IsReaderList }
+    ensures reading { IfOk result (λ list. AreReaderMsgs reading list []) }
     ensures bytes { IfOk result (λ list. bytes.now ≡ reader_list_bytes list) }
-    ensures err { IfErr result (ReaderStopsAt bytes.now) }
+    ensures err { IfErr result (ReaderStopsAt reading bytes.now) }
 {
     let mut rest = bytes;
+    let mut has_long = false;
+    let mut has_options = false;
     while let Some((first, further)) = rest.split_first() {
-        let (_, _, after) = read_message(*first, further)?;
+        let (message, _, after) = read_message(reading, *first, further)?;
+        has_long |= message.has_long();
+        has_options |= message.has_options();
         rest = after;
     }
     Ok(ReaderList {
         bytes: list_of(bytes),
+        reading: own_reading(has_long, has_options),
     })
 }

@@ -128,15 +128,21 @@ abbrev pub bill_told : Option BillSetup → Part BillActivity → Option Fact
 bill_told setup (part.Kept (bills.Stacked number)) = Some (bill_fact setup kinds.Stacked number)
 bill_told setup (part.Kept (bills.Escrow number)) = Some (bill_fact setup kinds.Escrow number)
 bill_told setup (part.Kept (bills.Returned number)) = Some (bill_fact setup kinds.Returned number)
+bill_told setup (part.Kept (bills.Recycled number)) = Some (bill_fact setup kinds.Recycled number)
 bill_told setup part.Reset = Some (plain_fact kinds.ResetTold)
 bill_told setup part.Other = None
 
--- what a message of a reader tells: with funds FFFF it doesn't know them
+-- what the funds of a session are worth: with FFFF the reader doesn't know them
+abbrev pub funds_worth : Option ReaderConfig → ℕ → Worth
+funds_worth config funds = if funds == 65535 then Nothing else amount_worth config funds
+
+-- what a message of a reader tells: 03 its funds, in either form
 abbrev pub reader_told : Option ReaderConfig → ReaderMsg → Option Fact
 reader_told config messages.JustReset = Some (plain_fact kinds.ResetTold)
 reader_told config (messages.BeginSession funds) =
-    Some (item_fact kinds.SessionBegun 0
-    (if funds == 65535 then Nothing else amount_worth config funds))
+    Some (item_fact kinds.SessionBegun 0 (funds_worth config funds))
+reader_told config (messages.BeginSessionLong funds media kind details) =
+    Some (item_fact kinds.SessionBegun 0 (funds_worth config funds))
 reader_told config (messages.VendApproved amount) =
     Some (item_fact kinds.Approved 0 (amount_worth config amount))
 reader_told config messages.VendDenied = Some (plain_fact kinds.Denied)
@@ -167,6 +173,7 @@ kind_number kinds.Reset = 18
 kind_number kinds.Break = 19
 kind_number kinds.Silence = 20
 kind_number kinds.SetupTold = 21
+kind_number kinds.Recycled = 22
 
 -- An entry shows what something is worth.
 abbrev pub ShowsWorth : PageNews → Worth → Type 0

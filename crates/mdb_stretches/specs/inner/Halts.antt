@@ -4,6 +4,7 @@ use Rattle.std.specs.Prelude.{◌≡◌, List, Some}
 use Rattle.mdb_words.specs.declared.event.Event.{Event}
 use Rattle.mdb_bus.specs.declared.scope.Scope.{Scope}
 use Rattle.mdb_bus.specs.ActLists.{IsActList, Piece, acts_of}
+use Rattle.mdb_bus.specs.Scopes.{profile_of}
 use Rattle.mdb_follow.specs.declared.offence.Offence.{Offence}
 use Rattle.mdb_follow.specs.Follower as follow
 use Rattle.mdb_follow.specs.Offences.{IsOffence}
@@ -27,7 +28,7 @@ pub record HasHalted (surveyor : Surveyor) (scope : Scope) (rows : List Event) (
   pub taken_so : surveyor.scope ≡ place.scope
   pub is : IsOffence place.scope running row offence
   pub told : (pieces : List Piece) → IsActList place.scope pieces running
-      → surveyor.told ≡ told_after place.told (acts_of pieces)
+      → surveyor.told ≡ told_after (profile_of place.scope.begins) place.told (acts_of pieces)
   pub before : surveyor.before ≡ place.rows
   pub faults : surveyor.faults ≡ counts_of_ended ended
   pub totals : surveyor.totals ≡ totals_of ended

@@ -6,6 +6,7 @@ ghost use Rattle.mdb_msgs.specs.declared.command.Device.{Device};
 ghost use Rattle.mdb_msgs.specs.declared.command.ReaderUnit.{ReaderUnit};
 ghost use Rattle.mdb_bus.specs.declared.act.Act.{Act};
 ghost use Rattle.mdb_bus.specs.declared.scope.Beginning.{Beginning};
+ghost use Rattle.mdb_bus.specs.declared.scope.Profile.{Profile};
 ghost use Rattle.mdb_bus.specs.declared.scope.Scope.{Scope};
 ghost use Rattle.mdb_bus.specs.ActLists.{Piece, acts_of, levels_of};
 ghost use Rattle.mdb_bus.specs.LinkFaults.{blame_on};
@@ -16,8 +17,8 @@ ghost use Rattle.mdb_stretches.specs.declared.told.Told.{Told};
 ghost use Rattle.mdb_stretches.specs.Learning.{AreKnown};
 ghost use Rattle.mdb_stretches.specs.Parts.{EndBefore, IsReaderBeyond};
 ghost use Rattle.mdb_stretches.specs.Stretches.{IsCutAt, IsSurvey, LeadFrom, StretchStart};
-ghost use Rattle.mdb_stretches.specs.Told.{setups_of, told_after};
-ghost use Rattle.mdb_stretches.specs.Unanswered.{IsNeither, IsUnanswered, level_of};
+ghost use Rattle.mdb_stretches.specs.Told.{level_of, setups_of, told_after};
+ghost use Rattle.mdb_stretches.specs.Unanswered.{IsNeither, IsUnanswered};
 
 use mdb_follow::laws;
 
@@ -67,17 +68,18 @@ pub fn left_out_are_those_of_the_start_and_readers_beyond_this_profile()
         → IsLeftOut scope device ⊎ IsReaderBeyond ended device }
 {}
 
-/// What the rows tell for the next stretch is what was said last: `asked` the level of the last
-/// whole SETUP config ask to each reader, and `setups` what the machines of the devices know. A
+/// What the rows tell for the next stretch is what was said last: `levels` the levels that the bus
+/// reads replies by, and `setups` what the machines of the devices know. By the base profile a
 /// level is told on, as `unanswered`, exactly where no config message of its reader came after it.
 pub fn what_is_told_is_what_was_said_last()
-    ensures asked { (told : Told) (pieces : List Piece)
-        → (told_after told (acts_of pieces)).asked ≡ levels_of told.asked pieces }
-    ensures setups { (begins : Beginning) (told : Told) (acts : List Act)
+    ensures levels { (profile : Profile) (told : Told) (pieces : List Piece)
+        → (told_after profile told (acts_of pieces)).levels
+        ≡ levels_of profile told.levels pieces }
+    ensures setups { (begins : Beginning) (profile : Profile) (told : Told) (acts : List Act)
         → told.setups ≡ setups_of begins
-        → AreKnown begins (told_after told acts).setups acts }
-    ensures unanswered { (told : Told) (acts : List Act) (unit : ReaderUnit) (level : ℕ)
-        → (level_of unit (told_after told acts).unanswered ≡ Some level)
+        → AreKnown begins (told_after profile told acts).setups acts }
+    ensures unanswered { (profile : Profile) (told : Told) (acts : List Act) (unit : ReaderUnit)
+        (level : ℕ) → (level_of unit (told_after profile told acts).unanswered ≡ Some level)
         ↔ (IsUnanswered unit level acts
         ⊎ (All (IsNeither unit) acts × (level_of unit told.unanswered ≡ Some level))) }
 {}

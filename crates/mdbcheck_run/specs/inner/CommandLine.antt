@@ -8,7 +8,7 @@ use Rattle.command_words.specs.Grammar.{Command}
 use Rattle.command_words.specs.Manual.{AskForManual, manual_text}
 use Rattle.command_words.specs.Named.{name_in, used_in, values_in}
 use Rattle.command_words.specs.declared.named.Named.{Named}
-use Rattle.mdb_bus.specs.Scopes.{leaving_out}
+use Rattle.mdb_bus.specs.Scopes.{from_power_on}
 use Rattle.mdbcheck_run.specs.Program.{AskForGoal, AskToCheck, AskToShow, NamesCheck, NamesExplain}
 use Rattle.mdbcheck_run.specs.Program.{NamesManual, NamesReplay, NamesShow, NamesSurvey}
 use Rattle.mdbcheck_run.specs.Program.{check_command, survey_command}
@@ -16,7 +16,7 @@ use Rattle.mdbcheck_run.specs.Program.{explain_command, form_of, manual_command,
 use Rattle.mdbcheck_run.specs.Program.{show_command}
 use Rattle.mdbcheck_run.specs.Program.{mdbcheck_manual}
 use Rattle.mdbcheck_run.specs.declared.refusal.Refusal.{Refusal}
-use Rattle.mdbcheck_run.specs.declared.refusal.Refusal.TheVariants.{Words, Setup}
+use Rattle.mdbcheck_run.specs.declared.refusal.Refusal.TheVariants.{Words, Setup, Extended}
 use Rattle.mdbcheck_run.specs.declared.command_line.Task.{Task}
 use Rattle.mdbcheck_run.specs.declared.command_line.Task.TheVariants.{Check, Show, Explain}
 use Rattle.mdbcheck_run.specs.declared.command_line.Task.TheVariants.{Manual, Replay, Survey}
@@ -42,11 +42,13 @@ FindTask found (Survey scope form) = (name_in found ≡ survey_command.name)
     × AskToCheck (values_in found) (used_in found) scope
     × (form ≡ form_of (used_in found (codes "json")))
 FindTask found (Show scope form) = (name_in found ≡ show_command.name)
-    × AskToShow (values_in found) scope × (form ≡ form_of (used_in found (codes "json")))
-FindTask found (Explain goal without) = (name_in found ≡ explain_command.name)
-    × AskForGoal (values_in found) goal × AskToShow (values_in found) (leaving_out without)
-FindTask found (Replay without form) = (name_in found ≡ replay_command.name)
-    × AskToShow (values_in found) (leaving_out without)
+    × AskToShow (values_in found) (used_in found) scope
+    × (form ≡ form_of (used_in found (codes "json")))
+FindTask found (Explain goal profile without) = (name_in found ≡ explain_command.name)
+    × AskForGoal (values_in found) goal
+    × AskToShow (values_in found) (used_in found) (from_power_on profile without)
+FindTask found (Replay profile without form) = (name_in found ≡ replay_command.name)
+    × AskToShow (values_in found) (used_in found) (from_power_on profile without)
     × (form ≡ form_of (used_in found (codes "json")))
 FindTask found (Manual part) = (name_in found ≡ manual_command.name)
     × AskForManual mdbcheck_manual (values_in found (codes "COMMAND"))
@@ -57,8 +59,10 @@ abbrev pub AsksFor : List (List ℕ) → Task → Type 0
 AsksFor words (Check scope form) = NamesCheck words scope form
 AsksFor words (Survey scope form) = NamesSurvey words scope form
 AsksFor words (Show scope form) = NamesShow words scope form
-AsksFor words (Explain goal without) = NamesExplain words goal (leaving_out without)
-AsksFor words (Replay without form) = NamesReplay words (leaving_out without) form
+AsksFor words (Explain goal profile without) =
+    NamesExplain words goal (from_power_on profile without)
+AsksFor words (Replay profile without form) =
+    NamesReplay words (from_power_on profile without) form
 AsksFor words (Manual part) =
     NamesManual words (manual_text mdbcheck_manual (option_map (λ text. text.now) part))
 
@@ -66,12 +70,14 @@ AsksFor words (Manual part) =
 abbrev pub IsOwnRefusal : Refusal → Type 0
 IsOwnRefusal (Words kind) = (kind ≡ OutOfMemory) ⊎ (kind ≡ InvalidValue)
 IsOwnRefusal (Setup fault) = ⊤
+IsOwnRefusal Extended = ⊤
 
 -- a refusal that may come with these faults of `clap`
 abbrev pub IsRefusalBy : Kinds → Refusal → Type 0
 IsRefusalBy kinds (Words kind) =
     (kind ≡ OutOfMemory) ⊎ IsAmong kind (or_else kinds (InvalidValue ∷ []))
 IsRefusalBy kinds (Setup fault) = kinds ≡ []
+IsRefusalBy kinds Extended = kinds ≡ []
 
 -- A task is only there where `clap` has no fault. Else the fault is `clap`'s, or, where that has
 -- none, that a value isn't one of its option; or there is no memory.

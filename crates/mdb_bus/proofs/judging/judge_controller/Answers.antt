@@ -1,15 +1,22 @@
 use Rattle.mdb_words.specs.declared.event.Event.TheVariants.{Word}
 use Rattle.mdb_words.specs.declared.word.Line.TheVariants.{Controller}
-use Rattle.mdb_bus.proofs.Verdicts.{asking_followed, belongs_at, judged_at, not_asking}
+use Rattle.std.proofs.Common.{subst, sym}
+use Rattle.mdb_bus.specs.declared.scope.Profile.{Profile}
+use Rattle.mdb_bus.proofs.Masked.{AreKnown}
+use Rattle.mdb_bus.proofs.Verdicts.{asking_followed, asking_known, belongs_at, judged_at, not_asking}
 use Rattle.mdb_bus.specs.declared.phase.Phase.TheVariants as phase
 use Rattle.mdb_bus.proofs.judging.judge_controller.Goals as goal
 
 pub returns-in-InAsk-clause-judged : goal.returns-in-InAsk-clause-judged
 returns-in-InAsk-clause-judged c =
+    let Known : Profile → Type 0 = λ profile. AreKnown profile c.args.place.now.bytes in
     λ levels sound. judged_at c.args.scope.now c.args.place.now _ c.args.last.now levels
     (Word c.args.at Controller c.args.word)
     c.go_on_asking.result c.in-InAsk.is
-    (c.go_on_asking.ensures.judged c.args.scope.now levels
+    (c.go_on_asking.ensures.judged c.args.scope.now levels c.profile.ensures
+    (subst Known (sym c.profile.ensures)
+    (asking_known c.first_two_bytes_tell_enable_options.ensures c.args.scope.now c.args.place.now
+    c.in-InAsk.is sound))
     (asking_followed c.first_byte_tells_the_device.ensures c.args.scope.now c.args.place.now
     c.in-InAsk.is sound))
 

@@ -1,5 +1,5 @@
 use Rattle.std.proofs.Common.{refl, subst, sym}
-use Rattle.mdb_bus.specs.Scopes.{leaving_out}
+use Rattle.mdb_bus.specs.Scopes.{from_power_on}
 use Rattle.mdb_explained_runs.specs.Goals.{Explains}
 use Rattle.mdb_explain.specs.Explain.{explanation_text}
 use Rattle.mdb_explain.proofs.ExplainedTexts as explanations
@@ -7,7 +7,7 @@ use Rattle.mdb_explain.proofs.explaining.explain_rows.Goals as goal
 
 pub returns-in_err-write_explanation : goal.returns-in_err-write_explanation
 returns-in_err-write_explanation g c =
-    let scope = leaving_out c.args.without in
+    let scope = from_power_on c.args.profile c.args.without in
     let marks = c.as_slice.result.now in
     let rows = c.args.rows.now in
     explanations.explanation_broken g.W.Write.contents c.args.writer.now

@@ -1,7 +1,7 @@
 use Rattle.std.proofs.Common.{ap, refl, subst, sym, ◌∙◌, ◌≡◌, List, ℕ, Option, Result, Ok, Err}
 use Rattle.std.specs.Prelude.{IsErrAnd}
 use Rattle.std.specs.Io.KnownBytes.{Appends}
-use Rattle.mdb_bus.specs.Scopes.{leaving_out}
+use Rattle.mdb_bus.specs.Scopes.{from_power_on}
 use Rattle.mdb_bus.specs.declared.scope.Scope.{Scope}
 use Rattle.mdb_follow.specs.declared.offence.Offence.{Offence}
 use Rattle.mdb_text.specs.declared.outcome.Outcome.{Outcome}
@@ -27,22 +27,22 @@ told_cut contents before after scope offence (Err told) taken handed =
 pub returns-in_err-write_text : goal.returns-in_err-write_text
 returns-in_err-write_text g c =
     let held = g.W.Write.contents in
-    told_cut held c.args.writer.now c.write_text.new.writer (leaving_out c.args.without)
-    c.args.offence c.from_residual.result
+    told_cut held c.args.writer.now c.write_text.new.writer
+    (from_power_on c.args.profile c.args.without) c.args.offence c.from_residual.result
     (subst (HasTaken (held c.args.writer.now) (held c.write_text.new.writer))
     (c.as_slice.ensures.value
-    ∙ (c.in-Ok.ensures ∙ ap (λ s. report_text s (No c.args.offence)) c.leaving_out.ensures))
+    ∙ (c.in-Ok.ensures ∙ ap (λ s. report_text s (No c.args.offence)) c.from_power_on.ensures))
     c.write_text.ensures.front)
     c.from_residual.ensures.1
 
 pub returns : goal.returns
 returns g c =
     let held = g.W.Write.contents in (
-      report_text (leaving_out c.args.without) (No c.args.offence),
+      report_text (from_power_on c.args.profile c.args.without) (No c.args.offence),
       (refl, refl),
       subst (Appends (held c.args.writer.now) (held c.write_text.new.writer))
           (c.as_slice.ensures.value
           ∙ (c.in-Ok.ensures
-          ∙ ap (λ s. report_text s (No c.args.offence)) c.leaving_out.ensures))
+          ∙ ap (λ s. report_text s (No c.args.offence)) c.from_power_on.ensures))
           c.in_ok-write_text.ensures.whole,
     )

@@ -1,6 +1,6 @@
 use Rattle.std.proofs.Common.{◌∙◌, ap, subst}
 use Rattle.mdb_writing.specs.Written.{HasTaken}
-use Rattle.mdb_bus.specs.Scopes.{leaving_out}
+use Rattle.mdb_bus.specs.Scopes.{from_power_on}
 use Rattle.mdb_follow.specs.declared.follower.TheConstants.{ROWS_MAX}
 use Rattle.mdb_verdict.specs.declared.fault.RunFault.TheVariants.{Write}
 use Rattle.mdb_verdict.specs.Forms.{answer_text}
@@ -13,7 +13,7 @@ pub returns-in_err-write_text-clause-answers : goal.returns-in_err-write_text-cl
 returns-in_err-write_text-clause-answers g c all to_come =
     let held = g.W.Write.contents in
     record {
-      answer = handed (IsReplayAnswer (leaving_out c.args.without) ROWS_MAX all)
+      answer = handed (IsReplayAnswer (from_power_on c.args.profile c.args.without) ROWS_MAX all)
           (marked.Run Write) _ c.from_residual-in_err-write_text.ensures.1 tt;
       cut = λ refused.
           record {
@@ -22,7 +22,6 @@ returns-in_err-write_text-clause-answers g c all to_come =
             taken = subst (HasTaken (held c.args.writer.now) (held c.write_text.new.writer))
                 (c.as_slice.ensures.value ∙ (c.in-Some.ensures
                 ∙ ap (λ s. answer_text c.args.form s c.in_ok-outcome.outcome)
-                c.leaving_out.ensures))
-                c.write_text.ensures.front;
+                c.from_power_on.ensures)) c.write_text.ensures.front;
           };
     }

@@ -5,5 +5,5 @@ use Rattle.mdb_explained_runs.proofs.explain.explain_run.Goals as goal
 pub explain_reached-requires-clause-reached : goal.explain_reached-requires-clause-reached
 explain_reached-requires-clause-reached c =
     subst (λ s. IsReached s c.args.events.now)
-    (c.scoped-follower.ensures.scope ∙ c.leaving_out.ensures)
+    (c.scoped-follower.ensures.scope ∙ c.from_power_on.ensures)
     (c.in_default.ensures.taken.reached [] c.scoped-follower.ensures.stands)

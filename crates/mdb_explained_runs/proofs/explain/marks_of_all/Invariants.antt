@@ -1,5 +1,6 @@
 use Rattle.std.proofs.Common.{List}
 use Rattle.mdb_msgs.specs.declared.command.Device.{Device}
+use Rattle.mdb_bus.specs.declared.scope.Profile.{Profile}
 use Rattle.mdb_bus.specs.ActLists.{Piece}
 use Rattle.mdb_follow.specs.declared.goal.Goal.{Goal}
 use Rattle.mdb_explained_runs.specs.inner.AllPaths.{AreAllPaths, AreBestBelow, HasWay}
@@ -8,6 +9,6 @@ use Rattle.mdb_explained_runs.proofs.explain.marks_of_all.Given as goal
 -- the marks so far are those of the devices before this one
 abbrev pub invariant-loop-device : goal.invariant-loop-device
 invariant-loop-device l =
-    (goal : Goal) (pieces : List Piece) → AreAllPaths goal pieces l.all
-    → ((device : Device) → HasWay pieces device)
-    → AreBestBelow goal pieces l.device-index l.marks.items
+    (profile : Profile) (goal : Goal) (pieces : List Piece) → AreAllPaths profile goal pieces l.all
+    → ((device : Device) → HasWay profile pieces device)
+    → AreBestBelow profile goal pieces l.device-index l.marks.items

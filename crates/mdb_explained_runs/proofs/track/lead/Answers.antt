@@ -1,15 +1,14 @@
 use Rattle.std.proofs.Common.{refl}
 use Rattle.mdb_bus.specs.declared.scope.Beginning.TheVariants.{PowerOn}
-use Rattle.mdb_bus.specs.declared.scope.Profile.TheVariants.{Base}
 use Rattle.mdb_explained_runs.proofs.Tracked.{leads}
 use Rattle.mdb_explained_runs.proofs.track.lead.Goals as goal
 
 pub returns-in-Some-clause-led : goal.returns-in-Some-clause-led
-returns-in-Some-clause-led g c =
-    leads (g.P.Pair.stands_for (PowerOn Base)) (g.P.Pair.machine (PowerOn Base))
-    (g.P.Pair.unvalued (PowerOn Base)) c.args.track.now _ c.args.act.now c.args.choice _
-    c.unvalued_by.result (λ acts on. c.in-Some.ensures.step (PowerOn Base) acts on)
-    (λ acts on. c.learn.ensures (PowerOn Base) acts on)
+returns-in-Some-clause-led g c profile =
+    leads (g.P.Pair.stands_for (PowerOn profile)) (g.P.Pair.machine (PowerOn profile))
+    (g.P.Pair.unvalued (PowerOn profile)) c.args.track.now _ c.args.act.now c.args.choice _
+    c.unvalued_by.result (λ acts on. c.in-Some.ensures.step (PowerOn profile) acts on)
+    (λ acts on. c.learn.ensures (PowerOn profile) acts on)
     c.moved-track.ensures c.in-Some.ensures.small
-    (λ acts on. c.unvalued_by.ensures.adds (PowerOn Base) acts on)
+    (λ acts on. c.unvalued_by.ensures.adds (PowerOn profile) acts on)
     c.unvalued_by.ensures.small refl

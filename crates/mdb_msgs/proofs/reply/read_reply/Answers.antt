@@ -8,15 +8,20 @@ returns-clause-found c =
 
 pub returns-clause-only : goal.returns-clause-only
 returns-clause-only c =
-    only_reply c.args.command.now c.args.block.now c.content.result.now c.reply_of.result
-    c.content.ensures.block (returns-clause-found c) c.reply_of.ensures.fault
+    only_reply c.args.reading c.args.command.now c.args.block.now c.content.result.now
+    c.reply_of.result
+    c.content.ensures.block c.reply_of.ensures.reading (returns-clause-found c)
+    c.reply_of.ensures.fault
 
 pub returns-clause-fault : goal.returns-clause-fault
 returns-clause-fault c =
-    read_fault c.args.command.now c.args.block.now c.content.result.now c.reply_of.result
+    read_fault c.args.reading c.args.command.now c.args.block.now c.content.result.now
+    c.reply_of.result
     c.content.ensures.block c.reply_of.ensures.fault
 
 pub returns-clause-refused : goal.returns-clause-refused
 returns-clause-refused c =
-    only_read_fault c.args.command.now c.args.block.now c.content.result.now c.reply_of.result
-    c.content.ensures.block (returns-clause-found c) c.reply_of.ensures.fault
+    only_read_fault c.args.reading c.args.command.now c.args.block.now c.content.result.now
+    c.reply_of.result
+    c.content.ensures.block c.reply_of.ensures.reading (returns-clause-found c)
+    c.reply_of.ensures.fault

@@ -5,12 +5,15 @@ use Rattle.mdb_msgs.proofs.reply.reply_of.Goals as goal
 
 pub returns-clause-only : goal.returns-clause-only
 returns-clause-only c =
-    only_content c.args.command.now c.args.content.now c.read_content.result
-    c.read_content.ensures.found c.read_content.ensures.spelled c.read_content.ensures.fault
+    only_content c.args.reading c.args.command.now c.args.content.now c.read_content.result
+    c.read_content.ensures.found c.read_content.ensures.reading c.read_content.ensures.spelled
+    c.read_content.ensures.fault
 
 pub returns-clause-refused : goal.returns-clause-refused
 returns-clause-refused c fault =
     let found = found_reply c.args.command.now (block_of c.args.content.now) c.args.content.now
     c.read_content.result refl c.read_content.ensures.found c.read_content.ensures.spelled in
-    only_read_fault c.args.command.now (block_of c.args.content.now) c.args.content.now
-    c.read_content.result refl found c.read_content.ensures.fault c.args.content.now fault refl
+    only_read_fault c.args.reading c.args.command.now (block_of c.args.content.now)
+    c.args.content.now
+    c.read_content.result refl c.read_content.ensures.reading found c.read_content.ensures.fault
+    c.args.content.now fault refl

@@ -8,4 +8,4 @@ returns-in_default-clause-refused c = λ scope is.
     let known = is.joined c.if-options-eq0.false in
     c.in_default.ensures.refused known.0 (subst
     (λ (left_out : DeviceSet). AreSetups left_out c.args.options.now.setups known.0)
-    (sym c.left_out-without.ensures) known.2)
+    (sym c.left_out-without.ensures) known.3)

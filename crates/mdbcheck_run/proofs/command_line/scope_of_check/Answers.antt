@@ -2,6 +2,7 @@ use Rattle.std.proofs.Common.{ap, codes, map, refl, rules, sym, true, false, ◌
 use Rattle.clap.proofs.TakesLemmas.{passed_up}
 use Rattle.command_words.specs.Named.{used_in, values_in}
 use Rattle.mdb_bus.specs.declared.scope.Scope.{Scope}
+use Rattle.mdb_bus.specs.Scopes.{from_power_on}
 use Rattle.mdbcheck_run.specs.Program.{AreDevices, AskToCheck}
 use Rattle.mdbcheck_run.specs.inner.CommandLine.{IsOwnRefusal}
 use Rattle.mdbcheck_run.specs.inner.SetupReading.{no_memory}
@@ -41,7 +42,9 @@ returns-in_ok-setups-clause-asked c =
     let devices : AreDevices (values (codes "without")) c.in_ok-without.without = search rules in
     let joined : used (codes "joined") ≡ true = sym c.is_used.ensures ∙ c.if-is_used.true in
     joined_asked values used c.unwrap_or-texts.result.now c.in_ok-without.without are devices
-    c.in_ok-setups.setups c.joined.result joined c.in_ok-setups.ensures.told c.joined.ensures
+    c.in_ok-setups.setups c.joined.result joined
+    (sym c.is_used-then-is_used.ensures ∙ c.if-is_used-2.false)
+    c.in_ok-setups.ensures.told c.joined.ensures
 
 pub returns-then-is_empty-clause-asked : goal.returns-then-is_empty-clause-asked
 returns-then-is_empty-clause-asked c =
@@ -53,12 +56,27 @@ returns-then-is_empty-clause-asked c =
     let devices : AreDevices (values (codes "without")) c.in_ok-without.without = search rules in
     let joined : used (codes "joined") ≡ false = sym c.is_used.ensures ∙ c.if-is_used.false in
     power_on_asked values used c.unwrap_or-texts.result.now c.in_ok-without.without are devices
-    c.leaving_out.result joined
+    c.from_power_on.result joined
     (none_left c.unwrap_or-texts.result.now c.is_empty.result c.is_empty.ensures c.if-is_empty.true)
-    c.leaving_out.ensures
+    (c.from_power_on.ensures
+    ∙ ap (λ p. from_power_on p c.in_ok-without.without) c.profile_asked.ensures)
 
-pub returns-else-is_empty-clause-refused : goal.returns-else-is_empty-clause-refused
-returns-else-is_empty-clause-refused c scope asks =
+pub returns-then-is_used-3-clause-refused : goal.returns-then-is_used-3-clause-refused
+returns-then-is_used-3-clause-refused c scope asks =
+    let values = values_in c.args.found.now in
+    let used = used_in c.args.found.now in
+    let are : map (λ v. v.now) c.unwrap_or-texts.result.now ≡ values (codes "setup") =
+    ap (λ b. map (λ v. v.now) b.now) c.unwrap_or-texts.ensures ∙ mapped_or c.values.result _ refl
+    ∙ c.values.ensures in
+    let devices : AreDevices (values (codes "without")) c.in_ok-without.without = search rules in
+    let joined : used (codes "joined") ≡ false = sym c.is_used.ensures ∙ c.if-is_used.false in
+    absurd (some_left c.unwrap_or-texts.result.now c.is_empty.result c.is_empty.ensures
+    c.if-is_empty.false
+    (not_joined values used c.unwrap_or-texts.result.now c.in_ok-without.without are devices scope
+    joined asks))
+
+pub returns-else-is_used-3-clause-refused : goal.returns-else-is_used-3-clause-refused
+returns-else-is_used-3-clause-refused c scope asks =
     let values = values_in c.args.found.now in
     let used = used_in c.args.found.now in
     let are : map (λ v. v.now) c.unwrap_or-texts.result.now ≡ values (codes "setup") =

@@ -43,43 +43,43 @@ returns-in_err-scope_of_show-in-show-clause-refused c =
     check_not_show survey_not_show show_not_manual task asks in
     c.in_err-scope_of_show-in-show.ensures.refused found.0 found.1)
 
-pub returns-in_err-goal_of_explain-in-explain-clause-refused :
-    goal.returns-in_err-goal_of_explain-in-explain-clause-refused
-returns-in_err-goal_of_explain-in-explain-clause-refused c =
-    passed_up c.from_residual-in_err-goal_of_explain-in-explain.result
-    c.in_err-goal_of_explain-in-explain.field-0.0
+pub returns-in_err-goal-in-explain-clause-refused :
+    goal.returns-in_err-goal-in-explain-clause-refused
+returns-in_err-goal-in-explain-clause-refused c =
+    passed_up c.from_residual-in_err-goal-in-explain.result
+    c.in_err-goal-in-explain.field-0.0
     (λ refusal. (task : Task) → FindTask c.args.found.now task → refusal ≡ no_memory)
-    c.from_residual-in_err-goal_of_explain-in-explain.ensures.1
+    c.from_residual-in_err-goal-in-explain.ensures.1
     (λ task asks.
     let found = explain_found c.args.found.now (sym c.command.ensures ∙ c.in-explain.is) task asks
     in
-    c.in_err-goal_of_explain-in-explain.ensures.refused found.0 found.1)
+    c.in_err-goal-in-explain.ensures.refused found.0 found.1)
 
-pub returns-in_err-left_out_of-in-explain-clause-refused :
-    goal.returns-in_err-left_out_of-in-explain-clause-refused
-returns-in_err-left_out_of-in-explain-clause-refused c =
-    passed_up c.from_residual-in_err-left_out_of-in-explain.result
-    c.in_err-left_out_of-in-explain.field-0.0
+pub returns-in_err-profile-in-explain-clause-refused :
+    goal.returns-in_err-profile-in-explain-clause-refused
+returns-in_err-profile-in-explain-clause-refused c =
+    passed_up c.from_residual-in_err-profile-in-explain.result
+    c.in_err-profile-in-explain.field-0.0
     (λ refusal. (task : Task) → FindTask c.args.found.now task → refusal ≡ no_memory)
-    c.from_residual-in_err-left_out_of-in-explain.ensures.1
+    c.from_residual-in_err-profile-in-explain.ensures.1
     (λ task asks.
     let found = others_found c.args.found.now (codes "explain")
     (sym c.command.ensures ∙ c.in-explain.is) check_not_explain survey_not_explain
     explain_not_manual task asks in
-    c.in_err-left_out_of-in-explain.ensures.refused found.0 found.1)
+    c.in_err-profile-in-explain.ensures.refused found.0 found.1)
 
-pub returns-in_err-left_out_of-in-replay-clause-refused :
-    goal.returns-in_err-left_out_of-in-replay-clause-refused
-returns-in_err-left_out_of-in-replay-clause-refused c =
-    passed_up c.from_residual-in_err-left_out_of-in-replay.result
-    c.in_err-left_out_of-in-replay.field-0.0
+pub returns-in_err-profile-in-replay-clause-refused :
+    goal.returns-in_err-profile-in-replay-clause-refused
+returns-in_err-profile-in-replay-clause-refused c =
+    passed_up c.from_residual-in_err-profile-in-replay.result
+    c.in_err-profile-in-replay.field-0.0
     (λ refusal. (task : Task) → FindTask c.args.found.now task → refusal ≡ no_memory)
-    c.from_residual-in_err-left_out_of-in-replay.ensures.1
+    c.from_residual-in_err-profile-in-replay.ensures.1
     (λ task asks.
     let found = others_found c.args.found.now (codes "replay")
     (sym c.command.ensures ∙ c.in-replay.is) check_not_replay survey_not_replay replay_not_manual
     task asks in
-    c.in_err-left_out_of-in-replay.ensures.refused found.0 found.1)
+    c.in_err-profile-in-replay.ensures.refused found.0 found.1)
 
 pub returns-in_err-part_asked-in-manual-clause-refused :
     goal.returns-in_err-part_asked-in-manual-clause-refused

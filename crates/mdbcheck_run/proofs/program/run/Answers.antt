@@ -1,7 +1,7 @@
 use Rattle.std.proofs.Common.{Global, List, None, arith, refl, subst, inl, inr, ◌≡◌, ℕ}
 use Rattle.std.proofs.lemmas.Option.{IfSome_then}
 use Rattle.std.specs.Prelude.{String, map, string_bytes}
-use Rattle.mdb_bus.specs.Scopes.{leaving_out}
+use Rattle.mdb_bus.specs.Scopes.{from_power_on}
 use Rattle.mdbcheck_run.specs.inner.CommandLine.{AsksFor}
 use Rattle.mdbcheck_run.specs.Aside.{AreLevelsGiven, of_check, of_explain, of_manual, of_replay}
 use Rattle.mdbcheck_run.specs.Aside.{of_show, of_survey}
@@ -23,10 +23,10 @@ name_a_task : (words : List (List ℕ)) (task : Task) → AsksFor words task →
 name_a_task words (Check scope form) asks = inl (scope, inl (form, asks))
 name_a_task words (Survey scope form) asks = inl (scope, inr (inl (form, asks)))
 name_a_task words (Show scope form) asks = inl (scope, inr (inr (inl (form, asks))))
-name_a_task words (Explain goal without) asks =
-    inl (leaving_out without, inr (inr (inr (inl (goal, asks)))))
-name_a_task words (Replay without form) asks =
-    inl (leaving_out without, inr (inr (inr (inr (form, asks)))))
+name_a_task words (Explain goal profile without) asks =
+    inl (from_power_on profile without, inr (inr (inr (inl (goal, asks)))))
+name_a_task words (Replay profile without form) asks =
+    inl (from_power_on profile without, inr (inr (inr (inr (form, asks)))))
 name_a_task words (Manual part) asks = inr (_, asks)
 
 pub returns-in-Ok-Check-clause-says : goal.returns-in-Ok-Check-clause-says
@@ -91,32 +91,34 @@ returns-in-Ok-Show-clause-named g c =
 pub returns-in-Ok-Replay-clause-says : goal.returns-in-Ok-Replay-clause-says
 returns-in-Ok-Replay-clause-says g c =
     let asks =
-    asked _ _ _ (Replay c.in-Ok-Replay.without c.in-Ok-Replay.form) c.as_slice.ensures.value
-    c.in-Ok-Replay.field-0-is c.in-Ok-Replay.ensures.asked in
+    asked _ _ _ (Replay c.in-Ok-Replay.profile c.in-Ok-Replay.without c.in-Ok-Replay.form)
+    c.as_slice.ensures.value c.in-Ok-Replay.field-0-is c.in-Ok-Replay.ensures.asked in
     IfSome_then _ c.run_replay.ensures.says.says
-    (λ text says. replayed (leaving_out c.in-Ok-Replay.without) c.in-Ok-Replay.form asks says)
+    (λ text says. replayed (from_power_on c.in-Ok-Replay.profile c.in-Ok-Replay.without)
+    c.in-Ok-Replay.form asks says)
 
 pub returns-in-Ok-Replay-clause-named : goal.returns-in-Ok-Replay-clause-named
 returns-in-Ok-Replay-clause-named g c =
-    inl (name_a_task _ (Replay c.in-Ok-Replay.without c.in-Ok-Replay.form)
-    (asked _ _ _ (Replay c.in-Ok-Replay.without c.in-Ok-Replay.form) c.as_slice.ensures.value
-    c.in-Ok-Replay.field-0-is c.in-Ok-Replay.ensures.asked))
+    inl (name_a_task _ (Replay c.in-Ok-Replay.profile c.in-Ok-Replay.without c.in-Ok-Replay.form)
+    (asked _ _ _ (Replay c.in-Ok-Replay.profile c.in-Ok-Replay.without c.in-Ok-Replay.form)
+    c.as_slice.ensures.value c.in-Ok-Replay.field-0-is c.in-Ok-Replay.ensures.asked))
 
 pub returns-clause-says : goal.returns-clause-says
 returns-clause-says g c = refused_says _ _ _ _ _ c.refuse.ensures refl
 
 pub returns-in-Ok-Explain-clause-says : goal.returns-in-Ok-Explain-clause-says
 returns-in-Ok-Explain-clause-says g c =
-    let task = Explain c.in-Ok-Explain.goal c.in-Ok-Explain.without in
+    let task = Explain c.in-Ok-Explain.goal c.in-Ok-Explain.profile c.in-Ok-Explain.without in
     let asks =
     asked _ _ _ task c.as_slice.ensures.value c.in-Ok-Explain.field-0-is
     c.in-Ok-Explain.ensures.asked in
     IfSome_then _ c.run_explain.ensures.says.says (λ text says.
-    explained (leaving_out c.in-Ok-Explain.without) c.in-Ok-Explain.goal asks says)
+    explained (from_power_on c.in-Ok-Explain.profile c.in-Ok-Explain.without) c.in-Ok-Explain.goal
+    asks says)
 
 pub returns-in-Ok-Explain-clause-named : goal.returns-in-Ok-Explain-clause-named
 returns-in-Ok-Explain-clause-named g c =
-    let task = Explain c.in-Ok-Explain.goal c.in-Ok-Explain.without in
+    let task = Explain c.in-Ok-Explain.goal c.in-Ok-Explain.profile c.in-Ok-Explain.without in
     inl (name_a_task _ task (asked _ _ _ task c.as_slice.ensures.value c.in-Ok-Explain.field-0-is
     c.in-Ok-Explain.ensures.asked))
 
@@ -165,23 +167,23 @@ returns-in-Ok-Show-clause-silent g c below =
 
 pub returns-in-Ok-Explain-clause-silent : goal.returns-in-Ok-Explain-clause-silent
 returns-in-Ok-Explain-clause-silent g c below =
-    let task = Explain c.in-Ok-Explain.goal c.in-Ok-Explain.without in
+    let task = Explain c.in-Ok-Explain.goal c.in-Ok-Explain.profile c.in-Ok-Explain.without in
     let asks = asked _ _ _ task c.as_slice.ensures.value c.in-Ok-Explain.field-0-is
     c.in-Ok-Explain.ensures.asked in (
       None,
       c.run_explain.ensures.silent below,
-      of_explain (leaving_out c.in-Ok-Explain.without)
+      of_explain (from_power_on c.in-Ok-Explain.profile c.in-Ok-Explain.without)
           c.in-Ok-Explain.goal asks refl,
     )
 
 pub returns-in-Ok-Replay-clause-silent : goal.returns-in-Ok-Replay-clause-silent
 returns-in-Ok-Replay-clause-silent g c below =
-    let task = Replay c.in-Ok-Replay.without c.in-Ok-Replay.form in
+    let task = Replay c.in-Ok-Replay.profile c.in-Ok-Replay.without c.in-Ok-Replay.form in
     let asks = asked _ _ _ task c.as_slice.ensures.value c.in-Ok-Replay.field-0-is
     c.in-Ok-Replay.ensures.asked in (
       None,
       c.run_replay.ensures.silent below,
-      of_replay (leaving_out c.in-Ok-Replay.without)
+      of_replay (from_power_on c.in-Ok-Replay.profile c.in-Ok-Replay.without)
           c.in-Ok-Replay.form asks refl,
     )
 

@@ -3,7 +3,7 @@ use Rattle.std.proofs.lemmas.Option.{IfSome_then}
 use Rattle.mdb_follow.specs.declared.follower.TheConstants.{ROWS_MAX}
 use Rattle.mdb_verdict.specs.Forms.{answer_text}
 use Rattle.mdb_verdict.specs.Verdict.{IsAnswer}
-use Rattle.mdbcheck_run.specs.Aside.{HasHeard}
+use Rattle.mdbcheck_run.specs.Aside.{HasHeard, aside_of}
 use Rattle.mdbcheck_run.proofs.Asides.{aside_of_check}
 use Rattle.mdbcheck_run.proofs.Status.{is_write, not_yes, says_answered, says_of}
 use Rattle.mdbcheck_run.proofs.program.run_check.Goals as goal
@@ -18,12 +18,13 @@ returns-clause-says g c =
     (λ over. not_yes _ (c.judge_records-judged.ensures.whole over))
 
 pub returns-clause-silent : goal.returns-clause-silent
-returns-clause-silent g c below = (
-  c.judge_records-judged.result.unjudged,
-  subst (λ e. HasHeard g.E.Write.contents c.args.err.now e c.judge_records-judged.result.unjudged)
-      (sym (c.finish_check.ensures.silent below)) c.tell_unjudged.ensures,
-  aside_of_check c.args.scope.now c.args.readers _ _ _ _ c.finish_check.ensures.status
-      c.judge_records-judged.ensures.no_other
-      (IfSome_then _ c.input_of-records.ensures.records
-      (λ text to_come. c.judge_records-judged.ensures.judged _ to_come)),
-)
+returns-clause-silent g c below =
+    let aside = aside_of c.args.scope.now.begins c.judge_records-judged.result.answer
+    c.judge_records-judged.result.unjudged in (
+      aside,
+      subst (λ e. HasHeard g.E.Write.contents c.args.err.now e aside)
+          (sym (c.finish_check.ensures.silent below)) c.tell_aside.ensures,
+      aside_of_check c.args.scope.now c.args.readers _ _ _ _ c.finish_check.ensures.status
+          (IfSome_then _ c.input_of-records.ensures.records
+          (λ text to_come. c.judge_records-judged.ensures.judged _ to_come)),
+    )

@@ -6,9 +6,10 @@ use Rattle.mdb_bus.proofs.judging.asking.begin_block.Goals as goal
 pub returns-in-More-clause-opened : goal.returns-in-More-clause-opened
 returns-in-More-clause-opened c = (
   search rules,
-  begins_followed c.first_byte_tells_the_device.ensures c.need_leaves_a_command_open.ensures
-      c.args.scope.now c.args.word c.byte.result (c.args.word % 256) c.need_without.result
-      c.byte.ensures.value refl c.need_without.ensures c.in-More.is,
+  begins_followed c.first_byte_tells_the_device.ensures
+      c.need_leaves_another_command_open.ensures
+      c.args.scope.now c.args.word c.byte.result (c.args.word % 256) c.first_need.result
+      c.byte.ensures.value refl c.first_need.ensures c.in-More.is,
   search rules,
 )
 

@@ -1,8 +1,7 @@
 use Rattle.std.proofs.Common.{◌≡◌, ◌+◌, ◌*◌, ◌≤◌, ◌++◌, ◌||◌, length}
-use Rattle.std.specs.List.{list_any}
-use Rattle.mdb_msgs.specs.Reader.{is_kept}
 use Rattle.mdb_cashless.specs.Reader.{all_approved_to}
 use Rattle.mdb_cashless.specs.ReaderView.{all_heard}
+use Rattle.mdb_cashless.specs.inner.ReaderSaid.{keeps_some}
 use Rattle.mdb_cashless.proofs.reader.answers.hear.Given as goal
 
 abbrev pub invariant-loop-message : goal.invariant-loop-message
@@ -15,5 +14,5 @@ invariant-loop-message l =
       approved : l.approved + all_approved_to l.config l.view l.message-iterator
           ≡ all_approved_to l.config l.fn.before l.fn.messages;
       small : l.approved ≤ 16711425 * length l.yielded;
-      keeps : list_any is_kept l.fn.messages ≡ (list_any is_kept l.message-iterator || l.keeps);
+      keeps : keeps_some l.fn.messages ≡ (keeps_some l.message-iterator || l.keeps);
     }

@@ -1,21 +1,20 @@
 use Rattle.std.proofs.Common.{subst}
 use Rattle.std.proofs.lemmas.List.{take_all}
 use Rattle.mdb_bus.specs.declared.scope.Beginning.TheVariants.{PowerOn}
-use Rattle.mdb_bus.specs.declared.scope.Profile.TheVariants.{Base}
 use Rattle.mdb_explained_runs.specs.inner.Paths.{AllRest}
 use Rattle.mdb_explained_runs.proofs.Paths.{rests-more}
 use Rattle.mdb_explained_runs.proofs.explain.paths.all_rest.Goals as goal
 
 pub loop-code-preserved : goal.loop-code-preserved
-loop-code-preserved g c =
+loop-code-preserved g c profile =
     let p = g.P.Pair in
-    rests-more p.code_of (p.machine (PowerOn Base)) c.args.act.now c.args.entries.now
+    rests-more p.code_of (p.machine (PowerOn profile)) c.args.act.now c.args.entries.now
     c.loop-code.code-index _ c.state.result c.loop-code-test.true g.met.P.Pair.apart
-    c.state.ensures (c.if-not-rests.ensures (PowerOn Base)) c.loop-code.invariant
+    c.state.ensures (c.if-not-rests.ensures (PowerOn profile)) (c.loop-code.invariant profile)
 
 pub returns : goal.returns
-returns g c =
+returns g c profile =
     let p = g.P.Pair in
-    subst (AllRest p.code_of (p.machine (PowerOn Base)) c.args.act.now)
+    subst (AllRest p.code_of (p.machine (PowerOn profile)) c.args.act.now)
     (take_all c.loop-code.code-index c.args.entries.now c.loop-code-test.false)
-    c.loop-code.invariant
+    (c.loop-code.invariant profile)

@@ -1,10 +1,11 @@
 use Rattle.std.proofs.Common.{take}
 use Rattle.mdb_bus.specs.declared.scope.Beginning.TheVariants.{PowerOn}
-use Rattle.mdb_bus.specs.declared.scope.Profile.TheVariants.{Base}
+use Rattle.mdb_bus.specs.declared.scope.Profile.{Profile}
 use Rattle.mdb_explained_runs.specs.inner.Paths.{AllRest}
 use Rattle.mdb_explained_runs.proofs.explain.paths.all_rest.Given as goal
 
 abbrev pub invariant-loop-code : goal.invariant-loop-code
 invariant-loop-code g l =
     let p = g.P.Pair in
-    AllRest p.code_of (p.machine (PowerOn Base)) l.act (take l.code-index l.entries)
+    (profile : Profile) → AllRest p.code_of (p.machine (PowerOn profile)) l.act
+    (take l.code-index l.entries)

@@ -1,6 +1,5 @@
 use Rattle.std.proofs.Common.{arith, rules, ap, sym, subst, ◌∙◌, ◌≡◌, ◌+◌, ◌^◌, ◌∷◌, ℕ, List}
 use Rattle.mdb_bus.specs.declared.scope.Beginning.TheVariants.{PowerOn}
-use Rattle.mdb_bus.specs.declared.scope.Profile.TheVariants.{Base}
 use Rattle.mdb_bus.specs.ActLists.{Whole, acts_of}
 use Rattle.mdb_machine.specs.Choices.{CanStand}
 use Rattle.mdb_machine.specs.shared.OwnWays.{decides}
@@ -22,8 +21,8 @@ fill-requires g c = (
   (
     c.requires.size,
     (
-      g.met.P.Pair.settled_from_power_on Base c.args.paths.now.facts c.requires.stands.0
-          c.args.act.now c.requires.stands.1,
+      g.met.P.Pair.settled_from_power_on c.requires.stands.0 c.args.paths.now.facts
+          c.requires.stands.1 c.args.act.now c.requires.stands.2,
       subst (AreEntriesWithin g.P.Pair.CODES (2 ^ 62) c.args.chains.now.links.items)
           (sym c.deref.ensures.value) c.requires.within,
     ),
@@ -31,16 +30,16 @@ fill-requires g c = (
 )
 
 pub returns-then-is_empty-clause-none : goal.returns-then-is_empty-clause-none
-returns-then-is_empty-clause-none g c pieces are =
+returns-then-is_empty-clause-none g c profile pieces are =
     let p = g.P.Pair in
-    let machine = p.machine (PowerOn Base) in
+    let machine = p.machine (PowerOn profile) in
     let links = c.args.chains.now.links.items in
     no-way p.CODES p.code_of p.device machine c.args.weight.now links
     c.fill.new.chains.links.items pieces c.args.act.now c.args.row c.deref.result.now
     c.fill.new.room.entries.items
     (empty-told c.fill.new.room.entries.items _ c.is_empty.result
     (omega (arith, c.fill.new.room.entries.ok)) c.is_empty.ensures c.if-is_empty.true)
-    (c.in_ok-fill.ensures.led (acts_of pieces) are.facts)
+    (c.in_ok-fill.ensures.led profile (acts_of pieces) are.facts)
     (subst (λ (es : List (ℕ × Best)). IsPaths p.code_of p.device machine c.args.weight.now links
     pieces es) (sym c.deref.ensures.value) are.best)
 
@@ -52,9 +51,9 @@ returns-then-is_empty-clause-within g c limit within =
     c.in_ok-fill.ensures.kept within
 
 pub returns-clause-led : goal.returns-clause-led
-returns-clause-led g c pieces events at are =
+returns-clause-led g c profile pieces events at are =
     let p = g.P.Pair in
-    let machine = p.machine (PowerOn Base) in
+    let machine = p.machine (PowerOn profile) in
     let act = c.args.act.now in
     let weight = c.args.weight.now in
     let links = c.args.chains.now.links.items in
@@ -64,8 +63,8 @@ returns-clause-led g c pieces events at are =
       | else-matters w ↦ ap (λ v. v.facts) w.paths-is
     ] in
     record {
-      facts = c.learn.ensures (PowerOn Base) (acts_of pieces)
-          (subst (λ f. p.stands_for (PowerOn Base) f (acts_of pieces)) (sym still) are.facts);
+      facts = c.learn.ensures (PowerOn profile) (acts_of pieces)
+          (subst (λ f. p.stands_for (PowerOn profile) f (acts_of pieces)) (sym still) are.facts);
       best = elim c.if-matters.branch [
         | then-matters+in_ok-fill+else-is_empty w ↦
             subst (λ (es : List (ℕ × Best)). IsPaths p.code_of p.device machine weight
@@ -78,7 +77,7 @@ returns-clause-led g c pieces events at are =
             w.fill.new.chains.links.items pieces act events c.args.row w.deref.result.now
             w.fill.new.room.entries.items g.met.P.Pair.apart
             ((decides p.device act).1 w.if-matters.ensures.own) at
-            (w.in_ok-fill.ensures.led (acts_of pieces) are.facts)
+            (w.in_ok-fill.ensures.led profile (acts_of pieces) are.facts)
             (subst (λ (es : List (ℕ × Best)). IsPaths p.code_of p.device machine weight links
             pieces es) (sym w.deref.ensures.value) are.best)))
         | else-matters w ↦
@@ -90,7 +89,7 @@ returns-clause-led g c pieces events at are =
             (sym (ap (λ v. v.links.items) w.chains-is))
             (paths-still p.code_of p.device machine weight links pieces act events
             c.args.paths.now.entries.items
-            w.if-matters.ensures.still are.best))
+            (w.if-matters.ensures.still profile) are.best))
       ];
     }
 
@@ -107,9 +106,9 @@ returns-clause-within g c limit within =
           w.fill.new.room.entries.items)
           (sym (ap (λ v. v.links.items) w.chains-is))
           (all-led-within p.CODES limit (CanStand c.args.act.now) p.code_of
-          ((p.machine (PowerOn Base)).Step stands.0 c.args.act.now) c.args.weight.now c.args.row
+          ((p.machine (PowerOn stands.0)).Step stands.1 c.args.act.now) c.args.weight.now c.args.row
           links w.fill.new.chains.links.items w.deref.result.now w.fill.new.room.entries.items
-          (w.in_ok-fill.ensures.led stands.0 stands.1)
+          (w.in_ok-fill.ensures.led stands.0 stands.1 stands.2)
           (subst (AreEntriesWithin p.CODES limit links) (sym w.deref.ensures.value) within)))
       | else-matters w ↦
           subst (AreEntriesWithin p.CODES (limit + 2 ^ 32) c.if-matters.chains.links.items)

@@ -1,16 +1,16 @@
 use Rattle.std.proofs.Common.{subst, ℕ, List}
 use Rattle.mdb_bus.specs.declared.scope.Beginning.TheVariants.{PowerOn}
-use Rattle.mdb_bus.specs.declared.scope.Profile.TheVariants.{Base}
 use Rattle.mdb_explained_runs.specs.declared.explain.best.Best.{Best}
 use Rattle.mdb_explained_runs.specs.inner.Paths.{AllRest}
 use Rattle.mdb_explained_runs.proofs.explain.paths.matters.Goals as goal
 
 pub returns-then-not-concerns-clause-still : goal.returns-then-not-concerns-clause-still
-returns-then-not-concerns-clause-still g c k d within acts choice before after gains same =
-    c.if-not-concerns.ensures.still (PowerOn Base) acts choice before after gains
+returns-then-not-concerns-clause-still g c profile k d within acts choice before after gains same =
+    c.if-not-concerns.ensures.still (PowerOn profile) acts choice before after gains
 
 pub returns-then-all_rest-clause-still : goal.returns-then-all_rest-clause-still
-returns-then-all_rest-clause-still g c =
+returns-then-all_rest-clause-still g c profile =
     let p = g.P.Pair in
-    subst (λ (es : List (ℕ × Best)). AllRest p.code_of (p.machine (PowerOn Base)) c.args.act.now es)
-    c.deref.ensures.value c.if-all_rest.ensures
+    subst (λ (es : List (ℕ × Best)).
+    AllRest p.code_of (p.machine (PowerOn profile)) c.args.act.now es)
+    c.deref.ensures.value (c.if-all_rest.ensures profile)

@@ -1,7 +1,6 @@
 use Rattle.std.proofs.Common.{arith, rules, ap, ◌∙◌, ◌+◌, ℕ, List, sym, subst}
 use Rattle.std.proofs.lemmas.Bool.{false≢true}
 use Rattle.mdb_bus.specs.declared.scope.Beginning.TheVariants.{PowerOn}
-use Rattle.mdb_bus.specs.declared.scope.Profile.TheVariants.{Base}
 use Rattle.mdb_explained_runs.specs.declared.explain.best.Best.{Best}
 use Rattle.mdb_explained_runs.specs.inner.Paths.{AreStarts}
 use Rattle.mdb_explained_runs.proofs.PathStarts.{more-starts, same-starts}
@@ -11,7 +10,7 @@ use Rattle.mdb_explained_runs.proofs.explain.paths.starts.Goals.{then-may_start+
 pub loop-code-preserved : goal.loop-code-preserved
 loop-code-preserved g c =
     let p = g.P.Pair in
-    let machine = p.machine (PowerOn Base) in
+    let machine = p.machine (PowerOn c.args.profile) in
     let code = c.loop-code.code in
     elim c.if-may_start.branch [
       | then-may_start+in_ok-push w ↦

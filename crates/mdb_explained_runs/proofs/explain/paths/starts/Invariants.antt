@@ -1,9 +1,8 @@
 use Rattle.mdb_bus.specs.declared.scope.Beginning.TheVariants.{PowerOn}
-use Rattle.mdb_bus.specs.declared.scope.Profile.TheVariants.{Base}
 use Rattle.mdb_explained_runs.specs.inner.Paths.{AreStarts}
 use Rattle.mdb_explained_runs.proofs.explain.paths.starts.Given as goal
 
 abbrev pub invariant-loop-code : goal.invariant-loop-code
 invariant-loop-code g l =
     let p = g.P.Pair in
-    AreStarts p.CODES p.code_of (p.machine (PowerOn Base)) l.code l.entries.items
+    AreStarts p.CODES p.code_of (p.machine (PowerOn l.profile)) l.code l.entries.items

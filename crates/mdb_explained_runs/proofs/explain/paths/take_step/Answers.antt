@@ -1,26 +1,26 @@
 use Rattle.std.proofs.Common.{inl, ap, refl, sym, ◌∙◌, ◌+ℤ◌}
 use Rattle.std.proofs.lemmas.Option.{none-some, same_Some}
 use Rattle.mdb_bus.specs.declared.scope.Beginning.TheVariants.{PowerOn}
-use Rattle.mdb_bus.specs.declared.scope.Profile.TheVariants.{Base}
 use Rattle.mdb_explained_runs.proofs.Steps.{takes-nothing, takes-one}
 use Rattle.mdb_explained_runs.proofs.Weights.{small-sum}
 use Rattle.mdb_explained_runs.proofs.explain.paths.take_step.Goals as goal
 
 pub returns-in_default-clause-takes : goal.returns-in_default-clause-takes
-returns-in_default-clause-takes g c acts stands =
+returns-in_default-clause-takes g c profile acts stands =
     let p = g.P.Pair in
     takes-nothing p.CODES c.args.choice p.code_of
-    ((p.machine (PowerOn Base)).Step acts c.args.act.now) c.args.weight.now c.args.row
+    ((p.machine (PowerOn profile)).Step acts c.args.act.now) c.args.weight.now c.args.row
     c.args.chains.now.links.items c.args.entry.now c.args.room.now.entries.items
     (λ next gains step. none-some (next, gains)
-    (sym c.in_default.is ∙ (c.step.ensures.steps (PowerOn Base) acts stands next gains).1
+    (sym c.in_default.is ∙ (c.step.ensures.steps (PowerOn profile) acts stands next gains).1
     (inl c.requires.can, step)))
 
 pub returns-clause-takes : goal.returns-clause-takes
-returns-clause-takes g c acts stands =
+returns-clause-takes g c profile acts stands =
     let p = g.P.Pair in
-    let steps = c.in-Some.ensures.steps (PowerOn Base) acts stands in
-    takes-one p.CODES c.args.choice p.code_of ((p.machine (PowerOn Base)).Step acts c.args.act.now)
+    let steps = c.in-Some.ensures.steps (PowerOn profile) acts stands in
+    takes-one p.CODES c.args.choice p.code_of
+    ((p.machine (PowerOn profile)).Step acts c.args.act.now)
     c.args.weight.now c.args.row c.args.chains.now.links.items c.take_in.new.chains.links.items
     c.args.entry.now c.args.room.now.entries.items c.take_in.new.room.entries.items
     c.in-Some.next c.in-Some.gains _

@@ -1,4 +1,4 @@
-use Rattle.std.proofs.Common.{ap, arith, length-take, subst, sym, ◌∙◌, [], ◌∷◌, ◌++◌, List, take}
+use Rattle.std.proofs.Common.{arith, length-take, subst, sym, ◌∙◌, [], ◌∷◌, ◌++◌, List, take}
 use Rattle.std.proofs.lemmas.List.{take_all, take_more}
 use Rattle.mdb_words.specs.declared.event.Event.{Event}
 use Rattle.mdb_follow.specs.Runs.{IsReached}
@@ -38,9 +38,6 @@ loop-event-init c = record {
   on = c.in_ok-seeker.ensures.stands c.args.goal.now;
   scope = c.in_ok-seeker.ensures.scope;
 }
-
-pub take-requires-clause-begins : goal.take-requires-clause-begins
-take-requires-clause-begins c = ap (λ s. s.begins) c.loop-event.invariant.scope ∙ c.requires.begins
 
 pub take-requires-clause-room : goal.take-requires-clause-room
 take-requires-clause-room c =

@@ -3,15 +3,14 @@ use Rattle.mdb_msgs.specs.declared.command.Device.{Device}
 use Rattle.mdb_msgs.specs.declared.command.Device.TheVariants as devices
 use Rattle.mdb_msgs.specs.declared.command.ReaderUnit.TheVariants.{First, Second}
 use Rattle.mdb_bus.specs.declared.scope.Beginning.TheVariants.{PowerOn}
-use Rattle.mdb_bus.specs.declared.scope.Profile.TheVariants.{Base}
 use Rattle.mdb_explained_runs.specs.Tracks.{track_in}
 use Rattle.mdb_follow.proofs.Sided.{decimals-are}
 use Rattle.mdb_explained_runs.proofs.tracks.Tracks.facts.Goals as goal
 
 pub returns : goal.returns
-returns c acts chosen on =
+returns c profile acts chosen on =
     let shown = λ (device : Device).
-    decimals-are (PowerOn Base) device (track_in c.args.self.now device).facts acts
+    decimals-are (PowerOn profile) device (track_in c.args.self.now device).facts acts
     (on device).facts in
     rw (
       c.decimals.ensures ∙ shown devices.Changer,

@@ -13,7 +13,8 @@ returns-clause-stands c =
       first_reader = c.start-3.result;
       second_reader = c.start-4.result;
     } in
-    each (λ device. IsTrackOf device (track_in tracks device) [] tt) c.start.ensures.stands
+    each (λ device. IsTrackOf c.args.profile device (track_in tracks device) [] tt)
+    c.start.ensures.stands
     c.start-2.ensures.stands c.start-3.ensures.stands c.start-4.ensures.stands
 
 pub returns-clause-within : goal.returns-clause-within

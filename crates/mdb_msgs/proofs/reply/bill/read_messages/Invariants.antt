@@ -1,8 +1,8 @@
 use Rattle.std.proofs.Common.{drop}
 use Rattle.mdb_msgs.specs.Bill.{bill_msg_bytes, IsBillMsg}
-use Rattle.mdb_msgs.proofs.Reading.{Going}
+use Rattle.mdb_msgs.proofs.ListReading.{Going}
 use Rattle.mdb_msgs.proofs.reply.bill.read_messages.Given as goal
 
 abbrev pub invariant-loop-byte : goal.invariant-loop-byte
-invariant-loop-byte l = Going bill_msg_bytes IsBillMsg l.bytes l.messages.items
+invariant-loop-byte l = Going bill_msg_bytes (IsBillMsg l.reading) l.bytes l.messages.items
     (drop l.byte-index l.bytes)

@@ -1,6 +1,6 @@
 use Rattle.std.proofs.Common.{length}
 use Rattle.mdb_msgs.specs.Changer.{changer_msg_bytes, IsChangerMsg}
-use Rattle.mdb_msgs.proofs.Reading.{Going}
+use Rattle.mdb_msgs.proofs.ListReading.{Going}
 use Rattle.mdb_msgs.proofs.reply.changer.read_messages.Given as goal
 
 abbrev pub invariant-loop-first : goal.invariant-loop-first

@@ -1,6 +1,6 @@
 use Rattle.std.proofs.Common.{◌+◌, ◌<◌, arith, get_or, length, length-append, ap}
 use Rattle.mdb_msgs.specs.declared.reply.reader.ReaderMsg.TheVariants.{JustReset}
-use Rattle.mdb_msgs.specs.Reader.{head_bytes, text_of, reader_msg_bytes}
+use Rattle.mdb_msgs.specs.Reader.{foot_bytes, head_bytes, text_of, reader_msg_bytes}
 use Rattle.mdb_msgs.proofs.ReaderWriting.{no_room}
 use Rattle.mdb_msgs.proofs.reply.reader.bytes_of.Goals as goal
 
@@ -12,12 +12,16 @@ returns-then-remaining_capacity-len-clause-fits c =
     let message = get_or c.args.messages.now c.loop-message.message-index JustReset in
     let head = ap length c.head-head.ensures in
     let own = ap length c.text_of-text.ensures in
+    let parts = length-append c.text_of-text.result.now (foot_bytes message) in
+    let foot = ap length c.foot-foot.ensures in
     let both = length-append (head_bytes message) (text_of id text message) in
     let over : 35 < length c.loop-message.bytes.items + length (reader_msg_bytes id text message) =
     omega (
       arith,
       head,
       own,
+      parts,
+      foot,
       both,
       c.if-remaining_capacity-len.true,
       c.len.ensures.value,

@@ -1,5 +1,6 @@
 use Rattle.std.proofs.Common.{◌≡◌, arith, refl, ap, ◌∙◌}
 use Rattle.mdb_bus.specs.Bus.{ended_act}
+use Rattle.mdb_bus.specs.Scopes.{profile_of}
 use Rattle.mdb_follow.specs.Feeding.{HasRefused}
 use Rattle.mdb_follow.specs.Follower as follow
 use Rattle.mdb_follow.proofs.Following.{by-some}
@@ -15,7 +16,8 @@ returns-in-Some-clause-taken c scope rows ended on =
     c.in-Some.ensures.taken.stands
     c.feed_ending.ensures.scope c.in-Some.ensures.act
     (c.learn_if.ensures
-    ∙ ap (λ act. learnt_if (ended_act c.in-Some.has_ended act) c.args.self.now.told) c.act.ensures)
+    ∙ ap (λ act. learnt_if (profile_of c.args.self.now.scope.begins)
+    (ended_act c.in-Some.has_ended act) c.args.self.now.told) c.act.ensures)
     refl refl refl refl
 
 pub returns-in-None-clause-halted : goal.returns-in-None-clause-halted

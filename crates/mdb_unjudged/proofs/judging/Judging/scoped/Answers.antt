@@ -11,6 +11,6 @@ returns-clause-followed c = record {
   };
   joined = c.is_joined.ensures;
   reported = λ pieces list. nothing c.transcripts_have_one_act_list.ensures c.args.scope.now
-      c.args.readers _ pieces c.before-2.ensures list;
+      c.args.readers _ pieces c.known_before.ensures list;
   begun = refl;
 }

@@ -11,7 +11,7 @@ returns-in-Some-clause-taken c scope readers rows on =
     taken_more c.transcripts_have_one_act_list.ensures c.args.self.now _ scope readers rows
     c.args.event (ended_act c.in-Some.ended (follow.act_of c.feed_ending.new.self)) on
     c.in-Some.ensures.taken c.feed_ending.ensures.scope c.in-Some.ensures.act refl
-    (c.learn_if.ensures
+    (c.reported_if-self.ensures
     ∙ ap (λ act. reported_if (ended_act c.in-Some.ended act) c.args.self.now.reported)
     c.act.ensures)
     (c.or-self.ensures

@@ -4,7 +4,7 @@ use Rattle.mdb_explained_runs.proofs.explain.all_paths.AllPaths.lead.Goals as go
 
 pub lead_one-requires : goal.lead_one-requires
 lead_one-requires c = record {
-  stands = (c.requires.stands.0, c.requires.stands.1 c.in-One.device);
+  stands = (c.requires.stands.0, c.requires.stands.1, c.requires.stands.2 c.in-One.device);
   within = c.requires.within c.in-One.device;
 }
 
@@ -18,7 +18,7 @@ returns-in-One-clause-led c =
 pub returns-in-One-clause-none : goal.returns-in-One-clause-none
 returns-in-One-clause-none c =
     if-ok c.lead_one.result _ _ (λ goes. on-false goes _ _
-    (λ none pieces are. (c.in-One.device, none pieces (are c.in-One.device))))
+    (λ none profile pieces are. (c.in-One.device, none profile pieces (are c.in-One.device))))
     c.lead_one.ensures.none
 
 pub returns-in-One-clause-within : goal.returns-in-One-clause-within
@@ -29,8 +29,9 @@ returns-in-One-clause-within c =
     c.lead_one.ensures.led
 
 pub returns-in-Nobody-clause-led : goal.returns-in-Nobody-clause-led
-returns-in-Nobody-clause-led c pieces events at are =
-    none-led c.args.goal.now c.args.act.now c.args.self.now c.in-Nobody.ensures pieces events are
+returns-in-Nobody-clause-led c profile pieces events at are =
+    none-led c.args.goal.now c.args.act.now c.args.self.now c.in-Nobody.ensures profile pieces
+    events are
 
 pub returns-in-Nobody-clause-within : goal.returns-in-Nobody-clause-within
 returns-in-Nobody-clause-within c limit are =

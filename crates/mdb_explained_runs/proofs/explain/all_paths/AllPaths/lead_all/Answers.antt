@@ -13,9 +13,10 @@ lead_one-requires c =
     record {
       stands = (
         c.requires.stands.0,
-        front-stands c.args.goal.now c.args.act.now c.args.row c.loop-device.device-index
-            c.args.self.now c.loop-device.self Changer c.requires.stands.0
-            c.loop-device-test.true front c.requires.stands.1,
+        c.requires.stands.1,
+        front-stands c.requires.stands.0 c.args.goal.now c.args.act.now c.args.row
+            c.loop-device.device-index c.args.self.now c.loop-device.self Changer
+            c.requires.stands.1 c.loop-device-test.true front c.requires.stands.2,
       );
       within = front-fits c.args.goal.now c.args.act.now c.args.row c.loop-device.device-index
           c.args.self.now c.loop-device.self Changer (2 ^ 62) c.loop-device-test.true front
@@ -44,10 +45,10 @@ loop-device-preserved c =
     c.in_ok-lead_one.ensures.led c.lead_one.ensures.kept
 
 pub returns-clause-led : goal.returns-clause-led
-returns-clause-led c pieces events at are device =
+returns-clause-led c profile pieces events at are device =
     (front-all c.args.goal.now c.args.act.now c.args.row c.loop-device.device-index
     c.args.self.now c.loop-device.self c.loop-device-test.false c.loop-device.invariant
-    device).led pieces events at (are device)
+    device).led profile pieces events at (are device)
 
 pub returns-clause-within : goal.returns-clause-within
 returns-clause-within c limit are device =

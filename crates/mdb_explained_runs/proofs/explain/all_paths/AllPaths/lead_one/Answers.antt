@@ -2,6 +2,7 @@ use Rattle.std.proofs.Common.{ap, refl, rules, subst, ◌∙◌, ◌^◌, List}
 use Rattle.mdb_msgs.specs.declared.command.Device.TheVariants as devices
 use Rattle.mdb_msgs.specs.declared.command.ReaderUnit.TheVariants.{First, Second}
 use Rattle.mdb_bus.specs.declared.act.Act.{Act}
+use Rattle.mdb_bus.specs.declared.scope.Profile.{Profile}
 use Rattle.mdb_explained_runs.specs.inner.AllPaths.{AreFactsOf, AreWithinOf}
 use Rattle.mdb_explained_runs.proofs.AllPaths.{one-leads, one-none}
 use Rattle.mdb_explained_runs.proofs.explain.all_paths.AllPaths.lead_one.Goals as goal
@@ -13,7 +14,8 @@ lead-requires c =
       (
         refl,
         (
-          subst (λ d. (acts : List Act) × AreFactsOf acts c.args.self.now d) is c.requires.stands,
+          subst (λ d. (profile : Profile) × (acts : List Act)
+              × AreFactsOf profile acts c.args.self.now d) is c.requires.stands,
           subst (AreWithinOf (2 ^ 62) c.args.self.now) is c.requires.within,
         ),
       ),
@@ -44,7 +46,8 @@ lead-requires-in-Bill c =
       (
         refl,
         (
-          subst (λ d. (acts : List Act) × AreFactsOf acts c.args.self.now d) is c.requires.stands,
+          subst (λ d. (profile : Profile) × (acts : List Act)
+              × AreFactsOf profile acts c.args.self.now d) is c.requires.stands,
           subst (AreWithinOf (2 ^ 62) c.args.self.now) is c.requires.within,
         ),
       ),
@@ -75,7 +78,8 @@ lead-requires-in-First c =
       (
         refl,
         (
-          subst (λ d. (acts : List Act) × AreFactsOf acts c.args.self.now d) is c.requires.stands,
+          subst (λ d. (profile : Profile) × (acts : List Act)
+              × AreFactsOf profile acts c.args.self.now d) is c.requires.stands,
           subst (AreWithinOf (2 ^ 62) c.args.self.now) is c.requires.within,
         ),
       ),
@@ -106,7 +110,8 @@ lead-requires-in-Second c =
       (
         refl,
         (
-          subst (λ d. (acts : List Act) × AreFactsOf acts c.args.self.now d) is c.requires.stands,
+          subst (λ d. (profile : Profile) × (acts : List Act)
+              × AreFactsOf profile acts c.args.self.now d) is c.requires.stands,
           subst (AreWithinOf (2 ^ 62) c.args.self.now) is c.requires.within,
         ),
       ),

@@ -9,11 +9,12 @@ read-requires c =
     let device = c.args.device in
     let links = c.args.self.now.chains.links.items in
     let paths = paths_in c.args.self.now device in
-    let aim = c.requires.0 in
-    let pieces = c.requires.1 in
-    best-chain device aim links pieces paths c.best-best.result (c.requires.2 device)
-    (best-listed device aim links pieces paths c.best-best.result (c.requires.2 device)
-    c.requires.3 c.best-best.ensures)
+    let profile = c.requires.0 in
+    let aim = c.requires.1 in
+    let pieces = c.requires.2 in
+    best-chain profile device aim links pieces paths c.best-best.result (c.requires.3 device)
+    (best-listed profile device aim links pieces paths c.best-best.result (c.requires.3 device)
+    c.requires.4 c.best-best.ensures)
 
 pub returns : goal.returns
 returns c =
@@ -21,8 +22,8 @@ returns c =
     let links = c.args.self.now.chains.links.items in
     let paths = paths_in c.args.self.now device in
     if-ok c.read.result (λ marks. Denotes links c.best-best.result.chain marks.items) _
-    (λ marks read aim pieces are way. best-marks device aim links pieces paths
+    (λ marks read profile aim pieces are way. best-marks profile device aim links pieces paths
     c.best-best.result marks.items (are device)
-    (best-listed device aim links pieces paths c.best-best.result (are device) way
+    (best-listed profile device aim links pieces paths c.best-best.result (are device) way
     c.best-best.ensures) read)
     c.read.ensures

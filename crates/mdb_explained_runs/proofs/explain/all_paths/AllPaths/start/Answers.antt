@@ -16,7 +16,7 @@ returns-clause-stands c aim =
       first_reader = c.in_ok-first_reader.first_reader;
       second_reader = c.in_ok-second_reader.second_reader;
     } in
-    each (ArePathsOf aim [] all)
+    each (ArePathsOf c.args.profile aim [] all)
     (c.in_ok-changer.ensures.stands (weight_for aim devices.Changer) links)
     (c.in_ok-bill.ensures.stands (weight_for aim devices.Bill) links)
     (c.in_ok-first_reader.ensures.stands (weight_for aim (devices.Reader First)) links)

@@ -7,7 +7,7 @@ use Rattle.mdb_explained_runs.proofs.explain.seeker.Seeker.take.Goals as goal
 pub lead-requires-clause-stands : goal.lead-requires-clause-stands
 lead-requires-clause-stands c =
     let on = c.requires.reached.1 in
-    (acts_of on.pieces, λ device. (on.paths device).facts)
+    (on.profile, acts_of on.pieces, λ device. (on.paths device).facts)
 
 pub lead-requires-clause-within : goal.lead-requires-clause-within
 lead-requires-clause-within c =
@@ -22,9 +22,10 @@ unreachable-requires c =
     subst (λ b. GoesOn c.feed_into.new.self on.pieces c.args.event
     (ended_act b c.feed_into.new.act))
     c.in-Ok-true.field-0-test (c.in-Ok-true.ensures.goes_on on.pieces on.on_bus) in
-    stuck c.args.goal.now c.args.self.now.all c.feed_into.new.act c.in_ok-lead-in-Ok-true.field-0
+    stuck on.profile c.args.goal.now c.args.self.now.all c.feed_into.new.act
+    c.in_ok-lead-in-Ok-true.field-0
     c.in_ok-lead-in-Ok-true.ensures.none c.if-not-branch.true c.feed_into.new.self scope
-    c.feed_into.ensures.scope (c.transcripts_have_one_act_list.ensures scope) c.requires.begins
+    c.feed_into.ensures.scope (c.transcripts_have_one_act_list.ensures scope) on.begins
     on.pieces c.args.event c.requires.reached.0 goes on.whole on.paths c.requires.reached.2
 
 pub returns-else-not-branch-clause-on : goal.returns-else-not-branch-clause-on
@@ -35,11 +36,14 @@ returns-else-not-branch-clause-on c events on =
     (ended_act b c.feed_into.new.act))
     c.in-Ok-true.field-0-test (c.in-Ok-true.ensures.goes_on on.pieces on.on_bus) in
     record {
+      profile = on.profile;
+      begins = ap (λ s. s.begins) c.feed_into.ensures.scope ∙ on.begins;
       pieces = goes.longer;
       on_bus = goes.stands;
       whole = goes.rows ∙ ap (λ rs. rs ++ c.args.event ∷ []) on.whole;
       rows = ap (λ n. n + 1) on.rows ∙ sym (length-append events (c.args.event ∷ []));
-      paths = went-paths c.args.goal.now c.args.self.now.all c.lead.new.self c.feed_into.new.act
+      paths = went-paths on.profile c.args.goal.now c.args.self.now.all c.lead.new.self
+          c.feed_into.new.act
           rows c.in_ok-lead-in-Ok-true.field-0 c.in_ok-lead-in-Ok-true.ensures.led
           c.if-not-branch.false c.feed_into.new.self on.pieces c.args.event events goes on.whole
           on.rows on.paths;
@@ -56,11 +60,13 @@ returns-in-Ok-false-clause-on c events on =
     (ended_act b c.feed_into.new.act))
     c.in-Ok-false.field-0-test (c.in-Ok-false.ensures.goes_on on.pieces on.on_bus) in
     record {
+      profile = on.profile;
+      begins = ap (λ s. s.begins) c.feed_into.ensures.scope ∙ on.begins;
       pieces = goes.longer;
       on_bus = goes.stands;
       whole = goes.rows ∙ ap (λ rs. rs ++ c.args.event ∷ []) on.whole;
       rows = ap (λ n. n + 1) on.rows ∙ sym (length-append events (c.args.event ∷ []));
-      paths = still-paths c.args.goal.now on.pieces c.args.event goes.longer
+      paths = still-paths on.profile c.args.goal.now on.pieces c.args.event goes.longer
           c.args.self.now.all goes.grown on.paths;
       within = within-more (rows * 2 ^ 32) ((rows + 1) * 2 ^ 32) c.args.self.now.all
           (omega arith) on.within;

@@ -5,8 +5,8 @@ use Rattle.mdb_msgs.proofs.reply.reader.ReaderList.id.Given as goal
 
 abbrev pub invariant-loop-message : goal.invariant-loop-message
 invariant-loop-message l = record {
-  stand : StandAsMessages l.rest;
-  same : l.self.id ≡ (messages_of l.rest).id;
+  stand : StandAsMessages l.self-inside.reading l.rest;
+  same : l.self.id ≡ (messages_of l.self-inside.reading l.rest).id;
   blank : l.id ≡ replicate 29 0;
 }
 

@@ -4,5 +4,5 @@ use Rattle.mdb_msgs.proofs.reply.reader.ReaderList.iter.Goals as goal
 
 pub returns-clause-few : goal.returns-clause-few
 returns-clause-few c =
-    let few = few_messages c.as_slice.result.now in
+    let few = few_messages c.self.inside.reading c.as_slice.result.now in
     omega (arith, few, c.as_slice.ensures.fits)

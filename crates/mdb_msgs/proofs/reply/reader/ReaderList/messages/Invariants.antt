@@ -5,8 +5,8 @@ use Rattle.mdb_msgs.proofs.reply.reader.ReaderList.messages.Given as goal
 
 abbrev pub invariant-loop-message : goal.invariant-loop-message
 invariant-loop-message l = record {
-  stand : StandAsMessages l.rest;
-  taken : l.self.messages ≡ l.messages.items ++ (messages_of l.rest).messages;
+  stand : StandAsMessages l.self-inside.reading l.rest;
+  taken : l.self.messages ≡ l.messages.items ++ (messages_of l.self-inside.reading l.rest).messages;
   room : length l.messages.items + length l.rest ≤ 35;
 }
 

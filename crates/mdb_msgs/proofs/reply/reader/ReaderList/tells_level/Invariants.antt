@@ -7,9 +7,9 @@ use Rattle.mdb_msgs.proofs.reply.reader.ReaderList.tells_level.Given as goal
 
 abbrev pub invariant-loop-message : goal.invariant-loop-message
 invariant-loop-message l = record {
-  stand : StandAsMessages l.rest;
+  stand : StandAsMessages l.self-inside.reading l.rest;
   same : list_any (tells_level l.least) l.self.messages ≡ list_any (tells_level l.least)
-      (messages_of l.rest).messages;
+      (messages_of l.self-inside.reading l.rest).messages;
 }
 
 abbrev pub decreases-loop-message : goal.decreases-loop-message

@@ -7,8 +7,9 @@ use Rattle.mdb_msgs.proofs.reply.reader.ReaderList.tells_of_sales.Given as goal
 
 abbrev pub invariant-loop-message : goal.invariant-loop-message
 invariant-loop-message l = record {
-  stand : StandAsMessages l.rest;
-  same : list_any is_kept l.self.messages ≡ list_any is_kept (messages_of l.rest).messages;
+  stand : StandAsMessages l.self-inside.reading l.rest;
+  same : list_any is_kept l.self.messages ≡ list_any is_kept (messages_of l.self-inside.reading
+      l.rest).messages;
 }
 
 abbrev pub decreases-loop-message : goal.decreases-loop-message

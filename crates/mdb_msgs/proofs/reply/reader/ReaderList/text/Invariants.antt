@@ -5,8 +5,8 @@ use Rattle.mdb_msgs.proofs.reply.reader.ReaderList.text.Given as goal
 
 abbrev pub invariant-loop-message : goal.invariant-loop-message
 invariant-loop-message l = record {
-  stand : StandAsMessages l.rest;
-  same : l.self.text ≡ (messages_of l.rest).text;
+  stand : StandAsMessages l.self-inside.reading l.rest;
+  same : l.self.text ≡ (messages_of l.self-inside.reading l.rest).text;
 }
 
 abbrev pub decreases-loop-message : goal.decreases-loop-message

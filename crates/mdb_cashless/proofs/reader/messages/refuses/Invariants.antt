@@ -1,0 +1,12 @@
+use Rattle.std.proofs.Common.{◌≡◌}
+use Rattle.std.specs.List.{list_any}
+use Rattle.mdb_cashless.specs.ReaderMessages.{refuses}
+use Rattle.mdb_cashless.proofs.reader.messages.refuses.Given as goal
+
+abbrev pub invariant-loop-message : goal.invariant-loop-message
+invariant-loop-message l =
+    record {
+      next : (goal.iterator-loop-message).can_next l.message-iterator;
+      finite : (goal.iterator-loop-message).is_finite l.message-iterator;
+      same : list_any refuses l.fn.messages ≡ list_any refuses l.message-iterator;
+    }

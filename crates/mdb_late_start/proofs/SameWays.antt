@@ -1,0 +1,155 @@
+-- The same ways from power-on by either profile. Lists of acts and of pieces stand newest first.
+use Rattle.std.proofs.Common.{ap, arith, refl, subst, sym, ◌∙◌, ◌≡◌, ◌⊎◌, inl, inr, List, [], ◌∷◌}
+use Rattle.std.proofs.Common.{ℕ, zero, suc, Bool, true, false, ◌&&◌, ◌↔◌, Option, Some, None}
+use Rattle.mdb_msgs.specs.declared.command.Device.{Device}
+use Rattle.mdb_msgs.specs.declared.command.Device.TheVariants as devices
+use Rattle.mdb_msgs.specs.declared.command.ReaderUnit.{ReaderUnit}
+use Rattle.mdb_bus.specs.ActLists.{AskTail, IsLow, Piece, ReplyTail, RepeatTail, Whole, acts_of}
+use Rattle.mdb_bus.specs.Loss.{Loss}
+use Rattle.mdb_bus.specs.declared.act.Act.{Act}
+use Rattle.mdb_bus.specs.declared.scope.Beginning.TheVariants.{PowerOn}
+use Rattle.mdb_bus.specs.declared.scope.Profile.{Profile}
+use Rattle.mdb_bus.specs.declared.scope.Profile.TheVariants.{Base, Extended}
+use Rattle.mdb_machine.specs.declared.choice.Choice.{Choice}
+use Rattle.mdb_machine.specs.declared.gains.Gains.{Gains}
+use Rattle.mdb_machine.specs.Machine.{Machine}
+use Rattle.mdb_machine.specs.Past.{last_told}
+use Rattle.mdb_cashless.specs.ReaderFacts as reader
+use Rattle.mdb_follow.specs.Machines.{StateOf, machine_of}
+use Rattle.mdb_follow.specs.Runs.{AllSums, IsWay, States}
+use Rattle.mdb_late_start.specs.Ends.{AreAlike}
+use Rattle.mdb_late_start.specs.NeverLong.{IsNeverLong, IsNotLong}
+
+-- The facts of a reader.
+
+not_high : (level : Option ℕ) → IsLow level → reader.may_be_high false level ≡ false
+not_high None low = refl
+not_high (Some zero) low = refl
+not_high (Some (suc zero)) low = refl
+not_high (Some (suc (suc level))) low = absurd (omega (arith, low))
+
+both_low : (asked told refused : Bool) → (asked ≡ false) ⊎ (told ≡ false)
+    → (asked && told && refused) ≡ false
+both_low false told refused low = refl
+both_low true false refused low = refl
+both_low true true refused (inl low) = absurd (cc low)
+both_low true true refused (inr low) = absurd (cc low)
+
+-- a reader that isn't long refuses nothing that counts
+not_refused : (profile : Profile) (unit : ReaderUnit) (acts : List Act) → IsNotLong unit acts
+    → reader.is_refused (reader.extended_of (PowerOn profile) unit acts) ≡ false
+not_refused Base unit acts short = refl
+not_refused Extended unit acts short =
+    both_low (reader.may_be_high false asked) (reader.may_be_high false told)
+    (reader.extended_since false unit acts).refused (by short)
+  where
+    asked : Option ℕ
+    asked = last_told (reader.level_asked_by unit) acts
+
+    told : Option ℕ
+    told = last_told (reader.level_told_by unit) acts
+
+    by : IsLow asked ⊎ IsLow told
+        → (reader.may_be_high false asked ≡ false) ⊎ (reader.may_be_high false told ≡ false)
+    by (inl low) = inl (not_high asked low)
+    by (inr low) = inr (not_high told low)
+
+-- so its facts are the same by either profile
+pub same_facts : (one other : Profile) (unit : ReaderUnit) (acts : List Act)
+    → IsNotLong unit acts
+    → reader.facts_of (PowerOn one) unit acts ≡ reader.facts_of (PowerOn other) unit acts
+same_facts one other unit acts short =
+    ap (λ refused. record (reader.facts_of (PowerOn one) unit acts) { refused = refused })
+    (not_refused one unit acts short ∙ sym (not_refused other unit acts short))
+
+-- Ways.
+
+-- at this point of acts no reader is long
+abbrev NoneIsLong : List Act → Type 0
+NoneIsLong acts = (unit : ReaderUnit) → IsNotLong unit acts
+
+-- each step of a machine by one profile is one by the other
+abbrev pub HasSameSteps : {State : Type 0} → (Profile → Machine State) → Type 0
+HasSameSteps {State} machine =
+    (one other : Profile) (so_far : List Act) → NoneIsLong so_far → (act : Act) (choice : Choice)
+    (before after : State) (gains : Gains)
+    → (machine one).Step so_far act choice before after gains
+    → (machine other).Step so_far act choice before after gains
+
+-- so it is where steps are those after facts, and these are the same
+pub steps_by : {State Facts : Type 0} (machine : Profile → Machine State)
+    (facts : Profile → List Act → Facts)
+    (Step : Facts → Act → Choice → State → State → Gains → Type 0)
+    → ((profile : Profile) (so_far : List Act) (act : Act) (choice : Choice)
+    (before after : State) (gains : Gains)
+    → (machine profile).Step so_far act choice before after gains
+    ↔ Step (facts profile so_far) act choice before after gains)
+    → ((one other : Profile) (so_far : List Act) → NoneIsLong so_far
+    → facts one so_far ≡ facts other so_far) → HasSameSteps machine
+steps_by machine facts Step are same one other so_far short act choice before after gains step =
+    (are other so_far act choice before after gains).1
+    (subst (λ f. Step f act choice before after gains) (same one other so_far short)
+    ((are one so_far act choice before after gains).0 step))
+
+-- a machine starts alike by both
+starts_same : (one other : Profile) (device : Device) (state : StateOf device)
+    → (machine_of (PowerOn one) device).Starts state
+    → (machine_of (PowerOn other) device).Starts state
+starts_same one other devices.Changer state starts = starts
+starts_same one other devices.Bill state starts = starts
+starts_same one other (devices.Reader unit) state starts = starts
+
+-- before the last act no reader was ever long
+never_before : (act : Act) (acts : List Act) → IsNeverLong (act ∷ acts) → IsNeverLong acts
+never_before act acts never unit later before is =
+    never unit (act ∷ later) before (ap (λ more. act ∷ more) is)
+
+-- a way by one profile is a way by the other
+
+-- the machine of each device has
+abbrev pub EachHasSameSteps : Type 0
+EachHasSameSteps = (device : Device) → HasSameSteps (λ profile. machine_of (PowerOn profile) device)
+
+pub each_has : HasSameSteps (λ profile. machine_of (PowerOn profile) devices.Changer)
+    → HasSameSteps (λ profile. machine_of (PowerOn profile) devices.Bill)
+    → ((unit : ReaderUnit)
+    → HasSameSteps (λ profile. machine_of (PowerOn profile) (devices.Reader unit)))
+    → EachHasSameSteps
+each_has changer bill reader devices.Changer = changer
+each_has changer bill reader devices.Bill = bill
+each_has changer bill reader (devices.Reader unit) = reader unit
+
+-- a way by one profile is a way by the other
+pub same_way : EachHasSameSteps → (one other : Profile) (loss : Loss)
+    (pieces : List Piece) (states : States) (sums : AllSums) → IsNeverLong (acts_of pieces)
+    → (way : IsWay (PowerOn one) loss pieces states sums)
+    → (same : IsWay (PowerOn other) loss pieces states sums)
+    × AreAlike (PowerOn one) (PowerOn other) loss pieces states states sums sums way same
+same_way steps one other loss [] states sums never way =
+    (λ device. (starts_same one other device (states device) (way device).0, (way device).1), tt)
+same_way steps one other loss (Whole act events ∷ pieces) states sums never way =
+    let earlier = same_way steps one other loss pieces way.before way.sums_before
+    (never_before act (acts_of pieces) never) way.way in (
+      record {
+        choice = way.choice;
+        stands = way.stands;
+        as_lost = way.as_lost;
+        before = way.before;
+        sums_before = way.sums_before;
+        way = earlier.0;
+        go = λ device. record {
+          gains = (way.go device).gains;
+          step = steps device one other (acts_of pieces)
+              (λ unit. never unit (act ∷ []) (acts_of pieces) refl) act way.choice
+              (way.before device) (states device) (way.go device).gains (way.go device).step;
+          adds = (way.go device).adds;
+        };
+      },
+      (refl, refl, earlier.1),
+    )
+same_way steps one other loss (AskTail bytes events ∷ pieces) states sums never way =
+    same_way steps one other loss pieces states sums never way
+same_way steps one other loss (ReplyTail command bytes events ∷ pieces) states sums never way =
+    same_way steps one other loss pieces states sums never way
+same_way steps one other loss (RepeatTail command reply words events ∷ pieces) states sums never
+    way = same_way steps one other loss pieces states sums never way
