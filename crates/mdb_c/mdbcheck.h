@@ -33,7 +33,9 @@ extern "C" {
 #define MDBCHECK_WITHOUT_BILL 4u       /* check --without bill: the validator */
 #define MDBCHECK_WITHOUT_CASHLESS 8u   /* check --without cashless: the reader at 10H */
 #define MDBCHECK_WITHOUT_CASHLESS_2 16u /* check --without cashless-2: the reader at 60H */
-#define MDBCHECK_EXTENDED 32u          /* check --extended; not with MDBCHECK_JOINED */
+#define MDBCHECK_EXTENDED 32u          /* check --extended: also card readers of levels 2 and 3, the
+                                        * options that readers have, and what a bill recycler
+                                        * reports; not with MDBCHECK_JOINED */
 
 /* The codes that are returned. The report is written for YES and NO only. With any other code its
  * bytes stay as they were. */

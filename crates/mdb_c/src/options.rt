@@ -22,7 +22,8 @@ pub const WITHOUT_CASHLESS: u32 = 8;
 /// The cashless reader at 60H is left out.
 pub const WITHOUT_CASHLESS_2: u32 = 16;
 
-/// What card readers of feature levels 2 and 3 say is followed too. Not with `JOINED`.
+/// What card readers of feature levels 2 and 3 say is followed too, with the options that readers
+/// have, and what a bill recycler reports. Not with `JOINED`.
 pub const EXTENDED: u32 = 32;
 
 /// The least number that is no sum of options.
