@@ -91,7 +91,7 @@ def line_of(reader):
 def beyond(words, row, blame):
     """The line of the program on a row that isn't followed."""
     if not {"--extended", "--joined"} & set(words) and blame == "bill":
-        why = "bill reports a recycler or a file transfer: add --extended"
+        why = "bill may report a recycler: add --extended"
     elif not {"--extended", "--joined"} & set(words) and blame in READERS.values():
         why = f"{blame} goes beyond feature level 1: add --extended"
     elif blame == "controller":

@@ -46,7 +46,7 @@ may_extend begins = false
 -- why a row isn't followed, and the words to type: by who sent it, and by whether the extended
 -- profile may follow it
 abbrev pub beyond_text : Bool → Blame → List ℕ
-beyond_text true blames.Bill = codes "bill reports a recycler or a file transfer: add --extended"
+beyond_text true blames.Bill = codes "bill may report a recycler: add --extended"
 beyond_text true blames.Cashless = codes "cashless goes beyond feature level 1: add --extended"
 beyond_text true blames.Cashless2 = codes "cashless-2 goes beyond feature level 1: add --extended"
 beyond_text extends blames.Controller =

@@ -67,7 +67,7 @@ fn text_of_beyond(extends: bool, sender: Blame) -> &'static str
     ensures short { length result.now ≤ 200 }
 {
     match (extends, sender) {
-        (true, Blame::Bill) => "bill reports a recycler or a file transfer: add --extended",
+        (true, Blame::Bill) => "bill may report a recycler: add --extended",
         (true, Blame::Cashless) => "cashless goes beyond feature level 1: add --extended",
         (true, Blame::Cashless2) => "cashless-2 goes beyond feature level 1: add --extended",
         (_, Blame::Controller) => {
