@@ -101,13 +101,13 @@ function answerWord({answer, report, unjudged}) {
 function profileNote(it) {
   const isWide = isExtended(it.way), isBoth = it.plainRow || it.isPlain;
   if (!isWide && !it.isPlain) return null;
-  const stop = isWide && isBoth ? `Without it the checker stops following at row ${number(it.plainRow)}. ` : "";
+  const stop = `Without it the checker stops following at row ${number(it.plainRow)}.`;
   return h(
       "p", {id: "profile"}, h("strong", {}, isWide ? WIDER : "Without the extended profile"), " ",
-      h("span", {class: "soft"}, stop), isBoth ? profileButton(isWide) : null);
+      isWide && isBoth ? h("span", {class: "soft"}, stop) : null, " ", isBoth ? profileButton(isWide) : null);
 }
 
-const WIDER = "With the extended profile: card readers of level 2 and 3";
+const WIDER = "With the extended profile: card readers of levels 2 and 3, recyclers";
 
 const profileButton = (isWide) =>
     h("button", {type: "button", id: "other-profile", class: "noprint", onclick: () => run(null, true, isWide)},

@@ -345,11 +345,11 @@ function unfollowed(it) {
   const rows = block.length ? rowsAt(block[0].row, it.row) : rowsAt(it.row), bytes = bytesOf(block);
   const level = d > 2 && it.report.blame !== "controller" ? greatestLevel(bytes) : 0;
   if (level > 1) return levelWords(it, d, level, rows);
-  const isCommand = it.report.blame === "controller",
+  const isCommand = it.report.blame === "controller", enabled = isCommand ? optionsEnabled(bytes) : "",
         what = isCommand ? commandNamed(bytes) : messageNamed(d, bytes, isExtended(it.way));
   const who = isCommand ? `the controller sends ${name} ` : `${name} sends `;
   return {
-    what: `${who}${what}`,
+    what: enabled ? `the controller enables ${enabled} on ${name}` : `${who}${what}`,
     facts: [fact(
         `${capital(who)}${what}`, ...inRows(rows),
         `. The checker doesn't follow this ${isCommand ? "command" : "message"}.`)]
@@ -359,12 +359,20 @@ function unfollowed(it) {
 // A command that isn't followed: its bytes so far, and what it belongs to.
 function commandNamed(bytes) {
   if (!bytes.length) return "a command that isn't followed";
-  const [a, b] = bytes, isReader = a >> 3 === 2 || a >> 3 === 12, isOptions = (a & 7) === 7 && b === ENABLE_OPTIONS;
-  const kind = a === 0x0F                                 ? " of alternative payout" :
-      isReader && (a & 7) === 5                           ? " of revalue" :
-      isReader && isOptions && bytes.length > OPTIONS_END ? `, enable options: ${optionWords(bytes, 2)}` :
-                                                            "";
+  const [a] = bytes, enabled = optionsEnabled(bytes);
+  const kind = a === 0x0F            ? " of alternative payout" :
+      isToReader(a) && (a & 7) === 5 ? " of revalue" :
+      enabled                        ? `, enable options: ${enabled}` :
+                                       "";
   return `the command ${bytes.map(hex).join(" ")}${kind}`;
+}
+
+const isToReader = (a) => a >> 3 === 2 || a >> 3 === 12;
+
+// The options that a command enables, in words. Any other command enables none.
+function optionsEnabled(bytes) {
+  const [a, b] = bytes, isWhole = bytes.length > OPTIONS_END;
+  return isWhole && isToReader(a) && (a & 7) === 7 && b === ENABLE_OPTIONS ? optionWords(bytes, 2) : "";
 }
 
 // So many bytes of ENABLE OPTIONS come before its sum.
@@ -420,12 +428,14 @@ function levelWords(it, d, level, rows) {
 function profileStory(it) {
   if (isDamaged(it)) return damagedStory(it);
   const d = unfollowedDevice(it), name = the(DEVICE_NAMES[d] || "device"), {facts, isLevel} = unfollowed(it);
-  const own = !isLevel || it.isTried ? "switch the feature off and record again" :
-      isJoined(it)                   ? "record a start of the machine" :
-                                       "see the answer with the extended profile";
+  const own = it.isPlain      ? "see the answer with the extended profile" :
+      isLevel && isJoined(it) ? "record a start of the machine" :
+                                "switch the feature off and record again";
   return [
     ...facts,
-    ...it.isTried ? [fact("The extended profile, for card readers of level 2 and 3, doesn't follow it either.")] : [],
+    ...it.isTried ?
+        [fact("The extended profile (card readers of levels 2 and 3, recyclers) doesn't follow it either.")] :
+        [],
     nextStep(
         d ? `If your question is about another device, leave out ${name} and check again.` :
             "If your question is about another device, leave out the device that this row is of, and check again."),

@@ -135,7 +135,7 @@ function unfinishedStory(here, request, after, reader) {
   return [
     headline(`Approved, and no outcome: ${amount}, item ${request.item}`),
     fact(
-        `${capital(reader)} approved ${amount} for item ${request.item}`, ...inRows(approval.rows),
+        `${capital(reader)} approved ${amount} for item ${request.item}`, ...inRows(request.rows, approval.rows),
         ", and the controller ended the session", ...inRows(here.rows), "."),
     fact("First it had to report the sale (VEND SUCCESS) or its failure (VEND FAILURE)."),
   ];

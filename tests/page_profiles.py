@@ -13,8 +13,8 @@ import time
 from page_open_money import Bus
 
 TOP = pathlib.Path(__file__).resolve().parent.parent
-HEAD = "With the extended profile: card readers of level 2 and 3"
-NEITHER = "The extended profile, for card readers of level 2 and 3, doesn't follow it either."
+HEAD = "With the extended profile: card readers of levels 2 and 3, recyclers"
+NEITHER = "The extended profile (card readers of levels 2 and 3, recyclers) doesn't follow it either."
 # By which profile the answer is, how the card names it, and what was asked of the worker. The saved report has it too.
 PROFILE = """JSON.stringify({
   isWide: isExtended(state.way), note: by("profile")?.textContent ?? null, button: by("other-profile")?.textContent ?? null,
@@ -78,6 +78,7 @@ def try_wide(page, want, name, base, wide):
         want(came["text"] == text and came["isWide"] == is_wide, f"{name}: the other answer is {came['text']!r}")
         want(page.browser.value("document.activeElement.id") == "verdict", f"{name}: the focus")
         want(came["note"].startswith(HEAD if is_wide else "Without the extended profile"), f"{name}: {came['note']!r}")
+        want(is_wide or "If it is about this device, see the answer with the extended profile." in came["card"], f"{name}: {came['card']!r}")
     want(not any(NEITHER in it for it in came["story"]), f"{name}: {came['story']}")
     page.take(TOP / "examples" / f"{name}.csv", ["--extended"])
     came = read(page)
@@ -110,6 +111,14 @@ def try_neither(page, want):
     came = read(page)
     want(came["text"] == (TOP / "examples" / f"{name}.check").read_text() and not came["isWide"] and came["note"] is None, f"{name}: {came['note']!r}")
     want(any(NEITHER in it for it in came["story"]) and came["leave"].startswith("Leave out the coin changer"), f"{name}: {came['story']}")
+
+
+def try_options(page, want):
+    """The headline names the option that isn't followed, and the story has the command."""
+    page.take(Bus().reader(level=3, own=3).ack(0x17, 4, 0, 0, 0, 0x20).data, [], "options.csv")
+    came = read(page)
+    want("Not followed: the controller enables always idle on card reader 1" in came["card"], f"options: {came['card']!r}")
+    want(any("the command 17 04 00 00 00 20 3B, enable options: always idle" in it for it in came["story"]), f"options: {came['story']}")
 
 
 def try_once(page, want):
@@ -161,6 +170,7 @@ def try_profiles(page, want, run):
         try_wide(page, want, path.stem, path.with_suffix(".check").read_text(), path.read_text())
     try_survey(page, want, examples[0].stem, lambda data: run(data, "survey")[1])
     try_neither(page, want)
+    try_options(page, want)
     try_once(page, want)
     try_words(page, want)
     print(f"profiles: {len(examples)} recordings by the extended profile, the other answer and back; one that it doesn't follow either")

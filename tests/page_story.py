@@ -52,7 +52,7 @@ EXAMPLES = {
         "It was in escrow (rows 35–36), and the controller hadn't ordered to stack it."],
     "bills-beside-alternative-payout": [
         "The controller sends the coin changer the command 0F 02 of alternative payout (rows 208–209). The checker doesn't follow this command.",
-        "The extended profile, for card readers of level 2 and 3, doesn't follow it either."],
+        "The extended profile (card readers of levels 2 and 3, recyclers) doesn't follow it either."],
     "changer-reset-and-poll": ["No money was reported."],
     "coin-behind-a-reset-message": [
         "0.25 isn't certain: a coin of 0.25 was reported in rows 32–34 and again in rows 38–41. It was one coin or two.",
