@@ -345,7 +345,7 @@ function unfollowed(it) {
   const rows = block.length ? rowsAt(block[0].row, it.row) : rowsAt(it.row), bytes = bytesOf(block);
   const level = d > 2 && it.report.blame !== "controller" ? greatestLevel(bytes) : 0;
   if (level > 1) return levelWords(it, d, level, rows);
-  const isCommand = it.report.blame === "controller", enabled = isCommand ? optionsEnabled(bytes) : "",
+  const isCommand = it.report.blame === "controller", enabled = isCommand ? optionsBeyond(bytes) : "",
         what = isCommand ? commandNamed(bytes) : messageNamed(d, bytes, isExtended(it.way));
   const who = isCommand ? `the controller sends ${name} ` : `${name} sends `;
   return {
@@ -373,6 +373,11 @@ const isToReader = (a) => a >> 3 === 2 || a >> 3 === 12;
 function optionsEnabled(bytes) {
   const [a, b] = bytes, isWhole = bytes.length > OPTIONS_END;
   return isWhole && isToReader(a) && (a & 7) === 7 && b === ENABLE_OPTIONS ? optionWords(bytes, 2) : "";
+}
+
+// The same of those that aren't followed: money of 32 bits and several currencies.
+function optionsBeyond(bytes) {
+  return optionsEnabled([...bytes.slice(0, 2), 0, 0, 0, bytes[OPTIONS_END - 1] & 6, ...bytes.slice(OPTIONS_END)]);
 }
 
 // So many bytes of ENABLE OPTIONS come before its sum.

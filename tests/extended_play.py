@@ -13,6 +13,7 @@ joined, without = load("joined"), load("without")
 STATUSES = {"inactive": 1, "disabled": 2, "enabled": 3}
 STATUSES |= {"idle": 4, "vend": 5, "approved": 5, "ending": 4}
 MEDIA = (0xFF, 0xFF, 0xFF, 0xFF, 0, 0, 0)
+ALWAYS_IDLE = 0x20  # in the last byte of ENABLE OPTIONS
 
 
 # Whole machines.
@@ -25,12 +26,22 @@ class Reader(joined.Reader):
         super().__init__(bus, name)
         self.setup[1] = bus.dice.choice((1, 2, 3, 3))
         self.asked_level = bus.dice.choice((1, 2, 3, 3))
+        if bus.dice.random() < 0.3:
+            self.setup[1] = self.asked_level = 3
         self.is_long = self.setup[1] >= 2 and self.asked_level >= 2
         self.has_id_options = bus.dice.random() < 0.5
 
     def power_on(self):
         super().power_on()
         self.refuses = False  # at the next POLL a request that it acknowledged
+        self.idles = False  # whether always idle is on
+        self.latest = None  # the last command of a sale that it took, whatever it told since
+        self.owed = []  # what it still tells of commands for which it had no session
+
+    def restart(self):
+        idles = self.idles
+        super().restart()
+        self.idles = idles and self.dice.random() < 0.5
 
     def media(self):
         return MEDIA if self.is_long else ()
@@ -47,8 +58,19 @@ class Reader(joined.Reader):
         return (*super().remarks(), (0x11,)) if self.is_long else super().remarks()
 
     def obeys(self, low, command):
-        if low == 3 and command[1] == 0 and self.state == "idle" and self.dice.random() < 0.05:
+        second = command[1] if len(command) > 1 else None
+        if low == 3 and second < 5:
+            self.latest = command
+        if low == 3 and second == 0 and self.state == "idle" and self.dice.random() < 0.05:
             self.refuses = True
+        elif (low, second) == (7, 4) and command[5] & ALWAYS_IDLE and self.setup[1] == self.asked_level == 3:
+            self.idles = True
+        elif self.idles and (low, second) == (3, 0) and self.state == "enabled":
+            self.state, self.comes_back = "vend", "enabled"
+        elif self.idles and (low, second) == (3, 1) and self.state in ("enabled", "idle"):
+            self.owed.append((6,))
+        elif self.idles and (low, second) == (3, 4) and self.state == "enabled":
+            self.owed.append((7,))
         else:
             super().obeys(low, command)
 
@@ -62,8 +84,60 @@ class Reader(joined.Reader):
     def tells(self, others, is_poll):
         if is_poll and self.refuses:
             self.refuses = False
-            others = [tuple(self.refusal())]
-        return super().tells(others, is_poll)
+            # (a status, since other messages may come after it)
+            others = [(0x0B, *[STATUSES[self.state]] * self.is_long)]
+        if not (is_poll and self.idles and not self.has_told_setup):
+            return super().tells(others, is_poll)
+        # It decides nothing before that.
+        answer = super().tells([tuple(self.setup)], is_poll)
+        self.has_told_setup = True
+        return answer
+
+    def news(self, is_poll):
+        if not self.idles:
+            return super().news(is_poll)
+        fresh = []
+        while self.dice.random() < 0.6 and self.room() > sum(map(len, fresh)) + 10:
+            message = self.event(is_poll)
+            if message is None:
+                break
+            fresh.append(message)
+        return fresh
+
+    def event(self, is_poll):
+        """What it tells next, with always idle: now and then what nobody asked for."""
+        draw, state = self.dice.random(), self.state
+        if not self.has_told_setup:
+            return None
+        if self.owed:
+            told = self.owed.pop(0)
+        elif state == "vend" and draw < 0.6:
+            return self.decides()
+        elif state == "enabled" and self.begins(is_poll) and draw < 0.2:
+            told = (3, 0, 100, *self.media())
+        elif state == "ending" and draw < 0.8:
+            told = (7,)
+        elif state != "inactive" and draw > 0.92:
+            told = self.dice.choice(((3, 0, 100, *self.media()), (6,), (7,)))
+        else:
+            return None
+        if (told[0], state) == (3, "enabled"):
+            self.state, self.comes_back = "idle", "enabled"
+        elif (told[0], state) == (6, "vend"):
+            self.state = "idle"
+        elif (told[0], state) == (7, "ending"):
+            self.state = self.comes_back
+        return told
+
+    def decides(self):
+        """Its answer to a request, if that wasn't cancelled."""
+        if self.latest[1] != 0 or self.dice.random() < 0.2:
+            self.state = "idle"
+            return (6,)
+        asked = self.latest[2] * 256 + self.latest[3]
+        self.amount, self.state = self.dice.choice((asked, asked, asked + 1)), "approved"
+        self.gained.append((self.approved, self.scale * self.amount))
+        return (5, *divmod(self.amount, 256))
 
 
 class ReaderController(joined.ReaderController):
@@ -71,6 +145,7 @@ class ReaderController(joined.ReaderController):
 
     UNDECIDED = ("asked", "waiting", "success owed", "failure owed", "ending")
     is_refused = False
+    needs_no_session = False  # always idle, by what it has heard
 
     def split(self, answer):
         """In the long format each 0B of these readers has a status, or is alone."""
@@ -89,11 +164,31 @@ class ReaderController(joined.ReaderController):
 
     def sets_up(self):
         yield from super().sets_up()
-        if self.dice.random() < 0.4:
-            options = self.dice.choice((0, 1, 8, 0x10, 0xC0))
-            yield from self.insists(self.base + 7, 4, 0, 0, 0, options)
+        if self.dice.random() < 0.6:
+            yield from self.enables_options()
+
+    def enables_options(self):
+        options = self.dice.choice((0, 1, 8, 0x10, 0xC0, *(ALWAYS_IDLE, ALWAYS_IDLE | 0x19) * 4))
+        yield from self.insists(self.base + 7, 4, 0, 0, 0, options)
+
+    def works(self):
+        if self.dice.random() < 0.01:
+            yield from self.enables_options()
+        else:
+            yield from super().works()
 
     def goes_on(self, vend):
+        draw = self.dice.random()
+        if self.needs_no_session and self.view == "none" and draw < 0.65:
+            if draw < 0.05:
+                self.say(vend, 4)
+            else:
+                self.sale = (vend, 0, 0, self.dice.choice((10, 25)), 0, self.dice.randrange(9))
+                self.say(*self.sale)
+            return
+        if self.needs_no_session and self.view == "asked" and draw < 0.2:
+            self.say(vend, 1)
+            return
         may_go_on = self.is_refused and self.device.is_long and self.view in self.UNDECIDED
         if may_go_on and self.dice.random() < 0.6:
             self.view = "idle"
@@ -102,7 +197,14 @@ class ReaderController(joined.ReaderController):
     def says(self, command):
         if command[0] == self.base + 3 and command[1] < 5:
             self.is_refused = False
+        if command[0] == self.base:
+            self.needs_no_session = False
         super().says(command)
+
+    def hears_ack(self, command):
+        super().hears_ack(command)
+        if command[:2] == (self.base + 7, 4) and self.device.setup[1] == self.device.asked_level == 3:
+            self.needs_no_session = bool(command[5] & ALWAYS_IDLE)
 
     def hears_nak(self, command):
         self.is_refused = command[0] == self.base + 3 and command[1] < 5
@@ -110,6 +212,8 @@ class ReaderController(joined.ReaderController):
     def hears(self, command, heard):
         super().hears(command, heard)
         for message in heard.messages:
+            if message[0] == 0:
+                self.needs_no_session = False
             if message[0] == 0x0B and (len(message) == 1 or 1 <= message[1] <= 4):
                 self.is_refused = True
 
@@ -267,11 +371,11 @@ def sets_up(bus, base, asked, own, is_wild):
 
 
 def options(bus, base):
-    """ENABLE OPTIONS, mostly with a bit that changes nothing; the sum may be wrong."""
+    """ENABLE OPTIONS, mostly with bits that are followed; the sum may be wrong."""
     dice = bus.dice
     options = [0, 0, 0, dice.choice((0x01, 0x08, 0x10, 0x40, 0x80))]
     if dice.random() < 0.5:
-        options[dice.choice((0, 1, 2, 3, 3))] |= dice.choice((0x02, 0x04, 0x20))
+        options[dice.choice((0, 1, 2, 3, 3))] |= dice.choice((0x02, 0x04, ALWAYS_IDLE, ALWAYS_IDLE))
     command = (base + 7, 4, *options)
     if dice.random() < 0.8:
         yield from without.taken(bus, *command)
@@ -377,6 +481,304 @@ def session(bus, base, is_long, careless):
         yield from without.tells(bus, base, 7)
 
 
+class Seller:
+    """A reader that mostly sells without a session, and what may come in each of its states.
+
+    It is known here what the switch, the levels and the controller's view mostly are, so that most
+    of what is asked may be asked. What may be told it isn't: that is for each state alike.
+    """
+
+    LEVELS = ((3, 3),) * 5 + ((2, 3), (3, 2), (2, 2), (1, 3), (3, 1))
+
+    def __init__(self, bus, base, careless):
+        self.bus, self.dice, self.base, self.careless = bus, bus.dice, base, careless
+        self.levels, self.switch, self.view = (3, 3), False, "none"
+        if self.dice.random() < 0.2:
+            self.levels = self.dice.choice(self.LEVELS)
+
+    def is_on(self):
+        return self.switch and min(self.levels) == 3
+
+    # Commands and messages.
+
+    def request(self):
+        return self.base + 3, 0, 0, self.dice.choice((10, 25)), 0, 5
+
+    def low(self, second):
+        return self.base + 3, second, *((0, 5) if second == 2 else ())
+
+    def begin(self):
+        return 3, 0, 100, *(MEDIA if min(self.levels) >= 2 else ())
+
+    def part(self, word):
+        """A command, or a message."""
+        words = {"cancel": 1, "success": 2, "failure": 3, "complete": 4}
+        if word in words:
+            return self.low(words[word])
+        ables = {"disable": (self.base + 4, 0), "enable": (self.base + 4, 1)}
+        told = {"approval": (5, 0, 10), "denial": (6,), "end": (7,), "reset": (0,)}
+        return (ables | told).get(word) or {"request": self.request, "begin": self.begin}[word]()
+
+    def sees(self, *words):
+        """What the controller makes of these."""
+        for word in words:
+            view = self.view
+            if word in ("request", "lost", "cancel"):
+                self.view = "waiting"
+            elif word in ("success", "failure"):
+                self.view = "idle"
+            elif word == "complete":
+                self.view = "ending"
+            elif word == "reset" or (word, view) == ("end", "ending"):
+                self.view = "none"
+            elif (word, view) in (("begin", "none"), ("denial", "waiting")):
+                self.view = "idle"
+            elif (word, view) == ("approval", "waiting"):
+                self.view = "approved"
+
+    def each(self, words):
+        """Commands that the reader takes, and messages that it tells, one after the other; a request
+        that it doesn't hear; and a level below 3."""
+        for word in words:
+            yield
+            if word == "lost":
+                self.bus.ask(*self.request())
+            elif word == "lower":
+                yield from self.shows_levels(self.dice.choice(((2, 3), (3, 2), (2, 2))))
+            elif self.part(word)[0] >= self.base:
+                yield from without.taken(self.bus, *self.part(word))
+            else:
+                yield from without.tells(self.bus, self.base, *self.part(word))
+            self.sees(word)
+
+    # What is said.
+
+    def talk(self):
+        dice = self.dice
+        yield from self.starts(dice.random() < 0.5)
+        yield from self.enables_options()
+        while True:
+            yield
+            draw = dice.random()
+            if dice.random() < self.careless:
+                without.anything(self.bus, self.base)
+            elif draw < 0.05 or not self.switch and draw < 0.4:
+                yield from self.enables_options()
+            elif draw < 0.08 or min(self.levels) < 3 and draw < 0.6:
+                yield from self.shows_levels()
+            elif draw < 0.11:
+                yield from self.starts(dice.random() < 0.6)
+            elif draw < 0.15:
+                yield from without.taken(self.bus, self.base + 2)
+            elif not self.is_on() and dice.random() < 0.85:
+                yield from self.sells_in_a_session()
+            elif draw < 0.6:
+                yield from self.places()
+            elif draw < 0.7:
+                yield from self.goes_back()
+                yield from self.each(dice.choice(self.LOWERED))
+            elif draw < 0.76:
+                yield from self.tells_again()
+            else:
+                yield from self.sells()
+
+    def starts(self, has_reset):
+        """RESET, or a restart, and what sets the reader up."""
+        if has_reset:
+            yield from without.taken(self.bus, self.base)
+            self.switch = False
+        yield from without.tells(self.bus, self.base, 0x00)
+        self.view = "none"
+        yield from sets_up(self.bus, self.base, *self.levels, self.dice.random() < 0.1)
+
+    def enables_options(self):
+        """ENABLE OPTIONS with always idle, in one of many ways: it may be refused, or unanswered."""
+        bus, dice = self.bus, self.dice
+        command = (self.base + 7, 4, 0, 0, 0, dice.choice((ALWAYS_IDLE, ALWAYS_IDLE, 0xF9, 0x39)))
+        way = dice.randrange(20)
+        is_taken = way < 14
+        if way < 12:
+            yield from without.taken(bus, *command)
+        elif way == 12:
+            told = config(dice, dice.choice((self.levels[1], self.levels[1], 2, 3)))
+            yield from without.told(bus, command, *told)
+            self.levels = (self.levels[0], told[1])
+        elif way == 13:
+            yield from without.told(bus, command, *dice.choice(((4,), (8,), (0x0A, 0x30))))
+        elif way < 16:
+            yield from without.told(bus, command, *dice.choice(((0x0B,), (0x0B, 3), (4, 0x0B, 2))))
+        elif way < 18:
+            option = dice.choice((0, 1, 0xD9))
+            yield from without.taken(bus, self.base + 7, 4, 0, ALWAYS_IDLE, 0, option)
+        else:
+            bus.ask(*command)
+            if way == 18:
+                bus.nak()
+        self.switch |= is_taken and min(self.levels) == 3
+        yield
+
+    def shows_levels(self, levels=None):
+        """A level that changes, of the controller or of the reader, or of both."""
+        bus, dice = self.bus, self.dice
+        asked, own = levels or dice.choice(self.LEVELS)
+        setup = (self.base + 1, 0, asked, 16, 2, 0)
+        way = dice.randrange(4)
+        if way == 0:
+            yield from without.told(bus, setup, *config(dice, own))
+        elif way == 1:
+            yield from without.taken(bus, *setup)
+        elif way == 2:
+            bus.ask(*setup)
+        else:
+            yield from without.tells(bus, self.base, *config(dice, own))
+        self.levels = (asked if way < 3 else self.levels[0], own if way in (0, 3) else self.levels[1])
+        yield
+
+    def sells_in_a_session(self):
+        yield from self.goes_back()
+        yield from session(self.bus, self.base, min(self.levels) >= 2, self.careless)
+
+    WAYS = (
+        (), ("disable",), ("begin",), ("request",), ("request", "denial"), ("complete",), ("begin", "complete"),
+        ("request", "approval"), ("request", "approval", "success", "complete"), ("begin", "request"),
+        ("begin", "request", "approval"), ("request", "begin"), ("begin", "disable"), ("request", "disable"),
+        ("request", "approval", "failure"), ("request", "approval", "disable"), ("request", "cancel"),
+        ("request", "approval", "end"), ("request", "denial", "complete"), ("begin", "end"), ("reset",),
+    )
+    RIGHT = {
+        "none": ("request", "complete"),
+        "idle": ("request", "complete"),
+        "waiting": ("cancel",),
+        "approved": ("success", "failure"),
+        "ending": ("complete",),
+    }
+    SHOWS = {
+        "none": (("request", "approval"), ("request", "denial"), ("begin", "request"), ("complete", "end")),
+        "idle": (("request", "approval", "success"), ("request", "approval"), ("complete", "end")),
+        "waiting": (("approval",), ("approval", "success"), ("cancel", "denial"), ("begin", "approval")),
+        "approved": (("success",), ("success", "complete", "end"), ("failure",), ("end", "success")),
+        "ending": (("end",), ("end", "request", "approval"), ("complete", "end"), ("begin", "end")),
+    }
+    # What shows where a reader is once always idle is off.
+    LOWERED = (
+        ("begin", "lost", "cancel", "lower", "denial"), ("begin", "lost", "cancel", "lower", "complete", "end"),
+        ("request", "denial", "lost", "cancel", "lower", "denial"), ("lost", "cancel", "lower", "begin"),
+        ("request", "lower", "approval", "success"), ("request", "lower", "denial", "complete", "end"),
+        ("request", "begin", "lower", "approval"), ("request", "begin", "lower", "denial"),
+        ("request", "approval", "denial", "lower", "success", "complete", "end"), ("lower", "begin", "request", "approval"),
+        ("request", "approval", "begin", "lower", "failure"), ("request", "denial", "end", "lower", "complete", "end"),
+        ("complete", "end", "lower", "begin"), ("complete", "lower", "end"), ("lower", "request"), ("lower", "complete"),
+        ("disable", "begin", "lower", "enable", "begin"), ("disable", "denial", "lower", "end"),
+        ("request", "disable", "denial", "complete", "end", "lower", "begin"), ("begin", "end", "lower", "begin"),
+        ("request", "approval", "success", "complete", "begin", "lower", "end"), ("begin", "lower", "end"),
+        ("request", "approval", "success", "complete", "denial", "end", "lower", "begin"), ("request", "lower", "cancel"),
+    )
+    MESSAGES = ("begin", "denial", "end")
+    COMMANDS = ("request", "cancel", "success", "failure", "complete")
+
+    def places(self):
+        """A reader and its controller come to any place with always idle. There something is told or
+        asked, and what comes then shows where they are."""
+        dice = self.dice
+        if dice.random() < 0.8:
+            yield from self.goes_back()
+        yield from self.each(dice.choice(self.WAYS))
+        for _ in range(dice.choice((0, 1, 1, 2))):
+            if dice.random() < 0.6:
+                told = self.MESSAGES if dice.random() < 0.95 else ("approval",)
+                yield from self.each((dice.choice(told),))
+            else:
+                yield from self.asks()
+        if dice.random() < 0.1:
+            yield from self.each(("lower",))
+        view = self.view if dice.random() < 0.9 else dice.choice(list(self.SHOWS))
+        yield from self.each(dice.choice(self.SHOWS[view]))
+        if dice.random() < 0.8:
+            yield from self.goes_back()
+
+    def asks(self):
+        """A transaction, and any answer."""
+        bus, dice = self.bus, self.dice
+        words = self.RIGHT[self.view] if dice.random() < 0.9 else self.COMMANDS
+        word = dice.choice(words)
+        draw = dice.random()
+        if draw < 0.4:
+            yield from self.each((word,))
+        elif draw < 0.8:
+            told = [dice.choice(self.MESSAGES)]
+            if word == "request":
+                told = dice.choice((told, ["approval"], ["begin", "approval"], ["denial", "end"]))
+            content = [byte for message in told for byte in self.part(message)]
+            yield from without.told(bus, self.part(word), *content)
+            self.sees(word, *told)
+        else:
+            # It is lost, and mostly given up.
+            bus.ask(*self.part(word))
+            if draw > 0.95:
+                bus.nak()
+            self.sees(word)
+            yield
+            if word == "request" and dice.random() < 0.8:
+                yield from self.each(("cancel", "denial"))
+
+    def goes_back(self):
+        """To no session, by what the controller may ask and the reader may tell."""
+        if self.view == "waiting":
+            yield from self.each(("denial",))
+        if self.view == "approved":
+            yield from self.each((self.dice.choice(("success", "success", "failure")),))
+        if self.view == "idle":
+            yield from self.each(("complete",))
+        if self.view == "ending":
+            yield from self.each(("end",))
+        if self.dice.random() < 0.3:
+            yield from self.each(("enable",))
+
+    def tells_again(self):
+        """What the controller doesn't acknowledge, between a request and its repeat."""
+        bus, dice = self.bus, self.dice
+        yield from self.goes_back()
+        request = self.request()
+        bus.ask(*request)
+        if dice.random() < 0.3:
+            bus.ack()
+        yield
+        bus.ask(self.base + 2)
+        bus.reply(*self.part(dice.choice(("begin", "begin", "denial", "end"))))
+        yield
+        yield from without.taken(bus, *request)
+        yield
+        self.sees("request")
+        if dice.random() < 0.5:
+            yield from without.taken(bus, self.base + 2)
+        yield from self.each(dice.choice((("approval",), ("begin", "approval"), ("denial",))))
+
+    def sells(self):
+        """A sale without a session, in which the reader may tell more than it has to."""
+        dice = self.dice
+        yield from self.goes_back()
+        if dice.random() < 0.4:
+            told = dice.choice((["approval"], ["approval"], ["begin", "approval"]))
+            content = [byte for message in told for byte in self.part(message)]
+            yield from without.told(self.bus, self.request(), *content)
+            self.sees("request", *told)
+        else:
+            told = dice.choice((["approval"], ["approval"], ["begin", "approval"], ["end", "approval"]))
+            yield from self.each(["request", *told])
+        if dice.random() < self.careless:
+            without.anything(self.bus, self.base)
+        if dice.random() < 0.1:
+            yield from self.each((dice.choice(self.MESSAGES),))
+        if dice.random() < 0.6:
+            yield from self.goes_back()
+        else:
+            yield from self.each(("success",))
+
+
+def seller(bus, base, careless):
+    return Seller(bus, base, careless).talk()
+
+
 def recycler(bus, careless):
     """A validator whose bills go to a recycler, mostly."""
     dice = bus.dice
@@ -404,7 +806,7 @@ def recycler(bus, careless):
 def talks(bus, dice):
     """Those of some devices from power-on, and perhaps of others."""
     careless = dice.choice((0, 0, 0, 0.02, 0.1))
-    made = [reader(bus, base, careless) for base in without.READERS]
+    made = [dice.choice((reader, seller, seller))(bus, base, careless) for base in without.READERS]
     made = dice.sample(made, dice.choice((0, 1, 1, 1, 1, 2)))
     if not made or dice.random() < 0.15:
         made.append(recycler(bus, careless))

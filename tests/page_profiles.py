@@ -115,10 +115,10 @@ def try_neither(page, want):
 
 def try_options(page, want):
     """The headline names the option that isn't followed, and the story has the command."""
-    page.take(Bus().reader(level=3, own=3).ack(0x17, 4, 0, 0, 0, 0x20).data, [], "options.csv")
+    page.take(Bus().reader(level=3, own=3).ack(0x17, 4, 0, 0, 0, 0x22).data, [], "options.csv")
     came = read(page)
-    want("Not followed: the controller enables always idle on card reader 1" in came["card"], f"options: {came['card']!r}")
-    want(any("the command 17 04 00 00 00 20 3B, enable options: always idle" in it for it in came["story"]), f"options: {came['story']}")
+    want("Not followed: the controller enables money of 32 bits on card reader 1" in came["card"], f"options: {came['card']!r}")
+    want(any("the command 17 04 00 00 00 22 3D, enable options: money of 32 bits, always idle" in it for it in came["story"]), f"options: {came['story']}")
 
 
 def try_once(page, want):

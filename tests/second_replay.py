@@ -250,8 +250,9 @@ def _changer_and_bill_openings() -> dict:
     }
 
 
-#: The option bits that aren't followed, in the last byte of ENABLE OPTIONS.
-_OPTIONS_OF_PROFILE = 0x02 | 0x04 | 0x20
+#: The option bits that aren't followed, in the last byte of ENABLE OPTIONS; and always idle, which is.
+_OPTIONS_OF_PROFILE = 0x02 | 0x04
+_ALWAYS_IDLE = 0x20
 
 
 def _reader_openings(device: str, address: int, extended: bool) -> dict:
@@ -401,6 +402,8 @@ class Act(NamedTuple):
     messages: tuple = ()
     #: Of an ask: whether the format of the reader's messages is long.
     is_long: bool = False
+    #: Of an ask, ack and reply: whether the reader's level was known before it, and below 3.
+    is_low: bool = False
 
 
 class Link:
@@ -524,9 +527,11 @@ class Link:
         self.device = command.device
         if command.name == "ENABLE OPTIONS" and asked[-1] & _OPTIONS_OF_PROFILE:
             raise Broken(PROFILE, CONTROLLER)
+        is_low = self._is_low(command.device)
         if command.name == "SETUP config":
             self.sent_levels[command.device] = asked[2]
-        return Act("ask", command, bytes(asked), is_long=self._formats(command.device)[0] is _LONG_MESSAGES)
+        is_long = self._formats(command.device)[0] is _LONG_MESSAGES
+        return Act("ask", command, bytes(asked), is_long=is_long, is_low=is_low)
 
     def _answer_of_controller(self, word: int) -> Act:
         kind = _VMC_ANSWERS.get(word)
@@ -562,7 +567,8 @@ class Link:
     def _answer_of_peripheral(self, word: int) -> Optional[Act]:
         if word == _ACK or word == _NAK:
             self.position = QUIET
-            return Act("ack" if word == _ACK else "nak", self.command, bytes(self.asked))
+            kind, is_low = "ack" if word == _ACK else "nak", self._is_low(self.device)
+            return Act(kind, self.command, bytes(self.asked), is_low=is_low)
         if word > 0xFF or self.command.most_data == 0:
             raise Broken("Answer", self.device)
         self.position = IN_DATA
@@ -577,9 +583,10 @@ class Link:
                 raise Broken("Length", self.device)
             return None
         content = bytes(words[:-1])
+        is_low = self._is_low(self.device)
         messages = self._judge_data(content, word & 0xFF)
         self.position = REPLIED
-        return Act("reply", self.command, bytes(self.asked), content, tuple(messages))
+        return Act("reply", self.command, bytes(self.asked), content, tuple(messages), is_low=is_low)
 
     def _judge_data(self, content: bytes, last: int) -> list[bytes]:
         """Judges a whole data block (commands-and-messages.md, *In which order*): its messages."""
@@ -615,10 +622,19 @@ class Link:
             return [_BILL_MESSAGES[self.extended]]
         if not self.extended:
             return [_READER_MESSAGES]
-        levels = [known[device] for known in (self.sent_levels, self.told_levels) if device in known]
+        levels = self._levels(device)
         if any(level < 2 for level in levels):
             return [_SHORT_MESSAGES]
         return [_LONG_MESSAGES] if len(levels) == 2 else [_SHORT_MESSAGES, _LONG_MESSAGES]
+
+    def _levels(self, device: str) -> list[int]:
+        """Those of the two levels of a reader that are known."""
+        return [known[device] for known in (self.sent_levels, self.told_levels) if device in known]
+
+    def _is_low(self, device: str) -> bool:
+        """Whether the level of a reader is known, and below 3 (extended-profile.md, *Always idle*)."""
+        levels = self._levels(device)
+        return len(levels) == 2 and min(levels) < 3
 
     def _read_list(self, content: bytes, lengths: list) -> tuple[list[bytes], Optional[str]]:
         """The messages of a data block in one reading, and the rule that they break."""
@@ -726,6 +742,9 @@ class Device:
     def controller_to_power_on(self):
         """The controller's part, as at power-on."""
 
+    def go_by(self, act: Act):
+        """What an ask, an ack or a reply goes by, of what was shown before it."""
+
     def ask(self, act: Act):
         """The effect of a command that the controller sends."""
 
@@ -781,10 +800,11 @@ class Device:
                 return False
         return False
 
-    def ack(self, command: Command, asked: bytes, lost: bool):
+    def ack(self, act: Act, lost: bool):
+        command = act.command
         if command.name == "POLL" and self.holds:
             raise Impossible
-        self.take_command(command, asked)
+        self.take_command(command, act.asked)
         if not lost:
             self.answer_heard(command)
 
@@ -992,6 +1012,14 @@ class Validator(Device):
 INACTIVE, DISABLED, ENABLED, IDLE, VEND, APPROVED, ENDING = range(7)
 
 
+#: With always idle: where a new message is also possible, and the state stays.
+_STAYS_WITH_ALWAYS_IDLE = {
+    0x03: (DISABLED, IDLE, VEND, APPROVED, ENDING),
+    0x06: (DISABLED, ENABLED, IDLE, APPROVED, ENDING),
+    0x07: (DISABLED, ENABLED, IDLE, VEND, APPROVED),
+}
+
+
 class Reader(Device):
     """*A reader*, and *What the controller knows of a reader*."""
 
@@ -1003,9 +1031,14 @@ class Reader(Device):
         self.state = INACTIVE
         #: In a session: the state that it goes back to.
         self.back = DISABLED
-        #: The last transaction asked, and the last one taken.
+        #: The last transaction asked, and the last one taken; and that one, though a 03 came after it.
         self.last_asked: Optional[bytes] = None
         self.last_taken: Optional[bytes] = None
+        self.last_of_all: Optional[bytes] = None
+        #: The switch of always idle; whether the level is known to be below 3; and whether always idle is on.
+        self.switch = False
+        self.is_low = False
+        self.always_idle = False
         #: Whether the last transaction asked is refused.
         self.refused = False
         #: The last amount of 05.
@@ -1036,10 +1069,15 @@ class Reader(Device):
 
     def forget(self):
         super().forget()
-        self.last_taken = None
+        self.last_taken = self.last_of_all = None
+        self.switch = False
 
     def controller_to_power_on(self):
         self.view = "no session"
+
+    def go_by(self, act):
+        self.is_low = act.is_low
+        self.always_idle = self.switch and not act.is_low
 
     # -- the reader
 
@@ -1049,7 +1087,7 @@ class Reader(Device):
             if asked == self.last_taken and self.holds:
                 return
             self._take_transaction(name)
-            self.last_taken = asked
+            self.last_taken = self.last_of_all = asked
             self.holds = False
         elif name == "RESET":
             self.to_power_on()
@@ -1061,6 +1099,9 @@ class Reader(Device):
             self._enable(DISABLED, ENABLED)
         elif name == "READER DISABLE":
             self._enable(ENABLED, DISABLED)
+        elif name == "ENABLE OPTIONS":
+            if asked[-1] & _ALWAYS_IDLE and not self.is_low:
+                self.switch = True
 
     def _enable(self, before: int, after: int):
         if self.state == before:
@@ -1070,7 +1111,11 @@ class Reader(Device):
 
     def _take_transaction(self, name: str):
         state = self.state
-        if name == "VEND REQUEST" or name == "VEND CANCEL":
+        if self.always_idle and name == "VEND REQUEST" and state == ENABLED:
+            self.state, self.back = VEND, ENABLED
+        elif self.always_idle and name == "VEND CANCEL" and state == IDLE:
+            pass
+        elif name == "VEND REQUEST" or name == "VEND CANCEL":
             if state in (IDLE, VEND, APPROVED):
                 self.state = VEND
         elif name == "SESSION COMPLETE":
@@ -1088,11 +1133,14 @@ class Reader(Device):
 
     def tell(self, message):
         first = message[0]
+        if self.always_idle and self.state in _STAYS_WITH_ALWAYS_IDLE.get(first, ()):
+            return
         if first == 0x03:
             self._go(self.state == ENABLED, IDLE)
             self.back = ENABLED
         elif first == 0x05:
-            requested = self.last_taken is not None and self.last_taken[1] == 0x00
+            last = self.last_of_all if self.always_idle else self.last_taken
+            requested = last is not None and last[1] == 0x00
             self._go(self.state == VEND and requested, APPROVED)
             self.approved = self.approved.plus(device=self.value(amount_of(message)))
         elif first == 0x06:
@@ -1119,9 +1167,19 @@ class Reader(Device):
         if name == "RESET":
             self.view = "no session"
         elif name in _TRANSACTIONS:
-            self._ask_transaction(name, self.view, act.asked == self.last_asked, self.refused and act.is_long)
+            if not self._ask_without_session(name):
+                again, refused = act.asked == self.last_asked, self.refused and act.is_long
+                self._ask_transaction(name, self.view, again, refused)
             self.last_asked = act.asked
             self.refused = False
+
+    def _ask_without_session(self, name: str) -> bool:
+        """What the controller may ask with always idle alone."""
+        after = {"VEND REQUEST": "Asked", "SESSION COMPLETE": "Ending"}.get(name)
+        if not self.always_idle or self.view != "no session" or after is None:
+            return False
+        self.view = after
+        return True
 
     def _ask_transaction(self, name: str, view: str, again: bool, refused: bool):
         undecided = view in ("Asked", "Waiting", "SuccessOwed", "FailureOwed")
@@ -1260,6 +1318,9 @@ class Runs:
                 self.silences[device].end()
             return
         device, kind = act.command.device, act.kind
+        if kind in ("ask", "ack", "reply"):
+            for state in self.devices[device]:
+                state.go_by(act)
         if kind == "ask":
             self.silences[device].ask(time, self._limit(device))
             self._step(device, lambda state, _: state.ask(act), choices, CONTROLLER)
@@ -1267,7 +1328,7 @@ class Runs:
         if kind in ("ack", "nak", "reply"):
             self.silences[device].end()
         if kind == "ack":
-            self._step(device, lambda state, lost: state.ack(act.command, act.asked, lost), choices)
+            self._step(device, lambda state, lost: state.ack(act, lost), choices)
         elif kind == "nak":
             self._step(device, lambda state, _: state.nak(act.command), choices)
         elif kind == "reply":

@@ -1,6 +1,7 @@
 pub mod Gone
 pub mod Grammar
 pub mod PlaceBytes
+pub mod Reading
 pub mod RulePlaces
 pub mod Step
 pub mod Steps

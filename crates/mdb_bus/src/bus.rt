@@ -16,7 +16,7 @@ use super::phase::Phase;
 use super::place::Place;
 use super::scope::{Beginning, Scope};
 use super::spelled::Spelled;
-use mdb_msgs::{ChangerCommand, Command, Device, DeviceSet, Setups};
+use mdb_msgs::{ChangerCommand, Command, Device, DeviceSet, ReaderCommand, Setups};
 use mdb_words::{Event, Line};
 
 /// The bus after the rows that it was fed.
@@ -141,7 +141,8 @@ impl Bus {
 
     /// Takes the reply that a row has ended, if it can be read and what it says is
     /// followed, and answers that it ends an act, which it then puts into `act`.
-    #[inline(always)]
+    // Not inlined, so that only rows that end a reply pay for it.
+    #[inline(never)]
     fn take_reply(&mut self, event: Event, act: &mut Act) -> Result<bool, LinkFault>
         requires { self.old.place.phase ≡ Phase.InReply }
         ensures taken { IfOk result (λ ended. (reply : Reply)
@@ -161,7 +162,7 @@ impl Bus {
         let profile = self.scope.begins.profile();
         match self.place.end_reply(profile, self.levels, act) {
             Ok(()) => {
-                self.levels = self.levels.by(profile, act);
+                self.levels.note(profile, act);
                 self.last = Some(event);
                 Ok(true)
             }
@@ -206,7 +207,9 @@ impl Bus {
         ensures place { self.new.place ≡ self.old.place }
     {
         if let Act::Ask(command) = act {
-            self.levels = self.levels.after(*command);
+            if let Command::Reader(_, ReaderCommand::SetupConfig { .. }) = command {
+                self.levels = self.levels.after(*command);
+            }
             self.asked = Some(command.device());
         }
     }

@@ -3,6 +3,7 @@
 ghost use Rattle.std.specs.Prelude.{◌≡◌, IfOk, IfErr};
 ghost use Rattle.mdb_msgs.specs.Replies.{IsReplyTo, reply_bytes};
 ghost use Rattle.mdb_bus.specs.Formats.{HasFault, IsReadAs};
+ghost use Rattle.mdb_bus.specs.inner.Reading.{IsReadingIn};
 
 use mdb_msgs::{Command, MsgFault, Reading, Reply, reply_of};
 
@@ -25,26 +26,31 @@ pub(crate) fn read_as(format: Format, command: &Command, bytes: &[u8]) -> Result
     ensures spelled { IfOk result (λ reply. bytes.now ≡ reply_bytes reply) }
     ensures fault { IfErr result (HasFault format command.now bytes.now) }
 {
+    reply_of(reading_in(format, command, bytes), command, bytes)
+}
+
+/// The reading of a reply's bytes in a format.
+// Chosen before they are read, so that a reply is moved less often.
+#[inline(always)]
+fn reading_in(format: Format, command: &Command, bytes: &[u8]) -> Reading
+    ensures { IsReadingIn format command.now bytes.now result }
+{
     match format {
-        Format::As(reading) => reply_of(reading, command, bytes),
-        Format::Early => read_early(command, bytes),
+        Format::As(reading) => reading,
+        Format::Early => early_reading(command, bytes),
     }
 }
 
-/// The same, where the levels don't tell the reading.
+/// The same, where the levels don't tell it.
 #[inline(never)]
-fn read_early(command: &Command, bytes: &[u8]) -> Result<Reply, MsgFault>
-    ensures found { IfOk result (IsReplyTo command.now) }
-    ensures format { IfOk result (IsReadAs Format.Early command.now) }
-    ensures spelled { IfOk result (λ reply. bytes.now ≡ reply_bytes reply) }
-    ensures fault { IfErr result (HasFault Format.Early command.now bytes.now) }
+fn early_reading(command: &Command, bytes: &[u8]) -> Reading
+    ensures { IsReadingIn Format.Early command.now bytes.now result }
 {
-    let fault = match reply_of(Reading::Short, command, bytes) {
-        Ok(reply) => return Ok(reply),
-        Err(fault) => fault,
-    };
-    match reply_of(Reading::Long, command, bytes) {
-        Ok(reply) => Ok(reply),
-        Err(_) => Err(fault),
+    match reply_of(Reading::Short, command, bytes) {
+        Ok(_) => Reading::Short,
+        Err(_) => match reply_of(Reading::Long, command, bytes) {
+            Ok(_) => Reading::Long,
+            Err(_) => Reading::Short,
+        },
     }
 }

@@ -80,6 +80,18 @@ impl Levels {
         levels
     }
 
+    /// Notes what an act tells of the levels, by a profile.
+    // A reply tells nothing by the base profile, which is seen without a call.
+    #[inline(always)]
+    pub(crate) fn note(&mut self, profile: Profile, act: &Act)
+        ensures { self.new ≡ levels_by profile act.now self.old }
+    {
+        match (profile, act) {
+            (Profile::Base, Act::Reply(..)) => {}
+            _ => *self = self.by(profile, act),
+        }
+    }
+
     /// The levels after an act, by a profile.
     // Not inlined, since few rows end an ask or a reply that tells a level.
     #[inline(never)]
@@ -117,11 +129,21 @@ impl Levels {
     pub fn format(self, profile: Profile, command: Command) -> Format
         ensures { result ≡ format_for profile self command }
     {
-        match (profile, command) {
-            (Profile::Base, _) => Format::As(Reading::Base),
-            (Profile::Extended, Command::Reader(ReaderUnit::First, _)) => self.first.format(),
-            (Profile::Extended, Command::Reader(ReaderUnit::Second, _)) => self.second.format(),
-            (Profile::Extended, _) => Format::As(Reading::Short),
+        match profile {
+            Profile::Base => Format::As(Reading::Base),
+            Profile::Extended => self.extended_format(command),
+        }
+    }
+
+    /// The same, by the extended profile.
+    #[inline(never)]
+    fn extended_format(self, command: Command) -> Format
+        ensures { result ≡ format_for Profile.Extended self command }
+    {
+        match command {
+            Command::Reader(ReaderUnit::First, _) => self.first.format(),
+            Command::Reader(ReaderUnit::Second, _) => self.second.format(),
+            _ => Format::As(Reading::Short),
         }
     }
 

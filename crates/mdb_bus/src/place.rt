@@ -197,9 +197,8 @@ impl Place {
 
     /// The reply has ended, with the right length and sum: takes it, if it can be read and what it
     /// says is followed, and puts the act into `act`. Else both are as they were.
-    // Not inlined, so that only rows that end a reply pay for it. What it calls is inlined here, so
-    // that a reply is moved less often.
-    #[inline(never)]
+    // Inlined, like what it calls, so that a reply is moved less often.
+    #[inline(always)]
     pub(crate) fn end_reply(
         &mut self,
         profile: Profile,

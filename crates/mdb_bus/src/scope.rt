@@ -47,7 +47,8 @@ pub enum Beginning {
     /// state.
     PowerOn(Profile),
     /// While the machine was running. Nothing is known of what was sent before, and each device may
-    /// be in any state. These setup data are known from elsewhere.
+    /// be in any state. These setup data are known from elsewhere. By the extended profile this
+    /// isn't followed yet: where levels weren't seen, or with always idle, blame may be wrong.
     Joined(Setups, Profile),
 }
 

@@ -11,7 +11,7 @@ use Rattle.mdb_machine.specs.PastValues.{past_after}
 use Rattle.mdb_cashless.specs.declared.reader.transaction.Transaction.{Transaction}
 use Rattle.mdb_cashless.specs.ReaderFacts.{effect_of, effect_of_own, own_messages, own_of, own_transaction}
 use Rattle.mdb_cashless.specs.ReaderMessages.{amount_in, begin_session, config_in, last_said, level_in, messages_of, part_of}
-use Rattle.mdb_cashless.specs.ReaderValues.{ToldFacts, extended_after, last_after, taken, told, told_with}
+use Rattle.mdb_cashless.specs.ReaderValues.{ToldFacts, extended_after, extended_taking, last_after, taken, told, told_with}
 use Rattle.mdb_cashless.specs.Transactions.{transaction_of}
 use Rattle.mdb_cashless.specs.Units.{own}
 
@@ -39,7 +39,9 @@ answered unit command refused messages old =
       amount = or_else (last_said amount_in (own_messages unit command messages)) old.amount;
       extended =
           extended_after None (last_said level_in (own_messages unit command messages)) None
-          old.extended;
+          (extended_taking
+          (resets (effect_taken (effect_of unit) (if refused then None else Some command)))
+          (own_of unit (if refused then None else Some command)) old.extended);
       past =
           past_after
           (resets (effect_taken (effect_of unit) (if refused then None else Some command)))
@@ -59,7 +61,9 @@ answered_own found refused messages old =
           if resets (effect_of_own took) || begin_session own_ones then None
           else or_else (own_transaction took) old.taken;
       amount = or_else (last_said amount_in own_ones) old.amount;
-      extended = extended_after None (last_said level_in own_ones) None old.extended;
+      extended =
+          extended_after None (last_said level_in own_ones) None
+          (extended_taking (resets (effect_of_own took)) took old.extended);
       past =
           past_after (resets (effect_of_own took)) (effect_of_own took) (map part_of own_ones)
           old.past;

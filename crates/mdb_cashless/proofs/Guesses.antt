@@ -1,6 +1,7 @@
 -- That a step of a reader depends on what may not be known as far as it can be guessed: few guesses
 -- of it are enough.
-use Rattle.std.proofs.Common.{◌≡◌, ◌≢◌, ◌⊎◌, ◌<◌, ◌==◌, ◌&&◌, ℕ, suc, Bool, true, false, List, [], ◌∷◌, ◌++◌, length, take, Option, Some, None, refl, if◌then◌else◌, arith, ap, sym, subst, ◌∙◌, inl, inr}
+use Rattle.std.proofs.Common.{◌≡◌, ◌≢◌, ◌⊎◌, ◌<◌, ◌==◌, ◌&&◌, ◌||◌, ℕ, suc, Bool, true, false, List, [], ◌∷◌, ◌++◌, length, take, Option, Some, None, refl, if◌then◌else◌, arith, ap, sym, subst, ◌∙◌, inl, inr}
+use Rattle.std.specs.Option.{is_none}
 use Rattle.std.proofs.Math.Seq.{take-append_seam}
 use Rattle.std.proofs.lemmas.Bool.{eq-eqb}
 use Rattle.std.proofs.lemmas.List.{length-append}
@@ -15,7 +16,6 @@ use Rattle.mdb_machine.specs.Kept.{IsNew, held, holds_after, kept_of}
 use Rattle.mdb_machine.specs.Past.{or_else}
 use Rattle.mdb_cashless.specs.declared.reader.device.DeviceState.{DeviceState}
 use Rattle.mdb_cashless.specs.declared.reader.device.DeviceState.TheVariants as device
-use Rattle.mdb_cashless.specs.declared.reader.device.Home.{Home}
 use Rattle.mdb_cashless.specs.declared.reader.messages.ReaderActivity.{ReaderActivity}
 use Rattle.mdb_cashless.specs.declared.reader.messages.ReaderActivity.TheVariants.{VendApproved}
 use Rattle.mdb_cashless.specs.declared.reader.state.ReaderState.{ReaderState}
@@ -24,11 +24,11 @@ use Rattle.mdb_cashless.specs.declared.reader.transaction.Transaction.TheVariant
 use Rattle.mdb_cashless.specs.declared.reader.view.View.{View}
 use Rattle.mdb_cashless.specs.declared.reader.view.View.TheVariants as view
 use Rattle.mdb_cashless.specs.Reader.{AckStep, AskStep, ReplyStep, all_approved, asked, before_messages, drops, is_poll, read, sold_any, take_any, taken, value, view_heard}
-use Rattle.mdb_cashless.specs.ReaderDevice.{all_told, effect, has_approved, is_request, then_by, told}
+use Rattle.mdb_cashless.specs.ReaderDevice.{all_told, effect_by, has_approved, then_by, told, told_by}
 use Rattle.mdb_cashless.specs.ReaderFacts.{Facts, own_transaction}
 use Rattle.mdb_cashless.specs.ReaderMessages.{config_in, last_said, messages_of, parts_of}
-use Rattle.mdb_cashless.specs.ReaderView.{sent}
-use Rattle.mdb_cashless.specs.Transactions.{amounts, ended_by, is_again, is_same, no_end, transaction_of}
+use Rattle.mdb_cashless.specs.ReaderView.{may_as_in_idle, sent}
+use Rattle.mdb_cashless.specs.Transactions.{amounts, ended_by, is_again, is_request, is_same, no_end, transaction_of}
 use Rattle.mdb_cashless.specs.inner.Guesses.{again}
 
 -- facts with another guess of what may not be known
@@ -67,8 +67,8 @@ where_alone true to after itself is e =
     ap (λ b. or_else (if b then Some to else None) None) is ∙ e
 where_alone false to after itself is e = absurd cc
 
-sent_again : (refused : Bool) (last : Option Transaction) (t : Transaction) (before after : View)
-    → sent refused last t before ≡ Some after → sent refused (Some t) t before ≡ Some after
+sent_again : (as_in_idle : Bool) (last : Option Transaction) (t : Transaction) (before after : View)
+    → sent as_in_idle last t before ≡ Some after → sent as_in_idle (Some t) t before ≡ Some after
 sent_again false last (Request price item) view.Asked after e =
     where_again (is_again last (Request price item)) view.Asked after
     (is_same (Request price item) (Request price item)) (is_itself (Request price item)) e
@@ -81,19 +81,24 @@ sent_again true last (Request price item) view.Asked after e =
 sent_again true last (Success item) view.SuccessOwed after e =
     where_alone (is_again last (Success item)) view.SuccessOwed after
     (is_same (Success item) (Success item)) (is_itself (Success item)) e
-sent_again refused last t before after e = e
+sent_again as_in_idle last t before after e = e
 
--- the view after a command that is asked, by what was asked last and whether that was refused
+-- the view after a command that is asked, by what was asked last and whether what may be sent in
+-- Idle may be, too
 abbrev asked_after : Bool → Option Transaction → ReaderCommand → View → Option View
-asked_after refused last reader.Reset before = Some view.NoSession
-asked_after refused last command before =
+asked_after as_in_idle last reader.Reset before = Some view.NoSession
+asked_after as_in_idle last command before =
     elim (transaction_of command) [
-      | Some transaction ↦ sent refused last transaction before
+      | Some transaction ↦ sent as_in_idle last transaction before
       | None ↦ Some before
     ]
 
+abbrev as_in_idle_by : Facts → View → Bool
+as_in_idle_by facts before = may_as_in_idle facts.always_idle facts.refused before
+
 asked_is : (facts : Facts) (command : ReaderCommand) (before : View)
-    → asked facts command before ≡ asked_after facts.refused facts.asked command before
+    → asked facts command before
+    ≡ asked_after (as_in_idle_by facts before) facts.asked command before
 asked_is facts reader.Reset before = refl
 asked_is facts command before = refl
 
@@ -126,8 +131,8 @@ asked_nothing refused one other command before none = refl
 ask_with : (facts : Facts) (a : Option Transaction) (t u : Option Transaction)
     (k l : List ReaderActivity) (b : Option Transaction) (command : ReaderCommand)
     (before after : ReaderState) (gains : Gains)
-    → (asked_after facts.refused a command before.view ≡ Some after.view
-    → asked_after facts.refused b command before.view ≡ Some after.view)
+    → (asked_after (as_in_idle_by facts before.view) a command before.view ≡ Some after.view
+    → asked_after (as_in_idle_by facts before.view) b command before.view ≡ Some after.view)
     → AskStep (guessing facts a t k) command before after gains
     → AskStep (guessing facts b u l) command before after gains
 ask_with facts a t u k l b command before after gains may step = record {
@@ -144,7 +149,7 @@ pub ask_again : (facts : Facts) (a t u : Option Transaction) (k l : List ReaderA
     → AskStep (guessing facts (transaction_of command) u l) command before after gains
 ask_again facts a t u k l command before after gains =
     ask_with facts a t u k l (transaction_of command) command before after gains
-    (asked_again facts.refused a command before.view after.view)
+    (asked_again (as_in_idle_by facts before.view) a command before.view after.view)
 
 pub ask_same : (facts : Facts) (a b t u : Option Transaction) (k l : List ReaderActivity)
     (command : ReaderCommand) (before after : ReaderState) (gains : Gains)
@@ -153,72 +158,80 @@ pub ask_same : (facts : Facts) (a b t u : Option Transaction) (k l : List Reader
     → AskStep (guessing facts b u l) command before after gains
 ask_same facts a b t u k l command before after gains (inl same) =
     ask_with facts a t u k l b command before after gains
-    (λ e. ap (λ x. asked_after facts.refused x command before.view) same ∙ e)
+    (λ e. ap (λ x. asked_after (as_in_idle_by facts before.view) x command before.view) same ∙ e)
 ask_same facts a b t u k l command before after gains (inr none) =
     ask_with facts a t u k l b command before after gains
-    (λ e. asked_nothing facts.refused b a command before.view none ∙ e)
+    (λ e. asked_nothing (as_in_idle_by facts before.view) b a command before.view none ∙ e)
 
 -- whether a transaction command, if it is one, is repeated while the reader holds
 abbrev repeats : Option Transaction → Option Transaction → Bool → Bool
 repeats last its holds =
     holds && elim its [ Some transaction ↦ is_again last transaction | None ↦ false ]
 
+-- whether the last transaction is a VEND REQUEST: the one that is taken, if one is, or else the
+-- last one, or what always idle makes it
+abbrev requested_by : Option Transaction → Option Transaction → Bool → Bool
+requested_by its last more = is_request (or_else its last) || (is_none its && more)
+
 -- A guess of the last transaction that the reader took does as well as what it was: the command is
 -- repeated or isn't, and what messages need is there.
 pub record Meets (its last guess : Option Transaction) : Type 0 where
   pub repeated : (holds : Bool) → repeats guess its holds ≡ repeats last its holds
-  pub told : (news : List ReaderActivity) (before after : DeviceState)
-      → all_told (or_else its last) news before ≡ Some after
-      → all_told (or_else its guess) news before ≡ Some after
+  pub told : (always_idle more : Bool) (news : List ReaderActivity) (before after : DeviceState)
+      → all_told always_idle (requested_by its last more) news before ≡ Some after
+      → all_told always_idle (requested_by its guess more) news before ≡ Some after
 
 pub meets_itself : (its last guess : Option Transaction) → guess ≡ last → Meets its last guess
 meets_itself its last guess same = record {
   repeated = λ holds. ap (λ g. repeats g its holds) same;
-  told = λ news before after e. ap (λ g. all_told (or_else its g) news before) same ∙ e;
+  told = λ always_idle more news before after e.
+      ap (λ g. all_told always_idle (requested_by its g more) news before) same ∙ e;
 }
 
 -- where one kept message can be told after some last transaction, it can after a VEND REQUEST
-told_request : (last : Option Transaction) (price item : ℕ) (message : ReaderActivity)
-    (before after : DeviceState) → told last message before ≡ Some after
-    → told (Some (Request price item)) message before ≡ Some after
-told_request last price item (VendApproved amount) (device.Vend back) after e =
-    where_request (is_request last) back after e
-  where
-    where_request : (is : Bool) (back : Home) (after : DeviceState)
-        → (if is then Some (device.Approved back) else None) ≡ Some after
-        → Some (device.Approved back) ≡ Some after
-    where_request true back after e = e
-    where_request false back after e = absurd cc
-told_request last price item message before after e = e
+told_request : (requested : Bool) (message : ReaderActivity) (before after : DeviceState)
+    → told requested message before ≡ Some after → told true message before ≡ Some after
+told_request true message before after e = e
+told_request false (VendApproved amount) (device.Vend back) after e = absurd cc
+told_request false message before after e = e
 
-first_told : (last : Option Transaction) (price item : ℕ) (message : ReaderActivity)
+told_by_request : (always_idle requested : Bool) (message : ReaderActivity)
+    (before after : DeviceState) → told_by always_idle requested message before ≡ Some after
+    → told_by always_idle true message before ≡ Some after
+told_by_request false requested message before after e =
+    told_request requested message before after e
+told_by_request true true message before after e = e
+told_by_request true false (VendApproved amount) (device.Vend back) after e = absurd cc
+told_by_request true false message before after e = e
+
+first_told : (always_idle requested : Bool) (message : ReaderActivity)
     (news : List ReaderActivity) (before after : DeviceState)
-    → ((between : DeviceState) → all_told last news between ≡ Some after
-    → all_told (Some (Request price item)) news between ≡ Some after)
-    → (one : Option DeviceState) → told last message before ≡ one
-    → then_by one (all_told last news) ≡ Some after
-    → then_by (told (Some (Request price item)) message before)
-    (all_told (Some (Request price item)) news) ≡ Some after
-first_told last price item message news before after rest None is e = absurd cc
-first_told last price item message news before after rest (Some x) is e =
-    ap (λ o. then_by o (all_told (Some (Request price item)) news))
-    (told_request last price item message before x is) ∙ rest x e
+    → ((between : DeviceState) → all_told always_idle requested news between ≡ Some after
+    → all_told always_idle true news between ≡ Some after)
+    → (one : Option DeviceState) → told_by always_idle requested message before ≡ one
+    → then_by one (all_told always_idle requested news) ≡ Some after
+    → then_by (told_by always_idle true message before) (all_told always_idle true news)
+    ≡ Some after
+first_told always_idle requested message news before after rest None is e = absurd cc
+first_told always_idle requested message news before after rest (Some x) is e =
+    ap (λ o. then_by o (all_told always_idle true news))
+    (told_by_request always_idle requested message before x is) ∙ rest x e
 
-all_told_request : (last : Option Transaction) (price item : ℕ) (news : List ReaderActivity)
-    (before after : DeviceState) → all_told last news before ≡ Some after
-    → all_told (Some (Request price item)) news before ≡ Some after
-all_told_request last price item [] before after e = e
-all_told_request last price item (message ∷ news) before after e =
-    first_told last price item message news before after
-    (λ between. all_told_request last price item news between after)
-    (told last message before) refl e
+all_told_request : (always_idle requested : Bool) (news : List ReaderActivity)
+    (before after : DeviceState) → all_told always_idle requested news before ≡ Some after
+    → all_told always_idle true news before ≡ Some after
+all_told_request always_idle requested [] before after e = e
+all_told_request always_idle requested (message ∷ news) before after e =
+    first_told always_idle requested message news before after
+    (λ between. all_told_request always_idle requested news between after)
+    (told_by always_idle requested message before) refl e
 
 -- so one of two guesses does: none, or that the command is it again
 pub either_meets : (its last : Option Transaction)
     → Meets its last None ⊎ Meets its last (Some (again its))
 either_meets None last = inr (record {
   repeated = λ holds. refl;
-  told = all_told_request last 0 0;
+  told = λ always_idle more. all_told_request always_idle (requested_by None last more);
 })
 either_meets (Some t) last = by (is_again last t) refl
   where
@@ -226,11 +239,11 @@ either_meets (Some t) last = by (is_again last t) refl
         ⊎ Meets (Some t) last (Some t)
     by true is = inr (record {
       repeated = λ holds. ap (λ b. holds && b) (is_itself t ∙ sym is);
-      told = λ news before after e. e;
+      told = λ always_idle more news before after e. e;
     })
     by false is = inl (record {
       repeated = λ holds. ap (λ b. holds && b) (sym is);
-      told = λ news before after e. e;
+      told = λ always_idle more news before after e. e;
     })
 
 -- taking a command depends on the last transaction by that alone
@@ -245,7 +258,7 @@ ack_with facts a b t u k l command choice before after gains same step =
     record {
       poll = step.poll;
       to = step.to ∙ ap (λ (r : Bool). record (if r then before else record {
-        device = effect command before.device;
+        device = effect_by facts.always_idle command before.device;
         view = before.view;
         holds = if drops command then false else before.holds;
       }) { view = view_heard choice command before.view }) is;
@@ -275,7 +288,7 @@ taken_with : (facts : Facts) (a b t u : Option Transaction) (k l : List ReaderAc
 taken_with facts a b t u k l None before same = refl
 taken_with facts a b t u k l (Some command) before same =
     ap (λ (r : Bool). if r then before else record {
-      device = effect command before.device;
+      device = effect_by facts.always_idle command before.device;
       view = before.view;
       holds = if drops command then false else before.holds;
     }) (same before.holds)
@@ -318,8 +331,9 @@ reply_with facts a b t u k l command reply choice before after gains meets step 
             (sym middle) new;
       };
       told = ap (λ (s : ReaderState).
-          all_told (or_else (own_transaction its) u) news s.device) middle
-          ∙ meets.told news _ after.device step.told;
+          all_told facts.always_idle (requested_by (own_transaction its) u facts.requested) news
+          s.device) middle
+          ∙ meets.told facts.always_idle facts.requested news _ after.device step.told;
       view = step.view;
       holds = step.holds ∙ ap (λ (s : ReaderState).
           holds_after (kept_of (parts_of reply)) s.holds) (sym middle);
@@ -334,7 +348,7 @@ held_taken facts (Some command) before holds = by (repeats facts.taken (transact
     before.holds) (drops command) holds
   where
     by : (repeated dropped : Bool) → (if repeated then before else record {
-      device = effect command before.device;
+      device = effect_by facts.always_idle command before.device;
       view = before.view;
       holds = if dropped then false else before.holds;
     }).holds ≡ true → before.holds ≡ true

@@ -30,10 +30,11 @@ use Rattle.mdb_cashless.proofs.Guesses.{ack_same, ack_with, ask_again, ask_same,
 
 pub same_facts : {one other : Facts} → one.config ≡ other.config → one.asked ≡ other.asked
     → one.taken ≡ other.taken → one.amount ≡ other.amount → one.refused ≡ other.refused
+    → one.always_idle ≡ other.always_idle → one.requested ≡ other.requested
     → one.past ≡ other.past → one ≡ other
-same_facts {one} {other} config asked taken amount refused past =
+same_facts {one} {other} config asked taken amount refused always_idle requested past =
     let same : record one { config = one.config } ≡ record other { config = other.config } =
-    cc (config, asked, taken, amount, refused, past) in
+    cc (config, asked, taken, amount, refused, always_idle, requested, past) in
     same
 
 -- facts that may be
@@ -41,6 +42,7 @@ as_guess : (known : ReaderKnown) (holds : Bool) (facts : Facts)
     → AllowsFacts (known_in known) holds facts
     → facts ≡ guessing (facts_in known.facts) facts.asked facts.taken facts.past.last_kept
 as_guess known holds facts is = same_facts is.config refl refl is.amount is.refused
+    is.always_idle is.requested
     (same_past (λ kind. ap (λ e. e kind) is.past.enabled) is.past.reset_owed refl)
 
 allowed : (known : ReaderKnown) (holds : Bool) (a t : Option Transaction)
@@ -54,6 +56,8 @@ allowed known holds a t k asked taken kept = record {
   taken = taken;
   amount = refl;
   refused = refl;
+  always_idle = refl;
+  requested = refl;
   past = record { enabled = refl; reset_owed = refl; last_kept = kept };
 }
 

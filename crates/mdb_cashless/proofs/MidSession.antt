@@ -28,10 +28,11 @@ use Rattle.mdb_cashless.specs.declared.reader.state.ReaderState.{ReaderState}
 use Rattle.mdb_cashless.specs.declared.reader.transaction.Ended.{Ended}
 use Rattle.mdb_cashless.specs.declared.reader.transaction.Transaction.{Transaction}
 use Rattle.mdb_cashless.specs.Reader.{AckStep, all_approved, AskStep, ReaderStep, ReplyStep, StepKnowing, before_messages, drops, is_poll, is_repeated, machine, read, sold_any, take_any, taken, value, view_heard}
-use Rattle.mdb_cashless.specs.ReaderDevice.{all_told, effect, has_approved}
+use Rattle.mdb_cashless.specs.ReaderDevice.{all_told, effect_by, has_approved}
 use Rattle.mdb_cashless.specs.ReaderFacts.{AllowsFacts, Facts, asked_by, effect_of, effect_of_own, ends_transactions, known_of, last_taken, own_transaction, parts_by, taken_told, transaction_taken_by}
 use Rattle.mdb_cashless.specs.ReaderMessages.{config_in, last_said, messages_of, parts_of}
-use Rattle.mdb_cashless.specs.Transactions.{amounts, ended_by, is_again, is_same, no_end, transaction_of}
+use Rattle.mdb_cashless.specs.Transactions.{amounts, ended_by, is_again, is_request, is_same, no_end, transaction_of}
+use Rattle.std.specs.Option.{is_none}
 use Rattle.mdb_cashless.specs.Units.{own}
 use Rattle.mdb_cashless.specs.MidSession.{AckWay, AreHeld, IsSettled, ReplyWay, SendsNone, Takes, TakesNone, TellsNone, effected, facts_recorded, sale}
 use Rattle.mdb_machine.specs.shared.ToldWays.{allows_if, allows_told, as_allowed, asked_so, empty_unless, keeps_if, kept_so, kept_told, list_told, none_told, not_not, told_by_none}
@@ -167,7 +168,7 @@ as_guess : (unit : ReaderUnit) (setups : Setups) (profile : Profile) (so_far : L
     → facts ≡ guessing (facts_recorded unit setups profile so_far) facts.asked facts.taken
     facts.past.last_kept
 as_guess unit setups profile so_far holds facts is =
-    same_facts is.config refl refl is.amount is.refused
+    same_facts is.config refl refl is.amount is.refused is.always_idle is.requested
     (same_past (λ kind. ap (λ e. e kind) is.past.enabled)
     (is.past.reset_owed ∙ same_owed unit setups profile so_far) refl)
 
@@ -184,6 +185,8 @@ guess_allowed unit setups profile so_far holds a t k asked taken kept = record {
   taken = taken;
   amount = refl;
   refused = refl;
+  always_idle = refl;
+  requested = refl;
   past = record {
     enabled = refl;
     reset_owed = sym (same_owed unit setups profile so_far);
@@ -311,7 +314,7 @@ taken_again : (facts : Facts) (command : ReaderCommand) (before : ReaderState)
     × (sold_any facts (Some command) before ≡ no_end)
 taken_again facts command before is = (
   ap (λ (r : Bool). if r then before else record {
-    device = effect command before.device;
+    device = effect_by facts.always_idle command before.device;
     view = before.view;
     holds = if drops command then false else before.holds;
   }) is,
@@ -321,11 +324,11 @@ taken_again facts command before is = (
 
 taken_anew : (facts : Facts) (command : ReaderCommand) (before : ReaderState)
     → is_repeated facts command before.holds ≡ false
-    → (take_any facts (Some command) before ≡ effected (Some command) before)
+    → (take_any facts (Some command) before ≡ effected facts (Some command) before)
     × (sold_any facts (Some command) before ≡ sale facts (Some command) before)
 taken_anew facts command before is = (
   ap (λ (r : Bool). if r then before else record {
-    device = effect command before.device;
+    device = effect_by facts.always_idle command before.device;
     view = before.view;
     holds = if drops command then false else before.holds;
   }) is,
@@ -375,7 +378,10 @@ takes_to fields unit setups profile so_far facts holds allowed (Some command) be
               let clash : false ≡ true =
               sym is ∙ ap (λ l. repeats l (transaction_of command) before.holds) last ∙ again in
               absurd cc,
-          to.0,
+          to.0 ∙ ap (λ i. record before {
+            device = effect_by i command before.device;
+            holds = if drops command then false else before.holds;
+          }) allowed.always_idle,
           to.1 ∙ ap (λ c. ended_by (has_approved before.device) command (value c facts.amount))
               allowed.config
               ∙ ap (λ a. ended_by (has_approved before.device) command (value base.config a))
@@ -578,6 +584,10 @@ reply_ways fields unit setups profile so_far command reply choice before after g
     kept : List ReaderActivity
     kept = kept_of (parts_of reply)
 
+    requested_with : Option Transaction → Bool → Bool
+    requested_with last more =
+        is_request (or_else (own_transaction its) last) || (is_none (own_transaction its) && more)
+
     config : Option ReaderConfig → Option ReaderConfig
     config known = or_else (last_said config_in (messages_of reply)) known
 
@@ -610,8 +620,12 @@ reply_ways fields unit setups profile so_far command reply choice before after g
           reset = subst (λ b. MayBeKept (resets (effect_of_own its) || b) (parts_of reply)) owed
               step.has_news.reset;
           known = taken_so unit setups profile so_far facts.taken allowed.taken;
-          told = ap (λ n. all_told (or_else (own_transaction its) facts.taken) n middle.device)
-              (sym is.1.1) ∙ step.told;
+          told = ap (λ i. all_told i (requested_with facts.taken base.requested)
+              (drop is.0 kept) middle.device) (sym allowed.always_idle)
+              ∙ ap (λ r. all_told facts.always_idle (requested_with facts.taken r) (drop is.0 kept)
+              middle.device) (sym allowed.requested)
+              ∙ ap (λ n. all_told facts.always_idle (requested_with facts.taken facts.requested) n
+              middle.device) (sym is.1.1) ∙ step.told;
           view = step.view;
           holds = step.holds;
           gained = step.gained
@@ -645,10 +659,12 @@ reply_ways fields unit setups profile so_far command reply choice before after g
                   IsNew (is_poll command) (held m.holds list.0) kept (drop way.count kept))
                   (sym to.0) list.1.1;
             };
-            told = ap (λ l. all_told l (drop way.count kept)
-                (take_any facts its (read choice before)).device) one.1.1
-                ∙ ap (λ (m : ReaderState). all_told (or_else (own_transaction its) way.last)
-                (drop way.count kept) m.device) to.0 ∙ way.told;
+            told = ap (λ l. all_told base.always_idle
+                (is_request l || (is_none (own_transaction its) && base.requested))
+                (drop way.count kept) (take_any facts its (read choice before)).device) one.1.1
+                ∙ ap (λ (m : ReaderState). all_told base.always_idle
+                (requested_with way.last base.requested) (drop way.count kept) m.device) to.0
+                ∙ way.told;
             view = way.view;
             holds = way.holds ∙ ap (λ (m : ReaderState). holds_after kept m.holds) (sym to.0);
             gained = way.gained ∙ ap (λ n. device_gains (in_slots

@@ -72,7 +72,7 @@ power_on_known unit profile acts holds facts =
     let kept = kept_known profile (last_list (parts_by unit) acts) holds in (
       λ is. same_facts (is.config ∙ config) ((asked facts.asked).0 is.asked)
           ((taken facts.taken).0 is.taken ∙ sym (last_taken_is unit acts)) is.amount
-          is.refused
+          is.refused is.always_idle is.requested
           (same_past
           (λ kind. ap (λ e. e kind) is.past.enabled ∙ no_more (past.enabled kind) (ltb kind 16))
           (is.past.reset_owed ∙ owed_so past.reset_owed)
@@ -83,6 +83,8 @@ power_on_known unit profile acts holds facts =
         taken = (taken facts.taken).1 (ap (λ (f : Facts). f.taken) same ∙ last_taken_is unit acts);
         amount = ap (λ (f : Facts). f.amount) same;
         refused = ap (λ (f : Facts). f.refused) same;
+        always_idle = ap (λ (f : Facts). f.always_idle) same;
+        requested = ap (λ (f : Facts). f.requested) same;
         past = record {
           enabled = fun_ext (λ kind. ap (λ (f : Facts). f.past.enabled kind) same
               ∙ sym (no_more (past.enabled kind) (ltb kind 16)));

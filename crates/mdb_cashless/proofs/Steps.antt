@@ -14,6 +14,7 @@ use Rattle.mdb_machine.specs.declared.gains.Gains.{Gains}
 use Rattle.mdb_machine.specs.Gains.{Stays, controller_gains, device_gains, in_slots, no_gains}
 use Rattle.mdb_machine.specs.Pair.{IsOnlyStep}
 use Rattle.mdb_cashless.specs.declared.reader.device.DeviceState.{DeviceState}
+use Rattle.mdb_cashless.specs.ReaderDevice.{effect_by}
 use Rattle.mdb_cashless.specs.declared.reader.state.ReaderState.{ReaderState}
 use Rattle.mdb_cashless.specs.declared.reader.view.View.{View}
 use Rattle.mdb_machine.specs.Steps.{ForOwn}
@@ -142,9 +143,26 @@ same_after : (facts : Facts) (choice : Choice) (device : DeviceState) (view : Vi
     → record (take facts reader.Poll (record { device = device; view = view; holds = false })) {
       view = view_heard choice reader.Poll view;
     } ≡ record { device = device; view = view; holds = false }
-same_after facts Plain device view = refl
-same_after facts Lost device view = refl
-same_after facts Restart device view = refl
+same_after facts choice device view = by choice
+  where
+    polled : (always_idle : Bool) → effect_by always_idle reader.Poll device ≡ device
+    polled false = refl
+    polled true = refl
+
+    rested : DeviceState → ReaderState
+    rested state = record { device = state; view = view; holds = false }
+
+    same : rested (effect_by facts.always_idle reader.Poll device) ≡ rested device
+    same = ap rested (polled facts.always_idle)
+
+    by : (choice : Choice)
+        → record (take facts reader.Poll
+        (record { device = device; view = view; holds = false })) {
+          view = view_heard choice reader.Poll view;
+        } ≡ record { device = device; view = view; holds = false }
+    by Plain = same
+    by Lost = same
+    by Restart = same
 
 none_gained : (facts : Facts) (device : DeviceState) (view : View)
     → device_gains (in_slots (amounts 0 (sold facts reader.Poll

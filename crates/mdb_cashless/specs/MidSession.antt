@@ -22,9 +22,9 @@ use Rattle.mdb_cashless.specs.declared.reader.messages.ReaderActivity.{ReaderAct
 use Rattle.mdb_cashless.specs.declared.reader.state.ReaderState.{ReaderState}
 use Rattle.mdb_cashless.specs.declared.reader.transaction.Ended.{Ended}
 use Rattle.mdb_cashless.specs.declared.reader.transaction.Transaction.{Transaction}
-use Rattle.mdb_cashless.specs.Reader.{all_approved, drops, is_poll, owes_reset, read, taken, value, view_heard}
+use Rattle.mdb_cashless.specs.Reader.{all_approved, drops, is_poll, is_requested, owes_reset, read, taken, value, view_heard}
 use Rattle.mdb_cashless.specs.ReaderDevice as reader_device
-use Rattle.mdb_cashless.specs.ReaderDevice.{all_told, effect}
+use Rattle.mdb_cashless.specs.ReaderDevice.{all_told, effect_by}
 use Rattle.mdb_cashless.specs.ReaderFacts.{Facts, asked_by, config_by, effect_of, ends_transactions, facts_of, last_taken, own_transaction, parts_by, transaction_taken_by}
 use Rattle.mdb_cashless.specs.Transactions.{amounts, ended_by, no_end}
 use Rattle.mdb_cashless.specs.Units.{own}
@@ -73,11 +73,11 @@ MayBeAnother unit so_far its holds =
 
 -- the state once a command, if one is taken, has had its effect; a transaction and RESET drop what
 -- is held
-abbrev pub effected : Option ReaderCommand → ReaderState → ReaderState
-effected None before = before
-effected (Some command) before =
+abbrev pub effected : Facts → Option ReaderCommand → ReaderState → ReaderState
+effected facts None before = before
+effected facts (Some command) before =
     record before {
-      device = effect command before.device;
+      device = effect_by facts.always_idle command before.device;
       holds = if drops command then false else before.holds;
     }
 
@@ -93,7 +93,7 @@ abbrev pub Takes : ReaderUnit → List Act → Facts → Option ReaderCommand �
     → Ended → Type 0
 Takes unit so_far facts its before after sold =
     (MayBeAgain unit so_far its before.holds × (after ≡ before) × (sold ≡ no_end))
-    ⊎ (MayBeAnother unit so_far its before.holds × (after ≡ effected its before)
+    ⊎ (MayBeAnother unit so_far its before.holds × (after ≡ effected facts its before)
     × (sold ≡ sale facts its before))
 
 -- The first `count` of a reply's kept messages are those that the reader holds. If it holds some,
@@ -124,7 +124,8 @@ pub record ReplyWay (unit : ReaderUnit) (so_far : List Act) (facts : Facts)
   pub held : AreHeld unit so_far (is_poll command) middle.holds (kept_of (parts_of reply)) count
   pub reset : MayBeKept (owes_reset facts (taken command reply)) (parts_of reply)
   pub known : (TakesNone unit so_far → ⊥) → last ≡ facts.taken
-  pub told : all_told (or_else (own_transaction (taken command reply)) last)
+  pub told : all_told facts.always_idle
+      (is_requested (record facts { taken = last }) (taken command reply))
       (drop count (kept_of (parts_of reply))) middle.device ≡ Some after.device
   pub view : after.view ≡ before.view
   pub holds : after.holds ≡ holds_after (kept_of (parts_of reply)) middle.holds

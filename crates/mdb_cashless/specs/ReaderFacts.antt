@@ -1,6 +1,7 @@
 -- What is known of a reader after a list of acts, the newest first (this profile).
-use Rattle.std.specs.Prelude.{◌≡◌, ℕ, Bool, true, false, List, [], ◌∷◌, Option, Some, None, option_map, unwrap_or, if◌then◌else◌, ltb, map, ◌&&◌, ◌||◌}
+use Rattle.std.specs.Prelude.{◌≡◌, ℕ, Bool, true, false, not, List, [], ◌∷◌, Option, Some, None, option_map, unwrap_or, if◌then◌else◌, ltb, map, ◌&&◌, ◌||◌}
 use Rattle.std.specs.List.{list_any}
+use Rattle.mdb_msgs.specs.Commands.{ask_for_always_idle}
 use Rattle.mdb_msgs.specs.declared.command.Command.{Command}
 use Rattle.mdb_msgs.specs.declared.command.ReaderCommand.{ReaderCommand}
 use Rattle.mdb_msgs.specs.declared.command.ReaderCommand.TheVariants as reader
@@ -22,7 +23,7 @@ use Rattle.mdb_cashless.specs.declared.reader.extended.ExtendedFacts.{ExtendedFa
 use Rattle.mdb_cashless.specs.declared.reader.messages.ReaderActivity.{ReaderActivity}
 use Rattle.mdb_cashless.specs.declared.reader.transaction.Transaction.{Transaction}
 use Rattle.mdb_cashless.specs.ReaderMessages.{amount_in, begin_session, config_in, last_said, level_in, messages_of, part_of, refuses}
-use Rattle.mdb_cashless.specs.Transactions.{transaction_of}
+use Rattle.mdb_cashless.specs.Transactions.{is_request, transaction_of}
 use Rattle.mdb_cashless.specs.Units.{own}
 
 -- the messages of a reply, if it is this reader's
@@ -112,9 +113,40 @@ refusal_by unit (acts.VmcAck command reply) =
     if list_any refuses (own_messages unit command (messages_of reply)) then Some true else None
 refusal_by unit act = None
 
--- What counts by the extended profile alone: the levels that were last told, and whether the last
--- transaction command is refused. Breaks and RESETs leave all this. In a recording that begins in
--- mid-session (`joined`) the controller may do as if it was refused before that.
+-- whether the feature level of controller and reader, the lower of both, is known and below 3
+abbrev pub is_below_3 : Option ℕ → Option ℕ → Bool
+is_below_3 (Some asked) (Some told) = ltb asked 3 || ltb told 3
+is_below_3 asked told = false
+
+-- whether a command asks the reader for always idle: ENABLE OPTIONS with that option
+abbrev pub asks_for_always_idle : Option ReaderCommand → Bool
+asks_for_always_idle (Some (reader.EnableOptions options)) = ask_for_always_idle options
+asks_for_always_idle command = false
+
+-- Whether always idle is switched on: the reader takes a command that asks for it, while the level
+-- isn't known to be below 3, by what was told before. A break, and a RESET that the reader takes,
+-- switch it off.
+abbrev pub is_switched_on : ReaderUnit → List Act → Bool
+is_switched_on unit [] = false
+is_switched_on unit (act ∷ acts) =
+    if powers_on (effect_of unit) act then false
+    else (asks_for_always_idle (own_of unit (taken_by act))
+    && not (is_below_3 (last_told (level_asked_by unit) acts)
+    (last_told (level_told_by unit) acts)))
+    || is_switched_on unit acts
+
+-- What an act tells of whether the last transaction that the reader took is a VEND REQUEST, where a
+-- session that begins leaves that transaction the last one.
+abbrev pub request_told : ReaderUnit → Act → Option Bool
+request_told unit act =
+    if powers_on (effect_of unit) act then Some false
+    else option_map (λ transaction. is_request (Some transaction)) (transaction_taken_by unit act)
+
+-- What counts by the extended profile alone: the levels that were last told, whether the last
+-- transaction command is refused, whether always idle is switched on, and whether the last
+-- transaction that was taken is a VEND REQUEST. Breaks and RESETs leave the levels and the refusal.
+-- In a recording that begins in mid-session (`joined`) the controller may do as if it was refused
+-- before that.
 abbrev pub extended_since : Bool → ReaderUnit → List Act → ExtendedFacts
 extended_since joined unit acts =
     record {
@@ -122,6 +154,8 @@ extended_since joined unit acts =
       asked = last_told (level_asked_by unit) acts;
       told = last_told (level_told_by unit) acts;
       refused = unwrap_or (last_told (refusal_by unit) acts) joined;
+      switched_on = is_switched_on unit acts;
+      requested = unwrap_or (last_told (request_told unit) acts) false;
     }
 
 -- by the base profile nothing of this counts
@@ -143,6 +177,18 @@ is_refused None = false
 is_refused (Some facts) = may_be_high facts.joined facts.asked
     && may_be_high facts.joined facts.told && facts.refused
 
+-- Whether always idle is on: it is switched on, and the level isn't known to be below 3. It isn't
+-- followed yet where a recording begins in mid-session.
+abbrev pub is_always_idle : Option ExtendedFacts → Bool
+is_always_idle None = false
+is_always_idle (Some facts) =
+    facts.switched_on && not (is_below_3 facts.asked facts.told) && not facts.joined
+
+-- whether it is on, and the last transaction that the reader took is a VEND REQUEST
+abbrev pub is_requested : Option ExtendedFacts → Bool
+is_requested None = false
+is_requested (Some facts) = facts.requested && is_always_idle (Some facts)
+
 -- The facts. Breaks and RESETs leave the config message, the last transaction command sent, the
 -- amount, and whether the controller was refused.
 pub record Facts : Type 0 where
@@ -156,6 +202,11 @@ pub record Facts : Type 0 where
   pub amount : ℕ
   -- whether the controller was refused, where that counts
   pub refused : Bool
+  -- whether always idle is on
+  pub always_idle : Bool
+  -- whether it is on, and the last transaction that the reader took is a VEND REQUEST, where a
+  -- session that begins leaves that transaction the last one
+  pub requested : Bool
   -- the reset message, and the last kept list; a reader has no types that could be enabled
   pub past : PastFacts ReaderActivity
 
@@ -168,6 +219,8 @@ facts_of begins unit acts =
       taken = last_taken unit acts;
       amount = unwrap_or (last_told (amount_by unit) acts) 0;
       refused = is_refused (extended_of begins unit acts);
+      always_idle = is_always_idle (extended_of begins unit acts);
+      requested = is_requested (extended_of begins unit acts);
       past = past_of (effect_of unit) (parts_by unit) acts;
     }
 
@@ -216,4 +269,6 @@ pub record AllowsFacts (known : KnownFacts) (holds : Bool) (facts : Facts) : Typ
   pub taken : Allows known.taken facts.taken
   pub amount : facts.amount ≡ unwrap_or known.amount 0
   pub refused : facts.refused ≡ is_refused known.extended
+  pub always_idle : facts.always_idle ≡ is_always_idle known.extended
+  pub requested : facts.requested ≡ is_requested known.extended
   pub past : AllowsPast known.past holds facts.past

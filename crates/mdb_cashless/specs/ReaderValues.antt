@@ -13,16 +13,16 @@ use Rattle.mdb_bus.specs.declared.act.Act.{Act}
 use Rattle.mdb_bus.specs.declared.act.Act.TheVariants as acts
 use Rattle.mdb_machine.specs.declared.past.Effect.TheVariants as effects
 use Rattle.mdb_machine.specs.PastValues.{if_known, known_more, known_past_with, past_after, past_in, past_known, past_with}
-use Rattle.mdb_machine.specs.Past.{PastFacts, or_else, resets, tells_out_of_sequence}
+use Rattle.mdb_machine.specs.Past.{PastFacts, or_else, powers_on, resets, taken_by, tells_out_of_sequence}
 use Rattle.mdb_cashless.specs.declared.reader.extended.ExtendedFacts.{ExtendedFacts}
 use Rattle.mdb_cashless.specs.declared.reader.facts.ReaderFacts.{ReaderFacts}
 use Rattle.mdb_cashless.specs.declared.reader.known.ReaderKnown.{ReaderKnown}
 use Rattle.mdb_cashless.specs.declared.reader.messages.ReaderActivity.{ReaderActivity}
 use Rattle.mdb_cashless.specs.declared.reader.transaction.Transaction.{Transaction}
 use Rattle.mdb_cashless.specs.Reader.{drops}
-use Rattle.mdb_cashless.specs.ReaderFacts.{Facts, KnownFacts, amount_by, asked_by, config_by, effect_of, effect_of_own, ends_transactions, is_refused, level_asked_by, level_of, level_told_by, own_transaction, parts_by, refusal_by, taken_told, transaction_taken_by}
+use Rattle.mdb_cashless.specs.ReaderFacts.{Facts, KnownFacts, amount_by, asked_by, asks_for_always_idle, config_by, effect_of, effect_of_own, ends_transactions, is_always_idle, is_below_3, is_refused, is_requested, level_asked_by, level_of, level_told_by, own_of, own_transaction, parts_by, refusal_by, taken_told, transaction_taken_by}
 use Rattle.mdb_cashless.specs.ReaderMessages.{amount_in, begin_session, config_in, last_said, level_in, messages_of, part_of, refuses}
-use Rattle.mdb_cashless.specs.Transactions.{transaction_of}
+use Rattle.mdb_cashless.specs.Transactions.{is_request, transaction_of}
 use Rattle.mdb_cashless.specs.Units.{own}
 
 -- the facts that are kept: an amount that wasn't told counts as 0
@@ -34,6 +34,8 @@ facts_in facts =
       taken = facts.taken;
       amount = unwrap_or facts.amount 0;
       refused = is_refused facts.extended;
+      always_idle = is_always_idle facts.extended;
+      requested = is_requested facts.extended;
       past = past_in facts.past;
     }
 
@@ -49,8 +51,8 @@ known_in known =
       past = past_known known.knows_kept known.facts.past;
     }
 
--- what counts by the extended profile alone, after one act more that tells these levels and whether
--- the controller is refused, or nothing of it
+-- what counts by the extended profile alone, once these levels are told, and whether the controller
+-- is refused, or nothing of it
 abbrev pub extended_after : Option ℕ → Option ℕ → Option Bool → Option ExtendedFacts
     → Option ExtendedFacts
 extended_after None None None extended = extended
@@ -60,11 +62,32 @@ extended_after asked told refused extended =
       asked = or_else asked facts.asked;
       told = or_else told facts.told;
       refused = unwrap_or refused facts.refused;
+      switched_on = facts.switched_on;
+      requested = facts.requested;
+    }) extended
+
+-- the same, once the reader is powered on, or takes a command, if it takes one
+abbrev pub extended_taking : Bool → Option ReaderCommand → Option ExtendedFacts
+    → Option ExtendedFacts
+extended_taking false None extended = extended
+extended_taking powers command extended =
+    option_map (λ facts. record {
+      joined = facts.joined;
+      asked = facts.asked;
+      told = facts.told;
+      refused = facts.refused;
+      switched_on = if powers then false
+          else (asks_for_always_idle command && not (is_below_3 facts.asked facts.told))
+          || facts.switched_on;
+      requested = if powers then false
+          else unwrap_or (option_map (λ transaction. is_request (Some transaction))
+          (own_transaction command)) facts.requested;
     }) extended
 
 abbrev pub extended_with : ReaderUnit → Act → Option ExtendedFacts → Option ExtendedFacts
 extended_with unit act extended =
-    extended_after (level_asked_by unit act) (level_told_by unit act) (refusal_by unit act) extended
+    extended_after (level_asked_by unit act) (level_told_by unit act) (refusal_by unit act)
+    (extended_taking (powers_on (effect_of unit) act) (own_of unit (taken_by act)) extended)
 
 -- what is known after one act more
 abbrev pub known_with : ReaderUnit → Act → KnownFacts → KnownFacts
@@ -160,13 +183,20 @@ taken None facts = facts
 taken (Some command) facts =
     record facts {
       taken = last_after command facts.taken;
+      extended = extended_taking (resets (effect_of_own (Some command))) (Some command)
+          facts.extended;
       past = past_after (resets (effect_of_own (Some command))) (effect_of_own (Some command)) []
           facts.past;
     }
 
 -- the facts after a break
 abbrev pub powered : ToldFacts → ToldFacts
-powered facts = record facts { taken = None; past = past_after true effects.Other [] facts.past }
+powered facts =
+    record facts {
+      taken = None;
+      extended = extended_taking true None facts.extended;
+      past = past_after true effects.Other [] facts.past;
+    }
 
 -- the facts after the messages of a reply
 abbrev pub told : List ReaderMsg → ToldFacts → ToldFacts

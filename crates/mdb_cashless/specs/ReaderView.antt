@@ -27,20 +27,20 @@ sent_in_turn last Failure FailureOwed = Some FailureOwed
 sent_in_turn last Complete Ending = Some Ending
 sent_in_turn last transaction before = None
 
--- whether the controller waits for the reader in a view: not in NoSession, Idle and Approved
-abbrev pub waits : View → Bool
-waits NoSession = false
-waits Idle = false
-waits Approved = false
-waits before = true
+-- Whether the controller may send in a view what it may in Idle, too: where it knows of no session,
+-- with always idle, and where it waits for the reader, after that refused the last one.
+abbrev pub may_as_in_idle : (always_idle refused : Bool) → View → Bool
+may_as_in_idle always_idle refused NoSession = always_idle
+may_as_in_idle always_idle refused Idle = false
+may_as_in_idle always_idle refused Approved = false
+may_as_in_idle always_idle refused before = refused
 
--- The view after a transaction command, where the reader didn't refuse the last one, or did. Where
--- it did, a controller that waits for the reader may also send what it may in Idle.
+-- the view after a transaction command, where the controller may not send what it may in Idle, or
+-- may
 abbrev pub sent : Bool → Option Transaction → Transaction → View → Option View
 sent false last transaction before = sent_in_turn last transaction before
 sent true last transaction before =
-    or_else (sent_in_turn last transaction before)
-    (if waits before then sent_in_turn last transaction Idle else None)
+    or_else (sent_in_turn last transaction before) (sent_in_turn last transaction Idle)
 
 -- whether the controller has heard the approval of a sale that hasn't ended
 abbrev pub has_approved : View → Bool

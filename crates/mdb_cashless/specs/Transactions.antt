@@ -29,6 +29,11 @@ abbrev pub is_again : Option Transaction → Transaction → Bool
 is_again None transaction = false
 is_again (Some last) transaction = is_same last transaction
 
+-- whether the last transaction is a VEND REQUEST
+abbrev pub is_request : Option Transaction → Bool
+is_request (Some (Request price item)) = true
+is_request last = false
+
 -- no sale ends
 abbrev pub no_end : Ended
 no_end = record { sold = 0 }

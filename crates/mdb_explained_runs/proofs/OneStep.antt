@@ -280,7 +280,7 @@ reader_asks facts command before one other gains more p q = (
 abbrev reader_told : reader_facts.Facts → ReaderCommand → Reply → Choice → ReaderState
     → List ReaderActivity → Option DeviceState
 reader_told facts command reply choice before news =
-    all_told (reader.last_transaction facts (reader.taken command reply)) news
+    all_told facts.always_idle (reader.is_requested facts (reader.taken command reply)) news
     (reader.before_messages facts command reply choice before).device
 
 abbrev reader_gains : reader_facts.Facts → ReaderCommand → Reply → Choice → ReaderState
@@ -334,6 +334,8 @@ reader_facts_one unit profile so_far holds one other p q =
     allowed_one profile None _ one.taken other.taken p.taken q.taken in
     let amount : one.amount ≡ other.amount = p.amount ∙ sym q.amount in
     let refused : one.refused ≡ other.refused = p.refused ∙ sym q.refused in
+    let always_idle : one.always_idle ≡ other.always_idle = p.always_idle ∙ sym q.always_idle in
+    let requested : one.requested ≡ other.requested = p.requested ∙ sym q.requested in
     let past : one.past ≡ other.past =
     past_alike one.past other.past (p.past.enabled ∙ sym q.past.enabled)
     (p.past.reset_owed ∙ sym q.past.reset_owed)
@@ -345,6 +347,8 @@ reader_facts_one unit profile so_far holds one other p q =
       taken = taken i;
       amount = amount i;
       refused = refused i;
+      always_idle = always_idle i;
+      requested = requested i;
       past = past i;
     }
 

@@ -3,7 +3,7 @@ use Rattle.std.proofs.Common.{ap, ◌≡◌, inl, List, [], ◌∷◌}
 use Rattle.mdb_msgs.specs.declared.command.Command.{Command}
 use Rattle.mdb_bus.specs.declared.act.Act.{Act}
 use Rattle.mdb_bus.specs.declared.act.Act.TheVariants as acts
-use Rattle.mdb_bus.specs.ActLists.{ArePieces, Asked, Piece, Whole, AskTail, ReplyTail, RepeatTail, acts_of, first_position, position_of}
+use Rattle.mdb_bus.specs.ActLists.{ArePieces, Asked, Piece, Whole, acts_of, first_position, position_of}
 use Rattle.mdb_bus.specs.declared.scope.Beginning.{Beginning}
 use Rattle.mdb_bus.specs.declared.scope.Beginning.TheVariants.{PowerOn, Joined}
 use Rattle.mdb_bus.specs.declared.scope.Scope.{Scope}
@@ -17,25 +17,15 @@ first_unasked command (PowerOn profile) e = cc
 first_unasked command (Joined setups profile) e = cc
 
 -- pieces where a command is open end in its ask
-ends_in_ask : (scope : Scope) (command : Command) (pieces : List Piece)
+pub ends_in_ask : (scope : Scope) (command : Command) (pieces : List Piece)
     → position_of scope pieces ≡ Asked command
     → (before : List Act) × (acts_of pieces ≡ acts.Ask command ∷ before)
 ends_in_ask scope command [] here = absurd (first_unasked command scope.begins here)
 ends_in_ask scope command (Whole (acts.Ask c) events ∷ pieces) here =
     let same : acts.Ask c ≡ acts.Ask command = cc in
     (acts_of pieces, ap (λ (a : Act). a ∷ acts_of pieces) same)
-ends_in_ask scope command (Whole (acts.Ack c) events ∷ pieces) here = absurd cc
-ends_in_ask scope command (Whole (acts.Nak c) events ∷ pieces) here = absurd cc
-ends_in_ask scope command (Whole (acts.Reply c r) events ∷ pieces) here = absurd cc
-ends_in_ask scope command (Whole (acts.VmcAck c r) events ∷ pieces) here = absurd cc
-ends_in_ask scope command (Whole (acts.VmcNak c r) events ∷ pieces) here = absurd cc
-ends_in_ask scope command (Whole (acts.VmcRet c r) events ∷ pieces) here = absurd cc
-ends_in_ask scope command (Whole (acts.Repeat c r) events ∷ pieces) here = absurd cc
-ends_in_ask scope command (Whole acts.Foreign events ∷ pieces) here = absurd cc
-ends_in_ask scope command (Whole (acts.Break n) events ∷ pieces) here = absurd cc
-ends_in_ask scope command (AskTail bytes events ∷ pieces) here = absurd cc
-ends_in_ask scope command (ReplyTail c bytes events ∷ pieces) here = absurd cc
-ends_in_ask scope command (RepeatTail c r words events ∷ pieces) here = absurd cc
+ends_in_ask scope command (Whole act events ∷ pieces) here = absurd cc
+ends_in_ask scope command (piece ∷ pieces) here = absurd cc
 
 -- each answer stands right after what it answers
 abbrev pub AllAnswer : List Act → Type 0
@@ -46,19 +36,11 @@ AllAnswer (act ∷ so_far) = AnswersLast act so_far × AllAnswer so_far
 pub all_answer : (scope : Scope) (pieces : List Piece) → ArePieces scope pieces
     → AllAnswer (acts_of pieces)
 all_answer scope [] are = tt
-all_answer scope (Whole (acts.Ask c) events ∷ pieces) are = (tt, all_answer scope pieces are.2)
 all_answer scope (Whole (acts.Ack c) events ∷ pieces) are =
     (ends_in_ask scope c pieces are.1.comes.0, all_answer scope pieces are.2)
-all_answer scope (Whole (acts.Nak c) events ∷ pieces) are = (tt, all_answer scope pieces are.2)
 all_answer scope (Whole (acts.Reply c r) events ∷ pieces) are =
     (ends_in_ask scope c pieces are.1.comes.0, all_answer scope pieces are.2)
 all_answer scope (Whole (acts.VmcAck c r) events ∷ pieces) are =
     (ends_in scope c r pieces are.2 (inl are.1.comes.0), all_answer scope pieces are.2)
-all_answer scope (Whole (acts.VmcNak c r) events ∷ pieces) are = (tt, all_answer scope pieces are.2)
-all_answer scope (Whole (acts.VmcRet c r) events ∷ pieces) are = (tt, all_answer scope pieces are.2)
-all_answer scope (Whole (acts.Repeat c r) events ∷ pieces) are = (tt, all_answer scope pieces are.2)
-all_answer scope (Whole acts.Foreign events ∷ pieces) are = (tt, all_answer scope pieces are.2)
-all_answer scope (Whole (acts.Break n) events ∷ pieces) are = (tt, all_answer scope pieces are.2)
-all_answer scope (AskTail bytes events ∷ pieces) are = all_answer scope pieces are.2
-all_answer scope (ReplyTail c bytes events ∷ pieces) are = all_answer scope pieces are.2
-all_answer scope (RepeatTail c r words events ∷ pieces) are = all_answer scope pieces are.2
+all_answer scope (Whole act events ∷ pieces) are = (tt, all_answer scope pieces are.2)
+all_answer scope (piece ∷ pieces) are = all_answer scope pieces are.2

@@ -9,7 +9,7 @@ use Rattle.mdb_bus.specs.declared.scope.Beginning.{Beginning}
 use Rattle.mdb_bus.specs.declared.scope.Beginning.TheVariants.{Joined}
 use Rattle.mdb_bus.specs.declared.scope.Profile.TheVariants.{Base}
 use Rattle.mdb_bus.specs.declared.scope.Scope.{Scope}
-use Rattle.mdb_bus.specs.ActLists.{Piece, Whole, AskTail, ReplyTail, RepeatTail, ArePieces, IsActList, acts_of}
+use Rattle.mdb_bus.specs.ActLists.{Piece, Whole, ArePieces, IsActList, acts_of}
 use Rattle.mdb_bus.specs.LeavingOut.{with_foreign}
 use Rattle.mdb_bus.specs.Scopes.{no_levels, profile_of}
 use Rattle.mdb_follow.specs.Arrivals.{Arrives, EachArrives}
@@ -33,11 +33,7 @@ pub all_name : EndLaws → (scope : Scope) (pieces : List Piece) → ArePieces s
 all_name laws scope [] are = tt
 all_name laws scope (Whole act events ∷ pieces) are =
     (laws.names scope act events pieces are, all_name laws scope pieces are.2)
-all_name laws scope (AskTail bytes events ∷ pieces) are = all_name laws scope pieces are.2
-all_name laws scope (ReplyTail command bytes events ∷ pieces) are =
-    all_name laws scope pieces are.2
-all_name laws scope (RepeatTail command reply words events ∷ pieces) are =
-    all_name laws scope pieces are.2
+all_name laws scope (piece ∷ pieces) are = all_name laws scope pieces are.2
 
 -- pieces in front are in order
 pub front_in_order : (scope : Scope) (later before : List Piece)
@@ -63,10 +59,11 @@ run_by laws scope rows pieces states sums list ways =
 -- the way of a device in an end that begins with foreign words
 its_way : EndLaws → (begins : Beginning) (setups : Setups) (device : Device)
     (later before : List Piece) (words : List Event) (states : States) (sums : AllSums)
-    → AllName (acts_of later) → EachArrives begins (acts_of (later ++ before)) states sums
+    → profile_of begins ≡ Base → AllName (acts_of later)
+    → EachArrives begins (acts_of (later ++ before)) states sums
     → (gained : Sums) × Arrives (machine_of (Joined setups (profile_of begins)) device)
     (acts_of (later ++ with_foreign words [])) (states device) gained
-its_way laws begins setups device later before words states sums name ways =
+its_way laws begins setups device later before words states sums base name ways =
     let machine = machine_of begins device in
     let whole : Arrives machine (acts_of later ++ acts_of before) (states device) (sums device) =
     subst (λ l. Arrives machine l (states device) (sums device)) (acts_in_two later before)
@@ -77,7 +74,7 @@ its_way laws begins setups device later before words states sums name ways =
     two.way in
     let end : InEnd begins setups device (acts_of later) (acts_of before) two.sums_from
     (states device) (sums device) =
-    in_end begins setups device law (acts_of before) (acts_of later) two.from two.sums_from
+    in_end begins setups device base law (acts_of before) (acts_of later) two.from two.sums_from
     (states device) (sums device) name holds two.onward in (
       end.gained,
       subst (λ l. Arrives (machine_of (Joined setups (profile_of begins)) device) l (states device)
@@ -120,7 +117,7 @@ end_reached laws scope setups levels front end base reached told =
     (machine_of (Joined setups (profile_of scope.begins)) device) (acts_of (cut.later ++ foreign))
     (run.states device) gained =
     λ device. its_way laws scope.begins setups device cut.later cut.before cut.words run.states
-    reached.0 name ways in (
+    reached.0 base name ways in (
       (λ device. (each device).0),
       run_by laws (told_later setups levels scope) end (cut.later ++ foreign) run.states
           (λ device. (each device).0) list (λ device. (each device).1),
@@ -199,7 +196,7 @@ gained_there laws scope setups levels front end sums run base anew passes levels
     passes.way in
     let each : (device : Device) → InEnd begins setups device (acts_of passes.later)
     (acts_of passes.before) (passes.sums_then device) (run.states device) (sums device) =
-    λ device. in_end begins setups device (laws.stays begins setups device)
+    λ device. in_end begins setups device base (laws.stays begins setups device)
     (acts_of passes.before) (acts_of passes.later) (passes.states_then device)
     (passes.sums_then device) (run.states device) (sums device) name
     (holds_there begins setups device (laws.stays begins setups device) (acts_of passes.before)

@@ -7,9 +7,8 @@ use Rattle.mdb_msgs.specs.declared.device_set.DeviceSet.{DeviceSet}
 use Rattle.mdb_msgs.specs.declared.setups.Setups.{Setups}
 use Rattle.mdb_bus.specs.declared.act.Act.{Act}
 use Rattle.mdb_bus.specs.declared.scope.Beginning.TheVariants.{PowerOn, Joined}
-use Rattle.mdb_bus.specs.declared.scope.Profile.{Profile}
 use Rattle.mdb_bus.specs.declared.scope.Profile.TheVariants.{Base}
-use Rattle.mdb_bus.specs.ActLists.{Piece, Whole, AskTail, ReplyTail, RepeatTail, IsActList, acts_of}
+use Rattle.mdb_bus.specs.ActLists.{Piece, Whole, IsActList, acts_of}
 use Rattle.mdb_bus.specs.Loss.{Loss}
 use Rattle.mdb_bus.specs.Scopes.{joined, leaving_out}
 use Rattle.mdb_machine.specs.declared.choice.Choice.{Choice}
@@ -24,51 +23,49 @@ use Rattle.mdb_bus.specs.Acts.{NamesAReply}
 use Rattle.mdb_late_start.specs.inner.EndLaws.{EndLaws}
 use Rattle.mdb_late_start.proofs.EndRuns.{all_name}
 use Rattle.mdb_late_start.proofs.Foreign.{starts_anywhere}
-use Rattle.mdb_late_start.proofs.InEnds.{AllName, holds_there}
+use Rattle.mdb_late_start.proofs.InEnds.{AllName, base_not_idle, holds_there}
 
--- the same way in mid-session
-pub record SameWay (setups : Setups) (profile : Profile) (loss : Loss) (pieces : List Piece)
-    (states : States) (sums : AllSums) (way : IsWay (PowerOn profile) loss pieces states sums)
-    : Type 0 where
+-- the same way in mid-session, by the base profile
+pub record SameWay (setups : Setups) (loss : Loss) (pieces : List Piece) (states : States)
+    (sums : AllSums) (way : IsWay (PowerOn Base) loss pieces states sums) : Type 0 where
   pub more : AllSums
-  pub same : IsWay (Joined setups profile) loss pieces states more
-  pub alike : AreAlike (PowerOn profile) (Joined setups profile) loss pieces states states sums more
+  pub same : IsWay (Joined setups Base) loss pieces states more
+  pub alike : AreAlike (PowerOn Base) (Joined setups Base) loss pieces states states sums more
       way same
-  pub gained : (device : Device) → IsNotKnown (Joined setups profile) device
+  pub gained : (device : Device) → IsNotKnown (Joined setups Base) device
       → more device ≡ sums device
 
 -- a step of a device from power-on, in mid-session
-step_there : EndLaws → (setups : Setups) (profile : Profile) (device : Device) (so_far : List Act)
-    (act : Act) (choice : Choice) (before after : StateOf device) (gains : Gains) → NamesAReply act
-    → HasToldWhatItHolds (PowerOn profile) device so_far before
-    → (machine_of (PowerOn profile) device).Step so_far act choice before after gains
-    → GoesOnInEnd (PowerOn profile) setups device so_far [] act choice before after gains
-step_there laws setups profile device so_far act choice before after gains name holds step =
+step_there : EndLaws → (setups : Setups) (device : Device) (so_far : List Act) (act : Act)
+    (choice : Choice) (before after : StateOf device) (gains : Gains) → NamesAReply act
+    → HasToldWhatItHolds (PowerOn Base) device so_far before
+    → (machine_of (PowerOn Base) device).Step so_far act choice before after gains
+    → GoesOnInEnd (PowerOn Base) setups device so_far [] act choice before after gains
+step_there laws setups device so_far act choice before after gains name holds step =
     let whole : so_far ≡ so_far ++ [] = sym (append-nil so_far) in
-    (laws.stays (PowerOn profile) setups device).step so_far [] act choice before after gains name
-    (subst (λ l. HasToldWhatItHolds (PowerOn profile) device l before) whole holds)
-    (subst (λ l. (machine_of (PowerOn profile) device).Step l act choice before after gains) whole
+    (laws.stays (PowerOn Base) setups device).step so_far [] act choice before after gains name
+    (base_not_idle (PowerOn Base) device (so_far ++ []) refl)
+    (subst (λ l. HasToldWhatItHolds (PowerOn Base) device l before) whole holds)
+    (subst (λ l. (machine_of (PowerOn Base) device).Step l act choice before after gains) whole
     step)
 
-pub same_way : EndLaws → (setups : Setups) (profile : Profile) (loss : Loss) (pieces : List Piece)
-    (states : States) (sums : AllSums) (way : IsWay (PowerOn profile) loss pieces states sums)
-    → AllName (acts_of pieces)
-    → SameWay setups profile loss pieces states sums way
-same_way laws setups profile loss [] states sums way name = record {
+pub same_way : EndLaws → (setups : Setups) (loss : Loss) (pieces : List Piece) (states : States)
+    (sums : AllSums) (way : IsWay (PowerOn Base) loss pieces states sums)
+    → AllName (acts_of pieces) → SameWay setups loss pieces states sums way
+same_way laws setups loss [] states sums way name = record {
   more = λ device. no_sums;
-  same = λ device. (starts_anywhere setups profile device (states device), refl);
+  same = λ device. (starts_anywhere setups Base device (states device), refl);
   alike = tt;
   gained = λ device unknown. sym (way device).1;
 }
-same_way laws setups profile loss (Whole act events ∷ pieces) states sums way name =
-    let earlier = same_way laws setups profile loss pieces way.before way.sums_before way.way
-    name.1 in
-    let arrived = laws.splits (PowerOn profile) loss pieces way.before way.sums_before way.way in
-    let there : (device : Device) → GoesOnInEnd (PowerOn profile) setups device (acts_of pieces) []
+same_way laws setups loss (Whole act events ∷ pieces) states sums way name =
+    let earlier = same_way laws setups loss pieces way.before way.sums_before way.way name.1 in
+    let arrived = laws.splits (PowerOn Base) loss pieces way.before way.sums_before way.way in
+    let there : (device : Device) → GoesOnInEnd (PowerOn Base) setups device (acts_of pieces) []
     act way.choice (way.before device) (states device) (way.go device).gains =
-    λ device. step_there laws setups profile device (acts_of pieces) act way.choice
-    (way.before device) (states device) (way.go device).gains name.0
-    (holds_there (PowerOn profile) setups device (laws.stays (PowerOn profile) setups device)
+    λ device. step_there laws setups device (acts_of pieces) act way.choice (way.before device)
+    (states device) (way.go device).gains name.0
+    (holds_there (PowerOn Base) setups device (laws.stays (PowerOn Base) setups device)
     (acts_of pieces) (way.before device) (way.sums_before device) (arrived device))
     (way.go device).step in
     record {
@@ -92,25 +89,8 @@ same_way laws setups profile loss (Whole act events ∷ pieces) states sums way 
           ∙ ap (added (way.sums_before device)) ((there device).alike refl refl unknown)
           ∙ sym (way.go device).adds;
     }
-same_way laws setups profile loss (AskTail bytes events ∷ pieces) states sums way name =
-    let earlier = same_way laws setups profile loss pieces states sums way name in
-    record {
-      more = earlier.more;
-      same = earlier.same;
-      alike = earlier.alike;
-      gained = earlier.gained;
-    }
-same_way laws setups profile loss (ReplyTail command bytes events ∷ pieces) states sums way name =
-    let earlier = same_way laws setups profile loss pieces states sums way name in
-    record {
-      more = earlier.more;
-      same = earlier.same;
-      alike = earlier.alike;
-      gained = earlier.gained;
-    }
-same_way laws setups profile loss (RepeatTail command reply words events ∷ pieces) states sums way
-    name =
-    let earlier = same_way laws setups profile loss pieces states sums way name in
+same_way laws setups loss (piece ∷ pieces) states sums way name =
+    let earlier = same_way laws setups loss pieces states sums way name in
     record {
       more = earlier.more;
       same = earlier.same;
@@ -131,7 +111,7 @@ pub run_joined : EndLaws → ((setups : Setups) (without : DeviceSet) (pieces : 
     × ((device : Device) → IsNotKnown (Joined setups Base) device → more device ≡ sums device)
 run_joined laws lists setups without rows sums run =
     let name = all_name laws (leaving_out without) run.pieces run.act_list.in_order in
-    let there = same_way laws setups Base run.loss run.pieces run.states sums run.way name in (
+    let there = same_way laws setups run.loss run.pieces run.states sums run.way name in (
       there.more,
       lists setups without run.pieces rows run.act_list,
       there.same,

@@ -13,6 +13,7 @@ pub mod InEnds
 pub mod JoinedOrder
 pub mod Keepers
 pub mod Middles
+pub mod NoOptions
 pub mod Onward
 pub mod ReaderCovers
 pub mod ReaderHolds

@@ -4,7 +4,7 @@ use Rattle.std.proofs.Common.{ap, refl, subst, ◌≡◌, List, [], ◌∷◌, �
 use Rattle.mdb_msgs.specs.declared.command.Device.{Device}
 use Rattle.mdb_bus.specs.declared.act.Act.{Act}
 use Rattle.mdb_bus.specs.declared.scope.Beginning.{Beginning}
-use Rattle.mdb_bus.specs.ActLists.{Piece, Whole, AskTail, ReplyTail, RepeatTail, acts_of}
+use Rattle.mdb_bus.specs.ActLists.{Piece, Whole, acts_of}
 use Rattle.mdb_bus.specs.Loss.{Loss}
 use Rattle.mdb_machine.specs.Machine.{Machine}
 use Rattle.mdb_follow.specs.Arrivals.{Arrives, ArrivesBy}
@@ -62,9 +62,7 @@ pub acts_in_two : (later before : List Piece)
 acts_in_two [] before = refl
 acts_in_two (Whole act events ∷ later) before =
     ap (λ (l : List Act). act ∷ l) (acts_in_two later before)
-acts_in_two (AskTail bytes events ∷ later) before = acts_in_two later before
-acts_in_two (ReplyTail command bytes events ∷ later) before = acts_in_two later before
-acts_in_two (RepeatTail command reply words events ∷ later) before = acts_in_two later before
+acts_in_two (piece ∷ later) before = acts_in_two later before
 
 -- where all go on through pieces, each goes on through their acts
 pub each_goes_on : (begins : Beginning) (loss : Loss) (before later : List Piece) (from : States)
@@ -86,12 +84,7 @@ each_goes_on begins loss before (Whole act events ∷ later) from sums_from stat
           (states device) (way.go device).gains) (acts_in_two later before) (way.go device).step;
       adds = (way.go device).adds;
     }
-each_goes_on begins loss before (AskTail bytes events ∷ later) from sums_from states sums way
-    device = each_goes_on begins loss before later from sums_from states sums way device
-each_goes_on begins loss before (ReplyTail command bytes events ∷ later) from sums_from states sums
-    way device = each_goes_on begins loss before later from sums_from states sums way device
-each_goes_on begins loss before (RepeatTail command reply words events ∷ later) from sums_from
-    states sums way device =
+each_goes_on begins loss before (piece ∷ later) from sums_from states sums way device =
     each_goes_on begins loss before later from sums_from states sums way device
 
 -- a way of all, in two parts
@@ -127,23 +120,7 @@ all_in_two begins loss (Whole act events ∷ later) before states sums way =
         go = way.go;
       };
     }
-all_in_two begins loss (AskTail bytes events ∷ later) before states sums way =
-    let earlier = all_in_two begins loss later before states sums way in
-    record {
-      from = earlier.from;
-      sums_from = earlier.sums_from;
-      way = earlier.way;
-      onward = earlier.onward;
-    }
-all_in_two begins loss (ReplyTail command bytes events ∷ later) before states sums way =
-    let earlier = all_in_two begins loss later before states sums way in
-    record {
-      from = earlier.from;
-      sums_from = earlier.sums_from;
-      way = earlier.way;
-      onward = earlier.onward;
-    }
-all_in_two begins loss (RepeatTail command reply words events ∷ later) before states sums way =
+all_in_two begins loss (piece ∷ later) before states sums way =
     let earlier = all_in_two begins loss later before states sums way in
     record {
       from = earlier.from;

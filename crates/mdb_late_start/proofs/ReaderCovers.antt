@@ -1,18 +1,20 @@
 -- What is known of a reader in the end of a recording by itself is known in the whole recording,
 -- too.
-use Rattle.std.proofs.Common.{◌≡◌, ℕ, unwrap_or, Bool, true, false, ◌&&◌, ◌||◌, List, [], ◌∷◌, ◌++◌, Option, Some, None, refl, ap, sym, subst, ◌∙◌}
+use Rattle.std.proofs.Common.{◌≡◌, ℕ, unwrap_or, Bool, true, false, not, ◌&&◌, ◌||◌, List, [], ◌∷◌, ◌++◌, Option, Some, None, refl, ap, sym, subst, ◌∙◌}
 use Rattle.mdb_msgs.specs.declared.command.ReaderUnit.{ReaderUnit}
 use Rattle.mdb_msgs.specs.declared.setups.Setups.{Setups}
 use Rattle.mdb_msgs.specs.Setups.{config_known}
 use Rattle.mdb_bus.specs.declared.act.Act.{Act}
 use Rattle.mdb_bus.specs.declared.scope.Beginning.{Beginning}
 use Rattle.mdb_bus.specs.declared.scope.Beginning.TheVariants.{PowerOn, Joined}
+use Rattle.mdb_bus.specs.declared.scope.Profile.{Profile}
 use Rattle.mdb_bus.specs.declared.scope.Profile.TheVariants.{Base, Extended}
 use Rattle.mdb_bus.specs.Scopes.{profile_of}
 use Rattle.mdb_machine.specs.Known.{Allows, AllowsKept, Known, Is, Unknown}
 use Rattle.mdb_machine.specs.Past.{last_told, or_else}
 use Rattle.mdb_machine.specs.PastValues.{known_more}
-use Rattle.mdb_cashless.specs.ReaderFacts.{KnownFacts, amount_by, config_by, extended_of, extended_since, is_refused, known_of, level_asked_by, level_told_by, may_be_high, refusal_by}
+use Rattle.mdb_cashless.specs.declared.reader.extended.ExtendedFacts.{ExtendedFacts}
+use Rattle.mdb_cashless.specs.ReaderFacts.{KnownFacts, amount_by, config_by, extended_of, extended_since, is_always_idle, is_below_3, is_refused, is_requested, known_of, level_asked_by, level_told_by, may_be_high, refusal_by}
 use Rattle.mdb_cashless.specs.ReaderValues.{known_with}
 use Rattle.mdb_cashless.specs.shared.ReaderWays.{goes_on}
 use Rattle.mdb_late_start.specs.MidSession.{HasTold, IsNothingOr}
@@ -147,6 +149,25 @@ refused_too unit (Joined known Base) setups later front is = absurd cc
 refused_too unit (PowerOn Extended) setups later front is = since_too unit false later front is
 refused_too unit (Joined known Extended) setups later front is =
     since_too unit true later front is
+
+none_of_both : (a b : Bool) → b ≡ false → (a && b) ≡ false
+none_of_both true b none = none
+none_of_both false b none = refl
+
+-- always idle is off in mid-session
+pub idle_off : (setups : Setups) (profile : Profile) (unit : ReaderUnit) (acts : List Act)
+    → is_always_idle (extended_of (Joined setups profile) unit acts) ≡ false
+idle_off setups Base unit acts = refl
+idle_off setups Extended unit acts =
+    let facts = extended_since true unit acts in
+    none_of_both (facts.switched_on && not (is_below_3 facts.asked facts.told)) false refl
+
+-- and where it is off, no VEND REQUEST counts for it
+pub none_requested : (extended : Option ExtendedFacts) → is_always_idle extended ≡ false
+    → is_requested extended ≡ false
+none_requested None off = refl
+none_requested (Some facts) off =
+    none_of_both facts.requested (is_always_idle (Some facts)) off
 
 -- what may count there may count here
 pub allows_too : {X : Type 0} (here there : Known X) (x : X) → IsKnownToo here there

@@ -22,14 +22,14 @@ use Rattle.mdb_cashless.specs.declared.reader.messages.ReaderActivity.{ReaderAct
 use Rattle.mdb_cashless.specs.declared.reader.state.ReaderState.{ReaderState}
 use Rattle.mdb_cashless.specs.declared.reader.transaction.Transaction.{Transaction}
 use Rattle.mdb_cashless.specs.declared.reader.view.View.{View}
-use Rattle.mdb_cashless.specs.declared.reader.view.View.TheVariants.{Idle}
+use Rattle.mdb_cashless.specs.declared.reader.view.View.TheVariants.{NoSession, Idle, Approved}
 use Rattle.mdb_machine.specs.Steps.{ForOwn}
 use Rattle.mdb_cashless.specs.Reader.{AckStep, AskStep, ReaderStep, ReplyStep, VmcAckStep, all_approved, all_approved_to, approved, asked, asks_sale, is_approval, is_repeated, read, sold, sold_any, sold_to, taken, value, view_answered}
 use Rattle.mdb_cashless.specs.ReaderDevice as reader_device
 use Rattle.mdb_cashless.specs.ReaderFacts.{Facts, KnownFacts, effect_of_own, is_refused}
 use Rattle.mdb_cashless.specs.ReaderMessages.{config_in, last_said, messages_of, part_of, parts_of}
 use Rattle.mdb_cashless.specs.ReaderView as reader_view
-use Rattle.mdb_cashless.specs.ReaderView.{heard, sent, sent_in_turn, waits}
+use Rattle.mdb_cashless.specs.ReaderView.{heard, may_as_in_idle, sent, sent_in_turn}
 use Rattle.mdb_cashless.specs.Transactions.{amounts, ended_by, no_end, transaction_of}
 use Rattle.mdb_cashless.specs.Units.{own}
 
@@ -41,6 +41,8 @@ otherwise facts known = record {
   taken = facts.taken;
   amount = unwrap_or known.amount 0;
   refused = is_refused known.extended;
+  always_idle = facts.always_idle;
+  requested = facts.requested;
   past = record {
     enabled = known.past.enabled;
     reset_owed = known.past.reset_owed;
@@ -222,36 +224,42 @@ same_approved_to one other before said (inr same) =
 abbrev MayBeRefused : Facts → KnownFacts → Type 0
 MayBeRefused facts known = facts.refused ≡ true → is_refused known.extended ≡ true
 
--- a transaction command that may be sent may be, where the controller may be refused too
+-- what may be sent as in Idle may be, where the controller may be refused too
+may_too : (always_idle here there : Bool) (before : View) → (there ≡ true → here ≡ true)
+    → may_as_in_idle always_idle there before ≡ true → may_as_in_idle always_idle here before ≡ true
+may_too always_idle here there NoSession too may = may
+may_too always_idle here there Idle too may = may
+may_too always_idle here there Approved too may = may
+may_too always_idle here there before too may = too may
+
+-- a transaction command that may be sent may be, where more may be sent as in Idle
 sent_too : (here there : Bool) (last : Option Transaction) (its : Transaction)
     (before after : View) → (there ≡ true → here ≡ true)
     → sent there last its before ≡ Some after → sent here last its before ≡ Some after
 sent_too true true last its before after too is = is
 sent_too false false last its before after too is = is
 sent_too true false last its before after too is =
-    ap (λ view. or_else view (if waits before then sent_in_turn last its Idle else None)) is
+    ap (λ view. or_else view (sent_in_turn last its Idle)) is
 sent_too false true last its before after too is =
     let clash : false ≡ true = too refl in absurd (cc clash)
 
 -- so may any command
-found_too : (facts : Facts) (known : KnownFacts) (found : Option Transaction)
-    (before after : View) → MayBeRefused facts known
-    → (elim found [ Some its ↦ sent facts.refused facts.asked its before | None ↦ Some before ])
-    ≡ Some after
-    → (elim found [
-      | Some its ↦ sent (is_refused known.extended) facts.asked its before
-      | None ↦ Some before
-    ]) ≡ Some after
-found_too facts known None before after too is = is
-found_too facts known (Some its) before after too is =
-    sent_too (is_refused known.extended) facts.refused facts.asked its before after too is
+found_too : (here there : Bool) (last found : Option Transaction) (before after : View)
+    → (there ≡ true → here ≡ true)
+    → (elim found [ Some its ↦ sent there last its before | None ↦ Some before ]) ≡ Some after
+    → (elim found [ Some its ↦ sent here last its before | None ↦ Some before ]) ≡ Some after
+found_too here there last None before after too is = is
+found_too here there last (Some its) before after too is =
+    sent_too here there last its before after too is
 
 asked_too : (facts : Facts) (known : KnownFacts) (its : ReaderCommand) (before after : View)
     → MayBeRefused facts known → asked facts its before ≡ Some after
     → asked (otherwise facts known) its before ≡ Some after
 asked_too facts known reader.Reset before after too is = is
 asked_too facts known its before after too is =
-    found_too facts known (transaction_of its) before after too is
+    found_too (may_as_in_idle facts.always_idle (is_refused known.extended) before)
+    (may_as_in_idle facts.always_idle facts.refused before) facts.asked (transaction_of its) before
+    after (may_too facts.always_idle (is_refused known.extended) facts.refused before too) is
 
 -- a step, with what it gains, after other facts, where it gains the same if all has its price
 abbrev pub GoesWith : (Gains → Type 0) → Type 0 → Gains → Type 0

@@ -1,10 +1,12 @@
 -- The same ways from power-on by either profile. Lists of acts and of pieces stand newest first.
 use Rattle.std.proofs.Common.{ap, arith, refl, subst, sym, ◌∙◌, ◌≡◌, ◌⊎◌, inl, inr, List, [], ◌∷◌}
-use Rattle.std.proofs.Common.{ℕ, zero, suc, Bool, true, false, ◌&&◌, ◌↔◌, Option, Some, None}
+use Rattle.std.proofs.Common.{ℕ, zero, suc, Bool, true, false, not, ◌&&◌, ◌||◌, ◌↔◌, Option, Some, None, if◌then◌else◌}
+use Rattle.std.specs.List.{All, AllByRecursion}
+use Rattle.std.proofs.lemmas.List.Elements.{recursion_from_All}
 use Rattle.mdb_msgs.specs.declared.command.Device.{Device}
 use Rattle.mdb_msgs.specs.declared.command.Device.TheVariants as devices
 use Rattle.mdb_msgs.specs.declared.command.ReaderUnit.{ReaderUnit}
-use Rattle.mdb_bus.specs.ActLists.{AskTail, IsLow, Piece, ReplyTail, RepeatTail, Whole, acts_of}
+use Rattle.mdb_bus.specs.ActLists.{IsLow, Piece, Whole, acts_of}
 use Rattle.mdb_bus.specs.Loss.{Loss}
 use Rattle.mdb_bus.specs.declared.act.Act.{Act}
 use Rattle.mdb_bus.specs.declared.scope.Beginning.TheVariants.{PowerOn}
@@ -13,12 +15,13 @@ use Rattle.mdb_bus.specs.declared.scope.Profile.TheVariants.{Base, Extended}
 use Rattle.mdb_machine.specs.declared.choice.Choice.{Choice}
 use Rattle.mdb_machine.specs.declared.gains.Gains.{Gains}
 use Rattle.mdb_machine.specs.Machine.{Machine}
-use Rattle.mdb_machine.specs.Past.{last_told}
+use Rattle.mdb_machine.specs.Past.{last_told, powers_on, taken_by}
 use Rattle.mdb_cashless.specs.ReaderFacts as reader
 use Rattle.mdb_follow.specs.Machines.{StateOf, machine_of}
 use Rattle.mdb_follow.specs.Runs.{AllSums, IsWay, States}
 use Rattle.mdb_late_start.specs.Ends.{AreAlike}
-use Rattle.mdb_late_start.specs.NeverLong.{IsNeverLong, IsNotLong}
+use Rattle.mdb_late_start.specs.NeverLong.{IsNeverLong, IsNotLong, TakesNoAlwaysIdle}
+use Rattle.mdb_late_start.proofs.ReaderCovers.{none_requested}
 
 -- The facts of a reader.
 
@@ -54,24 +57,59 @@ not_refused Extended unit acts short =
     by (inl low) = inl (not_high asked low)
     by (inr low) = inr (not_high told low)
 
+-- one act more leaves always idle off
+stays_off : (powers asks high on : Bool) → asks ≡ false → on ≡ false
+    → (if powers then false else (asks && high) || on) ≡ false
+stays_off true asks high on none off = refl
+stays_off false asks high on none off = ap (λ b. (b && high) || on) none ∙ off
+
+-- by acts by which no reader takes a command that asks for it, it isn't switched on
+not_switched : (unit : ReaderUnit) (acts : List Act) → AllByRecursion TakesNoAlwaysIdle acts
+    → reader.is_switched_on unit acts ≡ false
+not_switched unit [] none = refl
+not_switched unit (act ∷ acts) none =
+    stays_off (powers_on (reader.effect_of unit) act)
+    (reader.asks_for_always_idle (reader.own_of unit (taken_by act)))
+    (not (reader.is_below_3 (last_told (reader.level_asked_by unit) acts)
+    (last_told (reader.level_told_by unit) acts))) (reader.is_switched_on unit acts) (none.0 unit)
+    (not_switched unit acts none.1)
+
+-- where it isn't switched on, it is off
+off : (profile : Profile) (unit : ReaderUnit) (acts : List Act)
+    → reader.is_switched_on unit acts ≡ false
+    → reader.is_always_idle (reader.extended_of (PowerOn profile) unit acts) ≡ false
+off Base unit acts none = refl
+off Extended unit acts none =
+    ap (λ on. on && not (reader.is_below_3 (last_told (reader.level_asked_by unit) acts)
+    (last_told (reader.level_told_by unit) acts)) && true) none
+
+-- at this point of acts the reader isn't long, and has always idle not switched on
+abbrev pub IsPlain : ReaderUnit → List Act → Type 0
+IsPlain unit acts = IsNotLong unit acts × (reader.is_switched_on unit acts ≡ false)
+
 -- so its facts are the same by either profile
-pub same_facts : (one other : Profile) (unit : ReaderUnit) (acts : List Act)
-    → IsNotLong unit acts
+pub same_facts : (one other : Profile) (unit : ReaderUnit) (acts : List Act) → IsPlain unit acts
     → reader.facts_of (PowerOn one) unit acts ≡ reader.facts_of (PowerOn other) unit acts
-same_facts one other unit acts short =
-    ap (λ refused. record (reader.facts_of (PowerOn one) unit acts) { refused = refused })
-    (not_refused one unit acts short ∙ sym (not_refused other unit acts short))
+same_facts one other unit acts plain = λ i.
+    record (reader.facts_of (PowerOn one) unit acts) {
+      refused = (not_refused one unit acts plain.0 ∙ sym (not_refused other unit acts plain.0)) i;
+      always_idle = (off one unit acts plain.1 ∙ sym (off other unit acts plain.1)) i;
+      requested = (none_requested (reader.extended_of (PowerOn one) unit acts)
+          (off one unit acts plain.1)
+          ∙ sym (none_requested (reader.extended_of (PowerOn other) unit acts)
+          (off other unit acts plain.1))) i;
+    }
 
 -- Ways.
 
--- at this point of acts no reader is long
-abbrev NoneIsLong : List Act → Type 0
-NoneIsLong acts = (unit : ReaderUnit) → IsNotLong unit acts
+-- at this point of acts each reader is so
+abbrev ArePlain : List Act → Type 0
+ArePlain acts = (unit : ReaderUnit) → IsPlain unit acts
 
 -- each step of a machine by one profile is one by the other
 abbrev pub HasSameSteps : {State : Type 0} → (Profile → Machine State) → Type 0
 HasSameSteps {State} machine =
-    (one other : Profile) (so_far : List Act) → NoneIsLong so_far → (act : Act) (choice : Choice)
+    (one other : Profile) (so_far : List Act) → ArePlain so_far → (act : Act) (choice : Choice)
     (before after : State) (gains : Gains)
     → (machine one).Step so_far act choice before after gains
     → (machine other).Step so_far act choice before after gains
@@ -84,11 +122,11 @@ pub steps_by : {State Facts : Type 0} (machine : Profile → Machine State)
     (before after : State) (gains : Gains)
     → (machine profile).Step so_far act choice before after gains
     ↔ Step (facts profile so_far) act choice before after gains)
-    → ((one other : Profile) (so_far : List Act) → NoneIsLong so_far
+    → ((one other : Profile) (so_far : List Act) → ArePlain so_far
     → facts one so_far ≡ facts other so_far) → HasSameSteps machine
-steps_by machine facts Step are same one other so_far short act choice before after gains step =
+steps_by machine facts Step are same one other so_far plain act choice before after gains step =
     (are other so_far act choice before after gains).1
-    (subst (λ f. Step f act choice before after gains) (same one other so_far short)
+    (subst (λ f. Step f act choice before after gains) (same one other so_far plain)
     ((are one so_far act choice before after gains).0 step))
 
 -- a machine starts alike by both
@@ -104,9 +142,7 @@ never_before : (act : Act) (acts : List Act) → IsNeverLong (act ∷ acts) → 
 never_before act acts never unit later before is =
     never unit (act ∷ later) before (ap (λ more. act ∷ more) is)
 
--- a way by one profile is a way by the other
-
--- the machine of each device has
+-- the machine of each device has the same steps
 abbrev pub EachHasSameSteps : Type 0
 EachHasSameSteps = (device : Device) → HasSameSteps (λ profile. machine_of (PowerOn profile) device)
 
@@ -120,16 +156,22 @@ each_has changer bill reader devices.Bill = bill
 each_has changer bill reader (devices.Reader unit) = reader unit
 
 -- a way by one profile is a way by the other
-pub same_way : EachHasSameSteps → (one other : Profile) (loss : Loss)
-    (pieces : List Piece) (states : States) (sums : AllSums) → IsNeverLong (acts_of pieces)
-    → (way : IsWay (PowerOn one) loss pieces states sums)
-    → (same : IsWay (PowerOn other) loss pieces states sums)
+abbrev pub GoesTheSame : (one other : Profile) (loss : Loss) (pieces : List Piece)
+    (states : States) (sums : AllSums) → IsWay (PowerOn one) loss pieces states sums → Type 0
+GoesTheSame one other loss pieces states sums way =
+    (same : IsWay (PowerOn other) loss pieces states sums)
     × AreAlike (PowerOn one) (PowerOn other) loss pieces states states sums sums way same
-same_way steps one other loss [] states sums never way =
+
+same_by_recursion : EachHasSameSteps → (one other : Profile) (loss : Loss) (pieces : List Piece)
+    (states : States) (sums : AllSums) → IsNeverLong (acts_of pieces)
+    → AllByRecursion TakesNoAlwaysIdle (acts_of pieces)
+    → (way : IsWay (PowerOn one) loss pieces states sums)
+    → GoesTheSame one other loss pieces states sums way
+same_by_recursion steps one other loss [] states sums never none way =
     (λ device. (starts_same one other device (states device) (way device).0, (way device).1), tt)
-same_way steps one other loss (Whole act events ∷ pieces) states sums never way =
-    let earlier = same_way steps one other loss pieces way.before way.sums_before
-    (never_before act (acts_of pieces) never) way.way in (
+same_by_recursion steps one other loss (Whole act events ∷ pieces) states sums never none way =
+    let earlier = same_by_recursion steps one other loss pieces way.before way.sums_before
+    (never_before act (acts_of pieces) never) none.1 way.way in (
       record {
         choice = way.choice;
         stands = way.stands;
@@ -140,16 +182,24 @@ same_way steps one other loss (Whole act events ∷ pieces) states sums never wa
         go = λ device. record {
           gains = (way.go device).gains;
           step = steps device one other (acts_of pieces)
-              (λ unit. never unit (act ∷ []) (acts_of pieces) refl) act way.choice
-              (way.before device) (states device) (way.go device).gains (way.go device).step;
+              (λ unit. (
+                never unit (act ∷ []) (acts_of pieces) refl,
+                not_switched unit (acts_of pieces) none.1,
+              )) act way.choice (way.before device) (states device) (way.go device).gains
+              (way.go device).step;
           adds = (way.go device).adds;
         };
       },
       (refl, refl, earlier.1),
     )
-same_way steps one other loss (AskTail bytes events ∷ pieces) states sums never way =
-    same_way steps one other loss pieces states sums never way
-same_way steps one other loss (ReplyTail command bytes events ∷ pieces) states sums never way =
-    same_way steps one other loss pieces states sums never way
-same_way steps one other loss (RepeatTail command reply words events ∷ pieces) states sums never
-    way = same_way steps one other loss pieces states sums never way
+same_by_recursion steps one other loss (piece ∷ pieces) states sums never none way =
+    same_by_recursion steps one other loss pieces states sums never none way
+
+pub same_way : EachHasSameSteps → (one other : Profile) (loss : Loss) (pieces : List Piece)
+    (states : States) (sums : AllSums) → IsNeverLong (acts_of pieces)
+    → All TakesNoAlwaysIdle (acts_of pieces)
+    → (way : IsWay (PowerOn one) loss pieces states sums)
+    → GoesTheSame one other loss pieces states sums way
+same_way steps one other loss pieces states sums never none =
+    same_by_recursion steps one other loss pieces states sums never
+    (recursion_from_All TakesNoAlwaysIdle (acts_of pieces) none)

@@ -1,6 +1,6 @@
 -- What a device does in the course of a recording, it may do in the end of that, too, taken as a
 -- recording that begins in mid-session (this profile). Lists of acts stand newest first.
-use Rattle.std.specs.Prelude.{◌≡◌, ◌≢◌, Bool, true, List, [], ◌∷◌, ◌++◌, Option, Some, None}
+use Rattle.std.specs.Prelude.{◌≡◌, ◌≢◌, Bool, true, false, List, [], ◌∷◌, ◌++◌, Option, Some, None}
 use Rattle.mdb_msgs.specs.declared.command.Device.{Device}
 use Rattle.mdb_msgs.specs.declared.command.Device.TheVariants as devices
 use Rattle.mdb_msgs.specs.declared.setups.Setups.{Setups}
@@ -61,6 +61,13 @@ TellsOnlyWhatIsSo setups begins devices.Bill so_far =
 TellsOnlyWhatIsSo setups begins (devices.Reader unit) so_far =
     IsNothingOr (config_known setups unit) (reader.known_of begins unit so_far).config
 
+-- Always idle isn't on for a device after acts of a recording that begins so. Changer and validator
+-- don't have it.
+abbrev pub IsNotAlwaysIdle : Beginning → Device → List Act → Type 0
+IsNotAlwaysIdle begins (devices.Reader unit) so_far =
+    reader.is_always_idle (reader.extended_of begins unit so_far) ≡ false
+IsNotAlwaysIdle begins device so_far = Unit {0}
+
 -- A step in the end of a recording (`later`, after acts `front`) is one in that end by itself, by
 -- the same act under the same choice, from the same state to the same. It gains the same where the
 -- end leaves no amount without a value, and what was told from elsewhere is what was known in front
@@ -77,8 +84,8 @@ pub record GoesOnInEnd (begins : Beginning) (setups : Setups) (device : Device)
       → IsNotKnown (Joined setups (profile_of begins)) device → other ≡ gains
 
 -- A device may do in mid-session what it does: in the end of a recording that begins so each of its
--- steps is one of that end by itself. For that it has to have told what it holds, and so it has as
--- the recording begins, and after each step.
+-- steps is one of that end by itself, where always idle isn't on in the whole. For that it has to
+-- have told what it holds, and so it has as the recording begins, and after each step.
 pub record MayJoinLate (begins : Beginning) (setups : Setups) (device : Device)
     : Type 0 where
   pub starts : (state : StateOf device) → (machine_of begins device).Starts state
@@ -89,6 +96,7 @@ pub record MayJoinLate (begins : Beginning) (setups : Setups) (device : Device)
       → HasToldWhatItHolds begins device (act ∷ so_far) after
   pub step : (later front : List Act) (act : Act) (choice : Choice)
       (before after : StateOf device) (gains : Gains) → NamesAReply act
+      → IsNotAlwaysIdle begins device (later ++ front)
       → HasToldWhatItHolds begins device (later ++ front) before
       → (machine_of begins device).Step (later ++ front) act choice before after gains
       → GoesOnInEnd begins setups device later front act choice before after gains

@@ -94,7 +94,7 @@ pub fn the_validator_stays_in_mid_session()
 {}
 
 /// Every step of a reader from power-on is allowed in a recording that begins while it was running,
-/// by any profile.
+/// by any profile, where always idle is off. By the base profile it always is.
 pub fn a_reader_stays_in_mid_session()
     ensures { (begins : Beginning) (setups : Setups) (unit : ReaderUnit)
         → MayJoinLate begins setups (devices.Reader unit) }

@@ -1,7 +1,7 @@
 //! Laws of the two profiles. Each function's contract is the law, and its body calls the laws that
 //! it rests on.
 
-ghost use Rattle.std.specs.Prelude.{List};
+ghost use Rattle.std.specs.Prelude.{List, All};
 ghost use Rattle.mdb_words.specs.declared.event.Event.{Event};
 ghost use Rattle.mdb_msgs.specs.declared.device_set.DeviceSet.{DeviceSet};
 ghost use Rattle.mdb_bus.specs.ActLists.{IsActList, Piece, acts_of};
@@ -13,17 +13,18 @@ ghost use Rattle.mdb_follow.specs.Report.{IsReport};
 ghost use Rattle.mdb_follow.specs.Runs.{AllSums, IsWay, Run, States};
 ghost use Rattle.mdb_follow.specs.declared.report.Report.{Report};
 ghost use Rattle.mdb_late_start.specs.Ends.{AreAlike};
-ghost use Rattle.mdb_late_start.specs.NeverLong.{IsNeverLong};
+ghost use Rattle.mdb_late_start.specs.NeverLong.{IsNeverLong, TakesNoAlwaysIdle};
 
 use mdb_bus::laws as links;
 use mdb_cash::laws as cash;
 use mdb_cashless::laws as cashless;
 
 /// By either profile the same ways lead from power-on through pieces in which no reader is ever
-/// long. They have the same losses, choices, states and sums.
+/// long, and by which none takes a command that asks it for always idle. They have the same losses,
+/// choices, states and sums.
 pub fn profiles_have_the_same_ways()
     ensures { (one other : Profile) (loss : Loss) (pieces : List Piece) (states : States)
-        (sums : AllSums) → IsNeverLong (acts_of pieces)
+        (sums : AllSums) → IsNeverLong (acts_of pieces) → All TakesNoAlwaysIdle (acts_of pieces)
         → (way : IsWay (PowerOn one) loss pieces states sums)
         → (same : IsWay (PowerOn other) loss pieces states sums)
         × AreAlike (PowerOn one) (PowerOn other) loss pieces states states sums sums way same }

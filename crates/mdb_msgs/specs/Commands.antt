@@ -1,6 +1,6 @@
 -- The commands of the controller as bytes (MDB/ICP 4.3, coin changer, bill validator, cashless
 -- device).
-use Rattle.std.specs.Prelude.{◌≡◌, ℕ, ◌+◌, ◌<◌, ◌⊎◌, Bool, true, false, IsBitSet, List, [], ◌∷◌, ◌++◌, length, slice_index, All}
+use Rattle.std.specs.Prelude.{◌≡◌, ℕ, ◌+◌, ◌<◌, ◌⊎◌, ◌==◌, Bool, true, false, not, bit_and, IsBitSet, List, [], ◌∷◌, ◌++◌, length, slice_index, All}
 use Rattle.mdb_blocks.specs.Block.{block_of}
 use Rattle.mdb_msgs.specs.declared.command.Device.{Device}
 use Rattle.mdb_msgs.specs.declared.command.Device.TheVariants as device
@@ -144,12 +144,11 @@ is_enable_options _ = false
 abbrev pub AskForOtherMoney : List ℕ → Type 0
 AskForOtherMoney options = IsBitSet (slice_index options 3) 1 ⊎ IsBitSet (slice_index options 3) 2
 
--- options that ask for always idle, by Y5
-abbrev pub AskForAlwaysIdle : List ℕ → Type 0
-AskForAlwaysIdle options = IsBitSet (slice_index options 3) 5
+-- whether options ask for always idle, by Y5: bit 5
+abbrev pub ask_for_always_idle : List ℕ → Bool
+ask_for_always_idle options = not (bit_and (slice_index options 3) 0x20 == 0)
 
--- a command that asks for what this profile doesn't follow: ENABLE OPTIONS with such options
+-- a command that asks for what this profile doesn't follow: ENABLE OPTIONS with other money
 abbrev pub EnablesMore : Command → Type 0
-EnablesMore (Reader unit (reader.EnableOptions options)) =
-    AskForOtherMoney options ⊎ AskForAlwaysIdle options
+EnablesMore (Reader unit (reader.EnableOptions options)) = AskForOtherMoney options
 EnablesMore _ = ⊥

@@ -132,14 +132,14 @@ impl Command {
     }
 
     /// Whether this is an ENABLE OPTIONS that asks for what this profile doesn't follow. Its last
-    /// byte Y5 has one of these bits: 1, money of 32 bits; 2, several currencies; 5, always idle
-    /// (MDB/ICP 4.3, cashless device).
+    /// byte Y5 has one of these bits: 1, money of 32 bits; 2, several currencies (MDB/ICP 4.3,
+    /// cashless device).
     pub fn enables_more(&self) -> bool
         ensures { IsTrue result ↔ EnablesMore self.now }
     {
         match self {
             Command::Reader(_, ReaderCommand::EnableOptions([_, _, _, last])) => {
-                *last & 0x02 != 0 || *last & 0x04 != 0 || *last & 0x20 != 0
+                *last & 0x02 != 0 || *last & 0x04 != 0
             }
             _ => false,
         }

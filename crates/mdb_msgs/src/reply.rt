@@ -143,6 +143,7 @@ impl Reply {
     }
 
     /// Whether it tells of sessions and sales.
+    #[inline(always)]
     fn tells_of_sales(&self) -> bool
         ensures { result ≡ tells_of_sales self.now }
     {

@@ -30,7 +30,7 @@ use mdb_text::Form;
 use std::alloc::Global;
 
 /// The program's version.
-pub(crate) const VERSION: &str = "0.4.0";
+pub(crate) const VERSION: &str = "0.5.0";
 
 /// The option that says that the recording begins in mid-session.
 const JOINED: &str = "joined";

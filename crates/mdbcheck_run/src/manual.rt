@@ -307,9 +307,9 @@ SEE ALSO
 
 CAVEATS
     Record from before power-on, or use --joined. Alternative payout, file
-    transfer, and of card readers revalue, always idle and money of 32 bits
-    aren't followed: they end at the rule Profile. Without --extended so do
-    reader levels 2 and 3, and recyclers. What a recycler pays out is in no
-    sum. With --joined, reader levels are known only if the rows show them.
-    Nobody can prove that the recorder heard every word.
+    transfer, and of card readers revalue and money of 32 bits aren't
+    followed: they end at the rule Profile. Without --extended so do reader
+    levels 2 and 3, and recyclers. What a recycler pays out is in no sum. With
+    --joined, reader levels are known only if the rows show them. Nobody can
+    prove that the recorder heard every word.
 ";

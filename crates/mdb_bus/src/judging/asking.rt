@@ -132,6 +132,7 @@ fn further_byte(bytes: &Begun, so_far: &[u8], word: Word) -> Result<Judged, Rule
 }
 
 /// The last word of a command's block.
+#[inline(always)]
 fn judge_end_of_ask(bytes: &Begun, word: Word) -> Result<Judged, Rule>
     requires unmarked { word < 256 }
     requires last { needed bytes.now ≡ Exactly (length bytes.now + 1) }

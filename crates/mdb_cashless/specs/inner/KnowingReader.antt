@@ -19,7 +19,7 @@ use Rattle.mdb_cashless.specs.declared.reader.messages.ReaderActivity.{ReaderAct
 use Rattle.mdb_cashless.specs.declared.reader.messages.ReaderActivity.TheVariants.{VendDenied}
 use Rattle.mdb_cashless.specs.declared.reader.state.ReaderState.{ReaderState}
 use Rattle.mdb_cashless.specs.Reader.{ReaderStep, StepKnowing, power_on}
-use Rattle.mdb_cashless.specs.ReaderFacts.{AllowsFacts, Facts, KnownFacts, is_refused, known_of}
+use Rattle.mdb_cashless.specs.ReaderFacts.{AllowsFacts, Facts, KnownFacts, is_always_idle, is_refused, is_requested, known_of}
 use Rattle.mdb_cashless.specs.ReaderValues.{known_in, settled}
 
 -- a reader may start in its power-on state, wherever a recording begins
@@ -50,6 +50,8 @@ some_facts known holds =
         taken = taken.0;
         amount = unwrap_or known.amount 0;
         refused = is_refused known.extended;
+        always_idle = is_always_idle known.extended;
+        requested = is_requested known.extended;
         past = record {
           enabled = known.past.enabled;
           reset_owed = known.past.reset_owed;
@@ -62,6 +64,8 @@ some_facts known holds =
         taken = taken.1;
         amount = refl;
         refused = refl;
+        always_idle = refl;
+        requested = refl;
         past = record { enabled = refl; reset_owed = refl; last_kept = kept.1 };
       },
     )

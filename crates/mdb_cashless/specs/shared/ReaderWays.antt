@@ -1,6 +1,6 @@
 -- That acts of other devices change nothing and tell nothing, so that a reader's facts and steps
 -- depend on its own acts alone. This proves laws of the trait `Pair` for the readers.
-use Rattle.std.specs.Prelude.{◌≡◌, ◌↔◌, ℕ, ◌+◌, Bool, true, false, ◌&&◌, ◌||◌, List, [], ◌∷◌, map, sum_by, Option, Some, None, option_map, refl, if◌then◌else◌, unwrap_or}
+use Rattle.std.specs.Prelude.{◌≡◌, ◌↔◌, ℕ, ◌+◌, Bool, true, false, not, ◌&&◌, ◌||◌, List, [], ◌∷◌, map, sum_by, Option, Some, None, option_map, refl, if◌then◌else◌, unwrap_or}
 use Rattle.std.specs.List.{All, list_any}
 use Rattle.std.proofs.Common.{ap, subst, sym, ◌∙◌}
 use Rattle.std.proofs.Math.Nat.{zero-add}
@@ -27,7 +27,7 @@ use Rattle.mdb_machine.specs.declared.past.Effect.TheVariants as effects
 use Rattle.mdb_machine.specs.Gains.{no_gains}
 use Rattle.mdb_machine.specs.Known.{known_before, known_by}
 use Rattle.mdb_machine.specs.Pair.{IsActOf, IsBreak, IsMachineOf, own_acts}
-use Rattle.mdb_machine.specs.Past.{effect_by, last_told, or_else, powers_on, resets, tells_out_of_sequence}
+use Rattle.mdb_machine.specs.Past.{effect_by, last_told, or_else, powers_on, resets, taken_by, tells_out_of_sequence}
 use Rattle.mdb_machine.specs.PastValues.{known_more, known_past_after}
 use Rattle.mdb_machine.specs.Unvalued as amounts
 use Rattle.mdb_machine.specs.Unvalued.{one_if}
@@ -40,10 +40,12 @@ use Rattle.mdb_cashless.specs.inner.PlainReader.{as_plain}
 use Rattle.mdb_machine.specs.shared.StepWays as step_ways
 use Rattle.mdb_machine.specs.shared.StepWays.{IsOwnOf}
 use Rattle.mdb_cashless.specs.Reader.{ReaderStep, StepKnowing, asks_sale, is_approval, is_unpriced, machine, power_on, unvalued, unvalued_by}
-use Rattle.mdb_cashless.specs.ReaderFacts.{Facts, KnownFacts, asked_by, config_by, effect_of, effect_of_own, extended_of, extended_since, known_of, level_asked_by, level_of, level_told_by, messages_by, own_of, own_transaction, parts_by, refusal_by, taken_told, transaction_taken_by}
+use Rattle.mdb_cashless.specs.ReaderFacts.{Facts, KnownFacts, asked_by, asks_for_always_idle, config_by, effect_of, effect_of_own, extended_of, extended_since, is_below_3, is_switched_on, known_of, level_asked_by, level_of, level_told_by, messages_by, own_of, own_transaction, parts_by, refusal_by, request_told, taken_told}
 use Rattle.mdb_cashless.specs.ReaderMessages.{amount_in, begin_session, config_in, last_said, level_in, messages_of, part_of, refuses}
-use Rattle.mdb_cashless.specs.ReaderValues.{extended_after, extended_with, known_with}
+use Rattle.mdb_cashless.specs.ReaderValues.{extended_after, extended_taking, extended_with, known_with}
+use Rattle.mdb_cashless.specs.Transactions.{is_request}
 use Rattle.mdb_cashless.specs.Units.{own}
+use Rattle.mdb_cashless.specs.declared.reader.extended.ExtendedFacts.{ExtendedFacts}
 
 -- a command to another device is none to this reader
 no_own : (unit : ReaderUnit) → IsOwnOf (devices.Reader unit) (own unit)
@@ -66,49 +68,50 @@ elsewhere unit facts = step_ways.elsewhere (own unit) _ (no_own unit)
 
 -- what is known after one act more, by what that act is to the reader
 abbrev more : KnownFacts → List ReaderMsg → Option Transaction → Option ℕ → Option Bool
-    → Option Transaction → Effect → Bool → KnownFacts
+    → Option ReaderCommand → Effect → Bool → KnownFacts
 more known messages asked level refused taken effect powers =
     record {
       config = or_else (last_said config_in messages) known.config;
       asked = known_more (option_map (λ transaction. Some transaction) asked) known.asked;
       taken = known_more (if powers || begin_session messages then Some None
-          else option_map (λ transaction. Some transaction) taken) known.taken;
+          else option_map (λ transaction. Some transaction) (own_transaction taken)) known.taken;
       amount = or_else (last_said amount_in messages) known.amount;
-      extended = extended_after level (last_said level_in messages) refused known.extended;
+      extended =
+          extended_after level (last_said level_in messages) refused
+          (extended_taking powers taken known.extended);
       past = known_past_after powers effect (map part_of messages) known.past;
     }
 
 -- an act that is nothing to the reader leaves it
 still_known : (unit : ReaderUnit) (act : Act) (known : KnownFacts) → messages_by unit act ≡ []
     → asked_by unit act ≡ None → level_asked_by unit act ≡ None → refusal_by unit act ≡ None
-    → transaction_taken_by unit act ≡ None
+    → own_of unit (taken_by act) ≡ None
     → effect_by (effect_of unit) act ≡ effects.Other → powers_on (effect_of unit) act ≡ false
     → known ≡ known_with unit act known
 still_known unit act known messages asked level refused taken effect powers =
     sym (ap (λ m. more known m (asked_by unit act) (level_asked_by unit act) (refusal_by unit act)
-    (transaction_taken_by unit act) (effect_by (effect_of unit) act)
+    (own_of unit (taken_by act)) (effect_by (effect_of unit) act)
     (powers_on (effect_of unit) act)) messages
     ∙ ap (λ a. more known [] a (level_asked_by unit act) (refusal_by unit act)
-    (transaction_taken_by unit act) (effect_by (effect_of unit) act)
+    (own_of unit (taken_by act)) (effect_by (effect_of unit) act)
     (powers_on (effect_of unit) act)) asked
-    ∙ ap (λ l. more known [] None l (refusal_by unit act) (transaction_taken_by unit act)
+    ∙ ap (λ l. more known [] None l (refusal_by unit act) (own_of unit (taken_by act))
     (effect_by (effect_of unit) act) (powers_on (effect_of unit) act)) level
-    ∙ ap (λ r. more known [] None None r (transaction_taken_by unit act)
+    ∙ ap (λ r. more known [] None None r (own_of unit (taken_by act))
     (effect_by (effect_of unit) act) (powers_on (effect_of unit) act)) refused
     ∙ ap (λ t. more known [] None None None t (effect_by (effect_of unit) act)
     (powers_on (effect_of unit) act)) taken
     ∙ ap (λ e. more known [] None None None None e (powers_on (effect_of unit) act)) effect
     ∙ ap (λ b. more known [] None None None None effects.Other b) powers)
 
--- a command to another device is no transaction that the reader takes, whatever the answer tells
+-- the reader takes no command to another device, whatever the answer tells
 answered_none : (unit : ReaderUnit) (command : Command) (reply : Reply) → own unit command ≡ None
-    → transaction_taken_by unit (acts.Reply command reply) ≡ None
+    → own_of unit (taken_by (acts.Reply command reply)) ≡ None
 answered_none unit command reply none = either (tells_out_of_sequence reply)
   where
-    either : (refused : Bool)
-        → own_transaction (own_of unit (if refused then None else Some command)) ≡ None
+    either : (refused : Bool) → own_of unit (if refused then None else Some command) ≡ None
     either true = refl
-    either false = ap own_transaction none
+    either false = none
 
 known_still : (unit : ReaderUnit) (known : KnownFacts) (act : Act)
     → (IsActOf (devices.Reader unit) act → ⊥) → known ≡ known_with unit act known
@@ -119,7 +122,7 @@ known_still unit known (acts.Ask c) other =
 known_still unit known (acts.Ack c) other =
     let none = no_own unit c other in
     let effect : effect_of unit c ≡ effects.Other = ap effect_of_own none in
-    still_known unit (acts.Ack c) known refl refl refl refl (ap own_transaction none) effect
+    still_known unit (acts.Ack c) known refl refl refl refl none effect
     (ap resets effect)
 known_still unit known (acts.Nak c) other =
     let none = no_own unit c other in
@@ -161,50 +164,95 @@ asked_more (Some x) second = refl
 asked_more None second = refl
 
 -- what counts by the extended profile goes on act by act
-since_more : (joined : Bool) (asked told one_asked one_told : Option ℕ) (refused one : Option Bool)
-    → extended_after one_asked one_told one (Some (record {
-      joined = joined;
-      asked = asked;
-      told = told;
-      refused = unwrap_or refused joined;
-    }))
-    ≡ Some (record {
-      joined = joined;
-      asked = or_else one_asked asked;
-      told = or_else one_told told;
-      refused = unwrap_or (or_else one refused) joined;
+since_more : (facts : ExtendedFacts) (refused one : Option Bool)
+    (one_asked one_told : Option ℕ)
+    → extended_after one_asked one_told one
+    (Some (record facts { refused = unwrap_or refused facts.joined }))
+    ≡ Some (record facts {
+      asked = or_else one_asked facts.asked;
+      told = or_else one_told facts.told;
+      refused = unwrap_or (or_else one refused) facts.joined;
     })
-since_more joined asked told None None refused None = refl
-since_more joined asked told (Some level) one_told refused None = refl
-since_more joined asked told None (Some level) refused None = refl
-since_more joined asked told (Some level) one_told refused (Some one) = refl
-since_more joined asked told None (Some level) refused (Some one) = refl
-since_more joined asked told None None refused (Some one) = refl
+since_more facts refused None None None = refl
+since_more facts refused None (Some level) one_told = refl
+since_more facts refused None None (Some level) = refl
+since_more facts refused (Some one) (Some level) one_told = refl
+since_more facts refused (Some one) None (Some level) = refl
+since_more facts refused (Some one) None None = refl
+
+taking_more : (facts : ExtendedFacts) (powers : Bool) (taken : Option ReaderCommand)
+    (requested : Option Bool)
+    → extended_taking powers taken
+    (Some (record facts { requested = unwrap_or requested false }))
+    ≡ Some (record facts {
+      switched_on = if powers then false
+          else (asks_for_always_idle taken && not (is_below_3 facts.asked facts.told))
+          || facts.switched_on;
+      requested = unwrap_or (or_else (if powers then Some false
+          else option_map (λ transaction. is_request (Some transaction)) (own_transaction taken))
+          requested) false;
+    })
+taking_more facts true taken requested = refl
+taking_more facts false None requested = refl
+taking_more facts false (Some command) requested =
+    ap (λ r. Some (record facts {
+      switched_on = (asks_for_always_idle (Some command)
+          && not (is_below_3 facts.asked facts.told)) || facts.switched_on;
+      requested = r;
+    })) (last_first (option_map (λ transaction. is_request (Some transaction))
+    (own_transaction (Some command))))
+  where
+    last_first : (first : Option Bool)
+        → unwrap_or first (unwrap_or requested false) ≡ unwrap_or (or_else first requested) false
+    last_first None = refl
+    last_first (Some one) = refl
 
 extended_more : (begins : Beginning) (unit : ReaderUnit) (act : Act) (so_far : List Act)
     → extended_with unit act (extended_of begins unit so_far)
     ≡ extended_of begins unit (act ∷ so_far)
 extended_more begins unit act so_far = by begins
   where
+    taken : Option ReaderCommand
+    taken = own_of unit (taken_by act)
+
+    powers : Bool
+    powers = powers_on (effect_of unit) act
+
     since : (joined : Bool) → extended_with unit act (Some (extended_since joined unit so_far))
         ≡ Some (extended_since joined unit (act ∷ so_far))
-    since joined = since_more joined (last_told (level_asked_by unit) so_far)
-        (last_told (level_told_by unit) so_far) (level_asked_by unit act) (level_told_by unit act)
-        (last_told (refusal_by unit) so_far) (refusal_by unit act)
+    since joined =
+        let facts = extended_since joined unit so_far in
+        ap (extended_after (level_asked_by unit act) (level_told_by unit act)
+        (refusal_by unit act))
+        (taking_more facts powers taken (last_told (request_told unit) so_far))
+        ∙ since_more (record facts {
+          switched_on = is_switched_on unit (act ∷ so_far);
+          requested = unwrap_or (last_told (request_told unit) (act ∷ so_far)) false;
+        }) (last_told (refusal_by unit) so_far) (refusal_by unit act) (level_asked_by unit act)
+        (level_told_by unit act)
 
-    none : (asked told : Option ℕ) (refused : Option Bool)
+    none_taken : (powers : Bool) (taken : Option ReaderCommand)
+        → extended_taking powers taken None ≡ None
+    none_taken false None = refl
+    none_taken false (Some command) = refl
+    none_taken true taken = refl
+
+    none_after : (asked told : Option ℕ) (refused : Option Bool)
         → extended_after asked told refused None ≡ None
-    none None None None = refl
-    none asked told refused = refl
+    none_after None None None = refl
+    none_after asked told refused = refl
+
+    none : extended_with unit act None ≡ None
+    none = ap (extended_after (level_asked_by unit act) (level_told_by unit act)
+        (refusal_by unit act)) (none_taken powers taken)
+        ∙ none_after (level_asked_by unit act) (level_told_by unit act) (refusal_by unit act)
 
     by : (begins : Beginning) → extended_with unit act (extended_of begins unit so_far)
         ≡ extended_of begins unit (act ∷ so_far)
     by (PowerOn Extended) = since false
     by (Joined setups Extended) = since true
-    by (PowerOn Base) =
-        none (level_asked_by unit act) (level_told_by unit act) (refusal_by unit act)
-    by (Joined setups Base) =
-        none (level_asked_by unit act) (level_told_by unit act) (refusal_by unit act)
+    by (PowerOn Base) = none
+    by (Joined setups Base) = none
 
 -- what is known after one act more, from what was known before it
 pub goes_on : (unit : ReaderUnit) (begins : Beginning) (act : Act) (so_far : List Act)

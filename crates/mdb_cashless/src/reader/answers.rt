@@ -18,11 +18,12 @@ ghost use Rattle.mdb_cashless.specs.ReaderView as reader_view;
 ghost use Rattle.mdb_cashless.specs.Transactions.{amounts};
 
 use super::device::DeviceState;
+use super::extended::{self, is_always_idle};
 use super::facts::ReaderFacts;
 use super::messages::{ReaderActivity, Said, is_kept, messages_of, tells_of_reset};
 use super::state::ReaderState;
 use super::taking::{is_poll, sold, take};
-use super::transaction::{Ended, Transaction, transaction_of};
+use super::transaction::{Ended, is_request, transaction_of};
 use super::values::{all_approved, approved_to};
 use super::view::View;
 use mdb_machine::kept::{held, holds_after};
@@ -89,14 +90,18 @@ fn owes_reset(facts: &ReaderFacts, command: Option<ReaderCommand>) -> bool
     }
 }
 
-/// The last transaction, once a command is taken, if one is.
+/// Whether the last transaction is a VEND REQUEST, once a command is taken, if one is.
 #[inline(always)]
-fn last_transaction(facts: &ReaderFacts, command: Option<ReaderCommand>) -> Option<Transaction>
-    ensures { result ≡ spec.last_transaction (facts_in facts.now) command }
+fn is_requested(facts: &ReaderFacts, command: Option<ReaderCommand>) -> bool
+    ensures { result ≡ spec.is_requested (facts_in facts.now) command }
 {
-    match command {
-        None => facts.taken,
-        Some(command) => transaction_of(command).or(facts.taken),
+    let own = match command {
+        None => None,
+        Some(command) => transaction_of(command),
+    };
+    match own {
+        None => is_request(facts.taken) || extended::is_requested(facts.extended),
+        _ => is_request(own),
     }
 }
 
@@ -125,7 +130,12 @@ pub(crate) fn answer(
     let middle = take_any(facts, taken, start);
     let held = held(middle.holds, facts.past.last_kept.as_slice());
     let new = summary.news(is_poll(command), choice, owes_reset(facts, taken), held)?;
-    let device = all_told(last_transaction(facts, taken), new, middle.device)?;
+    let device = all_told(
+        is_always_idle(facts.extended),
+        is_requested(facts, taken),
+        new,
+        middle.device,
+    )?;
     let after = ReaderState {
         device,
         view: before.view,
@@ -152,15 +162,16 @@ fn may_be_read(choice: Choice, reply: &Reply) -> bool
 
 /// What new kept messages make of the reader; `None` where they are impossible.
 fn all_told(
-    last: Option<Transaction>,
+    always_idle: bool,
+    requested: bool,
     news: &[ReaderActivity],
     before: DeviceState,
 ) -> Option<DeviceState>
-    ensures { result ≡ reader_device.all_told last news.now before }
+    ensures { result ≡ reader_device.all_told always_idle requested news.now before }
 {
     let mut device = before;
     for message in news {
-        device = device.told(last, *message)?;
+        device = device.told_by(always_idle, requested, *message)?;
     }
     Some(device)
 }

@@ -3,7 +3,9 @@
 ghost use Rattle.std.specs.Prelude.{◌≡◌, ◌≤◌, length, List, Some};
 ghost use Rattle.mdb_cashless.specs.ReaderFacts.{effect_of_own};
 
-use super::extended::{ExtendedFacts, start, with_asked, with_refused, with_told};
+use super::extended::{
+    ExtendedFacts, powered_on, start, with_asked, with_refused, with_taken, with_told,
+};
 use super::messages::{ReaderActivity, Said, messages_of, refuses};
 use super::transaction::{Transaction, transaction_of};
 use super::unit::own;
@@ -31,7 +33,7 @@ pub struct ReaderFacts {
 }
 
 impl ReaderFacts {
-    ghost use Rattle.std.specs.Prelude.{◌≤◌, [], None, false, length, option_map};
+    ghost use Rattle.std.specs.Prelude.{◌≤◌, Option, [], None, Some, false, true, length, option_map};
     ghost use Rattle.mdb_msgs.specs.Setups.{config_known};
     ghost use Rattle.mdb_bus.specs.declared.act.Act.TheVariants as acts;
     ghost use Rattle.mdb_machine.specs.Known.{known_before};
@@ -42,7 +44,7 @@ impl ReaderFacts {
     ghost use Rattle.mdb_msgs.specs.declared.reply.reader.ReaderMsg.{ReaderMsg};
     ghost use Rattle.mdb_cashless.specs.inner.ReaderSaid.{IsSaid};
     ghost use Rattle.mdb_cashless.specs.ReaderFacts.{extended_of};
-    ghost use Rattle.mdb_cashless.specs.ReaderValues.{asked, denied, extended_after, facts_in, heard, powered, taken, told, told_in, told_with};
+    ghost use Rattle.mdb_cashless.specs.ReaderValues.{asked, denied, extended_after, extended_taking, facts_in, heard, powered, taken, told, told_in, told_with};
     ghost use Rattle.mdb_cashless.specs.inner.Guesses.{keeping};
     ghost use Rattle.mdb_cashless.specs.Transactions.{transaction_of as transaction};
 
@@ -154,15 +156,26 @@ impl ReaderFacts {
         ensures { told_in self.new ≡ asked command (told_in self.old) }
     {
         match command {
-            ReaderCommand::SetupConfig { level, .. } => {
-                self.extended = with_asked(self.extended, level)
-            }
+            // What most asks are tells nothing.
+            ReaderCommand::Poll => {}
+            ReaderCommand::SetupConfig { level, .. } => self.note_level(level),
             _ => self.note_sent(command),
         }
     }
 
+    /// The controller tells the reader its level.
+    // Not inlined, like its siblings below that few acts need.
+    #[inline(never)]
+    fn note_level(&mut self, level: u8)
+        ensures { self.new ≡ record self.old {
+          extended = extended_after (Some level) None None self.old.extended;
+        } }
+    {
+        self.extended = with_asked(self.extended, level);
+    }
+
     /// The controller sends the reader a command that tells no level.
-    #[inline(always)]
+    #[inline(never)]
     fn note_sent(&mut self, command: ReaderCommand)
         ensures { told_in self.new ≡ record (told_in self.old) {
           asked = or_else (transaction command) self.old.asked;
@@ -172,11 +185,22 @@ impl ReaderFacts {
     {
         if let Some(transaction) = transaction_of(command) {
             self.asked = Some(transaction);
-            self.extended = with_refused(self.extended, false);
+            self.note_refused(false);
         }
     }
 
+    /// Whether the reader has refused the last transaction command is now this.
+    #[inline(never)]
+    fn note_refused(&mut self, refused: bool)
+        ensures { self.new ≡ record self.old {
+          extended = extended_after None None (Some refused) self.old.extended;
+        } }
+    {
+        self.extended = with_refused(self.extended, refused);
+    }
+
     /// A device refuses a command by NAK.
+    #[inline(never)]
     fn deny(&mut self, unit: ReaderUnit, command: &Command)
         ensures { told_in self.new
             ≡ told_with unit (acts.Nak command.now) (told_in self.old) }
@@ -191,12 +215,12 @@ impl ReaderFacts {
         ensures { told_in self.new ≡ denied command (told_in self.old) }
     {
         if transaction_of(command).is_some() {
-            self.extended = with_refused(self.extended, true);
+            self.note_refused(true);
         }
     }
 
     /// The controller acknowledges a reply of a device.
-    #[inline(always)]
+    #[inline(never)]
     fn hear(&mut self, unit: ReaderUnit, command: &Command, reply: &Reply)
         ensures { told_in self.new
             ≡ told_with unit (acts.VmcAck command.now reply.now) (told_in self.old) }
@@ -212,7 +236,7 @@ impl ReaderFacts {
         ensures { told_in self.new ≡ heard (messages_of reply.now) (told_in self.old) }
     {
         if self.extended.is_some() && refuses(messages_of(reply)) {
-            self.extended = with_refused(self.extended, true);
+            self.note_refused(true);
         }
     }
 
@@ -234,20 +258,48 @@ impl ReaderFacts {
     {
         self.past.take(effect_of(command));
         match command {
-            ReaderCommand::Reset => self.taken = None,
+            ReaderCommand::Poll => {}
+            ReaderCommand::Reset => self.forget_taken(),
             _ => self.note_taken(command),
         }
     }
 
+    /// The reader has taken RESET, or a break came: what it took before counts no more.
+    #[inline(never)]
+    fn forget_taken(&mut self)
+        ensures { (command : Option ReaderCommand) → self.new ≡ record self.old {
+          taken = None;
+          extended = extended_taking true command self.old.extended;
+        } }
+    {
+        self.taken = None;
+        self.extended = powered_on(self.extended);
+    }
+
     /// The reader takes a command that isn't RESET.
-    #[inline(always)]
+    #[inline(never)]
     fn note_taken(&mut self, command: ReaderCommand)
-        ensures { self.new
-            ≡ record self.old { taken = or_else (transaction command) self.old.taken } }
+        ensures { self.new ≡ record self.old {
+          taken = or_else (transaction command) self.old.taken;
+          extended = extended_taking false (Some command) self.old.extended;
+        } }
     {
         if let Some(transaction) = transaction_of(command) {
             self.taken = Some(transaction);
         }
+        if self.extended.is_some() {
+            self.note_taken_extended(command);
+        }
+    }
+
+    /// The same of what counts by the extended profile alone.
+    #[inline(never)]
+    fn note_taken_extended(&mut self, command: ReaderCommand)
+        ensures { self.new ≡ record self.old {
+          extended = extended_taking false (Some command) self.old.extended;
+        } }
+    {
+        self.extended = with_taken(self.extended, command);
     }
 
     /// A break puts the reader into its power-on state.
@@ -255,7 +307,7 @@ impl ReaderFacts {
         ensures { told_in self.new ≡ powered (told_in self.old) }
     {
         self.past.power_on();
-        self.taken = None;
+        self.forget_taken();
     }
 
     /// A device replies.

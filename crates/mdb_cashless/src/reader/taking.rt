@@ -7,6 +7,7 @@ ghost use Rattle.mdb_cashless.specs.Reader as spec;
 ghost use Rattle.mdb_cashless.specs.ReaderValues.{facts_in};
 ghost use Rattle.mdb_cashless.specs.Transactions.{amounts};
 
+use super::extended::is_always_idle;
 use super::facts::ReaderFacts;
 use super::state::ReaderState;
 use super::transaction::{Ended, ended_by, is_again, transaction_of};
@@ -66,7 +67,9 @@ pub(crate) fn take(facts: &ReaderFacts, command: ReaderCommand, before: ReaderSt
         return before;
     }
     ReaderState {
-        device: before.device.after(command),
+        device: before
+            .device
+            .after_by(is_always_idle(facts.extended), command),
         view: before.view,
         holds: before.holds && !drops(command),
     }

@@ -91,6 +91,13 @@ pub(crate) fn transaction_of(command: ReaderCommand) -> Option<Transaction>
     }
 }
 
+/// Whether the last transaction is a VEND REQUEST.
+pub(crate) fn is_request(last: Option<Transaction>) -> bool
+    ensures { result ≡ spec.is_request last }
+{
+    matches!(last, Some(Transaction::Request { .. }))
+}
+
 /// Whether this is the last transaction again.
 pub(crate) fn is_again(last: Option<Transaction>, transaction: Transaction) -> bool
     ensures { result ≡ spec.is_again last transaction }

@@ -608,8 +608,7 @@ fn read_config(further: &[u8]) -> Result<(ReaderMsg, &[u8]), MsgFault>
 }
 
 /// The message 03 of a reading that goes on so after its first byte, and the bytes after it.
-// Not inlined, like `read_above` and `read_id`, so that reading the other messages stays short.
-#[inline(never)]
+#[inline(always)]
 fn read_session(reading: Reading, further: &[u8]) -> Result<(ReaderMsg, &[u8]), MsgFault>
     ensures bytes { IfOk result (λ x. 3 ∷ further.now ≡ head_bytes x.0 ++ x.1.now) }
     ensures text { IfOk result (λ x. IsTextOf reading x.0 [] x.1.now) }
@@ -648,7 +647,7 @@ fn read_out_of_sequence(reading: Reading, further: &[u8]) -> (ReaderMsg, &[u8])
 
 /// The message of a reading that begins with `first`, 0C or above, and goes on with `further`, and
 /// the bytes after it.
-#[inline(never)]
+#[inline(always)]
 fn read_above(reading: Reading, first: u8, further: &[u8]) -> Result<(ReaderMsg, &[u8]), MsgFault>
     requires { 12 ≤ first }
     ensures bytes { IfOk result (λ x. first ∷ further.now ≡ head_bytes x.0 ++ x.1.now) }
@@ -705,7 +704,7 @@ fn read_short(reading: Reading, first: u8, further: &[u8]) -> Result<(ReaderMsg,
 
 /// The message 09 of a reading that goes on so after its first byte, its text, and the bytes after
 /// it.
-#[inline(never)]
+#[inline(always)]
 fn read_id(reading: Reading, further: &[u8]) -> Result<(ReaderMsg, &[u8], &[u8]), MsgFault>
     ensures bytes { IfOk result (λ x. 9 ∷ further.now ≡ head_bytes x.0 ++ x.1.now ++ x.2.now) }
     ensures text { IfOk result (λ x. IsTextOf reading x.0 x.1.now x.2.now) }
