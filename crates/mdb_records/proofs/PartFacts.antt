@@ -1,11 +1,13 @@
 -- The parts of a text, one more, and the one at a place.
 use Rattle.std.proofs.Common.{◌≡◌, ◌≤◌, ◌<◌, ◌+◌, ◌-◌, ℕ, zero, suc, List, [], ◌∷◌, ◌++◌, take}
-use Rattle.std.proofs.Common.{drop, get_or, length, None, Some, min, refl, sym, ap, arith, ◌∙◌}
-use Rattle.std.proofs.Common.{length-drop, take_all}
-use Rattle.std.proofs.lemmas.List.{drop_all}
-use native.Mathlib.Decide.{dec_lt}
+use Rattle.std.proofs.Common.{drop, get_or, length, None, Some, refl, ap, arith}
+use Rattle.std.specs.Prelude.{IsSome}
 use Rattle.csv.specs.Records.{field_at}
-use Rattle.mdb_records.specs.Fields.{parted}
+use Rattle.mdb_records.specs.Parts.{AreWithin, parted, start_at}
+use Rattle.mdb_records.specs.SetUp.{reader_in}
+use Rattle.mdb_records.specs.Stage.{ends_on, line_on}
+use Rattle.mdb_records.specs.declared.stage.Stage.{Stage}
+use Rattle.mdb_records.specs.declared.stage.Stage.TheVariants.{Between, Csv, Lines}
 
 -- where the part after those begins that end at these places
 unfoldable pub next_start : ℕ → List ℕ → ℕ
@@ -43,13 +45,8 @@ none-at start [] text place h = refl
 none-at start (e ∷ ends) text zero h = absurd (omega arith)
 none-at start (e ∷ ends) text (suc place) h = none-at (e + 1) ends text place (omega arith)
 
--- where the part at a place begins
-abbrev pub start_at : ℕ → List ℕ → ℕ → ℕ
-start_at start ends zero = start
-start_at start ends (suc place) = get_or ends place 0 + 1
-
 -- the part at a place
-part-at : (start : ℕ) (ends text : List ℕ) (place : ℕ) → place < length ends
+pub part-at : (start : ℕ) (ends text : List ℕ) (place : ℕ) → place < length ends
     → Some (take (get_or ends place 0 - start_at start ends place)
     (drop (start_at start ends place) text)) ≡ field_at (parted start ends text) place
 unfolding parted field_at
@@ -59,39 +56,53 @@ part-at start (e ∷ ends) text (suc zero) h = part-at (e + 1) ends text zero (o
 part-at start (e ∷ ends) text (suc (suc place)) h =
     part-at (e + 1) ends text (suc place) (omega arith)
 
--- a part that is cut where the text ends
-cut-part : (start end : ℕ) (text : List ℕ)
-    → take (min end (length text) - min start (min end (length text)))
-    (drop (min start (min end (length text))) text) ≡ take (end - start) (drop start text)
-cut-part start end text =
-    elim (dec_lt (length text) end) [
-      | yes over ↦
-          let last : min end (length text) ≡ length text = omega arith in
-          elim (dec_lt (length text) start) [
-            | yes past ↦
-                let first : min start (length text) ≡ length text = omega arith in
-                let none : length text - length text ≡ 0 = omega arith in
-                let nothing : drop start text ≡ [] = drop_all start text (omega arith) in
-                rw (last, first, none, nothing) (sym (take_all (end - start) [] (omega arith)))
-            | no within ↦
-                let first : min start (length text) ≡ start = omega arith in
-                let size = length-drop start text in
-                rw (last, first) (take_all (length text - start) (drop start text) (omega arith)
-                ∙ sym (take_all (end - start) (drop start text) (omega arith)))
-          ]
-      | no inside ↦
-          let last : min end (length text) ≡ end = omega arith in
-          elim (dec_lt end start) [
-            | yes past ↦
-                let first : min start end ≡ end = omega arith in
-                let none : end - end ≡ 0 = omega arith in
-                let nothing : end - start ≡ 0 = omega arith in
-                rw (last, first, none, nothing) refl
-            | no within ↦
-                let first : min start end ≡ start = omega arith in
-                rw (last, first) refl
-          ]
-    ]
+-- places in order from a start on, with room for the byte between two parts, all before a stop
+unfoldable pub Rise : ℕ → List ℕ → ℕ → Type 0
+Rise start [] stop = start ≤ stop
+Rise start (end ∷ ends) stop = (start ≤ end) × Rise (end + 1) ends stop
+
+-- places that rise begin before their stop
+rise-starts : (start : ℕ) (ends : List ℕ) (stop : ℕ) → Rise start ends stop → start ≤ stop
+unfolding Rise
+rise-starts start [] stop h = h
+rise-starts start (e ∷ ends) stop h =
+    let rest = rise-starts (e + 1) ends stop h.1 in omega (arith, h.0)
+
+-- each of them stands before their stop
+rise-stops : (start : ℕ) (ends : List ℕ) (stop : ℕ) (place : ℕ) → Rise start ends stop
+    → place < length ends → get_or ends place 0 < stop
+unfolding Rise
+rise-stops start [] stop place h inside = absurd (omega arith)
+rise-stops start (e ∷ ends) stop zero h inside =
+    let rest = rise-starts (e + 1) ends stop h.1 in omega arith
+rise-stops start (e ∷ ends) stop (suc place) h inside =
+    rise-stops (e + 1) ends stop place h.1 (omega arith)
+
+-- and no part of them ends before it begins
+rise-parts : (start : ℕ) (ends : List ℕ) (stop : ℕ) (place : ℕ) → Rise start ends stop
+    → place < length ends → start_at start ends place ≤ get_or ends place 0
+unfolding Rise
+rise-parts start [] stop place h inside = absurd (omega arith)
+rise-parts start (e ∷ ends) stop zero h inside = h.0
+rise-parts start (e ∷ ends) stop (suc zero) h inside =
+    rise-parts (e + 1) ends stop zero h.1 (omega arith)
+rise-parts start (e ∷ ends) stop (suc (suc place)) h inside =
+    rise-parts (e + 1) ends stop (suc place) h.1 (omega arith)
+
+-- they rise up to a later stop too
+pub rise-later : (start : ℕ) (ends : List ℕ) (stop later : ℕ) → Rise start ends stop → stop ≤ later
+    → Rise start ends later
+unfolding Rise
+rise-later start [] stop later h below = omega (arith, h)
+rise-later start (e ∷ ends) stop later h below =
+    (h.0, rise-later (e + 1) ends stop later h.1 below)
+
+-- and with their stop
+pub rise-more : (start : ℕ) (ends : List ℕ) (stop : ℕ) → Rise start ends stop
+    → Rise start (ends ++ stop ∷ []) (stop + 1)
+unfolding Rise
+rise-more start [] stop h = (h, omega arith)
+rise-more start (e ∷ ends) stop h = (h.0, rise-more (e + 1) ends stop h.1)
 
 -- where it begins, if it isn't the first
 pub start-after : (ends : List ℕ) (place : ℕ) → 0 < place
@@ -99,10 +110,24 @@ pub start-after : (ends : List ℕ) (place : ℕ) → 0 < place
 start-after ends zero h = absurd (omega arith)
 start-after ends (suc place) h = let same : suc place - 1 ≡ place = omega arith in rw same refl
 
--- the part at a place, cut so
-pub cut-at : (ends text : List ℕ) (place start end : ℕ) → place < length ends
-    → end ≡ min (get_or ends place 0) (length text) → start ≡ min (start_at 0 ends place) end
-    → Some (take (end - start) (drop start text)) ≡ field_at (parted 0 ends text) place
-cut-at ends text place start end h last first =
-    rw (first, last) (ap Some (cut-part (start_at 0 ends place) (get_or ends place 0) text))
-    ∙ part-at 0 ends text place h
+-- the parts lie within what comes before the stop
+pub rise-within : (ends : List ℕ) (stop : ℕ) → Rise 0 ends stop → AreWithin ends stop
+rise-within ends stop h place inside =
+    (rise-parts 0 ends stop place h inside, rise-stops 0 ends stop place h inside)
+
+-- no parts lie within anything
+pub none_within : (size : ℕ) → AreWithin [] size
+none_within size place inside = absurd (omega arith)
+
+-- and they lie within more bytes too
+pub within-more : (ends : List ℕ) (size more : ℕ) → AreWithin ends size → size ≤ more
+    → AreWithin ends more
+within-more ends size more h below place inside =
+    let at = h place inside in (at.0, omega (arith, at.1))
+
+-- where csv reads, no line was taken
+pub csv-within : {R : Type 0} (stage : Stage R) (ends : List ℕ) → IsSome (reader_in stage)
+    → AreWithin (ends_on stage ends) (length (line_on stage))
+csv-within (Lines lines) ends h = cc h
+csv-within (Csv reader before) ends h = none_within 0
+csv-within Between ends h = cc h

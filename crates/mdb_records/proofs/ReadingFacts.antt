@@ -15,7 +15,7 @@ use Rattle.csv.specs.declared.parser.State.{State}
 use Rattle.csv.specs.declared.parser.State.TheVariants as st
 use Rattle.csv.specs.declared.reader.Headers.{Headers}
 use Rattle.csv.specs.declared.reader.Reader.{Reader}
-use Rattle.mdb_records.specs.Fields.{parted}
+use Rattle.mdb_records.specs.Parts.{parted}
 use Rattle.mdb_records.specs.SetUp.{ReadsWhatStands}
 use Rattle.mdb_records.specs.Mark.{given_of, mark, marked}
 use Rattle.mdb_records.specs.Lines.{TakesLine, Tells, line, lines_given, lines_remaining}

@@ -1,15 +1,10 @@
 -- The fields of a record.
-use Rattle.std.specs.Prelude.{◌+◌, ◌-◌, ℕ, List, [], ◌∷◌, take, drop}
+use Rattle.std.specs.Prelude.{ℕ, List}
 use Rattle.csv.specs.Records as csv
 use Rattle.mdb_records.specs.declared.record.Fields.{Fields}
 use Rattle.mdb_records.specs.declared.record.Fields.TheVariants.{Csv, Line}
 use Rattle.mdb_records.specs.declared.record.Record.{Record}
-
--- the parts of a text that end at these places, the first from a start on, with one byte between
--- each and the next
-unfoldable pub parted : ℕ → List ℕ → List ℕ → List (List ℕ)
-parted start [] text = []
-parted start (end ∷ ends) text = take (end - start) (drop start text) ∷ parted (end + 1) ends text
+use Rattle.mdb_records.specs.Parts.{parted}
 
 -- the fields, whoever parted them
 abbrev pub fields_in : Fields → List (List ℕ)

@@ -7,7 +7,7 @@ use Rattle.csv.specs.Reading.{default_config, reader_config, reader_source, read
 use Rattle.csv.specs.declared.parser.State.{State}
 use Rattle.csv.specs.declared.parser.State.TheVariants.{StartRecord}
 use Rattle.csv.specs.Records.{Row, fields_of}
-use Rattle.mdb_records.specs.Fields.{parted}
+use Rattle.mdb_records.specs.Parts.{parted}
 use Rattle.mdb_records.specs.Lines.{line, lines_given, lines_remaining}
 use Rattle.mdb_records.specs.declared.limited.Limited.{Limited}
 use Rattle.mdb_records.specs.declared.stage.Stage.{Stage}
@@ -45,6 +45,17 @@ abbrev pub fields_at : {R : Type 0} → Stage R → List ℕ → Row → List (L
 fields_at (Lines lines) ends row = parted 0 ends (line lines)
 fields_at (Csv reader before) ends row = fields_of row
 fields_at Between ends row = fields_of row
+
+-- the line that was taken last, where one was, and these places in it
+abbrev pub line_on : {R : Type 0} → Stage R → List ℕ
+line_on (Lines lines) = line lines
+line_on (Csv reader before) = []
+line_on Between = []
+
+abbrev pub ends_on : {R : Type 0} → Stage R → List ℕ → List ℕ
+ends_on (Lines lines) ends = ends
+ends_on (Csv reader before) ends = []
+ends_on Between ends = []
 
 -- csv's machine is in this state, and these are the bytes that it reads next
 abbrev pub StandsAt : {R : Type 0} → (R → Option (List ℕ)) → Stage R → State → List ℕ → Type 0

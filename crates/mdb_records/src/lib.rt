@@ -16,7 +16,8 @@ ghost use Rattle.csv.specs.Records as csv;
 ghost use Rattle.mdb_records.specs.Fields.{fields_of};
 ghost use Rattle.mdb_records.specs.Found.{count_after};
 ghost use Rattle.mdb_records.specs.SetUp.{IsSetUp, reader_in};
-ghost use Rattle.mdb_records.specs.Stage.{source_in};
+ghost use Rattle.mdb_records.specs.Parts.{AreWithin};
+ghost use Rattle.mdb_records.specs.Stage.{ends_on, line_on, source_in};
 
 mod limited;
 mod lines;
@@ -75,6 +76,7 @@ pub struct Records<R> {
     found: u64,
     ghost set_up: { fault ≡ None → IsSetUp stage },
     ghost there: { IsSome (source_in stage) },
+    ghost within: { AreWithin (ends_on stage ends.items) (length (line_on stage)) },
 }
 
 impl<R: Read + Drop> Records<R> {

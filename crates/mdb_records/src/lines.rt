@@ -1,10 +1,10 @@
 // The bytes of a reader, from which records are taken that stand on a line of their own.
 
 ghost use Rattle.std.specs.Prelude.{All, ◌≡◌, ◌≤◌, ◌<◌, ◌-◌, ◌+◌, ◌++◌, ◌∷◌, [], false, length};
-ghost use Rattle.std.specs.Prelude.{take, drop, IfOk, IfErr, OnOk, IsFalse};
+ghost use Rattle.std.specs.Prelude.{take, drop, IfOk, IfErr, OnOk, IsFalse, Ok, ◌⊎◌};
 ghost use Rattle.std.specs.Io.{ReadsAtMost};
 ghost use Rattle.std.specs.Io.KnownBytes.{IsAtEnd, Keeps, ReadConsumes};
-ghost use Rattle.mdb_records.specs.Fields.{parted};
+ghost use Rattle.mdb_records.specs.Parts.{AreWithin, parted};
 ghost use Rattle.mdb_records.specs.Plain.{BeginsLow};
 
 use super::limited::Limited;
@@ -121,6 +121,7 @@ impl<R: Read> Lines<R> {
         ensures bytes { OnOk result (All (λ b. b < 256) (line self.new)) }
         ensures told { IfOk result (λ told. Tells told (lines_given R.remaining self.old)
             (lines_given R.remaining self.new) (parted 0 ends.new.items (line self.new))) }
+        ensures within { AreWithin ends.new.items (length (line self.new)) }
         ensures fault { IfErr result (λ fault.
             fault ≡ ReadFault.Read → HasFailed self.new.source) }
     {
@@ -139,32 +140,40 @@ impl<R: Read> Lines<R> {
         ensures fault { IfErr result (λ fault. fault ≡ ReadFault.Memory) }
         ensures steps { IfOk result (λ step. Steps step (lines_given R.remaining self.old)
             (lines_given R.remaining self.new) (parted 0 ends.new.items (line self.new))) }
+        ensures within { AreWithin ends.new.items (length (line self.new)) }
+        ensures none { (result ≡ Ok Step.Record) ⊎ (ends.new.items ≡ []) }
     {
         let text = &self.buffer[self.at..self.filled];
         if !self.begun && begins_high(text) {
+            ends.clear();
             return Ok(Step::Other);
         }
-        match plain_record(text, ends) {
+        let step = match plain_record(text, ends) {
             Ok(Front::Line(count)) => {
                 self.start = self.at;
                 self.at += count;
                 self.begun = true;
-                Ok(Step::Record)
+                return Ok(Step::Record);
             }
             Ok(Front::Unended) => Ok(Step::Unended),
             Ok(Front::Other) => Ok(Step::Other),
             Err(_) => Err(ReadFault::Memory),
-        }
+        };
+        ends.clear();
+        step
     }
 
     // The next record, where more has to be read first.
     #[inline(never)]
+    #[tactic(auto, using(crate::proofs::PartFacts::none_within))]
     fn advance_by_reading(&mut self, ends: &mut Vec<usize>) -> Result<Option<bool>, ReadFault>
         ensures fault { IfErr result (λ fault.
             fault ≡ ReadFault.Read → HasFailed self.new.source) }
         ensures told { IfOk result (λ told. Tells told (lines_given R.remaining self.old)
             (lines_given R.remaining self.new) (parted 0 ends.new.items (line self.new))) }
+        ensures within { AreWithin ends.new.items (length (line self.new)) }
     {
+        ends.clear();
         'reads: for _ in 0..BUFFER {
             if self.unread_count() == BUFFER {
                 return Ok(None);

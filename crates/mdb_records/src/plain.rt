@@ -1,8 +1,8 @@
 // A record at the front of a text that stands on a line of its own, with no quote.
 
 ghost use Rattle.std.specs.Prelude.{◌≡◌, ◌≤◌, ◌==◌, ◌||◌, ◌++◌, ◌∷◌, All, [], false, true, length};
-ghost use Rattle.std.specs.Prelude.{take, OnOk, IfOk};
-ghost use Rattle.mdb_records.specs.Fields.{parted};
+ghost use Rattle.std.specs.Prelude.{ℕ, Ok, take, OnOk, IfOk};
+ghost use Rattle.mdb_records.specs.Parts.{AreWithin, parted};
 ghost use Rattle.mdb_records.specs.Plain.{HasFront, Means, is_special};
 
 use std::alloc::AllocError;
@@ -97,7 +97,10 @@ fn add_end(ends: &mut Vec<usize>, end: usize) -> Result<(), AllocError>
 /// would find in it what its commas part.
 #[inline(always)]
 pub(crate) fn plain_record(text: &[u8], ends: &mut Vec<usize>) -> Result<Front, AllocError>
-    ensures { IfOk result (λ front. HasFront text.now front (parted 0 ends.new.items text.now)) }
+    ensures front { IfOk result (λ front.
+        HasFront text.now front (parted 0 ends.new.items text.now)) }
+    ensures within { (count : ℕ) → result ≡ Ok (Front.Line count)
+        → AreWithin ends.new.items count }
 {
     ends.clear();
     let mut end = sure_bytes(text);

@@ -2,7 +2,7 @@
 
 ghost use Rattle.std.specs.Prelude.{◌≡◌, length, option_map};
 ghost use Rattle.csv.specs.Records.{field_at};
-ghost use Rattle.mdb_records.specs.Fields.{fields_of, parted};
+ghost use Rattle.mdb_records.specs.Parts.{AreWithin, ends_in, line_in, parted};
 
 use csv::ByteRecord;
 
@@ -10,6 +10,7 @@ use csv::ByteRecord;
 #[derive(Clone, Copy)]
 pub struct Record<'a> {
     pub(crate) fields: Fields<'a>,
+    ghost within: { AreWithin (ends_in fields) (length (line_in fields)) },
 }
 
 /// Who parted the fields.
@@ -22,6 +23,8 @@ pub(crate) enum Fields<'a> {
 }
 
 impl<'a> Record<'a> {
+    ghost use Rattle.mdb_records.specs.Fields.{fields_of};
+
     /// How many fields there are.
     #[inline(always)]
     pub fn len(&self) -> usize
@@ -48,16 +51,12 @@ impl<'a> Record<'a> {
 // The part of a text at this place, of those that end at `ends`.
 #[inline(always)]
 fn part<'a>(text: &'a [u8], ends: &[usize], place: usize) -> Option<&'a [u8]>
+    requires { AreWithin ends.now (length text.now) }
     ensures { option_map (λ s. s.now) result ≡ field_at (parted 0 ends.now text.now) place }
 {
     if place >= ends.len() {
         return None;
     }
-    let end = ends[place].min(text.len());
-    let start = if place == 0 {
-        0
-    } else {
-        ends[place - 1].saturating_add(1).min(end)
-    };
-    Some(&text[start..end])
+    let start = if place == 0 { 0 } else { ends[place - 1] + 1 };
+    Some(&text[start..ends[place]])
 }

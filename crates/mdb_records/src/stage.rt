@@ -85,6 +85,7 @@ impl<R: Read + Drop> Stage<R> {
             → fields_at self.new ends row.new ≡ fields_of row.new) }
         ensures set_up { OnOk result (IsSetUp self.new) }
         ensures there { IsSome (source_in self.old) → IsSome (source_in self.new) }
+        ensures csv { IsSome (reader_in self.new) }
     {
         let Stage::Csv(reader, _) = self else {
             unreachable!()

@@ -1,19 +1,21 @@
-use Rattle.std.proofs.Common.{◌<◌, ◌+◌, refl, length, arith}
-use Rattle.mdb_records.specs.Fields.{parted}
-use Rattle.mdb_records.proofs.PartFacts.{next-after, next_start, parted-more}
+use Rattle.std.proofs.Common.{◌≡◌, ◌<◌, ◌+◌, [], ◌∷◌, ◌++◌, refl, length, arith}
+use Rattle.mdb_records.specs.Parts.{parted}
+use Rattle.mdb_records.proofs.PartFacts.{Rise, next-after, next_start, parted-more, rise-later}
+use Rattle.mdb_records.proofs.PartFacts.{rise-more, rise-within}
 use Rattle.mdb_records.proofs.PlainFacts.{none-own, own-front, own-more, reads-field, reads-line}
 use Rattle.mdb_records.proofs.plain.plain_record.Goals as goal
 use Rattle.mdb_records.proofs.plain.plain_record.Goals.{in-Own, in-Comma+in_ok-add_end-in-Comma}
 
 pub bytes-init : goal.bytes-init
-unfolding next_start parted
+unfolding next_start parted Rise
 bytes-init c =
     let sure = c.sure_bytes-end.ensures in
     rw c.clear.ensures.items (
       omega arith,
       sure.bounds,
       own-front c.sure_bytes-end.result c.args.text.now sure.plain,
-      λ later. refl,
+      (λ later. refl),
+      omega arith,
     )
 
 pub returns-in-LineEnd : goal.returns-in-LineEnd
@@ -22,12 +24,18 @@ returns-in-LineEnd c =
     let text = c.args.text.now in
     let ends = c.bytes.ends.items in
     let inside : c.bytes.end < length text = c.bytes-test.true in
-    let last = c.in-LineEnd.ensures in (
-      omega (arith, inside),
-      λ later. rw (c.in_ok-add_end-in-LineEnd.ensures, parted-more 0 ends c.bytes.end text)
-          (reads-line text (next_start 0 ends) c.bytes.end _ inv.0 inside last.1 last.0 inv.2 inv.3
-          later),
-    )
+    let last = c.in-LineEnd.ensures in record {
+      front = (
+        omega (arith, inside),
+        λ later. rw (c.in_ok-add_end-in-LineEnd.ensures, parted-more 0 ends c.bytes.end text)
+            (reads-line text (next_start 0 ends) c.bytes.end _ inv.0 inside last.1 last.0 inv.2
+            inv.3 later),
+      );
+      within = λ count e.
+          let same : c.bytes.end + 1 ≡ count = cc e in
+          rw (c.in_ok-add_end-in-LineEnd.ensures, ← same) (rise-within (ends ++ c.bytes.end ∷ [])
+          (c.bytes.end + 1) (rise-more 0 ends c.bytes.end inv.4));
+    }
 
 pub bytes-preserved : goal.bytes-preserved
 bytes-preserved c =
@@ -41,6 +49,7 @@ bytes-preserved c =
         omega (arith, inside),
         own-more text (next_start 0 ends) c.bytes.end inv.0 inside w.in-Own.ensures inv.2,
         inv.3,
+        rise-later 0 ends c.bytes.end (c.bytes.end + 1) inv.4 (omega arith),
       )
       | in-Comma+in_ok-add_end-in-Comma w ↦ rw (
         w.ends-is,
@@ -53,5 +62,6 @@ bytes-preserved c =
         none-own (c.bytes.end + 1) text,
         reads-field text (next_start 0 ends) c.bytes.end _ inv.0 inside w.in-Comma.ensures inv.2
             inv.3,
+        rise-more 0 ends c.bytes.end inv.4,
       )
     ]

@@ -1,7 +1,7 @@
 use Rattle.std.specs.Prelude.{◌≡◌, ◌≤◌, ◌-◌, All, false, length, take, drop}
-use Rattle.mdb_records.specs.Fields.{parted}
+use Rattle.mdb_records.specs.Parts.{parted}
 use Rattle.mdb_records.specs.Plain.{is_special}
-use Rattle.mdb_records.proofs.PartFacts.{next_start}
+use Rattle.mdb_records.proofs.PartFacts.{Rise, next_start}
 use Rattle.mdb_records.proofs.PlainFacts.{ReadsOnAt}
 use Rattle.mdb_records.proofs.plain.plain_record.Given as goal
 
@@ -11,6 +11,7 @@ invariant-bytes l = (next_start 0 l.ends.items ≤ l.end) × (l.end ≤ length l
     × All (λ c. is_special c ≡ false)
     (take (l.end - next_start 0 l.ends.items) (drop (next_start 0 l.ends.items) l.text))
     × ReadsOnAt l.text (next_start 0 l.ends.items) (parted 0 l.ends.items l.text)
+    × Rise 0 l.ends.items l.end
 
 abbrev pub decreases-bytes : goal.decreases-bytes
 decreases-bytes l = length l.text - l.end

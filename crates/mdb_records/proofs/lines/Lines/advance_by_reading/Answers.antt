@@ -7,7 +7,7 @@ pub returns-then-is_end-clause-told : goal.returns-then-is_end-clause-told
 returns-then-is_end-clause-told g c =
     let lines = c.fill.new.self in
     let none : lines.filled - lines.at ≡ 0 = sym c.unread_count-is_end.ensures ∙ c.if-is_end.true in
-    let kept = keeps-on _ _ _ c.reads.invariant c.in_ok-fill.ensures.keeps in
+    let kept = keeps-on _ _ _ c.reads.invariant.0 c.in_ok-fill.ensures.keeps in
     ends-text lines.begun _ (limited_remaining g.R.Read.remaining lines.source)
     (c.in_ok-fill.ensures.end c.if-branch-eq0.true)
     (rw none at kept)

@@ -1,8 +1,10 @@
+use Rattle.std.specs.Prelude.{◌≡◌, []}
 use Rattle.std.specs.Io.KnownBytes.{Keeps}
 use Rattle.mdb_records.specs.Lines.{lines_given}
 use Rattle.mdb_records.proofs.lines.Lines.advance_by_reading.Given as goal
 
--- nothing was taken so far
+-- nothing was taken so far, and no part of a line was found
 abbrev pub invariant-reads : goal.invariant-reads
 invariant-reads g l =
     Keeps (lines_given g.R.Read.remaining l.fn.self) (lines_given g.R.Read.remaining l.self)
+    × (l.ends.items ≡ [])

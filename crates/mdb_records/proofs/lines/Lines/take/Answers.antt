@@ -1,7 +1,8 @@
-use Rattle.std.proofs.Common.{◌≡◌, ◌≤◌, ◌-◌, false, arith, drop, length-take}
+use Rattle.std.proofs.Common.{◌≡◌, ◌≤◌, ◌-◌, false, arith, drop, length-take, Ok, ap}
 use Rattle.mdb_records.specs.Lines.{limited_remaining, unread}
 use Rattle.mdb_records.specs.Plain.{BeginsLow}
 use Rattle.mdb_records.proofs.LineFacts.{takes-line, unread-dropped}
+use Rattle.mdb_records.proofs.PartFacts.{within-more}
 use Rattle.mdb_records.proofs.lines.Lines.take.Goals as goal
 use Rattle.mdb_records.proofs.lines.Lines.take.Goals.{else-not-self-via-then-not-self+else-begins_high}
 use Rattle.mdb_records.proofs.lines.Lines.take.Goals.{else-not-self-via-else-not-self}
@@ -14,9 +15,15 @@ returns-in-Ok-Line-clause-steps g c =
           w.begins_high.ensures w.if-begins_high.false
       | else-not-self-via-else-not-self w ↦ cc (e, w.if-not-self.false)
     ] in
-    let front = rw c.in-Ok-Line.field-0-is at c.in-Ok-Line.ensures in
+    let front = rw c.in-Ok-Line.field-0-is at c.in-Ok-Line.ensures.front in
     let size = length-take (lines.filled - lines.at) (drop lines.at lines.buffer) in
     let inside : c.in-Ok-Line.count ≤ lines.filled - lines.at = omega (arith, front.0, size) in
     rw (← unread-dropped lines.at lines.filled c.in-Ok-Line.count lines.buffer inside)
     (takes-line lines.begun (unread lines) c.in-Ok-Line.count _
     (limited_remaining g.R.Read.remaining lines.source) low front)
+
+pub returns-in-Ok-Line-clause-within : goal.returns-in-Ok-Line-clause-within
+returns-in-Ok-Line-clause-within g c =
+    let front = rw c.in-Ok-Line.field-0-is at c.in-Ok-Line.ensures.front in
+    within-more _ c.in-Ok-Line.count _ (c.in-Ok-Line.ensures.within c.in-Ok-Line.count
+    (ap Ok c.in-Ok-Line.field-0-is)) front.0
