@@ -44,9 +44,9 @@ _mdbcheck() {
         case $command in
             '') words='check survey show explain replay manual' ;;
             manual) [ $goals -gt 0 ] || words='check survey show explain replay manual' ;;
-            check) words='--joined --extended --json --setup --without' ;;
+            check | show) words='--joined --extended --json --setup --without' ;;
             survey) words='--joined --json --setup --without' ;;
-            show | replay) words='--extended --json --without' ;;
+            replay) words='--extended --json --without' ;;
             explain)
                 case $goals in
                     0) words=$accounts ;;

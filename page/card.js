@@ -12,16 +12,31 @@ const FAULT_WORDS = {
 function wayWords(it) {
   const {bytes} = it.way, names = DEVICE_NAMES.slice(1);
   const left = names.filter((_, i) => bytes[layout.options.without + i]),
-        given = names.filter((_, i) => bytes[layout.options.setups + layout.setup.size * i]);
-  const words =
-      [bytes[0]               ? "Read as a recording of a machine that was already running." :
-           isExtended(it.way) ? "Read as a recording from power-on, by the extended profile." :
-                                "Read as a recording from power-on."];
+        given = names.filter((_, i) => isValued(it, i));
+  const words = [`Read as a recording ${bytes[0] ? "of a machine that was already running" : "from power-on"}${
+      isExtended(it.way) ? ", by the extended profile" : ""}.`];
   if (given.length) words.push(`The values of ${listed(given.map(the))} come from an earlier recording.`);
+  names.forEach((name, i) => {
+    const told = readerTold(it, i);
+    if (told.length) words.push(`Given for ${the(name)}: ${listed(told)}.`);
+  });
   words.push(left.length ? `Left out: ${listed(left.map(the))}.` : "All devices are checked.");
   if (it.isKept)
     words.push("These settings were kept from the recording before: change them under “How this recording is read”.");
   return words.join(" ");
+}
+
+// Whether values were given of a device, by its place among all.
+const isValued = ({way: {bytes}}, i) => bytes[layout.options.setups + layout.setup.size * i] > 0;
+
+// What was given of a reader's level and options, in words. Of another device that is nothing.
+function readerTold({way: {bytes}}, i) {
+  if (i < 2) return [];
+  const {reader} = layout, place = layout.options.readers + reader.size * (i - 2), level = bytes[place + reader.level];
+  return [
+    level > 0 && `level ${level}`, bytes[place + reader.config] > 0 && "the controller's SETUP",
+    bytes[place + reader.options] > 0 && "ENABLE OPTIONS"
+  ].filter(Boolean);
 }
 
 // A part of a sentence: rows are links.
@@ -101,7 +116,8 @@ function answerWord({answer, report, unjudged}) {
 function profileNote(it) {
   const isWide = isExtended(it.way), isBoth = it.plainRow || it.isPlain;
   if (!isWide && !it.isPlain) return null;
-  const stop = `Without it the checker stops following at row ${number(it.plainRow)}.`;
+  const how = it.isPlainUnjudged ? "doesn't judge" : "stops following at";
+  const stop = `Without it the checker ${how} row ${number(it.plainRow)}.`;
   return h(
       "p", {id: "profile"}, h("strong", {}, isWide ? WIDER : "Without the extended profile"), " ",
       isWide && isBoth ? h("span", {class: "soft"}, stop) : null, " ", isBoth ? profileButton(isWide) : null);

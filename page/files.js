@@ -38,9 +38,9 @@ function tellFile(mine, i, {doing, part}) {
 // The cells of a no, as its card has it: what isn't followed or isn't judged is no fault of anybody, and a late
 // beginning comes first.
 function noCells(told) {
-  const report = readReport(told.text), row = number(told.row), {rule, blame} = report, it = {...told, report};
-  if (unjudgedReader({...it, list: new Acts(told.acts, told.listed)}))
-    return ["not judged: open it to see what would tell", row, rule, "nobody"];
+  const it = asRead(told), row = number(told.row), {rule, blame} = it.report;
+  takeUnjudged(it);
+  if (it.unjudged) return ["not judged: open it to see what would tell", row, rule, "nobody"];
   if (noTraffic(it)) return ["no: this isn't MDB traffic", row, rule, "nobody"];
   if (rule === "Profile") {
     const why = isDamaged(it) ? "a damaged message" : "open it to leave out a device";

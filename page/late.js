@@ -44,6 +44,7 @@ function lateWords(it) {
     return late.isFollowed ?
         "Then all devices kept the protocol in the whole recording: it would be a yes." :
         "Then it would be a yes, but nothing would be followed: most likely lines M and S are exchanged.";
+  if (isUnfollowedEnd(late)) return `Then the checker stops following at row ${row}. It shows no fault of anybody.`;
   if (late.answer === ANSWERS.NO) {
     const {rule, blame} = readReport(late.text);
     return `Then row ${row} would be the first that breaks a rule: the rule ${rule}, and ${BLAMES[blame]} sent it.`;
@@ -70,7 +71,7 @@ function lateNotes(it) {
   if (!it.late) return [];
   if (isSameLate(it) || !isPerhapsLate(it)) return [lateAside(it)];
   const why = isStartedBefore(it) || it.row === 1 ? "" : " (No reset of this device stands before the row.)";
-  return [
-    h("p", {id: "late"}, `If so, nobody is to blame for this row. ${lateWords(it)}${why}`), h("p", {}, lateButton())
-  ];
+  const isOpen = isUnfollowedEnd(it.late) && it.late.row <= it.row;
+  const then = isOpen ? "this row may be right" : "nobody is to blame for this row";
+  return [h("p", {id: "late"}, `If so, ${then}. ${lateWords(it)}${why}`), h("p", {}, lateButton())];
 }

@@ -2,8 +2,9 @@
 // bytes of a number and how many numbers it is, as C lays them out. How large a structure is, the module tells: where
 // the fields don't come to that, nothing is read.
 const STRUCTURES = {
-  options: {joined: [1, 1], extended: [1, 1], without: [1, 4], setups: [1, 4 * 37]},
+  options: {joined: [1, 1], extended: [1, 1], without: [1, 4], setups: [1, 4 * 37], readers: [1, 2 * 75]},
   setup: {count: [1, 1], bytes: [1, 36]},
+  reader: {level: [1, 1], config: [1, 37], options: [1, 37]},
   told: {row: [8, 1], offset: [8, 1], fault: [8, 1], acts: [8, 1], news: [8, 1]},
   answer: {count: [8, 1], bytes: [1, 4096]},
   act: {
@@ -43,8 +44,8 @@ const layout = {};
 // So many numbers the worker tells of a fault: its row, its place, the times of the row, the row before it and the row
 // after it, and whether it is of alternative payout.
 const FAULT_NUMBERS = 6;
-// So many numbers the page gives the worker of a fault: its row, its place, whether it breaks a rule of the link, and who
-// is left out after it (a bit for each device).
+// So many numbers the page gives the worker of a fault: its row, its place, whether it breaks a rule of the link, and
+// who is left out after it (a bit for each device).
 const START_NUMBERS = 4;
 
 // The places of the fields of a structure of so many bytes.

@@ -425,22 +425,18 @@ function levelWords(it, d, level, rows) {
   facts.push(fact(
       `${capital(the(DEVICE_NAMES[d]))} reports feature level ${level} in its answer to SETUP`, ...inRows(rows),
       ...[asked].flat()));
-  facts.push(fact(
-      "From level 2 on the messages of a session have other forms. The extended profile follows them in a recording from power-on."));
-  return {what: `${the(DEVICE_NAMES[d])} uses feature level ${level}`, facts, isLevel: true};
+  facts.push(fact("From level 2 on the messages of a session have other forms. The extended profile follows them."));
+  return {what: `${the(DEVICE_NAMES[d])} uses feature level ${level}`, facts};
 }
 
 function profileStory(it) {
   if (isDamaged(it)) return damagedStory(it);
-  const d = unfollowedDevice(it), name = the(DEVICE_NAMES[d] || "device"), {facts, isLevel} = unfollowed(it);
-  const own = it.isPlain      ? "see the answer with the extended profile" :
-      isLevel && isJoined(it) ? "record a start of the machine" :
-                                "switch the feature off and record again";
+  const d = unfollowedDevice(it), name = the(DEVICE_NAMES[d] || "device"), {facts} = unfollowed(it);
+  const own = it.isPlain ? "see the answer with the extended profile" : "switch the feature off and record again";
   return [
     ...facts,
-    ...it.isTried ?
-        [fact("The extended profile (card readers of levels 2 and 3, recyclers) doesn't follow it either.")] :
-        [],
+    ...it.tried ? [fact("The extended profile (card readers of levels 2 and 3, recyclers) doesn't follow it either.")] :
+                  [],
     nextStep(
         d ? `If your question is about another device, leave out ${name} and check again.` :
             "If your question is about another device, leave out the device that this row is of, and check again."),

@@ -1,9 +1,8 @@
 // What is shown of an answer, and the page's own events.
 function takeActs(it) {
-  it.list = new Acts(it.acts, it.listed);
+  Object.assign(it, asRead(it));
   noteSetups(it.list, it.way.given, it.hole, it.found);
-  it.report = it.answer < 2 ? readReport(it.text) : null;
-  it.unjudged = it.answer === ANSWERS.NO && !noTraffic(it) ? unjudgedReader(it) : 0;
+  takeUnjudged(it);
 }
 
 function show(it) {
@@ -12,7 +11,7 @@ function show(it) {
   const parts = [];
   showVerdict(asAtFirst(it));
   if (it.lines.length) parts.push(faultSection(it));
-  if (it.answer === ANSWERS.YES) parts.push(moneySection(it), devicesSection(it.report));
+  if (it.answer === ANSWERS.YES) parts.push(moneySection(it), devicesSection(it));
   if (it.before && it.row > 1) parts.push(beforeSection(it));
   if (it.listed) parts.push(timeSection(it), tellSection(it), actsSection(it));
   parts.push(recordSection(it));
@@ -39,8 +38,8 @@ function figures(it) {
   return `${number(it.size)} bytes, read in ${s(it.ms.read)}, checked in ${s(it.ms.check)}${
       it.survey ? `, surveyed in ${s(it.survey.ms)}, listed anew in ${s(it.ms.relist)}` :
                   ""}${it.before ? `, the rows before row ${number(it.row)} in ${s(it.ms.before)}` : ""}${
-      it.ms.closer ? `, what leaves money open in ${s(it.ms.closer)}` : ""}, acts listed in ${s(it.ms.list)}, shown after ${
-      s(it.ms.all)}; ${number(Math.round(it.memory / 1048576))} MB of memory.`;
+      it.ms.closer ? `, what leaves money open in ${s(it.ms.closer)}` : ""}, acts listed in ${
+      s(it.ms.list)}, shown after ${s(it.ms.all)}; ${number(Math.round(it.memory / 1048576))} MB of memory.`;
 }
 
 // Emptied, since choosing the same file again is no change else.

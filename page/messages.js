@@ -13,7 +13,7 @@ const READER_CONFIG = 1;
 function readerLength(first, left, reading) {
   if (first === 9 && reading !== READING.BASE && left >= 34) return 34;
   if (reading === READING.LONG && first === 3) return 10;
-  if (reading === READING.LONG && first === 0x0B) return 2;
+  if (reading === READING.LONG && first === 0x0B) return Math.min(2, left);
   if (reading === READING.LONG && first === 0x0F) return 3;
   return READER_LENGTHS[first] ?? 1;
 }

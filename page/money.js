@@ -106,7 +106,8 @@ function rangeTable(name, a, d, isCut) {
 // One account: one number where both books have it for certain, else its ranges as numbers, as bars, and in words.
 function accountArticle(r, name, a, d, isCut) {
   const {device, title, owner} = ACCOUNTS[name], isWide = SIDES.some((side) => !isSingle(a[side]));
-  const isAgreed = !isWide && a.difference[0] === 0n, plain = r.plain && isWide ? [plainWords(name, r.plain[name], d)] : [];
+  const isAgreed = !isWide && a.difference[0] === 0n,
+        plain = r.plain && isWide ? [plainWords(name, r.plain[name], d)] : [];
   const agreed = () =>
       h("p", {class: "agreed", "data-account": name}, h("strong", {class: "sum"}, money(a.device[0], d)),
         ` for certain: ${small(owner)} and the controller counted the same${isCut ? " up to there" : ""}.`);
@@ -185,10 +186,12 @@ function beforeSection(it) {
 }
 
 // What is to be said of a device, beside its figures.
-function deviceNotes(r, device) {
-  const i = DEVICES.indexOf(device), notes = [], missing = r.unvalued?.[device] ?? 0, silences = r.silences[device];
+function deviceNotes(it, device) {
+  const r = it.report, i = DEVICES.indexOf(device), told = readerTold(it, i - 1);
+  const notes = [], missing = r.unvalued?.[device] ?? 0, silences = r.silences[device];
   if (r.without.includes(device)) notes.push("Left out: its words aren't read, so its sums are 0 whatever it did.");
-  if (r.setup.includes(device)) notes.push("Its values come from an earlier recording.");
+  if (isValued(it, i - 1)) notes.push("Its values come from an earlier recording.");
+  if (told.length) notes.push(`Given: ${listed(told)}.`);
   if (r.decimals[device] === null && !r.without.includes(device))
     notes.push(`Reported no values in this recording${missing ? "" : ", or isn't there"}.`);
   if (silences)
@@ -203,8 +206,8 @@ function deviceNotes(r, device) {
 // Where a reader is found on the bus: two of them differ in nothing else.
 const ADDRESSES = ["", "", " (10H)", " (60H)"];
 
-function devicesSection(r) {
-  const heads = [["device"], ["decimal places", "number"], ["silences", "number"]];
+function devicesSection(it) {
+  const r = it.report, heads = [["device"], ["decimal places", "number"], ["silences", "number"]];
   if (r.unvalued) heads.push(["without a value", "number"]);
   heads.push(["notes"]);
   const rows = DEVICES.slice(1).map(
@@ -213,7 +216,7 @@ function devicesSection(r) {
             h("td", {class: "number decimals"}, r.decimals[device] === null ? "–" : r.decimals[device]),
             h("td", {class: "number silences"}, r.silences[device]),
             r.unvalued ? h("td", {class: "number unvalued"}, r.unvalued[device]) : null,
-            h("td", {class: "notes"}, deviceNotes(r, device).join(" "))));
+            h("td", {class: "notes"}, deviceNotes(it, device).join(" "))));
   const words = [
     "A silence is a time in which the controller asks one device again and again without an answer, longer than the standard allows. It breaks no rule."
   ];

@@ -1,68 +1,124 @@
 // How a recording is taken: the fields, the module's options, and the program's words.
 
-// Bytes of a set-up that can't be used, and the device whose field has them.
+// What stands in a field and can't be used: the field, its device, and why.
 class SetupFault extends Error {
-  constructor(device, words) {
+  constructor(field, device, words) {
     super(words);
+    this.field = field;
     this.device = device;
   }
 }
 
-const NO_SETUP = "These bytes are no answer of the device to SETUP. Copy a whole answer, with its sum at the end.";
+// The fields of blocks, each with its device: what the device answered to SETUP, and what the controller sent to a
+// reader.
+const READERS = DEVICES.slice(3);
+const BLOCK_FIELDS = [
+  ...DEVICES.slice(1).map((device) => ["setup", device]),
+  ...READERS.flatMap((device) => [["config", device], ["options", device]])
+];
+// The fields of a device, by its place among all.
+const fieldsOf = (i) => i > 1 ? ["setup", "level", "config", "options"] : ["setup"];
+
+const NO_BLOCK = {
+  setup: "These bytes are no answer of the device to SETUP. Copy a whole answer, with its sum at the end.",
+  config: "These bytes are no SETUP of the controller to this reader. Copy its whole command, with its sum at the end.",
+  options: "These bytes are no ENABLE OPTIONS to this reader. Copy the whole command, with its sum at the end."
+};
+const BOTH_LEVELS = "Give the level or this command, not both: one of them is enough.";
+const OTHER_MONEY =
+    "These options have money of 32 bits or several currencies, which the checker doesn't follow. Leave this reader out.";
 
 // The bytes in a device's field. A line of `show` is taken as it stands, as --setup takes it.
-function setupBytes(device) {
-  const text = by("setup-" + device).value.trim().toUpperCase();
+function bytesIn(field, device) {
+  const text = by(`${field}-${device}`).value.trim().toUpperCase(),
+        fault = (words) => new SetupFault(field, device, words);
   if (!text) return null;
-  const bare = text.replace(new RegExp(`^((\\d{1,15}-\\d{1,15} )?REPLY )?${device.toUpperCase()} `), "");
+  const bare = text.replace(new RegExp(`^((\\d{1,15}-\\d{1,15} )?(REPLY|ASK) )?${device.toUpperCase()} `), "");
   if (!/^[0-9A-F]{2}( [0-9A-F]{2})*$/.test(bare))
-    throw new SetupFault(
-        device,
+    throw fault(
         "These aren't bytes. Write two hexadecimal digits for each byte and one blank between two bytes, for example 02 00 01.");
   const bytes = bare.split(" ").map((it) => parseInt(it, 16));
-  if (bytes.length > 36 || bytes.length < 2) throw new SetupFault(device, NO_SETUP);
+  if (bytes.length > 36 || bytes.length < 2) throw fault(NO_BLOCK[field]);
   const sum = bytes.slice(0, -1).reduce((a, b) => a + b, 0) & 255;
   if (sum !== bytes.at(-1))
-    throw new SetupFault(
-        device,
+    throw fault(
         `The last byte has to be the sum of the others. It is ${hex(bytes.at(-1))}, and their sum is ${hex(sum)}.`);
   return bytes;
 }
 
-// The options as the module takes them, and as the program's command line has them. The extended profile is for
-// recordings from power-on alone.
+// The controller's SETUP or ENABLE OPTIONS in a reader's field.
+function askIn(field, device) {
+  const bytes = bytesIn(field, device), isWanted = field === "config" ? isConfigAsk : isOptionsAsk;
+  if (bytes && !(bytes.length === ASK_LENGTH && toReader(bytes[0]) === device && isWanted(bytes)))
+    throw new SetupFault(field, device, NO_BLOCK[field]);
+  return bytes;
+}
+
+// SETUP and ENABLE OPTIONS have so many bytes, with their sum.
+const ASK_LENGTH = 7;
+const toReader = (first) => DEVICES[READERS_BY_BLOCK[first >> 3]];
+const isConfigAsk = ([first, second]) => (first & 7) === 1 && second === 0;
+const isOptionsAsk = ([first, second]) => (first & 7) === 7 && second === ENABLE_OPTIONS;
+// The option bits of money of 32 bits and several currencies, and that of always idle.
+const OTHER_MONEY_BITS = 6, ALWAYS_IDLE_BIT = 0x20;
+
+// Puts a block into the module's options.
+function putBlock(bytes, place, block) {
+  bytes[place + layout.setup.count] = block.length;
+  bytes.set(block, place + layout.setup.bytes);
+}
+
+// Takes what the fields say of a reader's level and options, with the program's words.
+function takeReader(bytes, device, place, tell) {
+  const level = Number(by("level-" + device).value), {reader} = layout;
+  const config = askIn("config", device), enabled = askIn("options", device);
+  if (level && config) throw new SetupFault("config", device, BOTH_LEVELS);
+  if (enabled && enabled[OPTIONS_END - 1] & OTHER_MONEY_BITS) throw new SetupFault("options", device, OTHER_MONEY);
+  if (level) {
+    bytes[place + reader.level] = level;
+    tell(`level ${level}`);
+  }
+  for (const [field, block] of [["config", config], ["options", enabled]]) {
+    if (!block) continue;
+    putBlock(bytes, place + reader[field], block);
+    tell(block.map(hex).join(" "));
+  }
+}
+
+// The options as the module takes them, and as the program's command line has them. What is said of a reader's level
+// and options is for the extended profile alone.
 function optionsAs(joined, isWide = false) {
   const bytes = new Uint8Array(layout.options.size), words = [], given = [null, null, null, null, null];
   if (joined) {
     bytes[layout.options.joined] = 1;
     words.push("--joined");
-  } else if (isWide) {
+  }
+  if (isWide) {
     bytes[layout.options.extended] = 1;
     words.push("--extended");
   }
   DEVICES.slice(1).forEach((device, i) => {
-    const left = by("without-" + device).checked;
+    const left = by("without-" + device).checked, tell = (text) => words.push(`--setup '${device} ${text}'`);
     if (left) {
       bytes[layout.options.without + i] = 1;
       words.push("--without " + device);
     }
     if (!joined || left) return;
-    const setup = setupBytes(device);
-    if (!setup) return;
-    const place = layout.options.setups + layout.setup.size * i;
-    bytes[place + layout.setup.count] = setup.length;
-    bytes.set(setup, place + layout.setup.bytes);
-    words.push(`--setup '${device} ${setup.map(hex).join(" ")}'`);
-    given[i + 1] = readSetup(i + 1, Uint8Array.from(setup));
+    const setup = bytesIn("setup", device);
+    if (setup) {
+      putBlock(bytes, layout.options.setups + layout.setup.size * i, setup);
+      tell(setup.map(hex).join(" "));
+      given[i + 1] = readSetup(i + 1, Uint8Array.from(setup));
+    }
+    if (isWide && i > 1) takeReader(bytes, device, layout.options.readers + layout.reader.size * (i - 2), tell);
   });
   return {bytes, words, given};
 }
 
-// The options for a machine that was running already, where the fields don't say so. Bytes that can't be used don't
-// count.
-function lateOptions() {
+// The options for a machine that was running already, where the fields don't say so. What can't be used doesn't count.
+function lateOptions(isWide) {
   try {
-    return optionsAs(true);
+    return optionsAs(true, isWide);
   } catch {
     return null;
   }
@@ -72,34 +128,30 @@ function lateOptions() {
 const isExtended = ({bytes}) => bytes[layout.options.extended] > 0;
 
 // What the fields say now: the options. Where the fields don't say so, two more ways: `late`, that of a machine that
-// was running already, and `wider`, that of the extended profile. With `isPlain` it is the base profile, whatever they
-// say.
+// was running already, and `wider`, that of the extended profile, with its own `late`. With `isPlain` it is the base
+// profile, whatever they say.
 function options(isPlain = false) {
-  const joined = by("joined").checked, isWide = !joined && !isPlain && by("extended").checked;
-  return {
-    ...optionsAs(joined, isWide),
-    key: wayKey(),
-    late: joined ? null : lateOptions(),
-    wider: joined || isPlain || isWide ? null : optionsAs(false, true)
-  };
+  const joined = by("joined").checked, isWide = !isPlain && by("extended").checked;
+  const way = (wide) => ({...optionsAs(joined, wide), late: joined ? null : lateOptions(wide)});
+  return {...way(isWide), key: wayKey(), wider: isPlain || isWide ? null : way(true)};
 }
 
-// Says beside a field of a set-up what is wrong with its bytes, and goes there. Of the other fields nothing is said.
+// Says beside a field what is wrong with it, and goes there. Of the other fields nothing is said.
 function showSetupFault(fault) {
-  for (const device of DEVICES.slice(1)) {
-    const isWrong = fault?.device === device;
-    by(`setup-${device}-fault`).textContent = isWrong ? fault.message : "";
-    by("setup-" + device).setAttribute("aria-invalid", isWrong);
+  for (const [field, device] of BLOCK_FIELDS) {
+    const isWrong = fault?.field === field && fault.device === device;
+    by(`${field}-${device}-fault`).textContent = isWrong ? fault.message : "";
+    by(`${field}-${device}`).setAttribute("aria-invalid", isWrong);
   }
   if (!fault) return;
   by("ways").open = true;
   showWay();
-  by("setup-" + fault.device).focus();
+  by(`${fault.field}-${fault.device}`).focus();
 }
 
 function showWay() {
   const joined = by("joined").checked, isShown = state !== null && wayKey() === state.key;
-  const isWide = isShown ? isExtended(state.way) : !joined && by("extended").checked;
+  const isWide = isShown ? isExtended(state.way) : by("extended").checked;
   const out = DEVICES.slice(1).filter((it) => by("without-" + it).checked);
   by("way").textContent = (joined ? "machine already running" : "from power-on") +
       (isWide ? ", by the extended profile" : "") +
@@ -108,20 +160,21 @@ function showWay() {
   document.body.classList.toggle("open", file !== null);
   by("open-name").textContent = file ? shownName(file.name) : "";
   by("setups").hidden = !joined;
-  by("extended").disabled = joined;
-  for (const device of DEVICES.slice(1)) by("setup-" + device).disabled = by("without-" + device).checked;
+  DEVICES.slice(1).forEach((device, i) => {
+    for (const field of fieldsOf(i)) by(`${field}-${device}`).disabled = by("without-" + device).checked;
+  });
   by("again").disabled = !file || isWorking;
   by("began").disabled = isWorking;
   by("stale").hidden = !state || isWorking || isShown;
 }
 
-// What the fields say as a text, to tell whether it is what the shown answer was made with. Bytes of a device that is
-// left out don't count.
+// What the fields say as a text, to tell whether it is what the shown answer was made with. What is said of a device
+// that is left out doesn't count.
 function wayKey() {
   const joined = by("joined").checked;
-  const devices = DEVICES.slice(1).map((it) => {
-    const left = by("without-" + it).checked;
-    return [left, joined && !left ? by("setup-" + it).value.trim() : ""];
+  const devices = DEVICES.slice(1).map((device, i) => {
+    const left = by("without-" + device).checked;
+    return [left, ...joined && !left ? fieldsOf(i).map((field) => by(`${field}-${device}`).value.trim()) : []];
   });
-  return JSON.stringify([joined, !joined && by("extended").checked, devices]);
+  return JSON.stringify([joined, by("extended").checked, devices]);
 }

@@ -75,7 +75,7 @@ class Checker {
     if (data.told === "done")
       asked.done({...data, found: asked.found});
     else
-      asked.failed(data.device ? new SetupFault(DEVICES[data.device], NO_SETUP) : new Error(data.words));
+      asked.failed(data.device ? faultOf(data) : new Error(data.words));
   }
   ask(message, progress) {
     const number = ++this.number, first = this.first;
@@ -91,32 +91,44 @@ class Checker {
   }
 }
 
+// A block that the module doesn't take.
+const faultOf = ({field, device}) => new SetupFault(field, DEVICES[device], NO_BLOCK[field]);
+
 // Whether an answer ends where the checker stops following.
 const isUnfollowedEnd = ({answer, text}) => answer === ANSWERS.NO && readReport(text).rule === "Profile";
 
 // What the module answers to a recording that is taken in a way. A no that a late beginning may explain is asked a
-// second time, as of a machine that was running already: that is by the base profile, and of no use where this stops
-// following.
+// second time, as of a machine that was running already, by the same profile.
 async function answerBy(checker, way, progress) {
   const told = await checker.ask({options: way.bytes}, progress);
   const late = asksLate(told, way) ? await checker.ask({late: way.late.bytes, isDevice: told.row > 1}, progress) : null;
-  return {...told, late: late && isExtended(way) && isUnfollowedEnd(late) ? null : late, way};
+  return {...told, late, way};
 }
 
-// Whether the answer by the extended profile gets further than one that ends where the base profile stops following.
-function isFurther(wide, told) {
+// Whether the answer by the extended profile gets further than one by the base profile that stops following, or isn't
+// judged.
+function isFurther(wide, told, isUnjudged) {
   if (wide.answer === ANSWERS.YES || wide.row > told.row) return true;
-  return wide.row === told.row && !isUnfollowedEnd(wide);
+  return (isUnjudged || wide.row === told.row) && !isUnfollowedEnd(wide);
 }
 
-// What the module answers to a recording. Where the base profile stops following, the extended one is asked at once. If
-// that gets further, its answer is taken, with the row at which the base profile stops (`plainRow`).
+// What the module answers to a recording. Where the base profile stops following, or where its no isn't judged, the
+// extended one is asked at once. If that gets further, its answer is taken, with the row at which the base profile ends
+// (`plainRow`). Else where it ends is kept (`tried`).
 async function answerOf(checker, way, progress) {
-  const told = await answerBy(checker, way, progress);
-  if (!way.wider || !isUnfollowedEnd(told)) return told;
+  const told = await answerBy(checker, way, progress), isUnjudged = way.wider ? unjudgedOf(asRead(told)) > 0 : false;
+  if (!way.wider || !(isUnjudged || isUnfollowedEnd(told))) return told;
   const wide = await answerBy(checker, {...way, ...way.wider}, progress);
-  return isFurther(wide, told) ? {...wide, plainRow: told.row} : {...told, isTried: true};
+  return isFurther(wide, told, isUnjudged) ? {...wide, plainRow: told.row, isPlainUnjudged: isUnjudged} :
+                                             {...told, tried: {row: wide.row, unknown: unknownOf(asRead(wide))}};
 }
+
+// An answer with what is read of it.
+const asRead = (told) => ({
+  ...told,
+  list: new Acts(told.acts, told.listed),
+  report: told.answer <= ANSWERS.NO ? readReport(told.text) : null
+});
 
 // Checks a recording in a worker of its own. Nothing that is shown changes.
 async function check(recording, way, progress) {

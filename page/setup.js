@@ -12,19 +12,62 @@ function unlistedSetups({found, hole}, acts) {
   return missed.filter(Boolean).map(words).join("");
 }
 
+// Whether a reader accepted a command.
+function wasAccepted(acts, k) {
+  const kind = answerTo(acts, k);
+  if (kind !== REPLY) return kind === ACK;
+  return readerMessages(acts.bytes(k + 1), acts.reading(k + 1)).every(([first]) => first !== OUT_OF_SEQUENCE);
+}
+
+const OUT_OF_SEQUENCE = 0x0B;
+const isIdleOn = (asked) => Boolean(asked) && (asked[OPTIONS_END - 1] & ALWAYS_IDLE_BIT) > 0;
+
+// What the controller last sent to each reader: SETUP, and ENABLE OPTIONS if the reader accepted it and no break and no
+// accepted RESET came after it. One without always idle leaves that as it was, so one with it goes before it. Acts from
+// `hole` on stand after others that aren't listed.
+function findAsks(acts, hole) {
+  const found = DEVICES.map(() => ({isThere: false, config: null, options: null}));
+  for (let i = 0; i < acts.count; i++) {
+    const kind = acts.kind(i), it = found[acts.device(i)], bytes = acts.bytes(i);
+    if (kind === BREAK || i === hole)
+      for (const one of found) one.options = null;
+    if (acts.device(i) < 3) continue;
+    it.isThere ||= kind === REPLY || kind === ACK;
+    if (kind !== ASK) continue;
+    if (isConfigAsk(bytes)) it.config = bytes;
+    if (!wasAccepted(acts, i)) continue;
+    if ((bytes[0] & 7) === 0) it.options = null;
+    if (isOptionsAsk(bytes) && !(isIdleOn(it.options) && !isIdleOn(bytes))) it.options = bytes;
+  }
+  return found;
+}
+
+// Puts what the controller sent to a reader into its fields; in words. What the fields had of another day goes.
+function takeAsks({isThere, config, options}, device, name) {
+  if (!isThere || !config) return "";
+  const words = (block) => block ? Array.from(block, hex).join(" ") : "";
+  by("level-" + device).value = "";
+  by("config-" + device).value = words(config);
+  by("options-" + device).value = words(options);
+  return ` It shows the controller's SETUP${options ? " and ENABLE OPTIONS" : ""} to ${the(name)}.`;
+}
+
 // What an earlier recording says of the set-up of each device, put into the fields; in words.
 function takeSetups(told, name) {
   if (told.answer > ANSWERS.NO) return `${name}: ${unreadWords(told)} Nothing was taken from it.`;
-  const acts = new Acts(told.acts, told.listed), found = findSetups(acts), names = [],
-        more = unlistedSetups(told, acts);
-  for (let d = 1; d < 5; d++)
+  const acts = new Acts(told.acts, told.listed), found = findSetups(acts), asks = findAsks(acts, told.hole), names = [],
+        more = [unlistedSetups(told, acts)];
+  for (let d = 1; d < 5; d++) {
     if (found[d]) {
       by("setup-" + DEVICES[d]).value = found[d];
       names.push(DEVICE_NAMES[d]);
     }
-  if (names.length) showSetupFault(null);
-  if (!names.length && more) return `${name}:${more}`;
-  return names.length ? `${name} shows the set-up of ${listed(names.map(the))}.${more}` :
+    if (d > 2) more.push(takeAsks(asks[d], DEVICES[d], DEVICE_NAMES[d]));
+  }
+  const rest = more.join("");
+  if (names.length || rest) showSetupFault(null);
+  if (!names.length && rest) return `${name}:${rest}`;
+  return names.length ? `${name} shows the set-up of ${listed(names.map(the))}.${rest}` :
                         `${name} shows no answer to SETUP. The bytes below are as they were.`;
 }
 
@@ -39,11 +82,11 @@ function unreadWords(told) {
   return "it has more than 100,000,000 rows.";
 }
 
-// A recording of a start, with all devices. Where the base profile stops following, the extended one goes on.
+// A recording of a start, with all devices, by the extended profile: that follows each reader.
 function fromPowerOn() {
-  const bytes = new Uint8Array(layout.options.size), wider = bytes.slice();
-  wider[layout.options.extended] = 1;
-  return {bytes, words: [], given: [], late: null, wider: {bytes: wider}};
+  const bytes = new Uint8Array(layout.options.size);
+  bytes[layout.options.extended] = 1;
+  return {bytes, words: [], given: [], late: null, wider: null};
 }
 
 async function readSetups(given) {

@@ -2,13 +2,13 @@
 // memory that it doesn't have.
 
 // The options of an explanation, as the program's words.
-const leftOutWords = (way) => way.words.filter((it) => it.startsWith("--without"));
+const explainWords = (way) => way.words.filter((it) => /^--(extended|without)/.test(it));
 
 // What is said of a bound: how to have it explained.
 function whyWords({name, way}, account, side, bound) {
   if (way.bytes[0])
     return ["The program mdbcheck explains a limit only where the recording begins at power-on. This one doesn't."];
-  const command = ["mdbcheck explain", account, side, bound, ...leftOutWords(way), "< FILE"].join(" ");
+  const command = ["mdbcheck explain", account, side, bound, ...explainWords(way), "< FILE"].join(" ");
   return [
     "The program mdbcheck, on Linux, says which words must have been lost, or which device restarted, for this limit. FILE is ",
     h("bdi", {}, name), ": ", h("code", {}, command)

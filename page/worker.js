@@ -100,8 +100,8 @@ function check(length) {
 // Replays so many bytes of the text: what the sums are if nothing was lost. Null where the recording begins in
 // mid-session, of which there is no replay.
 function replay(length) {
-  const answer = call.mdb_page_replay(
-      BigInt(at.options), BigInt(at.text), BigInt(length), BigInt(at.told), BigInt(at.answer));
+  const answer =
+      call.mdb_page_replay(BigInt(at.options), BigInt(at.text), BigInt(length), BigInt(at.told), BigInt(at.answer));
   return answer < 2 ? {answer, text: answerText(), row: told().row} : null;
 }
 
@@ -266,23 +266,32 @@ function lookCloser({options, answer, length}) {
   say({told: "done", replayed, rises, ms: performance.now() - begin});
 }
 
-// The device whose set-up the options have, and whose answer to SETUP that isn't; 0 if there is none.
+// Whether the module takes one block of the options alone.
+function isTaken(options, from) {
+  const alone = new Uint8Array(layout.options.size), {joined, extended} = layout.options;
+  alone[joined] = 1;
+  alone[extended] = options[extended];
+  alone.set(options.subarray(from, from + layout.setup.size), from);
+  setOptions(alone);
+  return check(0) !== 5;
+}
+
+// The device of which the options have a block that tells nothing of it, and the block's field; null if there is none.
 function badSetup(options) {
-  for (let d = 0; d < 4; d++) {
-    const alone = new Uint8Array(layout.options.size), wide = layout.setup.size,
-          from = layout.options.setups + wide * d;
-    alone[layout.options.joined] = 1;
-    alone.set(options.subarray(from, from + wide), from);
-    setOptions(alone);
-    if (check(0) === 5) return d + 1;
-  }
-  return 0;
+  for (let d = 0; d < 4; d++)
+    if (!isTaken(options, layout.options.setups + layout.setup.size * d)) return {device: d + 1, field: "setup"};
+  for (let r = 0; r < 2; r++)
+    for (const field of ["config", "options"])
+      if (!isTaken(options, layout.options.readers + layout.reader.size * r + layout.reader[field]))
+        return {device: r + 3, field};
+  return null;
 }
 
 // Checks the recording once more with other options, for the answer alone. `isFollowed` is whether a device speaks, or
 // is spoken to; where a device broke a rule in the first reading (`isDevice`), one does.
 function judgeLate(options, isDevice) {
   setOptions(options);
+  // (what an earlier recording tells stands at the end)
   if (check(0) === 5) setOptions(options.fill(0, layout.options.setups));
   const begin = performance.now();
   check(Math.min(size, FRONT));
@@ -478,9 +487,9 @@ async function take({number: mine, module, file, ...asked}) {
   number = mine;
   try {
     if (module) await prepare(module);
-    const device = asked.options ? badSetup(asked.options) : 0;
-    if (device) {
-      say({told: "fault", device});
+    const bad = asked.options ? badSetup(asked.options) : null;
+    if (bad) {
+      say({told: "fault", ...bad});
       return;
     }
     if (file) load(file);

@@ -9,8 +9,10 @@ import re
 
 FOLDER = pathlib.Path(__file__).resolve().parent.parent / "crates" / "conformance" / "data"
 ESCAPES = {"n": "\n", "r": "\r", "m": "\xef\xbb\xbf", "x": "\xff", "\\": "\\"}
-# A value of --setup: a line of `show`, perhaps without its rows, perhaps without `reply` too.
-SETUP = re.compile(r"(?:(?:\d+-\d+ )?reply )?(\S+) (.+)")
+# A value of --setup: a line of `show`, perhaps without its rows, perhaps without `reply` or `ask` too. Or a reader's level.
+SETUP = re.compile(r"(?:(?:\d+-\d+ )?(?:reply|ask) )?(\S+) (.+)")
+# What a value tells of a reader that begins with these bytes. Others are answers to SETUP.
+ASKED = {"cashless": {0x11: "config", 0x17: "options"}, "cashless-2": {0x61: "config", 0x67: "options"}}
 
 
 class BadCase(Exception):
@@ -25,13 +27,35 @@ def words_of(text):
     return words
 
 
-def setups_in(words):
-    """The value of each --setup among the words of a command, with its device and its bytes."""
+def told_in(words):
+    """What each --setup among the words of a command tells: its value, the device, the field of the page that it belongs to
+    (setup, level, config or options), and the bytes, or the level."""
     for i, word in enumerate(words):
         if word == "--setup" or word.startswith("--setup="):
             value = word.partition("=")[2] or words[i + 1]
-            device, data = SETUP.fullmatch(value).groups()
-            yield value, device, bytes.fromhex(data)
+            device, rest = SETUP.fullmatch(value).groups()
+            if rest.startswith("level "):
+                yield value, device, "level", int(rest.partition(" ")[2])
+            else:
+                data = bytes.fromhex(rest)
+                yield value, device, ASKED.get(device, {}).get(data[0], "setup"), data
+
+
+def setups_in(words):
+    """The value of each --setup that tells an answer to SETUP, with its device and its bytes."""
+    return ((value, device, data) for value, device, field, data in told_in(words) if field == "setup")
+
+
+def readers_in(words):
+    """What is told of the readers: the device, the field, and the bytes, or the level."""
+    return [(device, field, data) for _, device, field, data in told_in(words) if device in ASKED]
+
+
+def is_way_of_page(words):
+    """Whether the page can take a recording as these words of `check` or `show` say."""
+    known = re.compile(r"--joined|--extended|--without(=.*)?|--setup(=.*)?")
+    pairs = zip(["", *words], words)
+    return all(known.fullmatch(word) or before in ("--without", "--setup") for before, word in pairs)
 
 
 def text_of(escaped):

@@ -13,7 +13,7 @@ import random
 import subprocess
 import sys
 
-from cases import setups_in
+from cases import readers_in, setups_in
 from reader_formats import Formats
 
 DEVICES = ["changer", "bill", "cashless", "cashless-2"]
@@ -64,9 +64,9 @@ class Walk:
     """Takes the lines of `show`, and finds entries: lists of first row, last row, device, what, type or item, how
     many, units and decimals or None, and whether it is acknowledged."""
 
-    def __init__(self, setups=(), is_extended=False):
+    def __init__(self, setups=(), is_extended=False, known=()):
         self.setups = {1: None, 2: None, 3: None, 4: None, **dict(setups)}
-        self.formats, self.messages = Formats(is_extended), []
+        self.formats, self.messages = Formats(is_extended, known), []
         self.found = {name: [] for name in LISTS}
         self.command, self.waiting = None, []
 
@@ -178,8 +178,13 @@ def setups_of(words):
         yield device, setup_of(device, [{1: 0x09, 2: 0x31}.get(device, 0)], content, Formats().reply(device, content) if device >= 3 else [])
 
 
+def known_in(words):
+    """What is told of the readers, by device."""
+    return [(DEVICES.index(name) + 1, field, value) for name, field, value in readers_in(words)]
+
+
 def walked(text, words=()):
-    walk = Walk(setups_of(words), "--extended" in words)
+    walk = Walk(setups_of(words), "--extended" in words, known_in(words))
     for line in text.splitlines():
         if not line.startswith("fault "):
             walk.line(line)

@@ -30,7 +30,7 @@ sys.dont_write_bytecode = True
 
 from browser import Browser  # noqa: E402
 from firefox import Firefox  # noqa: E402
-from page_profiles import shown_for  # noqa: E402
+from page_profiles import base_of, shown_for  # noqa: E402
 from programs import MDBCHECK as PROGRAM  # noqa: E402
 
 TOP = pathlib.Path(__file__).resolve().parent.parent
@@ -62,10 +62,12 @@ NOTE = """(() => {
   const all = ["changer", "bill", "cashless", "cashless-2"];
   window.fieldsNow = () => {
     const joined = by("joined").checked, words = joined ? ["--joined"] : [];
+    if (by("extended").checked) words.push("--extended");
     for (const it of all) {
-      const value = by("setup-" + it).value.trim();
+      const value = (field) => by(field + "-" + it)?.value.trim() ?? "", level = value("level");
+      const told = [value("setup"), level && "level " + level, value("config"), value("options")].filter(Boolean);
       if (by("without-" + it).checked) words.push("--without", it);
-      else if (joined && value) words.push("--setup", it + " " + value);
+      else if (joined) for (const one of told) words.push("--setup", it + " " + one);
     }
     return words;
   };
@@ -100,6 +102,12 @@ def text_of(rows):
     return "".join(row + "\n" for row in rows)
 
 
+def late_at_level_3():
+    """The end of a recording whose level is needed: a session of ten bytes, with a card's number that may be messages."""
+    card = {",S,0FF": ",S,000", ",S,1D6": ",S,1DA"}
+    return [row[:-6] + card.get(row[-6:], row[-6:]) for row in rows_of("coins-beside-a-level-3-reader")[215:]]
+
+
 VALIDATOR_RESET = ["1000,M,130", "2200,M,030", "4200,S,100"]
 
 
@@ -123,6 +131,7 @@ def make_files(folder):
         "exchanged.csv": text_of([row.translate(str.maketrans("MS", "SM")) for row in twice[29:]]),
         "never approved.csv": text_of(rows_of("sale-never-approved")),
         "level 3.csv": text_of(rows_of("coins-beside-a-level-3-reader")),
+        "level 3, late.csv": text_of(late_at_level_3()),
         "no row.csv": text_of(twice[:9]) + "1.5,M,108\n",
         "long.csv": text_of(long),
         "long, with a no.csv": text_of([*long, *moved(rows_of("sale-never-approved"), last + 500_000)]),
@@ -258,7 +267,7 @@ class Orders:
     def shown_words(self, words):
         """The words with which the page shows the answer: with the extended profile where that gets further."""
         if self.value("Boolean(state.isPlain)"):
-            return words
+            return base_of(words)
         return shown_for(lambda _, command, *more: self.program(self.name, list(more), command), None, words)[0]
 
     def compare_answer(self, came, given, word):
@@ -273,7 +282,7 @@ class Orders:
             want(came["text"] == text, f"{words}: the text is {came['text']!r}, wanted {text!r}")
             want(("no" if word.startswith("not ") else word) == text.split()[1], f"the card is {came['card']}")
         if came["survey"] is not None:
-            text = self.program(self.name, words, "survey")[1]
+            text = self.program(self.name, base_of(words), "survey")[1]
             want(came["survey"] == text and came["shown"] == text, f"{words}: the survey is {came['survey']!r}, wanted {text!r}")
 
 
@@ -282,7 +291,8 @@ def button(words):
     return "[...document.querySelectorAll('#main button')].find((it) => it.textContent.startsWith(%s))" % json.dumps(words)
 
 
-STEPS = ("choose", "choose", "drop", "drop", "tick", "tick", "bytes", "again", "again", "stop", "late", "leave", "profile", "earlier", "row", "survey", "survey")
+STEPS = ("choose", "choose", "drop", "drop", "tick", "tick", "bytes", "again", "again", "stop", "late", "leave", "profile", "level", "level", "earlier", "row",
+         "survey", "survey")
 
 
 def take_step(page, dice):
@@ -293,7 +303,7 @@ def take_step(page, dice):
         (page.choose if kind == "choose" else page.drop)(name)
         return f"{kind} {name}"
     if kind == "tick":
-        box = dice.choice(["joined", "joined", *("without-" + it for it in DEVICES)])
+        box = dice.choice(["joined", "joined", "extended", *("without-" + it for it in DEVICES)])
         page.click(f"by('{box}')")
         return box
     if kind == "bytes":
@@ -303,13 +313,14 @@ def take_step(page, dice):
     if kind == "stop":
         page.stop()
     elif kind == "earlier":
-        page.browser.choose("#setup-file", page.work / dice.choice(["told twice.csv", "never approved.csv", "no row.csv"]))
+        page.browser.choose("#setup-file", page.work / dice.choice(["told twice.csv", "never approved.csv", "level 3.csv", "no row.csv"]))
     elif kind == "row":
         page.value("(() => { const it = by('act-row'); if (it && !it.disabled) { it.value = %d; it.dispatchEvent(new KeyboardEvent('keydown', {key: 'Enter', bubbles: true})); } return 1; })()" % dice.randrange(1, 120))
     elif kind == "survey":
         page.click("by('survey-go')")
     else:
-        page.press({"again": "by('again')", "late": button("Check as"), "leave": button("Leave out"), "profile": "by('other-profile')"}[kind])
+        page.press({"again": "by('again')", "late": button("Check as"), "leave": button("Leave out"), "profile": "by('other-profile')",
+                    "level": button(f"Level {dice.choice([1, 2, 3])}")}[kind])
     return kind
 
 

@@ -1,8 +1,9 @@
 """By which profile the page shows an answer, for tests/page: docs/bench/page.md, *Profiles*.
 
-Where the check by the base profile ends at `Profile` and that by the extended one gets further, the page shows the latter
-by itself, with a way to the other answer and back. What each of them is, the program says (`Runs`, programs.py). The
-bytes that the extended profile has alone are told in words.
+Where the check by the base profile ends at `Profile`, or isn't judged, and that by the extended one gets further, the page
+shows the latter by itself, with a way to the other answer and back. What each of them is, the program says (`Runs`,
+programs.py). The bytes that the extended profile has alone are told in words. Where it needs a reader's level or options,
+the card says so, and offers levels: whether they would help, the program says too, where it is told them (`missing`).
 """
 
 import json
@@ -10,6 +11,7 @@ import pathlib
 import re
 import time
 
+from cases import told_in
 from page_open_money import Bus
 
 TOP = pathlib.Path(__file__).resolve().parent.parent
@@ -35,17 +37,65 @@ def ended(answer):
     return int(found[1]) if status == 2 and found else 0, False
 
 
+def base_of(words):
+    """The words without what is for the extended profile alone."""
+    drop = {value for value, _, field, _ in told_in(words) if field != "setup"} | {"--extended"}
+    return [it for it, after in zip(words, [*words[1:], ""]) if it not in drop and not (it == "--setup" and after in drop)]
+
+
+def wide_of(words):
+    """The words for the extended profile, in the page's order."""
+    front = ["--joined"] * ("--joined" in words) + ["--extended"]
+    return front + [it for it in words if it not in front]
+
+
 def shown_for(run, data, words):
     """The words with which the page shows the answer to a recording that is given with some, and that answer. `run` is
     that of the program."""
+    if "--extended" in words:
+        return words, run(data, "check", *words)
+    base, wide = base_of(words), wide_of(words)
+    told = run(data, "check", *base)
+    (row, is_end), is_unjudged = ended(told), "not judged: " in told[2]
+    if not is_end and not is_unjudged:
+        return base, told
+    later = run(data, "check", *wide)
+    end, is_late_end = ended(later)
+    is_further = later[0] == 0 or end > row or (is_unjudged or end == row) and not is_late_end
+    return (wide, later) if is_further else (base, told)
+
+
+READERS = {"cashless": 0x10, "cashless-2": 0x60}
+
+
+def asked_at(data, row):
+    """The reader to which the last command up to a row is; None if it is to none."""
+    lines = [it.split(",") for it in data.decode("latin-1").splitlines() if it.strip()][:row]
+    begun = next((int(it[2], 16) & 0xF8 for it in reversed(lines) if it[1] == "M" and it[2].startswith("1")), 0)
+    return next((name for name, base in READERS.items() if base == begun), None)
+
+
+def missing(run, data, words):
+    """Of which reader the extended profile needs the level or the options to go on in mid-session, and which of them: it gets
+    further if the program is told them. None if it doesn't. Of a level or options that the words tell, that isn't asked."""
+    words = wide_of(words)
     told = run(data, "check", *words)
-    row, is_end = ended(told)
-    if not is_end or "--joined" in words or "--extended" in words:
-        return words, told
-    wide = run(data, "check", "--extended", *words)
-    later, is_late_end = ended(wide)
-    is_further = wide[0] == 0 or later > row or later == row and not is_late_end
-    return (["--extended", *words], wide) if is_further else (words, told)
+    if "--joined" not in words or told[0] != 1 or not ended(told)[1]:
+        return None
+    row, blame = ended(told)[0], re.search(r"^blame (.*)$", told[1], re.M)[1]
+    reader = asked_at(data, row) if blame == "controller" else blame
+    if reader not in READERS:
+        return None
+
+    def helps(value):
+        came = run(data, "check", *words, "--setup", f"{reader} {value}")
+        return came[0] == 0 or ended(came)[0] > row or ended(came) == (row, False)
+
+    known, base = {field for _, device, field, _ in told_in(words) if device == reader}, READERS[reader]
+    if not {"level", "config"} & known and any(helps(f"level {level}") for level in (1, 2, 3)):
+        return reader, "level"
+    options = bytes([base + 7, 4, 0, 0, 0, 0, (base + 11) & 255]).hex(" ").upper()
+    return (reader, "options") if "options" not in known and helps(options) else None
 
 
 def read(page):
@@ -164,6 +214,76 @@ def try_words(page, want):
     want("bill to the recycler, type 1" in sums and "validator 10.00" in sums, sums)
 
 
+RUNNING = """JSON.stringify({word: by("verdict").querySelector(".word").textContent, levels: [...document.querySelectorAll("#levels button")].map((it) => it.textContent),
+  story: [...document.querySelectorAll("#story li")].map((it) => it.textContent), fields: ["level", "config", "options"].map((it) => by(it + "-cashless").value),
+  faults: [...document.querySelectorAll("#setups .fault")].map((it) => it.textContent).filter((it) => it), focus: document.activeElement.id,
+  late: by("late")?.textContent ?? null, told: by("setup-told").textContent, title: document.title})"""
+
+
+def earlier(page, path):
+    """Gives an earlier recording."""
+    page.browser.value("by('setup-told').textContent = ''; 1")
+    page.browser.choose("#setup-file", path)
+    for _ in range(500):
+        told = page.browser.value("by('setup-told').textContent")
+        if told and not told.startswith("Reading "):
+            return told
+        time.sleep(0.01)
+    return None
+
+
+def try_running(page, want, run):
+    """A machine that was running, with a reader of level 3: where the rows show enough the page goes on by the extended
+    profile. Where they don't, the card has a button for each level, and an earlier recording shows what is needed."""
+    start = TOP / "examples" / "coins-beside-a-level-3-reader.csv"
+    seen = lambda: json.loads(page.browser.value(RUNNING))
+    plain = b"".join(start.read_bytes().splitlines(True)[215:])
+    late = plain.replace(b",S,0FF", b",S,000").replace(b",S,1D6", b",S,1DA")
+    page.take(plain, ["--joined"])
+    came, (base, wide) = read(page), (run(plain, "check", "--joined", *it) for it in ([], ["--extended"]))
+    want(came["isWide"] and came["text"] == wide[1] and wide[0] == 0, f"a card's number of FF: {came['text']!r}")
+    row = re.search(r"^row (\d+)$", base[1], re.M)[1]
+    want(came["note"].startswith(HEAD) and f"Without it the checker doesn't judge row {row}." in came["note"], f"its note: {came['note']!r}")
+    came = press(page, "by('other-profile').click()")
+    want(came["text"] == base[1] and not came["isWide"] and seen()["word"].startswith("Not judged: "), f"without it: {came['card']!r}")
+    for words, is_wide in ((["--joined"], False), (["--joined", "--extended"], True)):
+        for level in (1, 2, 3):
+            page.take(late, words)
+            came = seen()
+            want(came["word"] == "Not judged: the reader's level isn't in this recording" and came["levels"] == ["Level 1", "Level 2", "Level 3"], f"{words}: {came}")
+            want(came["title"].startswith("not judged"), came["title"])
+            came = press(page, f"document.querySelector('[data-level=\"{level}\"]').click()")
+            told = run(late, "check", "--joined", "--extended", "--setup", f"cashless level {level}")
+            want(came["text"] == told[1] and came["isWide"], f"level {level}: {came['text']!r}, and not {told}")
+            want(came["command"] == f"mdbcheck check --joined --extended --setup 'cashless level {level}' < FILE", came["command"])
+            want((told[0] == 0) == (level > 1) and f"Given for card reader 1: level {level}." in came["card"], f"level {level}: {came['card']!r}")
+    page.options([])
+    page.take(late, [])
+    came = seen()
+    want(came["late"] is None or "Profile" not in came["late"], f"as of power-on: {came['late']!r}")
+    page.take(late, ["--joined"])
+    told = earlier(page, start)
+    want("It shows the controller's SETUP to card reader 1." in (told or ""), f"the earlier recording: {told!r}")
+    fields = seen()["fields"]
+    want(fields[0] == "" and fields[1].startswith("11 00 ") and fields[2] == "", f"its fields: {fields}")
+    came = press(page, "by('again').click()")
+    want(came["isWide"] and came["text"].startswith("verdict yes") and f"--setup 'cashless {fields[1]}'" in came["command"], f"with it: {came['text']!r}, {came['command']!r}")
+    told = earlier(page, TOP / "examples" / "sales-without-a-session.csv")
+    want("It shows the controller's SETUP and ENABLE OPTIONS to card reader 1." in (told or ""), f"another one: {told!r}")
+    want(seen()["fields"][2].startswith("17 04 "), f"its options: {seen()['fields']}")
+    for field, value, words in (("level", "2", "Give the level or this command, not both"), ("config", "11 00 03 10 02 01 28", "The last byte has to be the sum"),
+                                ("config", "11 01 03 10 02 01 28", "no SETUP of the controller"), ("config", "61 00 03 10 02 01 77", "no SETUP of the controller"),
+                                ("options", "17 04 00 00 00 02 1D", "Leave this reader out"), ("options", "11 00 03 10 02 01 27", "no ENABLE OPTIONS")):
+        page.browser.value("by('level-cashless').value = ''; by('config-cashless').value = '12-18 ask cashless 11 00 03 10 02 01 27'; by('options-cashless').value = ''; 1")
+        page.browser.value(f"by('{field}-cashless').value = '{value}'; 1")
+        before = page.shown()
+        page.browser.value("by('again').disabled = false; by('again').click(); 1")
+        page.wait(before)
+        came, at = seen(), "options" if field == "options" else "config"
+        want(len(came["faults"]) == 1 and words in came["faults"][0] and came["focus"] == f"{at}-cashless", f"{field} {value}: {came}")
+    page.options([])
+
+
 def try_profiles(page, want, run):
     examples = sorted((TOP / "examples").glob("*.check-extended"))
     for path in examples:
@@ -173,4 +293,5 @@ def try_profiles(page, want, run):
     try_options(page, want)
     try_once(page, want)
     try_words(page, want)
+    try_running(page, want, run)
     print(f"profiles: {len(examples)} recordings by the extended profile, the other answer and back; one that it doesn't follow either")

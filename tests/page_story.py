@@ -30,10 +30,10 @@ import tempfile
 sys.dont_write_bytecode = True
 
 from browser import Browser  # noqa: E402
-from cases import setups_in  # noqa: E402
+from cases import is_way_of_page, readers_in, setups_in  # noqa: E402
 from firefox import Firefox  # noqa: E402
 from programs import MDBCHECK as PROGRAM  # noqa: E402
-from reader_formats import Formats  # noqa: E402
+from reader_formats import BASE, Formats, cut  # noqa: E402
 
 TOP = pathlib.Path(__file__).resolve().parent.parent
 NAMES = {"changer": "changer", "validator": "bill", "card reader 1": "cashless", "card reader 2": "cashless-2"}
@@ -70,7 +70,7 @@ EXAMPLES = {
         "If nothing was lost, the changer took 0.50 in coins, and the controller counted the same."],
     "coins-beside-a-level-3-reader": [
         "Card reader 1 reports feature level 3 in its answer to SETUP (rows 99–107), and so does the controller, with level 3 (rows 92–98).",
-        "From level 2 on the messages of a session have other forms. The extended profile follows them in a recording from power-on."],
+        "From level 2 on the messages of a session have other forms. The extended profile follows them."],
     "coins-beside-a-recycler": [
         "The bill validator sends the message B1 of bill recycling (rows 194–195). The checker doesn't follow this message."],
     "four-devices-on-a-bus": ["The controller and the devices agree for certain: 0.25 in coins."],
@@ -133,9 +133,9 @@ class Recording:
 
     def __init__(self, text, options):
         self.acts, values, ask = [], {}, b""
-        self.formats, self.told = Formats("--extended" in options), []
+        self.formats, self.told = Formats("--extended" in options, readers_in(options)), []
         for _, device, data in setups_in(options):
-            self.told = self.formats.reply(device, data[:-1]) if device.startswith("cashless") else []
+            self.told = cut(list(data[:-1]), BASE) if device.startswith("cashless") else []
             values[device] = self.values(device, b"", data)
         for line in text.splitlines():
             found = re.fullmatch(r"(\d+)-(\d+) (\S+)((?: [a-z]\S*)?)((?: [0-9A-F]{2})*)(?: \d+)?", line)
@@ -501,8 +501,10 @@ def compare_story(story, show, check, options, data):
 
 
 def left_out(options):
-    """The options that `show` takes too: the profile, and the devices that are left out."""
-    found = ["--extended"] * ("--extended" in options)
+    """The options that `show` takes too: those of the extended profile, and the devices that are left out."""
+    if "--extended" in options:
+        return options
+    found = []
     for i, word in enumerate(options):
         if word.startswith("--without"):
             found += [word] if "=" in word else [word, options[i + 1]]
@@ -516,13 +518,11 @@ def run(words, data):
 def jobs(module, share):
     """The name, the recording and the options of each that is tried."""
     for path in sorted((TOP / "examples").glob("*.csv")):
-        for way in ([], ["--joined"], ["--extended"], *(module.without_words(it) for it in ("cashless", "changer", "bill"))):
+        for way in ([], ["--joined"], ["--extended"], ["--joined", "--extended"], *(module.without_words(it) for it in ("cashless", "changer", "bill"))):
             yield path.stem + " " + " ".join(way), path.read_bytes(), way
     for i, (name, words, data, status, _, _) in enumerate(module.worked_cases()):
         rest = words[1:]
-        is_known = all(re.fullmatch(r"--joined|--extended|--without(=.*)?|--setup(=.*)?", it) or before.startswith(("--without", "--setup"))
-                       for before, it in zip([""] + rest, rest))
-        if words[:1] == ["check"] and is_known and status in ("0", "1") and i % share == 0:
+        if words[:1] == ["check"] and is_way_of_page(rest) and status in ("0", "1") and i % share == 0:
             yield name, data, rest
 
 

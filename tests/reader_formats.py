@@ -55,10 +55,18 @@ def own_reading(messages):
 
 
 class Formats:
-    """The formats of the readers, as acts go on."""
+    """The formats of the readers, as acts go on. `known` has what `--setup` tells of readers: of each the field and its value, as
+    tests/cases.py has them. An open answer that `show` lists has one reading, or two that are the same."""
 
-    def __init__(self, is_extended=False):
+    def __init__(self, is_extended=False, known=()):
         self.is_extended, self.told, self.own, self.command = is_extended, {}, {}, {}
+        for reader, field, value in sorted(known, key=lambda it: it[1] == "level"):
+            if field == "level":
+                self.told[reader] = self.own[reader] = value
+            elif field == "config":
+                self.told[reader] = value[2]
+            elif field == "setup":
+                self.own.update((reader, it[1]) for it in cut(list(value[:-1]), BASE) or [] if it[0] == 1)
 
     def ask(self, reader, data):
         """A command to a reader was asked."""

@@ -2,7 +2,7 @@
 """A second `mdbcheck replay` and `mdbcheck check`, written from the pages of `docs/` alone.
 
     second_replay.py [--extended] [--without DEVICE].. < EXPLANATION
-    second_replay.py --check [--extended] [--without DEVICE].. < RECORDING
+    second_replay.py --check [--joined [--setup VALUE]..] [--extended] [--without DEVICE].. < RECORDING
 
 The first reads the marks and rows of an explanation, follows the one run that has these marks and no others,
 and prints what `mdbcheck replay` prints: the report of a yes (status 0), the four lines of a no (status 1),
@@ -11,10 +11,11 @@ prints. It shares no code, no tables and no definitions with `mdbcheck`; so wher
 because the pages say so.
 
     replay(text, without, extended) -> (status, out, err)
-    check(text, without, extended) -> (status, out, err)
+    check(text, without, extended, setups) -> (status, out, err)
 
-are the same as functions. What stands on standard error after the word of a row that isn't one (`wanted ..,
-found ..`), and after a fault of the words (`usage: ..`), isn't made here.
+are the same as functions; `setups` has the values of `--setup`, and is `None` from power-on. What stands on
+standard error after the word of a row that isn't one (`wanted .., found ..`), and after a fault of the words
+(`usage: ..`), isn't made here. Nor is what `check` says there of a no by which nobody did wrong.
 
 The parts, and the page of `docs/` that each follows:
 
@@ -24,10 +25,11 @@ The parts, and the page of `docs/` that each follows:
     the machines                machines.md
     silences, the report        report.md, *The report*
     what `--extended` changes   extended-profile.md
+    what `--joined` changes     recorded-while-it-ran.md; extended-profile.md, *A machine that was running*
 """
 
-import copy
 import functools
+import itertools
 import re
 import sys
 from typing import Iterator, NamedTuple, Optional
@@ -41,6 +43,7 @@ OTHER = "other"
 
 #: The devices, in the order of the report.
 DEVICES = (CHANGER, BILL, CASHLESS, CASHLESS_2)
+READERS = (CASHLESS, CASHLESS_2)
 
 #: The greatest number of rows, and of marks.
 MOST_ROWS = 100_000_000
@@ -210,6 +213,8 @@ class Command(NamedTuple):
 #: What begins with this byte is outside of the profile.
 PROFILE = "Profile"
 
+#: Commands that are longer with money of 32 bits.
+_WITH_AMOUNTS = ("SETUP prices", "VEND REQUEST", "CASH SALE")
 _TRANSACTIONS = ("VEND REQUEST", "VEND CANCEL", "VEND SUCCESS", "VEND FAILURE", "SESSION COMPLETE")
 
 
@@ -331,14 +336,19 @@ def _bill_message_lengths(extended: bool) -> list:
 _CHANGER_MESSAGES = _changer_message_lengths()
 _BILL_MESSAGES = {extended: _bill_message_lengths(extended) for extended in (False, True)}
 _READER_MESSAGES = [1, 8, None, 3, 1, 3, 1, 1, 1, 30, 2, 1] + [PROFILE] * 0xF4
-#: With the extended profile, in the formats short and long.
+#: With the extended profile: the formats, and the messages in the formats short and long.
+SHORT, LONG, EARLY, OPEN = "short", "long", "early", "open"
 _ID = (34, 30)
 _SHORT_MESSAGES = [1, 8, None, 3, 1, 3, 1, 1, 1, _ID, 2, 1] + [PROFILE] * 0xF4
 _LONG_MESSAGES = [1, 8, None, 10, 1, 3, 1, 1, 1, _ID, 2, (2, 1), PROFILE, 1, 1, 3, PROFILE, 1] + [PROFILE] * 0xEE
 
 
-def read_messages(content: bytes, lengths: list) -> tuple[list[bytes], Optional[str]]:
-    """The messages of a data block, and the rule that the first one that can't be taken breaks."""
+#: Messages, and the rule that the first one breaks that can't be taken.
+Reading = tuple[list[bytes], Optional[str]]
+
+
+def read_messages(content: bytes, lengths: list) -> Reading:
+    """The messages of a data block."""
     messages = []
     at, end = 0, len(content)
     while at < end:
@@ -358,6 +368,16 @@ def read_messages(content: bytes, lengths: list) -> tuple[list[bytes], Optional[
     return messages, None
 
 
+def open_reading(short: Reading, long: Reading) -> Reading:
+    """How an open reply is read, by its two readings (*Open replies*)."""
+    rules = (short[1], long[1])
+    if rules[0] == rules[1]:
+        return short if rules[0] or short[0] == long[0] else ([], PROFILE)
+    if None in rules:
+        return short if rules[0] is None else long
+    return [], PROFILE if PROFILE in rules else NO_MESSAGE
+
+
 #: The messages of a session and a sale; and those of revalue, the first two of which are of a session too.
 _SESSION_MESSAGES = frozenset((0x03, 0x05, 0x06, 0x07))
 _REVALUE_MESSAGES = frozenset((0x0D, 0x0E, 0x0F))
@@ -368,7 +388,7 @@ _OUT_OF_SEQUENCE = 0x0B
 
 def has_messages(command: Command) -> bool:
     """Whether the data in answer to a command is a list of messages."""
-    return command.device in (CASHLESS, CASHLESS_2) or command.name == "POLL"
+    return command.device in READERS or command.name == "POLL"
 
 
 # ------------------------------------------------------------------------------------------------------
@@ -400,19 +420,43 @@ class Act(NamedTuple):
     #: Of a reply: its bytes, without the sum, and its messages, if its answer has such.
     content: bytes = b""
     messages: tuple = ()
-    #: Of an ask: whether the format of the reader's messages is long.
+    #: Of an ask: whether the format of the reader's messages is long or open.
     is_long: bool = False
-    #: Of an ask, ack and reply: whether the reader's level was known before it, and below 3.
-    is_low: bool = False
+    #: Of an ask, ack and reply: the level of the reader, if it was known before it.
+    level: Optional[int] = None
+
+    @property
+    def is_low(self) -> bool:
+        """Whether the level is known to be below 3."""
+        return self.level is not None and self.level < 3
+
+
+class Told:
+    """What is known of a machine that was running (*With the setup data*, *What you can tell of a reader*)."""
+
+    def __init__(self, extended: bool):
+        #: Who is named in the line `setup`.
+        self.named: set[str] = set()
+        #: The setup data: an answer to SETUP, of a reader its config message.
+        self.setup: dict[str, bytes] = {}
+        #: Of each reader: the levels of the controller and of the reader, and the last byte of the options.
+        #: (Without `--extended` there are none.)
+        self.sent_levels: dict[str, int] = {}
+        self.told_levels: dict[str, int] = {}
+        self.options: dict[str, int] = {} if extended else dict.fromkeys(READERS, 0)
 
 
 class Link:
-    """The bus as the rows so far leave it. `take` judges the next row by the rules of the link."""
+    """The bus as the rows so far leave it. `take` judges the next row by the rules of the link.
 
-    def __init__(self, without: set[str], extended: bool):
+    `told` says what is known of a machine that was running; it is `None` from power-on.
+    """
+
+    def __init__(self, without: set[str], extended: bool, told: Optional[Told] = None):
         self.extended = extended
+        self.joined = told is not None
         self.openings = openings_without(without, extended)
-        self.position = QUIET
+        self.position = FOREIGN if self.joined else QUIET
         #: When the last row started, and from when gaps count: that, or the end of a break.
         self.started = -1
         self.since = -LEAST_AFTER_BREAK
@@ -428,8 +472,10 @@ class Link:
         self.repeated = 0
         #: The levels that were shown of each reader: in the last SETUP config data that it was sent, and in
         #: the last config message that it told.
-        self.sent_levels: dict[str, int] = {}
-        self.told_levels: dict[str, int] = {}
+        self.sent_levels = dict(told.sent_levels) if told else {}
+        self.told_levels = dict(told.told_levels) if told else {}
+        #: The readers whose options aren't known (*What isn't known*).
+        self.options_unknown = set(READERS) - set(told.options) if told else set()
 
     def take(self, time: int, line: bytes, value: int) -> Optional[Act]:
         """The act that the row ends, if one."""
@@ -462,6 +508,7 @@ class Link:
         self.least = LEAST_AFTER_BREAK
         self.position = QUIET
         self.device = None
+        self.options_unknown.clear()
         return Act("break")
 
     # -- words of the controller
@@ -522,16 +569,21 @@ class Link:
             asked.append(byte)
             return None
         if sum(asked) & 0xFF != byte:
-            raise Broken("Sum", CONTROLLER)
+            may_be_longer = command.name in _WITH_AMOUNTS and not self._are_options_known(command.device)
+            raise Broken(PROFILE if may_be_longer else "Sum", CONTROLLER)
         self.position = ASKED
         self.device = command.device
         if command.name == "ENABLE OPTIONS" and asked[-1] & _OPTIONS_OF_PROFILE:
             raise Broken(PROFILE, CONTROLLER)
-        is_low = self._is_low(command.device)
+        level = self._level(command.device)
         if command.name == "SETUP config":
             self.sent_levels[command.device] = asked[2]
-        is_long = self._formats(command.device)[0] is _LONG_MESSAGES
-        return Act("ask", command, bytes(asked), is_long=is_long, is_low=is_low)
+        is_long = command.device in READERS and self._format(command.device) in (LONG, OPEN)
+        return Act("ask", command, bytes(asked), is_long=is_long, level=level)
+
+    def _accepted(self, command: Command):
+        if command.name in ("RESET", "ENABLE OPTIONS"):
+            self.options_unknown.discard(command.device)
 
     def _answer_of_controller(self, word: int) -> Act:
         kind = _VMC_ANSWERS.get(word)
@@ -567,8 +619,10 @@ class Link:
     def _answer_of_peripheral(self, word: int) -> Optional[Act]:
         if word == _ACK or word == _NAK:
             self.position = QUIET
-            kind, is_low = "ack" if word == _ACK else "nak", self._is_low(self.device)
-            return Act(kind, self.command, bytes(self.asked), is_low=is_low)
+            if word == _ACK:
+                self._accepted(self.command)
+            kind, level = "ack" if word == _ACK else "nak", self._level(self.device)
+            return Act(kind, self.command, bytes(self.asked), level=level)
         if word > 0xFF or self.command.most_data == 0:
             raise Broken("Answer", self.device)
         self.position = IN_DATA
@@ -583,12 +637,12 @@ class Link:
                 raise Broken("Length", self.device)
             return None
         content = bytes(words[:-1])
-        is_low = self._is_low(self.device)
-        messages = self._judge_data(content, word & 0xFF)
+        level = self._level(self.device)
+        messages = self.judge_data(content, word & 0xFF)
         self.position = REPLIED
-        return Act("reply", self.command, bytes(self.asked), content, tuple(messages), is_low=is_low)
+        return Act("reply", self.command, bytes(self.asked), content, tuple(messages), level=level)
 
-    def _judge_data(self, content: bytes, last: int) -> list[bytes]:
+    def judge_data(self, content: bytes, last: int) -> list[bytes]:
         """Judges a whole data block (commands-and-messages.md, *In which order*): its messages."""
         command = self.command
         device = command.device
@@ -600,46 +654,70 @@ class Link:
             if device == BILL and command.name == "SETUP" and content[10] not in (0x00, 0xFF):
                 raise Broken("Message", device)
             return []
-        readings = [self._read_list(content, lengths) for lengths in self._formats(device)]
-        messages, rule = next((one for one in readings if one[1] is None), readings[0])
+        messages, rule = self._read_answer(content)
         if rule is not None:
-            raise Broken(rule, device)
-        is_reader = device in (CASHLESS, CASHLESS_2)
-        if is_reader and any(m[0] in _REVALUE_MESSAGES for m in messages):
+            is_other = rule == NO_MESSAGE and not self._are_options_known(device)
+            raise Broken(PROFILE if is_other else rule, device)
+        if device in READERS:
+            self._judge_list(messages)
+        return messages
+
+    def _judge_list(self, messages: list[bytes]):
+        """Judges the messages of a reader that were read."""
+        device = self.command.device
+        heads = [m[0] for m in messages]
+        if any(head in _REVALUE_MESSAGES for head in heads):
             raise Broken(PROFILE, device)
-        levels = [m[1] for m in messages if is_reader and m[0] == _CONFIG]
+        levels = [m[1] for m in messages if m[0] == _CONFIG]
         if not self.extended and self.sent_levels.get(device, 0) >= 2 and any(level >= 2 for level in levels):
             raise Broken(PROFILE, device)
         if levels:
             self.told_levels[device] = levels[-1]
-        return messages
+        if _OUT_OF_SEQUENCE not in heads:
+            self._accepted(self.command)
 
-    def _formats(self, device: str) -> list[list]:
-        """How the next messages of a device may be read: if not in the first way, then in the second."""
+    def _read_answer(self, content: bytes) -> Reading:
+        """The messages of a data block, in the format that they have."""
+        device = self.command.device
         if device == CHANGER:
-            return [_CHANGER_MESSAGES]
+            return read_messages(content, _CHANGER_MESSAGES)
         if device == BILL:
-            return [_BILL_MESSAGES[self.extended]]
+            return read_messages(content, _BILL_MESSAGES[self.extended])
         if not self.extended:
-            return [_READER_MESSAGES]
+            return self._read_list(content, _READER_MESSAGES)
+        form = self._format(device)
+        short, long = (self._read_list(content, lengths) for lengths in (_SHORT_MESSAGES, _LONG_MESSAGES))
+        if form == OPEN:
+            return open_reading(short, long)
+        is_long = form == LONG or form == EARLY and short[1] is not None and long[1] is None
+        return long if is_long else short
+
+    def _format(self, device: str) -> str:
+        """The format of a reader's messages; by the base profile that is always short."""
         levels = self._levels(device)
-        if any(level < 2 for level in levels):
-            return [_SHORT_MESSAGES]
-        return [_LONG_MESSAGES] if len(levels) == 2 else [_SHORT_MESSAGES, _LONG_MESSAGES]
+        if not self.extended or any(level < 2 for level in levels):
+            return SHORT
+        if len(levels) == 2:
+            return LONG
+        return OPEN if self.joined else EARLY
 
     def _levels(self, device: str) -> list[int]:
         """Those of the two levels of a reader that are known."""
         return [known[device] for known in (self.sent_levels, self.told_levels) if device in known]
 
-    def _is_low(self, device: str) -> bool:
-        """Whether the level of a reader is known, and below 3 (extended-profile.md, *Always idle*)."""
+    def _level(self, device: str) -> Optional[int]:
+        """The level of a reader, if it is known."""
         levels = self._levels(device)
-        return len(levels) == 2 and min(levels) < 3
+        return min(levels) if len(levels) == 2 else None
 
-    def _read_list(self, content: bytes, lengths: list) -> tuple[list[bytes], Optional[str]]:
-        """The messages of a data block in one reading, and the rule that they break."""
+    def _are_options_known(self, device: str) -> bool:
+        level = self._level(device)
+        return device not in self.options_unknown or level is not None and level < 3
+
+    def _read_list(self, content: bytes, lengths: list) -> Reading:
+        """A list of a reader in one reading."""
         messages, rule = read_messages(content, lengths)
-        if rule is None and self.command.device in (CASHLESS, CASHLESS_2):
+        if rule is None:
             session_may_be_told = self.command.name == "POLL" or self.command.name in _TRANSACTIONS
             if not session_may_be_told and any(m[0] in _ONLY_IN_SESSIONS for m in messages):
                 rule = "Answer"
@@ -680,6 +758,23 @@ class Impossible(Exception):
     """The act can't have been, as it is marked."""
 
 
+#: What was said before the first row of a recording with `--joined`. It may be anything, at each row anew.
+UNKNOWN = object()
+
+
+class Guess(NamedTuple):
+    """One of the ways in which an act can have gone: what is chosen, and what isn't known."""
+
+    #: Whether the act has its mark.
+    marked: bool = False
+    #: Whether the command is the same as the last one of its kind.
+    is_same: bool = False
+    #: How many messages the last kept list has.
+    held: int = 0
+    #: Whether always idle is on.
+    is_idle: bool = False
+
+
 class Sum(NamedTuple):
     """An account in the runs that come to one state: the least and the greatest that the device's book says,
     the controller's, and the difference. In one run alone they are equal."""
@@ -710,17 +805,45 @@ class Device:
     #: The rule of an act that can't have been, and the first byte of the reset message.
     rule = ""
     reset_message = -1
+    #: What differs between runs, with all that it may be; and the accounts. All else is the same in all runs.
+    varies: dict[str, tuple] = {}
+    accounts: tuple = ()
 
-    def __init__(self):
-        self.setup: Optional[bytes] = None
-        self.reset_owed = True
+    def __init__(self, name: str, told: Optional[Told]):
+        self.joined = told is not None
+        self.setup = told.setup.get(name) if told else None
+        self.unvalued = 0
+        self.reset_owed = not self.joined
         #: The last kept list, and whether the device holds it.
-        self.kept: list[bytes] = []
+        self.kept = self.unless_joined([])
         self.holds = False
         #: The last reply: the command that it answers, the messages, and the kept ones among them.
         self.replied_to: Optional[Command] = None
         self.told: tuple = ()
         self.told_kept: list[bytes] = []
+
+    def unless_joined(self, known):
+        """What is known from power-on alone."""
+        return UNKNOWN if self.joined else known
+
+    def copy(self, **changes) -> "Device":
+        other = object.__new__(type(self))
+        other.__dict__.update(self.__dict__, **changes)
+        return other
+
+    def at_start(self) -> list["Device"]:
+        """The states in which the device can be at the first row."""
+        if not self.joined:
+            return [self]
+        values = itertools.product(*self.varies.values())
+        return [self.copy(**dict(zip(self.varies, one))) for one in values]
+
+    def guesses(self, act: Act, marks: list[bool]) -> list[Guess]:
+        """The ways in which an ask, an ack or a reply can have gone, by what was said before it."""
+        kept = [m for m in act.messages if self.is_kept(m)]
+        helds = range(1, max(len(kept), 1) + 1) if self.kept is UNKNOWN else (len(self.kept),)
+        ways = itertools.product(marks, self.sames(act), helds, self.idles(act, kept))
+        return [Guess(*one) for one in ways]
 
     # What differs between the devices.
 
@@ -742,13 +865,22 @@ class Device:
     def controller_to_power_on(self):
         """The controller's part, as at power-on."""
 
-    def go_by(self, act: Act):
-        """What an ask, an ack or a reply goes by, of what was shown before it."""
+    def sames(self, act: Act) -> tuple:
+        """Whether the command is the same as the last one of its kind: all that is possible."""
+        return (False,)
 
-    def ask(self, act: Act):
+    def idles(self, act: Act, kept: list[bytes]) -> tuple:
+        """Whether always idle is on: all that is possible."""
+        return (False,)
+
+    def is_unvalued(self, message: bytes) -> bool:
+        """Whether a message tells an amount that has no value."""
+        raise NotImplementedError
+
+    def ask(self, act: Act, guess: Guess):
         """The effect of a command that the controller sends."""
 
-    def take_command(self, command: Command, asked: bytes):
+    def take_command(self, act: Act, guess: Guess):
         """The effect of a command that the device takes, on the device."""
 
     def answer_heard(self, command: Command):
@@ -757,7 +889,7 @@ class Device:
     def learn(self, command: Command, content: bytes, messages: tuple):
         """The setup data that a reply tells."""
 
-    def tell(self, message: bytes):
+    def tell(self, message: bytes, guess: Guess):
         """A new kept message, and its effect."""
         raise NotImplementedError
 
@@ -772,15 +904,14 @@ class Device:
 
     # What is the same for all.
 
-    def joins(self, other: "Device") -> bool:
-        """Whether another run of the device came to the same state; then its sums are joined to these."""
-        ours, theirs = vars(self), vars(other)
-        if any(ours[name] != theirs[name] for name in ours if not isinstance(ours[name], Sum)):
-            return False
-        for name in ours:
-            if isinstance(ours[name], Sum):
-                ours[name] = ours[name].joined(theirs[name])
-        return True
+    def place(self) -> tuple:
+        """The state: all that varies, as far as it matters."""
+        raise NotImplementedError
+
+    def join(self, other: "Device"):
+        """Joins the sums of another run that came to the same state to these."""
+        for account in self.accounts:
+            setattr(self, account, getattr(self, account).joined(getattr(other, account)))
 
     def takes(self, messages: tuple) -> bool:
         """Whether a reply with these messages takes the command."""
@@ -800,42 +931,57 @@ class Device:
                 return False
         return False
 
-    def ack(self, act: Act, lost: bool):
+    def ack(self, act: Act, guess: Guess):
         command = act.command
         if command.name == "POLL" and self.holds:
             raise Impossible
-        self.take_command(command, act.asked)
-        if not lost:
+        self.take_command(act, guess)
+        if not guess.marked:
             self.answer_heard(command)
 
-    def reply(self, act: Act, restarted: bool):
+    def reply(self, act: Act, guess: Guess):
         command, messages = act.command, act.messages
-        if restarted:
+        if guess.marked:
             self.to_power_on()
         if self.takes(messages):
-            self.take_command(command, act.asked)
+            self.take_command(act, guess)
         self.learn(command, act.content, messages)
         kept = [m for m in messages if self.is_kept(m)]
         if kept and self.reset_owed and not self.may_tell_restart(messages):
             raise Impossible
         if kept or command.name == "POLL":
-            held = self.kept if self.holds else []
-            if not self.are_same(kept[:len(held)], held):
-                raise Impossible
-            for message in kept[len(held):]:
-                self.tell(message)
+            for message in self.new_ones(kept, guess.held):
+                self.tell(message, guess)
         if kept:
             self.kept = kept
             self.holds = True
         if any(m[0] == self.reset_message for m in messages):
             self.reset_owed = False
         self.replied_to, self.told, self.told_kept = command, messages, kept
+        self.unvalued += sum(self.is_unvalued(m) for m in kept)
         self.after_reply()
+
+    def new_ones(self, kept: list[bytes], held: int) -> list[bytes]:
+        """The kept messages of a reply that are new."""
+        if not self.holds:
+            return kept
+        if len(kept) < held or self.kept is not UNKNOWN and not self.are_same(kept[:held], self.kept):
+            raise Impossible
+        return kept[held:]
 
     def vmc_ack(self, lost: bool):
         if self.told_kept and not lost:
             self.holds = False
         self.acknowledged()
+
+
+#: All types, which count as enabled with `--joined`.
+_ALL_TYPES = 0xFFFF
+
+
+def may_be_same(one, last) -> tuple:
+    """Whether this is the same as the last one: all that is possible."""
+    return (False, True) if last is UNKNOWN else (one == last,)
 
 
 def types_of(asked: bytes) -> int:
@@ -848,15 +994,20 @@ class Changer(Device):
 
     rule = "Changer"
     reset_message = 0x0B
+    varies = {"holds": (False, True), "waits": (False, True)}
+    accounts = ("coins_in", "paid_out")
 
-    def __init__(self):
-        super().__init__()
-        self.types = 0
+    def __init__(self, name, told):
+        super().__init__(name, told)
+        self.types = _ALL_TYPES if self.joined else 0
         #: Whether the controller waits for the end of a DISPENSE, and the byte of the last one asked.
         self.waits = False
-        self.last_dispense: Optional[int] = None
+        self.last_dispense = self.unless_joined(None)
         self.coins_in = Sum()
         self.paid_out = Sum()
+
+    def place(self):
+        return self.holds, self.waits
 
     def decimals(self) -> Optional[int]:
         return None if self.setup is None else self.setup[4]
@@ -888,24 +1039,33 @@ class Changer(Device):
         """What a message 80 to FF tells."""
         return (first >> 4 & 0x07) * self.value(first & 0x0F)
 
-    def ask(self, act):
+    def sames(self, act):
+        if act.kind != "ask" or act.command.name != "DISPENSE":
+            return (False,)
+        return may_be_same(act.asked[1], self.last_dispense)
+
+    def is_unvalued(self, message):
+        return self.setup is None
+
+    def ask(self, act, guess):
         if act.command.name == "RESET":
             self.waits = False
         elif act.command.name == "DISPENSE":
-            byte = act.asked[1]
-            if not (self.waits and byte == self.last_dispense):
-                self.paid_out = self.paid_out.plus(controller=self.dispensed(byte))
+            self.last_dispense = act.asked[1]
+            self.unvalued += self.setup is None
+            if not (self.waits and guess.is_same):
+                self.paid_out = self.paid_out.plus(controller=self.dispensed(act.asked[1]))
                 self.waits = True
-            self.last_dispense = byte
 
-    def take_command(self, command, asked):
-        if command.name == "RESET":
+    def take_command(self, act, guess):
+        name = act.command.name
+        if name == "RESET":
             self.to_power_on()
             self.forget()
-        elif command.name == "COIN TYPE":
-            self.types |= types_of(asked)
-        elif command.name == "DISPENSE":
-            self.paid_out = self.paid_out.plus(device=self.dispensed(asked[1]))
+        elif name == "COIN TYPE":
+            self.types |= types_of(act.asked)
+        elif name == "DISPENSE":
+            self.paid_out = self.paid_out.plus(device=self.dispensed(act.asked[1]))
 
     def answer_heard(self, command):
         if command.name == "DISPENSE":
@@ -915,7 +1075,7 @@ class Changer(Device):
         if command.name == "SETUP":
             self.setup = content
 
-    def tell(self, message):
+    def tell(self, message, guess):
         first = message[0]
         if first >= 0x80:
             self.paid_out = self.paid_out.plus(device=self.paid_by_hand(first))
@@ -942,10 +1102,12 @@ class Validator(Device):
 
     rule = "Bill"
     reset_message = 0x06
+    varies = {"holds": (False, True), "escrow": (None, *range(16)), "ordered": (False, True)}
+    accounts = ("bills_in",)
 
-    def __init__(self):
-        super().__init__()
-        self.types = 0
+    def __init__(self, name, told):
+        super().__init__(name, told)
+        self.types = _ALL_TYPES if self.joined else 0
         #: The type of the bill in escrow, if there is one, and whether it has the order to be stacked.
         self.escrow: Optional[int] = None
         self.ordered = False
@@ -971,23 +1133,35 @@ class Validator(Device):
         super().forget()
         self.types = 0
 
-    def take_command(self, command, asked):
-        if command.name == "RESET":
+    def place(self):
+        return self.holds, self.escrow, self.escrow is not None and self.ordered
+
+    def is_unvalued(self, message):
+        return self.setup is None and self.is_stacked(message)
+
+    @staticmethod
+    def is_stacked(message: bytes) -> bool:
+        """Whether a bill was stacked, or went to the recycler."""
+        return message[0] & 0xF0 in (0x80, 0xB0)
+
+    def take_command(self, act, guess):
+        name = act.command.name
+        if name == "RESET":
             self.to_power_on()
             self.forget()
-        elif command.name == "BILL TYPE":
-            self.types |= types_of(asked)
-        elif command.name == "ESCROW" and asked[1] & 1 and self.escrow is not None:
+        elif name == "BILL TYPE":
+            self.types |= types_of(act.asked)
+        elif name == "ESCROW" and act.asked[1] & 1 and self.escrow is not None:
             self.ordered = True
 
     def learn(self, command, content, messages):
         if command.name == "SETUP":
             self.setup = content
 
-    def tell(self, message):
+    def tell(self, message, guess):
         kind, bill = message[0] & 0xF0, message[0] & 0x0F
         enabled = self.types >> bill & 1
-        if kind in (0x80, 0xB0):  # stacked, or to the recycler
+        if self.is_stacked(message):
             if not enabled or self.escrow is not None and not (self.escrow == bill and self.ordered):
                 raise Impossible
             self.escrow = None
@@ -1004,12 +1178,14 @@ class Validator(Device):
     def acknowledged(self):
         if self.replied_to.name == "POLL":
             for message in self.told:
-                if message[0] & 0xF0 in (0x80, 0xB0):
+                if self.is_stacked(message):
                     self.bills_in = self.bills_in.plus(controller=self.value(message[0] & 0x0F))
 
 
 #: The states of a reader. From IDLE on it is in a session.
 INACTIVE, DISABLED, ENABLED, IDLE, VEND, APPROVED, ENDING = range(7)
+#: What the controller knows of.
+VIEWS = ("no session", "Idle", "Ending", "Asked", "Waiting", "Approved", "SuccessOwed", "FailureOwed")
 
 
 #: With always idle: where a new message is also possible, and the state stays.
@@ -1025,24 +1201,27 @@ class Reader(Device):
 
     rule = "Cashless"
     reset_message = 0x00
+    varies = {"holds": (False, True), "state": tuple(range(7)), "back": (DISABLED, ENABLED), "view": VIEWS}
+    accounts = ("approved", "sold")
 
-    def __init__(self):
-        super().__init__()
+    def __init__(self, name, told):
+        super().__init__(name, told)
         self.state = INACTIVE
         #: In a session: the state that it goes back to.
         self.back = DISABLED
         #: The last transaction asked, and the last one taken; and that one, though a 03 came after it.
-        self.last_asked: Optional[bytes] = None
-        self.last_taken: Optional[bytes] = None
-        self.last_of_all: Optional[bytes] = None
-        #: The switch of always idle; whether the level is known to be below 3; and whether always idle is on.
-        self.switch = False
-        self.is_low = False
-        self.always_idle = False
-        #: Whether the last transaction asked is refused.
-        self.refused = False
+        self.last_asked = self.unless_joined(None)
+        self.last_taken = self.last_of_all = self.unless_joined(None)
+        #: The switch of always idle.
+        self.switch = self.unless_joined(False)
+        if told and name in told.options:
+            is_on = told.options[name] & _ALWAYS_IDLE != 0
+            are_levels_told = name in told.sent_levels and name in told.told_levels
+            self.switch = is_on if are_levels_told or not is_on else UNKNOWN
+        #: Whether the last transaction asked is refused, or there may be such a one before the first row.
+        self.refused = self.joined
         #: The last amount of 05.
-        self.amount = 0
+        self.amount = self.unless_joined(0)
         self.view = "no session"
         self.approved = Sum()
         self.sold = Sum()
@@ -1055,7 +1234,7 @@ class Reader(Device):
         return 0 if self.setup is None else self.setup[6] * 1_000_000
 
     def value(self, amount: int) -> int:
-        return 0 if self.setup is None else self.setup[4] * amount
+        return 0 if self.setup is None or amount is UNKNOWN else self.setup[4] * amount
 
     def is_kept(self, message: bytes) -> bool:
         return message[0] in _SESSION_MESSAGES
@@ -1075,20 +1254,31 @@ class Reader(Device):
     def controller_to_power_on(self):
         self.view = "no session"
 
-    def go_by(self, act):
-        self.is_low = act.is_low
-        self.always_idle = self.switch and not act.is_low
+    def place(self):
+        return self.holds, self.state, self.state >= IDLE and self.back, self.view
+
+    def sames(self, act):
+        if act.command.name not in _TRANSACTIONS:
+            return (False,)
+        return may_be_same(act.asked, self.last_asked if act.kind == "ask" else self.last_taken)
+
+    def idles(self, act, kept):
+        if act.is_low or not kept and act.command.name not in _TRANSACTIONS:
+            return (False,)
+        return (False, True) if self.switch is UNKNOWN else (self.switch,)
+
+    def is_unvalued(self, message):
+        return self.setup is None and message[0] == 0x05
 
     # -- the reader
 
-    def take_command(self, command, asked):
-        name = command.name
+    def take_command(self, act, guess):
+        name = act.command.name
         if name in _TRANSACTIONS:
-            if asked == self.last_taken and self.holds:
-                return
-            self._take_transaction(name)
-            self.last_taken = self.last_of_all = asked
-            self.holds = False
+            if not (guess.is_same and self.holds):
+                self._take_transaction(name, guess.is_idle)
+                self.holds = False
+            self.last_taken = self.last_of_all = act.asked
         elif name == "RESET":
             self.to_power_on()
             self.forget()
@@ -1099,9 +1289,11 @@ class Reader(Device):
             self._enable(DISABLED, ENABLED)
         elif name == "READER DISABLE":
             self._enable(ENABLED, DISABLED)
-        elif name == "ENABLE OPTIONS":
-            if asked[-1] & _ALWAYS_IDLE and not self.is_low:
+        elif name == "ENABLE OPTIONS" and act.asked[-1] & _ALWAYS_IDLE and not act.is_low:
+            if act.level is not None or not self.joined:
                 self.switch = True
+            elif self.switch is False:
+                self.switch = UNKNOWN
 
     def _enable(self, before: int, after: int):
         if self.state == before:
@@ -1109,11 +1301,11 @@ class Reader(Device):
         elif self.state >= IDLE:
             self.back = after
 
-    def _take_transaction(self, name: str):
+    def _take_transaction(self, name: str, is_idle: bool):
         state = self.state
-        if self.always_idle and name == "VEND REQUEST" and state == ENABLED:
+        if is_idle and name == "VEND REQUEST" and state == ENABLED:
             self.state, self.back = VEND, ENABLED
-        elif self.always_idle and name == "VEND CANCEL" and state == IDLE:
+        elif is_idle and name == "VEND CANCEL" and state == IDLE:
             pass
         elif name == "VEND REQUEST" or name == "VEND CANCEL":
             if state in (IDLE, VEND, APPROVED):
@@ -1131,16 +1323,16 @@ class Reader(Device):
             if message[0] == _CONFIG:
                 self.setup = message
 
-    def tell(self, message):
+    def tell(self, message, guess):
         first = message[0]
-        if self.always_idle and self.state in _STAYS_WITH_ALWAYS_IDLE.get(first, ()):
+        if guess.is_idle and self.state in _STAYS_WITH_ALWAYS_IDLE.get(first, ()):
             return
         if first == 0x03:
             self._go(self.state == ENABLED, IDLE)
             self.back = ENABLED
         elif first == 0x05:
-            last = self.last_of_all if self.always_idle else self.last_taken
-            requested = last is not None and last[1] == 0x00
+            last = self.last_of_all if guess.is_idle else self.last_taken
+            requested = last is UNKNOWN or last is not None and last[1] == 0x00
             self._go(self.state == VEND and requested, APPROVED)
             self.approved = self.approved.plus(device=self.value(amount_of(message)))
         elif first == 0x06:
@@ -1162,24 +1354,20 @@ class Reader(Device):
 
     # -- the controller
 
-    def ask(self, act):
+    def ask(self, act, guess):
         name = act.command.name
         if name == "RESET":
             self.view = "no session"
         elif name in _TRANSACTIONS:
-            if not self._ask_without_session(name):
-                again, refused = act.asked == self.last_asked, self.refused and act.is_long
-                self._ask_transaction(name, self.view, again, refused)
+            without_session = {"VEND REQUEST": "Asked", "SESSION COMPLETE": "Ending"}
+            if guess.is_idle and self.view == "no session" and name in without_session:
+                self.view = without_session[name]
+            else:
+                self._ask_transaction(name, self.view, guess.is_same, self.refused and act.is_long)
             self.last_asked = act.asked
             self.refused = False
-
-    def _ask_without_session(self, name: str) -> bool:
-        """What the controller may ask with always idle alone."""
-        after = {"VEND REQUEST": "Asked", "SESSION COMPLETE": "Ending"}.get(name)
-        if not self.always_idle or self.view != "no session" or after is None:
-            return False
-        self.view = after
-        return True
+            if name == "VEND SUCCESS" and (self.setup is None or self.amount is UNKNOWN):
+                self.unvalued += 1
 
     def _ask_transaction(self, name: str, view: str, again: bool, refused: bool):
         undecided = view in ("Asked", "Waiting", "SuccessOwed", "FailureOwed")
@@ -1272,18 +1460,15 @@ class Silences:
 class Runs:
     """The runs of the rows so far: all that are possible, or the one that has the given marks."""
 
-    def __init__(self, without: set[str], extended: bool, marks: Optional[Marks]):
+    def __init__(self, without: set[str], extended: bool, marks: Optional[Marks], told: Optional[Told] = None):
         self.without = without
-        self.link = Link(without, extended)
+        self.link = Link(without, extended, told)
+        self.told = told
         #: The marks of the one run; `None` for all runs.
         self.marks = marks
         #: The states that each device can have. The devices don't depend on one another.
-        self.devices: dict[str, list] = {
-            CHANGER: [Changer()],
-            BILL: [Validator()],
-            CASHLESS: [Reader()],
-            CASHLESS_2: [Reader()],
-        }
+        machines = {CHANGER: Changer, BILL: Validator, CASHLESS: Reader, CASHLESS_2: Reader}
+        self.devices = {name: machine(name, told).at_start() for name, machine in machines.items()}
         self.silences = {device: Silences() for device in DEVICES}
         self.rows = 0
 
@@ -1310,47 +1495,44 @@ class Runs:
             return "R"
         return None
 
-    def _follow(self, act: Act, time: int, choices: list[bool]):
+    def _follow(self, act: Act, time: int, marks: list[bool]):
         """Follows an act, without its mark or with it."""
         if act.kind == "break":
             for device in DEVICES:
-                self._step(device, lambda state, _: state.break_off(), choices)
+                self._step(device, lambda state, _: state.break_off(), [Guess()])
                 self.silences[device].end()
             return
         device, kind = act.command.device, act.kind
-        if kind in ("ask", "ack", "reply"):
-            for state in self.devices[device]:
-                state.go_by(act)
         if kind == "ask":
             self.silences[device].ask(time, self._limit(device))
-            self._step(device, lambda state, _: state.ask(act), choices, CONTROLLER)
-            return
-        if kind in ("ack", "nak", "reply"):
+        elif kind in ("ack", "nak", "reply"):
             self.silences[device].end()
-        if kind == "ack":
-            self._step(device, lambda state, lost: state.ack(act, lost), choices)
+        if kind in ("ask", "ack", "reply"):
+            guesses = self.devices[device][0].guesses(act, marks)
+            blame = CONTROLLER if kind == "ask" else device
+            self._step(device, lambda state, guess: getattr(state, kind)(act, guess), guesses, blame)
         elif kind == "nak":
-            self._step(device, lambda state, _: state.nak(act.command), choices)
-        elif kind == "reply":
-            self._step(device, lambda state, restarted: state.reply(act, restarted), choices)
+            self._step(device, lambda state, _: state.nak(act.command), [Guess()])
         elif kind == "vmc-ack":
-            self._step(device, lambda state, lost: state.vmc_ack(lost), choices)
+            guesses = [Guess(marked) for marked in marks]
+            self._step(device, lambda state, guess: state.vmc_ack(guess.marked), guesses)
 
-    def _step(self, device: str, effect, choices: list[bool], blame: Optional[str] = None):
-        """All states after an act; what is impossible from every state, as it is marked, is a no."""
-        after: list[Device] = []
+    def _step(self, device: str, effect, guesses: list[Guess], blame: Optional[str] = None):
+        """All states after an act; what is impossible from every state, in every way, is a no."""
+        after: dict[tuple, Device] = {}
         for before in self.devices[device]:
-            for marked in choices:
-                state = copy.copy(before)
+            for guess in guesses:
+                state = before.copy()
                 try:
-                    effect(state, marked)
+                    effect(state, guess)
                 except Impossible:
                     continue
-                if not any(other.joins(state) for other in after):
-                    after.append(state)
+                first = after.setdefault(state.place(), state)
+                if first is not state:
+                    first.join(state)
         if not after:
             raise Broken(self.devices[device][0].rule, blame or device)
-        self.devices[device] = after
+        self.devices[device] = list(after.values())
 
     def _limit(self, device: str) -> int:
         """The limit of a silence that begins now."""
@@ -1383,6 +1565,10 @@ class Runs:
             account("sold-2", CASHLESS_2, "sold"),
             one_line("silences", ((d, self.silences[d].number) for d in DEVICES)),
         ]
+        if self.told is not None:
+            lines.append(one_line("unvalued", ((d, self.devices[d][0].unvalued) for d in DEVICES)))
+            if self.told.named:
+                lines.append("setup " + " ".join(d for d in DEVICES if d in self.told.named))
         if self.without:
             lines.append("without " + " ".join(d for d in DEVICES if d in self.without))
         return "\n".join(lines) + "\n"
@@ -1396,14 +1582,21 @@ def replay(text: bytes, without: set[str], extended: bool = False) -> tuple[int,
     return _answer(text, without, extended, Marks())
 
 
-def check(text: bytes, without: set[str], extended: bool = False) -> tuple[int, str, str]:
-    """The same of `mdbcheck check` for this recording."""
-    return _answer(text, without, extended, None)
+def check(
+    text: bytes, without: set[str], extended: bool = False, setups: Optional[list[str]] = None
+) -> tuple[int, str, str]:
+    """The same of `mdbcheck check` for this recording. With `--joined`, `setups` has the values of `--setup`;
+    from power-on it is `None`."""
+    try:
+        told = read_setups(setups, without, extended)
+    except NoAnswer as fault:
+        return 2, "", f"mdbcheck: {fault}\n"
+    return _answer(text, without, extended, None, told)
 
 
-def said(text: bytes, without: set[str], extended: bool) -> Iterator[tuple]:
+def said(text: bytes, without: set[str], extended: bool, setups: Optional[list[str]] = None) -> Iterator[tuple]:
     """What the rows say by the rules of the link alone: each act with its row, and perhaps a fault."""
-    link = Link(without, extended)
+    link = Link(without, extended, read_setups(setups, without, extended))
     for row, fields in enumerate(records(text), 1):
         try:
             act = link.take(*read_row(fields, row))
@@ -1414,8 +1607,8 @@ def said(text: bytes, without: set[str], extended: bool) -> Iterator[tuple]:
             yield row, act
 
 
-def _answer(text: bytes, without: set[str], extended: bool, marks: Optional[Marks]) -> tuple[int, str, str]:
-    runs = Runs(without, extended, marks)
+def _answer(text: bytes, without: set[str], extended: bool, marks, told=None) -> tuple[int, str, str]:
+    runs = Runs(without, extended, marks, told)
     record = 0
     try:
         for fields in records(text):
@@ -1438,6 +1631,92 @@ def _answer(text: bytes, without: set[str], extended: bool, marks: Optional[Mark
 
 
 # ------------------------------------------------------------------------------------------------------
+# What is told with --setup (rows-and-command-line.md, *Options*)
+# ------------------------------------------------------------------------------------------------------
+
+_SETUP = re.compile(
+    r"(?:(?:[0-9]{1,15}-[0-9]{1,15} )?(?P<kind>reply|ask) )?(?P<device>changer|bill|cashless|cashless-2) "
+    r"(?:level (?P<level>[123])|(?P<block>[0-9A-F]{2}(?: [0-9A-F]{2})*))"
+)
+_SETUP_COMMANDS = {CHANGER: b"\x09", BILL: b"\x31", CASHLESS: b"\x11\x00", CASHLESS_2: b"\x61\x00"}
+#: The first bytes of a block of the controller to a reader.
+_OPENINGS_TOLD = {CASHLESS: (0x11, 0x17), CASHLESS_2: (0x61, 0x67)}
+
+
+def read_setups(values: Optional[list[str]], without: set[str], extended: bool) -> Optional[Told]:
+    """What the values of `--setup` tell; without `--joined` there is nothing of the kind."""
+    if values is None:
+        return None
+    told, levels, seen = Told(extended), {}, set()
+    for value in values:
+        device, thing = _read_setup(value, extended, told, levels)
+        if (device, thing) in seen or device in without:
+            raise NoAnswer(f"--setup {value!r} is one too many")
+        seen.add((device, thing))
+    # A told level goes before the one in a told answer.
+    for device, level in levels.items():
+        told.sent_levels[device] = told.told_levels[device] = level
+    told.named = {device for device, _ in seen}
+    return told
+
+
+def _read_setup(value: str, extended: bool, told: Told, levels: dict[str, int]) -> tuple[str, str]:
+    """Takes what one value tells. The device, and what was told of it."""
+    found = _SETUP.fullmatch(value)
+    if found is None:
+        raise NoAnswer(f"--setup {value!r} isn't DEVICE BYTES")
+    kind, device, level = found["kind"], found["device"], found["level"]
+    if level:
+        if kind or not extended or device not in READERS:
+            raise NoAnswer(f"--setup {value!r} isn't DEVICE BYTES")
+        levels[device] = int(level)
+        return device, "level"
+    if kind == "ask" and not extended:
+        raise NoAnswer(f"--setup {value!r} isn't DEVICE BYTES")
+    block = bytes.fromhex(found["block"])
+    if not extended or block[0] not in _OPENINGS_TOLD.get(device, ()):
+        _learn_answer(device, block, told)
+        return device, "answer"
+    command = _command_of(block)
+    if command is None or len(block) != command.length or sum(block[:-1]) & 0xFF != block[-1]:
+        raise NoAnswer(f"--setup {value!r} is neither SETUP config nor ENABLE OPTIONS")
+    if command.name == "SETUP config":
+        told.sent_levels[device] = block[2]
+        return device, "level"
+    if block[-2] & _OPTIONS_OF_PROFILE:
+        raise NoAnswer(f"--setup {value!r} has options that aren't followed")
+    told.options[device] = block[-2]
+    return device, "options"
+
+
+def _command_of(block: bytes) -> Optional[Command]:
+    """The command that a told block of the controller begins as, if that can be told."""
+    command = openings_without(set(), True)[block[0]].get(block[1]) if len(block) > 1 else None
+    is_told = isinstance(command, Command) and command.name in ("SETUP config", "ENABLE OPTIONS")
+    return command if is_told else None
+
+
+def _learn_answer(device: str, block: bytes, told: Told):
+    """Takes an answer to SETUP, which is read by the base profile."""
+    link = Link(set(), False)
+    opening = link.openings[_SETUP_COMMANDS[device][0]]
+    link.command = opening[0] if isinstance(opening, dict) else opening
+    content = block[:-1]
+    try:
+        messages = link.judge_data(content, block[-1])
+    except Broken as broken:
+        raise NoAnswer(f"--setup {block.hex()!r} is no answer to SETUP: {broken.rule}")
+    if device not in READERS:
+        told.setup[device] = content
+        return
+    configs = [m for m in messages if m[0] == _CONFIG]
+    if not configs:
+        raise NoAnswer(f"--setup {block.hex()!r} is no answer to SETUP")
+    told.setup[device] = configs[-1]
+    told.told_levels[device] = configs[-1][1]
+
+
+# ------------------------------------------------------------------------------------------------------
 # The command line (rows-and-command-line.md, *Options*)
 # ------------------------------------------------------------------------------------------------------
 
@@ -1446,20 +1725,21 @@ class HelpAsked(Exception):
     """The words ask how the program is called: status 2, as for any words that are no command."""
 
 
-def read_words(words: list[str]) -> tuple[set[str], set[str]]:
-    """The devices that the words after the command leave out, and the other options. Of faults the first by
+def read_words(words: list[str]) -> tuple[dict, set[str]]:
+    """The values of the options after the command, and the options without one. Of faults the first by
     reading is told, but what a value says after all others."""
-    values, options = [], set()
+    values, options = {"--without": [], "--setup": []}, set()
     rest = iter(words)
     for word in rest:
-        if word == "--without":
+        name, _, value = word.partition("=")
+        if word in values:
             value = next(rest, "")
             if value.startswith("-"):  # that is another option, so this one has no value
-                raise NoAnswer("--without has no value")
-            values.append(value)
-        elif word.startswith("--without="):
-            values.append(word[len("--without="):])
-        elif word in ("--check", "--extended"):
+                raise NoAnswer(f"{word} has no value")
+            values[word].append(value)
+        elif name in values:
+            values[name].append(value)
+        elif word in ("--check", "--extended", "--joined"):
             options.add(word)
         elif word in ("--help", "-h"):
             raise HelpAsked
@@ -1467,23 +1747,34 @@ def read_words(words: list[str]) -> tuple[set[str], set[str]]:
             break
         else:
             raise NoAnswer(f"unknown word {word!r}")
-    for value in values:
+    if "--joined" in options and "--check" not in options:
+        raise NoAnswer("replay has no --joined")
+    if values["--setup"] and "--joined" not in options:
+        raise NoAnswer("--setup needs --joined")
+    for value in values["--without"]:
         if value not in DEVICES:
             raise NoAnswer(f"--without {value!r} isn't changer, bill, cashless, cashless-2")
-    return set(values), options
+    return values, options
 
 
 def main() -> int:
     try:
-        without, options = read_words(sys.argv[1:])
+        values, options = read_words(sys.argv[1:])
     except HelpAsked:
-        sys.stderr.write("usage: second_replay.py [--check] [--extended] [--without DEVICE].. < ROWS\n")
+        sys.stderr.write(
+            "usage: second_replay.py [--check [--joined [--setup VALUE]..]] [--extended] "
+            "[--without DEVICE].. < ROWS\n"
+        )
         return 2
     except NoAnswer as fault:
         sys.stderr.write(f"mdbcheck: {fault}\n")
         return 2
-    answer = check if "--check" in options else replay
-    status, out, err = answer(sys.stdin.buffer.read(), without, "--extended" in options)
+    text, without, extended = sys.stdin.buffer.read(), set(values["--without"]), "--extended" in options
+    if "--check" in options:
+        answer = check(text, without, extended, values["--setup"] if "--joined" in options else None)
+    else:
+        answer = replay(text, without, extended)
+    status, out, err = answer
     sys.stdout.write(out)
     sys.stderr.write(err)
     return status

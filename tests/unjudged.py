@@ -63,7 +63,7 @@ def is_left_out(reader, words):
 
 def unjudged(data, words, row, rule, blame):
     """The reader of a no that isn't judged; None if it is judged."""
-    if "--joined" not in words:
+    if "--joined" not in words or "--extended" in words:
         return None
     rows = list(rows_of(data))[:row]
     begun = next((word & 255 for line, word in reversed(rows) if line == "M" and word > 255), None)
@@ -84,16 +84,19 @@ def unjudged(data, words, row, rule, blame):
 
 def line_of(reader):
     """The line of the program on such a no."""
-    return (f"mdbcheck: not judged: the rows don't show whether {reader} and the controller speak feature level 1; "
-            f"a recording of the machine's start would (or leave it out: --without {reader})\n")
+    return (f"mdbcheck: not judged: the rows don't show whether {reader} and the controller speak feature level 1: "
+            f"add --extended (or leave it out: --without {reader})\n")
 
 
 def beyond(words, row, blame):
     """The line of the program on a row that isn't followed."""
-    if not {"--extended", "--joined"} & set(words) and blame == "bill":
+    if "--extended" not in words and blame == "bill":
         why = "bill may report a recycler: add --extended"
-    elif not {"--extended", "--joined"} & set(words) and blame in READERS.values():
+    elif "--extended" not in words and blame in READERS.values():
         why = f"{blame} goes beyond feature level 1: add --extended"
+    elif "--joined" in words and blame in READERS.values():
+        why = (f"{blame} sends a message that isn't followed, at least while its level isn't known: "
+               f"tell it, as in --setup '{blame} level 3' (or leave it out: --without {blame})")
     elif blame == "controller":
         why = ("the controller sends a command that isn't followed "
                "(leave out the device that it is sent to: --without DEVICE)")

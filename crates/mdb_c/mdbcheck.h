@@ -35,7 +35,7 @@ extern "C" {
 #define MDBCHECK_WITHOUT_CASHLESS_2 16u /* check --without cashless-2: the reader at 60H */
 #define MDBCHECK_EXTENDED 32u          /* check --extended: also card readers of levels 2 and 3, the
                                         * options that readers have, and what a bill recycler
-                                        * reports; not with MDBCHECK_JOINED */
+                                        * reports */
 
 /* The codes that are returned. The report is written for YES and NO only. With any other code its
  * bytes stay as they were. */
@@ -46,7 +46,7 @@ extern "C" {
 #define MDBCHECK_UNREAD 4u      /* more than 6,400,000,000 bytes */
 #define MDBCHECK_NO_MEMORY 5u   /* memory was refused */
 #define MDBCHECK_NO_ROOM 6u     /* there is a verdict, and its report is longer than `room` */
-#define MDBCHECK_BAD_OPTIONS 7u /* a bit is set that is no option, or EXTENDED with JOINED */
+#define MDBCHECK_BAD_OPTIONS 7u /* a bit is set that is no option */
 
 /* Why a record is no row: TIME,LINE,VALUE is expected (docs/bench/rows-and-command-line.md). */
 #define MDBCHECK_FIELD_COUNT 1u /* it hasn't three fields */

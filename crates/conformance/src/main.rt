@@ -13,7 +13,7 @@ use std::io::Write;
 use std::{fs, io};
 
 /// The files of cases, one for each subject.
-static FILES: [&str; 26] = [
+static FILES: [&str; 27] = [
     "rows.cases",
     "times.cases",
     "commands.cases",
@@ -35,6 +35,7 @@ static FILES: [&str; 26] = [
     "joined.cases",
     "joined-levels.cases",
     "extended.cases",
+    "joined-extended.cases",
     "asides.cases",
     "surveys.cases",
     "json.cases",

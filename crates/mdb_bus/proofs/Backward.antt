@@ -25,7 +25,7 @@ use Rattle.mdb_bus.specs.inner.Steps.{Leads, WordLeads, grown, piece_after, piec
 use Rattle.mdb_msgs.proofs.CommandBytes.{spelled_low}
 use Rattle.mdb_bus.proofs.Commands.{command_some, more_low}
 use Rattle.mdb_bus.proofs.Lists.{all_front, all_last, controller_last, controller_length, first_stays, front_and_last, inside, not_empty, one_alone, peripheral_push, say_last, say_length, some_length}
-use Rattle.mdb_bus.specs.Scopes.{Asks, profile_of}
+use Rattle.mdb_bus.specs.Scopes.{Asks, levels_before, profile_of}
 use Rattle.mdb_bus.specs.inner.Grammar.{OpenIsAFront}
 use Rattle.mdb_bus.specs.declared.scope.Beginning.{Beginning}
 use Rattle.mdb_bus.specs.declared.scope.Beginning.TheVariants.{PowerOn, Joined}
@@ -85,7 +85,7 @@ shorter : (scope : Scope) (rest : List Piece) (piece tail : Piece) (front : List
     → ((to : Event) (back : List Event) → front ≡ to ∷ back
     → MayCome piece (position_of scope rest) (last_of (events_of rest)) to
     → MayCome tail (position_of scope rest) (last_of (events_of rest)) to)
-    → PieceFits scope.begins (levels_of (profile_of scope.begins) scope.levels rest) tail
+    → PieceFits scope.begins (levels_of (profile_of scope.begins) (levels_before scope) rest) tail
     → MayStand scope rest piece
     → MayStand scope rest tail
 shorter scope rest piece tail front row some long short may levels stands =
@@ -123,7 +123,7 @@ fresh : (scope : Scope) (rest : List Piece) (row : Event) (line : Line) (word : 
     → ArePieces scope rest → position_of scope rest ≡ position → IsSettled position
     → said_by row ≡ Some (line, word)
     → WordLeads scope position (last_of (events_of rest))
-    (levels_of (profile_of scope.begins) scope.levels rest) row line
+    (levels_of (profile_of scope.begins) (levels_before scope) rest) row line
     word next
     → pieces_after scope rest row next ≡ grown rest row (piece_after (position_of scope rest) next)
     → piece_after position next ≡ piece
@@ -132,7 +132,7 @@ fresh scope rest row line word position next piece earlier at settled said leads
     let Settled : Position → Type 0 = λ p. IsSettled p in
     let Led : Position → Type 0 =
     λ p. WordLeads scope p (last_of (events_of rest))
-    (levels_of (profile_of scope.begins) scope.levels rest) row line word
+    (levels_of (profile_of scope.begins) (levels_before scope) rest) row line word
     next in
     let new : piece_after (position_of scope rest) next ≡ piece = ap (λ p. piece_after p next) at
     ∙ made in
@@ -250,7 +250,7 @@ foreign_word : (scope : Scope) (rest : List Piece) (row : Event) → ArePieces s
     → position_of scope rest ≡ InForeign
     → IsForeignWord row
     → WordLeads scope InForeign (last_of (events_of rest))
-    (levels_of (profile_of scope.begins) scope.levels rest) row
+    (levels_of (profile_of scope.begins) (levels_before scope) rest) row
     Peripheral 0 step.Foreign
     → Before scope (Whole acts.Foreign (row ∷ []) ∷ rest) (events_of rest) row
 foreign_word scope rest (Word at Controller word) earlier position foreign may =
@@ -282,7 +282,7 @@ foreign_block scope (byte ∷ []) rest row earlier opening says may =
     (block_settled (position_of scope rest) (last_of (events_of rest)) row may)
     (said_alone Controller (256 + byte) row says)
     (foreign_opens scope (position_of scope rest) (last_of (events_of rest))
-    (levels_of (profile_of scope.begins) scope.levels rest) row (256 + byte) byte refl
+    (levels_of (profile_of scope.begins) (levels_before scope) rest) row (256 + byte) byte refl
     opening may)
     refl (foreign_made (position_of scope rest))
 foreign_block scope (byte ∷ next ∷ bytes) rest row earlier opening says may =
@@ -455,7 +455,7 @@ alone scope (AskTail bytes events) rest row right stands earlier is =
         settled
         (said_alone Controller (256 + byte) row right.said.1)
         (ask_opens scope (position_of scope rest) (last_of (events_of rest))
-        (levels_of (profile_of scope.begins) scope.levels rest) row (256 + byte) byte refl
+        (levels_of (profile_of scope.begins) (levels_before scope) rest) row (256 + byte) byte refl
         right.said.0 may)
         refl (ask_made (position_of scope rest) byte settled)
     one (byte ∷ next ∷ more) right stands =

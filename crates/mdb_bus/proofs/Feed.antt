@@ -1,5 +1,5 @@
 -- The bus after a row: what it stands for, and why a row is refused.
-use Rattle.std.proofs.Common.{refl, ap, sym, subst, ◌∙◌, ◌≡◌, ℕ, List, [], ◌∷◌, ◌++◌, Option, Result, Ok, Err, IfOk, IfErr, OnErr, inl, inr, Bool, true, false, Some, None, ◌⊎◌}
+use Rattle.std.proofs.Common.{refl, ap, sym, subst, ◌∙◌, ◌≡◌, ℕ, List, [], ◌∷◌, ◌++◌, Option, Result, Ok, Err, IfOk, IfErr, OnErr, inl, inr, Bool, true, false, Some, None}
 use Rattle.mdb_words.specs.declared.event.Event.{Event}
 use Rattle.mdb_words.specs.declared.event.Event.TheVariants.{Word, Break}
 use Rattle.mdb_words.specs.declared.word.Line.{Line}
@@ -13,13 +13,15 @@ use Rattle.mdb_bus.specs.declared.fault.Blame.{Blame}
 use Rattle.mdb_bus.specs.declared.fault.LinkFault.{LinkFault}
 use Rattle.mdb_bus.specs.declared.fault.Rule.{Rule}
 use Rattle.mdb_bus.specs.declared.levels.Levels.{Levels}
+use Rattle.mdb_bus.specs.declared.options.KnownOptions.{KnownOptions}
 use Rattle.mdb_bus.specs.declared.place.Place.{Place}
 use Rattle.mdb_bus.specs.inner.Step.{Step}
 use Rattle.mdb_bus.specs.inner.Step as step
 use Rattle.mdb_bus.specs.ActLists.{ArePieces, HasActList, Piece, Position, Quiet, InAsk, Asked, InReply, Replied, Returned, InRepeat, InForeign, IsRepeatFront, acts_of, with_act, events_of, last_of, levels_after, levels_if, levels_of, position_of}
+use Rattle.mdb_bus.specs.WideMoney.{counted_as, first_known, known_by, known_if, known_of, wide_at, wide_of}
 use Rattle.mdb_bus.specs.Bus.{GoesOn, Grown, StandsFor, ended_act, position_at}
 use Rattle.mdb_bus.specs.inner.Gone.{HasGone}
-use Rattle.mdb_bus.specs.LinkFaults.{IsFirstBroken, IsLinkFault, RowBreaks, Situation, asked_device, blame_of, situation_of}
+use Rattle.mdb_bus.specs.LinkFaults.{IsFirstBroken, IsLinkFault, RowBreaks, Situation, blame_of, situation_of}
 use Rattle.mdb_bus.specs.inner.RulePlaces.{IsFirstByPlace}
 use Rattle.mdb_bus.proofs.Decided.{by_place}
 use Rattle.mdb_bus.specs.inner.Steps.{HasAdvanced, IsAt, IsEnded, IsJudged, IsReadAt, IsSound, Leads, WordLeads, act_after, asked_after, pieces_after, position_after}
@@ -33,7 +35,7 @@ use Rattle.mdb_bus.proofs.Verdicts.{sealed}
 use Rattle.mdb_bus.proofs.Lists.{last_push}
 use Rattle.mdb_bus.proofs.Sound.{is_sound}
 use Rattle.mdb_bus.specs.declared.scope.Scope.{Scope}
-use Rattle.mdb_bus.specs.Scopes.{profile_of}
+use Rattle.mdb_bus.specs.Scopes.{levels_before, profile_of}
 use Rattle.mdb_bus.specs.declared.scope.Profile.{Profile}
 
 -- the situation that a bus is in
@@ -57,11 +59,19 @@ same_situation bus pieces stands =
       levels = v;
     } in
     ap (λ p. make p (last_of (events_of pieces))
-    (levels_of (profile_of bus.scope.begins) bus.scope.levels pieces))
+    (levels_of (profile_of bus.scope.begins) (levels_before bus.scope) pieces))
     stands.position
     ∙ (ap (λ l. make (position_at bus.place) l
-    (levels_of (profile_of bus.scope.begins) bus.scope.levels pieces)) stands.last
+    (levels_of (profile_of bus.scope.begins) (levels_before bus.scope) pieces)) stands.last
     ∙ ap (λ v. make (position_at bus.place) bus.last v) stands.levels)
+
+-- and so is where it may find money of 32 bits
+same_wide : (bus : Bus) (pieces : List Piece) → StandsFor bus pieces
+    → wide_of bus.scope pieces ≡ wide_at bus.options bus.levels
+same_wide bus pieces stands =
+    ap (λ known. wide_at known
+    (levels_of (profile_of bus.scope.begins) (levels_before bus.scope) pieces)) stands.options
+    ∙ ap (wide_at bus.options) stands.levels
 
 -- and its position is sound
 pub sound_at : (bus : Bus) (pieces : List Piece) → StandsFor bus pieces
@@ -121,6 +131,12 @@ leads_at s (Word at line word) next leads =
 leads_at s (Break at length) (step.Break lasted) leads = tt
 leads_at s (Break at length) next leads = absurd leads
 
+-- what is known of options after acts and one more, if there is one
+known_more : (before : KnownOptions) (act : Option Act) (acts : List Act)
+    → known_of before (with_act act acts) ≡ known_if act (known_of before acts)
+known_more before None acts = refl
+known_more before (Some act) acts = refl
+
 -- the bus stands for one row more
 stands_by : (old new : Bus) (pieces : List Piece) (row : Event) (next : Step) (act : Option Act)
     → StandsFor old pieces
@@ -140,12 +156,18 @@ stands_by old new pieces row next act stands leads gone =
             ∙ more.position ∙ (ap (λ p. position_after p next) stands.position
             ∙ sym went.advanced.position);
         last = ap last_of more.rows ∙ (last_push (events_of pieces) row ∙ sym went.last);
-        levels = ap (λ (s : Scope). levels_of (profile_of s.begins) s.levels
+        levels = ap (λ (s : Scope). levels_of (profile_of s.begins) (levels_before s)
             (pieces_after old.scope pieces row next)) went.scope
             ∙ (more.levels
-            ∙ (ap (λ a. levels_if profile a (levels_of profile old.scope.levels pieces))
+            ∙ (ap (λ a. levels_if profile a (levels_of profile (levels_before old.scope) pieces))
             (ended stands.position went.advanced.act)
             ∙ (ap (levels_if profile act) stands.levels ∙ sym went.levels)));
+        options = ap (λ (s : Scope). known_of (first_known s.begins)
+            (acts_of (pieces_after old.scope pieces row next))) went.scope
+            ∙ (ap (known_of (first_known old.scope.begins))
+            (more.acts ∙ acts_same stands.position went.advanced.act)
+            ∙ (known_more (first_known old.scope.begins) act (acts_of pieces)
+            ∙ (ap (known_if act) stands.options ∙ sym went.options)));
         asked = more.asked ∙ (ap (λ a. asked_after a next) stands.asked ∙ sym went.asked);
       };
       rows = more.rows;
@@ -188,7 +210,7 @@ stands_on old new pieces row found act stands other judged gone =
 pub stands_read : (old new : Bus) (pieces : List Piece) (row : Event) (reply : Reply)
     (act : Option Act) → StandsFor old pieces
     → IsEnded (situation_at old) row
-    → IsReadAt (profile_of old.scope.begins) (position_at old.place) old.levels (Ok reply)
+    → IsReadAt old.scope.begins (position_at old.place) old.levels (Ok reply)
     → HasGone old (step.Reply reply) row new act
     → GoesOn new pieces row act
 stands_read old new pieces row reply act stands ended read gone =
@@ -199,27 +221,30 @@ stands_read old new pieces row reply act stands ended read gone =
 pub read_breaks : (old : Bus) (pieces : List Piece) (row : Event) (broken : Rule)
     → StandsFor old pieces
     → IsEnded (situation_at old) row
-    → IsReadAt (profile_of old.scope.begins) (position_at old.place) old.levels (Err broken)
+    → IsReadAt old.scope.begins (position_at old.place) old.levels (Err broken)
     → IsFirstByPlace (situation_at old) row broken
 read_breaks old pieces row broken stands ended read = ended (Err broken) read
 
 -- the fault of a row that is refused
 pub fault_of : (old : Bus) (pieces : List Piece) (row : Event) (broken told : Rule) (blamed : Blame)
     → StandsFor old pieces
-    → IsFirstByPlace (situation_at old) row broken → told ≡ broken
-    → blamed ≡ blame_of (position_at old.place) old.asked row broken
+    → IsFirstByPlace (situation_at old) row broken
+    → told ≡ counted_as broken (position_at old.place) (wide_at old.options old.levels)
+    → blamed ≡ blame_of (position_at old.place) old.asked row told
     → IsLinkFault old.scope pieces row told blamed
-fault_of old pieces row broken told blamed stands judged same blame =
-    let first = by_place (situation_at old) row broken judged in
-    let There : Situation → Type 0 = λ s. IsFirstBroken s row told in
-    let Meant : Rule → Type 0 = λ r. IsFirstBroken (situation_at old) row r in
+fault_of old pieces row broken told blamed stands judged counts blame =
+    let There : Situation → Type 0 = λ s. IsFirstBroken s row broken in
     record {
-      rule = subst There (sym (same_situation old pieces stands)) (subst Meant (sym same) first);
+      first = broken;
+      rule = subst There (sym (same_situation old pieces stands))
+          (by_place (situation_at old) row broken judged);
+      counts = counts
+          ∙ (ap (λ p. counted_as broken p (wide_at old.options old.levels)) (sym stands.position)
+          ∙ ap (counted_as broken (position_of old.scope pieces))
+          (sym (same_wide old pieces stands)));
       blame = blame
-          ∙ (ap (λ p. blame_of p old.asked row broken) (sym stands.position)
-          ∙ (ap (λ a. blame_of (position_of old.scope pieces) a row broken) (sym stands.asked)
-          ∙ ap (λ r. blame_of (position_of old.scope pieces) (asked_device pieces) row r)
-          (sym same)));
+          ∙ (ap (λ p. blame_of p old.asked row told) (sym stands.position)
+          ∙ ap (λ a. blame_of (position_of old.scope pieces) a row told) (sym stands.asked));
     }
 
 -- the bus after a row that ends a reply: the row goes on where the reply can be read, and else
@@ -235,7 +260,7 @@ pub read_goes_on : (old new : Bus) (pieces : List Piece) (row : Event) (act : Ac
     (result : Result Bool LinkFault)
     → StandsFor old pieces → IsEnded (situation_at old) row
     → IfOk result (λ ends. (reply : Reply)
-    × IsReadAt (profile_of old.scope.begins) (position_at old.place) old.levels (Ok reply)
+    × IsReadAt old.scope.begins (position_at old.place) old.levels (Ok reply)
     × HasGone old (step.Reply reply) row new (ended_act ends act))
     → IfOk result (λ ends. GoesOn new pieces row (ended_act ends act))
 read_goes_on old new pieces row act (Ok ends) stands ended h =
@@ -245,15 +270,16 @@ read_goes_on old new pieces row act (Err fault) stands ended h = tt
 pub read_has_fault : (old : Bus) (pieces : List Piece) (row : Event)
     (result : Result Bool LinkFault)
     → StandsFor old pieces → IsEnded (situation_at old) row
-    → IfErr result (λ fault.
-    IsReadAt (profile_of old.scope.begins) (position_at old.place) old.levels (Err fault.rule))
+    → IfErr result (λ fault. (first : Rule)
+    × IsReadAt old.scope.begins (position_at old.place) old.levels (Err first)
+    × (fault.rule ≡ counted_as first (position_at old.place) (wide_at old.options old.levels)))
     → IfErr result (λ fault. fault.blame ≡ blame_of (position_at old.place) old.asked row
     fault.rule)
     → IfErr result (λ fault. IsLinkFault old.scope pieces row fault.rule fault.blame)
 read_has_fault old pieces row (Ok act) stands ended read blame = tt
 read_has_fault old pieces row (Err fault) stands ended read blame =
-    fault_of old pieces row fault.rule fault.rule fault.blame stands
-    (read_breaks old pieces row fault.rule stands ended read) refl blame
+    fault_of old pieces row read.0 fault.rule fault.blame stands
+    (read_breaks old pieces row read.0 stands ended read.1) read.2 blame
 
 -- what is refused ends the act list
 pub fault_ends : ((scope : Scope) (pieces : List Piece) (row : Event) (broken : Rule)
@@ -265,7 +291,7 @@ pub fault_ends : ((scope : Scope) (pieces : List Piece) (row : Event) (broken : 
     → OnErr result (HasActList old.scope (events_of pieces ++ row ∷ []) → ⊥)
 fault_ends law old pieces row (Ok act) stands faulty = tt
 fault_ends law old pieces row (Err fault) stands faulty =
-    λ has. law old.scope pieces row fault.rule stands.in_order faulty.rule.breaks has
+    λ has. law old.scope pieces row faulty.first stands.in_order faulty.rule.breaks has
 
 -- the act that an ask ends
 asks : (at : Position) (command : Command) → IsAt at (step.Ask command)
@@ -288,13 +314,14 @@ pub gone_ask : (old new : Bus) (place : Place) (row : Event) (found : Judged) (e
     (act : Act)
     → found ≡ judged.Ask → new.place ≡ place
     → new.scope ≡ old.scope → new.last ≡ Some row
+    → new.options ≡ old.options
     → ((command : Command) → act ≡ acts.Ask command → new.levels ≡ levels_after command old.levels)
     → ((command : Command) → act ≡ acts.Ask command → new.asked ≡ Some (device_of command))
     → EachStep found row (λ next. IsAt (position_at old.place) next
     → HasAdvanced (position_at old.place) next (position_at place) (ended_act ended act))
     → EachStep found row (λ next. IsAt (position_at old.place) next
     → HasGone old next row new (ended_act ended act))
-gone_ask old new place row judged.Ask ended act is there scope last levels asked advanced =
+gone_ask old new place row judged.Ask ended act is there scope last options levels asked advanced =
     λ command at.
     let Led : Place → Type 0 = λ p.
     HasAdvanced (position_at old.place) (step.Ask command) (position_at p) (ended_act ended act) in
@@ -308,9 +335,13 @@ gone_ask old new place row judged.Ask ended act is there scope last levels asked
       levels = levels command told
           ∙ ap (λ a. levels_if (profile_of old.scope.begins) a old.levels)
           (sym (asks (position_at old.place) command at) ∙ sym has.act);
+      options = options
+          ∙ ap (λ a. known_if a old.options)
+          (sym (asks (position_at old.place) command at) ∙ sym has.act);
       asked = asked command told;
     }
-gone_ask old new place row found ended act is there scope last levels asked advanced = absurd (cc)
+gone_ask old new place row found ended act is there scope last options levels asked advanced =
+    absurd (cc)
 
 -- a step that ends neither an ask nor a reply
 abbrev IsQuiet : Step → Type 0
@@ -355,65 +386,180 @@ stay old new next act same quiet is =
     same ∙ sym (ap (λ a. levels_if profile a old.levels) is
     ∙ tells_none profile (position_at old.place) next old.levels quiet)
 
+-- a step that ends no ask, and no act that settles options
+abbrev IsIdle : Step → Type 0
+IsIdle (step.Ask command) = ⊥
+IsIdle (step.Reply reply) = ⊥
+IsIdle step.Ack = ⊥
+IsIdle (step.Break length) = ⊥
+IsIdle next = Unit {0}
+
+-- settles none
+settles_none : (at : Position) (next : Step) (known : KnownOptions) → IsIdle next
+    → known_if (act_after at next) known ≡ known
+settles_none at (step.Ask command) known idle = absurd idle
+settles_none at (step.Reply reply) known idle = absurd idle
+settles_none at step.Ack known idle = absurd idle
+settles_none at (step.Break length) known idle = absurd idle
+settles_none (InAsk bytes) (step.AskByte byte) known idle = refl
+settles_none at (step.AskByte byte) known idle = refl
+settles_none (InAsk bytes) step.Foreign known idle = refl
+settles_none at step.Foreign known idle = refl
+settles_none (Asked command) step.Nak known idle = refl
+settles_none at step.Nak known idle = refl
+settles_none (Asked command) (step.ReplyByte byte) known idle = refl
+settles_none at (step.ReplyByte byte) known idle = refl
+settles_none (Replied command reply) step.VmcAck known idle = refl
+settles_none at step.VmcAck known idle = refl
+settles_none (Replied command reply) step.VmcNak known idle = refl
+settles_none at step.VmcNak known idle = refl
+settles_none (Replied command reply) step.VmcRet known idle = refl
+settles_none at step.VmcRet known idle = refl
+settles_none (Returned command reply) (step.RepeatWord word) known idle = refl
+settles_none at (step.RepeatWord word) known idle = refl
+settles_none (InRepeat command reply words) step.Repeat known idle = refl
+settles_none at step.Repeat known idle = refl
+
+-- so options that stay are those after it
+unsettled : (old new : Bus) (next : Step) (act : Option Act) → new.options ≡ old.options
+    → IsIdle next → act ≡ act_after (position_at old.place) next
+    → new.options ≡ known_if act old.options
+unsettled old new next act same idle is =
+    same ∙ sym (ap (λ a. known_if a old.options) is
+    ∙ settles_none (position_at old.place) next old.options idle)
+
+-- and options that an act has settled are those after the step that ends it
+settled : (ended : Bool) (act told : Act) (before after : KnownOptions)
+    → ended_act ended act ≡ Some told → after ≡ known_by act before
+    → after ≡ known_if (ended_act ended act) before
+settled true act told before after is settles = settles
+settled false act told before after is settles = absurd (cc is)
+
+-- the act that an ACK ends, and a break
+acked : (at : Position) → IsAt at step.Ack → (command : Command) × (act_after at step.Ack
+    ≡ Some (acts.Ack command))
+acked (Asked command) there = (command, refl)
+acked at there = absurd there
+
+broken_off : (at : Position) (length : ℕ)
+    → act_after at (step.Break length) ≡ Some (acts.Break length)
+broken_off (InAsk bytes) length = refl
+broken_off at length = refl
+
 -- a bus has gone by a step that tells no level
 gone_quiet : (old new : Bus) (row : Event) (next : Step) (act : Option Act)
     → new.scope ≡ old.scope → new.last ≡ Some row → new.levels ≡ old.levels
+    → new.options ≡ known_if act old.options
     → new.asked ≡ asked_after old.asked next → IsQuiet next
     → HasAdvanced (position_at old.place) next (position_at new.place) act
     → HasGone old next row new act
-gone_quiet old new row next act scope last levels asked quiet advanced = record {
+gone_quiet old new row next act scope last levels options asked quiet advanced = record {
   scope = scope;
   advanced = advanced;
   last = last;
   levels = stay old new next act levels quiet advanced.act;
+  options = options;
   asked = asked;
 }
 
--- a bus has gone by the foreign word or the break that its place has advanced by
-pub gone_off : (old new : Bus) (row : Event) (found : Judged) (act : Option Act)
-    → (found ≡ judged.Foreign) ⊎ (found ≡ judged.Break)
-    → new.scope ≡ old.scope → new.last ≡ Some row → new.levels ≡ old.levels → new.asked ≡ None
+-- a bus has gone by the ACK that its place has advanced by
+pub gone_ack : (old new : Bus) (row : Event) (found : Judged) (ended : Bool) (act : Act)
+    → found ≡ judged.Ack
+    → new.scope ≡ old.scope → new.last ≡ Some row → new.levels ≡ old.levels
+    → new.options ≡ known_by act old.options → new.asked ≡ old.asked
+    → EachStep found row (λ next. IsAt (position_at old.place) next
+    → HasAdvanced (position_at old.place) next (position_at new.place) (ended_act ended act))
+    → EachStep found row (λ next. IsAt (position_at old.place) next
+    → HasGone old next row new (ended_act ended act))
+gone_ack old new row judged.Ack ended act is scope last levels options asked advanced = λ at.
+    let told = acked (position_at old.place) at in
+    gone_quiet old new row _ (ended_act ended act) scope last levels
+    (settled ended act (acts.Ack told.0) old.options new.options ((advanced at).act ∙ told.1)
+    options) asked tt (advanced at)
+gone_ack old new row found ended act is scope last levels options asked advanced = absurd (cc is)
+
+-- by the foreign word
+pub gone_foreign : (old new : Bus) (row : Event) (found : Judged) (act : Option Act)
+    → found ≡ judged.Foreign
+    → new.scope ≡ old.scope → new.last ≡ Some row → new.levels ≡ old.levels
+    → new.options ≡ old.options → new.asked ≡ None
     → EachStep found row (λ next. IsAt (position_at old.place) next
     → HasAdvanced (position_at old.place) next (position_at new.place) act)
     → EachStep found row (λ next. IsAt (position_at old.place) next → HasGone old next row new act)
-gone_off old new row judged.Foreign act is scope last levels asked advanced = λ at.
-    gone_quiet old new row _ act scope last levels asked tt (advanced at)
-gone_off old new (Break start length) judged.Break act is scope last levels asked advanced = λ at.
-    gone_quiet old new (Break start length) _ act scope last levels asked tt (advanced at)
-gone_off old new (Word at line word) judged.Break act is scope last levels asked advanced = tt
-gone_off old new row found act (inl is) scope last levels asked advanced = absurd (cc)
-gone_off old new row found act (inr is) scope last levels asked advanced = absurd (cc)
+gone_foreign old new row judged.Foreign act is scope last levels options asked advanced = λ at.
+    gone_quiet old new row _ act scope last levels
+    (unsettled old new step.Foreign act options tt (advanced at).act) asked tt (advanced at)
+gone_foreign old new row found act is scope last levels options asked advanced = absurd (cc is)
 
--- a bus has gone by another step that its place has advanced by, which changes neither the levels
+-- by the break
+pub gone_break : (old new : Bus) (row : Event) (found : Judged) (ended : Bool) (act : Act)
+    → found ≡ judged.Break
+    → new.scope ≡ old.scope → new.last ≡ Some row → new.levels ≡ old.levels
+    → new.options ≡ known_by act old.options → new.asked ≡ None
+    → EachStep found row (λ next. IsAt (position_at old.place) next
+    → HasAdvanced (position_at old.place) next (position_at new.place) (ended_act ended act))
+    → EachStep found row (λ next. IsAt (position_at old.place) next
+    → HasGone old next row new (ended_act ended act))
+gone_break old new (Break start length) judged.Break ended act is scope last levels options asked
+    advanced = λ at.
+    gone_quiet old new (Break start length) _ (ended_act ended act) scope last levels
+    (settled ended act (acts.Break length) old.options new.options
+    ((advanced at).act ∙ broken_off (position_at old.place) length) options) asked tt (advanced at)
+gone_break old new (Word at line word) judged.Break ended act is scope last levels options asked
+    advanced = tt
+gone_break old new row found ended act is scope last levels options asked advanced = absurd (cc is)
+
+-- by another step that its place has advanced by, which changes neither the levels, the options
 -- nor the device that was asked
 pub gone_on : (old new : Bus) (row : Event) (found : Judged) (act : Option Act)
-    → (found ≡ judged.Ask → ⊥) → (found ≡ judged.Foreign → ⊥) → (found ≡ judged.Break → ⊥)
-    → new.scope ≡ old.scope → new.last ≡ Some row → new.levels ≡ old.levels → new.asked ≡ old.asked
+    → (found ≡ judged.Ask → ⊥) → (found ≡ judged.Ack → ⊥) → (found ≡ judged.Foreign → ⊥)
+    → (found ≡ judged.Break → ⊥)
+    → new.scope ≡ old.scope → new.last ≡ Some row → new.levels ≡ old.levels
+    → new.options ≡ old.options → new.asked ≡ old.asked
     → EachStep found row (λ next. IsAt (position_at old.place) next
     → HasAdvanced (position_at old.place) next (position_at new.place) act)
     → EachStep found row (λ next. IsAt (position_at old.place) next → HasGone old next row new act)
-gone_on old new row judged.Ask act ask foreign pause scope last levels asked advanced =
+gone_on old new row judged.Ask act ask ack foreign pause scope last levels options asked advanced =
     absurd (ask refl)
-gone_on old new row judged.Foreign act ask foreign pause scope last levels asked advanced =
+gone_on old new row judged.Ack act ask ack foreign pause scope last levels options asked advanced =
+    absurd (ack refl)
+gone_on old new row judged.Foreign act ask ack foreign pause scope last levels options asked
+    advanced =
     absurd (foreign refl)
-gone_on old new row judged.Break act ask foreign pause scope last levels asked advanced =
+gone_on old new row judged.Break act ask ack foreign pause scope last levels options asked
+    advanced =
     absurd (pause refl)
-gone_on old new row judged.Reply act ask foreign pause scope last levels asked advanced = tt
-gone_on old new row judged.AskByte act ask foreign pause scope last levels asked advanced = λ at.
-    gone_quiet old new row _ act scope last levels asked tt (advanced at)
-gone_on old new row judged.Ack act ask foreign pause scope last levels asked advanced = λ at.
-    gone_quiet old new row _ act scope last levels asked tt (advanced at)
-gone_on old new row judged.Nak act ask foreign pause scope last levels asked advanced = λ at.
-    gone_quiet old new row _ act scope last levels asked tt (advanced at)
-gone_on old new row judged.ReplyByte act ask foreign pause scope last levels asked advanced = λ at.
-    gone_quiet old new row _ act scope last levels asked tt (advanced at)
-gone_on old new row judged.VmcAck act ask foreign pause scope last levels asked advanced = λ at.
-    gone_quiet old new row _ act scope last levels asked tt (advanced at)
-gone_on old new row judged.VmcNak act ask foreign pause scope last levels asked advanced = λ at.
-    gone_quiet old new row _ act scope last levels asked tt (advanced at)
-gone_on old new row judged.VmcRet act ask foreign pause scope last levels asked advanced = λ at.
-    gone_quiet old new row _ act scope last levels asked tt (advanced at)
-gone_on old new row judged.RepeatWord act ask foreign pause scope last levels asked advanced = λ at.
-    gone_quiet old new row _ act scope last levels asked tt (advanced at)
-gone_on old new row judged.Repeat act ask foreign pause scope last levels asked advanced = λ at.
-    gone_quiet old new row _ act scope last levels asked tt (advanced at)
+gone_on old new row judged.Reply act ask ack foreign pause scope last levels options asked
+    advanced = tt
+gone_on old new row judged.AskByte act ask ack foreign pause scope last levels options asked
+    advanced = λ at.
+    gone_quiet old new row _ act scope last levels
+    (unsettled old new _ act options tt (advanced at).act) asked tt (advanced at)
+gone_on old new row judged.Nak act ask ack foreign pause scope last levels options asked
+    advanced = λ at.
+    gone_quiet old new row _ act scope last levels
+    (unsettled old new _ act options tt (advanced at).act) asked tt (advanced at)
+gone_on old new row judged.ReplyByte act ask ack foreign pause scope last levels options asked
+    advanced = λ at.
+    gone_quiet old new row _ act scope last levels
+    (unsettled old new _ act options tt (advanced at).act) asked tt (advanced at)
+gone_on old new row judged.VmcAck act ask ack foreign pause scope last levels options asked
+    advanced = λ at.
+    gone_quiet old new row _ act scope last levels
+    (unsettled old new _ act options tt (advanced at).act) asked tt (advanced at)
+gone_on old new row judged.VmcNak act ask ack foreign pause scope last levels options asked
+    advanced = λ at.
+    gone_quiet old new row _ act scope last levels
+    (unsettled old new _ act options tt (advanced at).act) asked tt (advanced at)
+gone_on old new row judged.VmcRet act ask ack foreign pause scope last levels options asked
+    advanced = λ at.
+    gone_quiet old new row _ act scope last levels
+    (unsettled old new _ act options tt (advanced at).act) asked tt (advanced at)
+gone_on old new row judged.RepeatWord act ask ack foreign pause scope last levels options asked
+    advanced = λ at.
+    gone_quiet old new row _ act scope last levels
+    (unsettled old new _ act options tt (advanced at).act) asked tt (advanced at)
+gone_on old new row judged.Repeat act ask ack foreign pause scope last levels options asked
+    advanced = λ at.
+    gone_quiet old new row _ act scope last levels
+    (unsettled old new _ act options tt (advanced at).act) asked tt (advanced at)

@@ -25,7 +25,7 @@ use Rattle.mdb_bus.specs.declared.scope.Beginning.{Beginning}
 use Rattle.mdb_bus.specs.declared.levels.Levels.{Levels}
 use Rattle.mdb_bus.specs.declared.scope.Beginning.TheVariants.{PowerOn, Joined}
 use Rattle.mdb_bus.specs.declared.scope.Scope.{Scope}
-use Rattle.mdb_bus.specs.Scopes.{profile_of}
+use Rattle.mdb_bus.specs.Scopes.{levels_before, profile_of}
 use Rattle.mdb_bus.specs.declared.scope.Profile.{Profile}
 
 -- what a step makes of pieces
@@ -38,9 +38,10 @@ pub record Extended (scope : Scope) (pieces : List Piece) (row : Event) (next : 
   pub position : position_of scope (pieces_after scope pieces row next)
       ≡ position_after (position_of scope pieces)
       next
-  pub levels : levels_of (profile_of scope.begins) scope.levels (pieces_after scope pieces row next)
+  pub levels : levels_of (profile_of scope.begins) (levels_before scope)
+      (pieces_after scope pieces row next)
       ≡ levels_if (profile_of scope.begins) (act_after (position_of scope pieces) next)
-      (levels_of (profile_of scope.begins) scope.levels pieces)
+      (levels_of (profile_of scope.begins) (levels_before scope) pieces)
   pub asked : asked_device (pieces_after scope pieces row next)
       ≡ asked_after (asked_device pieces) next
   pub grown : Grown pieces row (act_after (position_of scope pieces) next)
@@ -55,9 +56,9 @@ record Adds (scope : Scope) (next : Step) (piece : List Event → Piece) : Type 
   position : (events : List Event) (pieces : List Piece)
       → position_of scope (piece events ∷ pieces) ≡ position_of scope (piece [] ∷ [])
   levels : (events : List Event) (pieces : List Piece)
-      → levels_of (profile_of scope.begins) scope.levels (piece events ∷ pieces)
+      → levels_of (profile_of scope.begins) (levels_before scope) (piece events ∷ pieces)
       ≡ levels_if (profile_of scope.begins) (act_in (piece []))
-      (levels_of (profile_of scope.begins) scope.levels pieces)
+      (levels_of (profile_of scope.begins) (levels_before scope) pieces)
   asked : (events : List Event) (pieces : List Piece)
       → asked_device (piece events ∷ pieces) ≡ asked_after (asked_device pieces) next
 
@@ -215,8 +216,8 @@ extended : (scope : Scope) (pieces rest : List Piece) (begun events : List Event
     → pieces_after scope pieces row next ≡ piece events ∷ rest
     → ArePieces scope (piece events ∷ rest)
     → events_of rest ++ events ≡ events_of pieces ++ row ∷ [] → acts_of pieces ≡ acts_of rest
-    → levels_of (profile_of scope.begins) scope.levels pieces
-    ≡ levels_of (profile_of scope.begins) scope.levels rest
+    → levels_of (profile_of scope.begins) (levels_before scope) pieces
+    ≡ levels_of (profile_of scope.begins) (levels_before scope) rest
     → asked_device pieces ≡ asked_device rest
     → events ≡ begun ++ row ∷ [] → GoesOnFromPieces pieces begun rest
     → Extended scope pieces row next
@@ -238,9 +239,9 @@ extended scope pieces rest begun events row next piece adds added made are rows 
       position = ap (position_of scope) made
           ∙ (adds.position events rest
           ∙ ap (λ (p : List Event → Piece). (position_of scope) (p [] ∷ [])) (sym added));
-      levels = ap (levels_of profile scope.levels) made
+      levels = ap (levels_of profile (levels_before scope)) made
           ∙ (adds.levels events rest
-          ∙ (ap (λ a. levels_if profile a (levels_of profile scope.levels rest)) act
+          ∙ (ap (λ a. levels_if profile a (levels_of profile (levels_before scope) rest)) act
           ∙ ap (levels_if profile (act_after (position_of scope pieces) next)) (sym same_levels)));
       asked = ap asked_device made
           ∙ (adds.asked events rest ∙ ap (λ a. asked_after a next) (sym same_asked));
@@ -262,7 +263,7 @@ fresh : (scope : Scope) (pieces : List Piece) (row : Event) (next : Step)
     → pieces_after scope pieces row next ≡ piece (row ∷ []) ∷ pieces → ArePieces scope pieces
     → IsSaid scope (piece (row ∷ []))
     → MayCome (piece (row ∷ [])) (position_of scope pieces) (last_of (events_of pieces)) row
-    → PieceFits scope.begins (levels_of (profile_of scope.begins) scope.levels pieces)
+    → PieceFits scope.begins (levels_of (profile_of scope.begins) (levels_before scope) pieces)
     (piece (row ∷ []))
     → Extended scope pieces row next
 fresh scope pieces row next piece adds added made are said comes levels =
@@ -301,7 +302,7 @@ longer : (scope : Scope) (tail : Piece) (pieces : List Piece) (row : Event) (nex
     → MayCome tail (position_of scope pieces) (last_of (events_of pieces)) first
     → MayCome (piece (piece_events tail ++ row ∷ [])) (position_of scope pieces)
     (last_of (events_of pieces)) first)
-    → PieceFits scope.begins (levels_of (profile_of scope.begins) scope.levels pieces)
+    → PieceFits scope.begins (levels_of (profile_of scope.begins) (levels_before scope) pieces)
     (piece (piece_events tail ++ row ∷ []))
     → Within WORD_GAP_MIN BLOCK_GAP_MAX (last_of (events_of (tail ∷ pieces))) row
     → Extended scope (tail ∷ pieces) row next
@@ -329,7 +330,7 @@ longer scope tail pieces row next piece is_tail adds added made are said comes l
     extended scope (tail ∷ pieces) pieces old (old ++ row ∷ []) row next piece adds added made
     (right, stands, are.2)
     (sym (append_assoc (events_of pieces) old (row ∷ []))) (is_tail.acts pieces)
-    (is_tail.levels profile scope.levels pieces)
+    (is_tail.levels profile (levels_before scope) pieces)
     (is_tail.asked pieces) refl (inr (tail, is_tail.open_end, refl, refl))
 
 -- a position where no tail is open
@@ -426,7 +427,7 @@ begun : (scope : Scope) (position : Position) (pieces : List Piece) (row : Event
     ≡ grown pieces row (piece_after (position_of scope pieces) next)
     → piece_after position next ≡ piece → IsSaid scope (piece (row ∷ []))
     → MayCome (piece (row ∷ [])) (position_of scope pieces) (last_of (events_of pieces)) row
-    → PieceFits scope.begins (levels_of (profile_of scope.begins) scope.levels pieces)
+    → PieceFits scope.begins (levels_of (profile_of scope.begins) (levels_before scope) pieces)
     (piece (row ∷ []))
     → Extended scope pieces row next
 begun scope position pieces row next piece adds are closed here grows gives said comes levels =
@@ -522,7 +523,7 @@ foreign_word : (scope : Scope) (pieces : List Piece) (at : ℕ) (line : Line) (w
     → ArePieces scope pieces
     → AreClosed pieces → position_of scope pieces ≡ InForeign
     → WordLeads scope InForeign (last_of (events_of pieces))
-    (levels_of (profile_of scope.begins) scope.levels pieces)
+    (levels_of (profile_of scope.begins) (levels_before scope) pieces)
     (Word at line word) line word next
     → Extended scope pieces (Word at line word) next
 foreign_word scope pieces at Controller word next are closed here (inl leads) =
@@ -547,7 +548,7 @@ after_closed : (scope : Scope) (position : Position) (pieces : List Piece) (at :
     → ArePieces scope pieces → AreClosed pieces → position_of scope pieces ≡ position
     → IsFree position
     → WordLeads scope position (last_of (events_of pieces))
-    (levels_of (profile_of scope.begins) scope.levels pieces)
+    (levels_of (profile_of scope.begins) (levels_before scope) pieces)
     (Word at line word) line word next
     → Extended scope pieces (Word at line word) next
 after_closed scope Quiet pieces at Controller word next are closed here is leads =
@@ -640,8 +641,9 @@ in_reply : (scope : Scope) (command : Command) (bytes : List ℕ) (events : List
     (pieces : List Piece)
     (at word : ℕ) (next : Step)
     → ArePieces scope (ReplyTail command bytes events ∷ pieces)
-    → GoesOnReplying (profile_of scope.begins) command bytes (last_of (events_of pieces ++ events))
-    (levels_of (profile_of scope.begins) scope.levels pieces) (Word at Peripheral word) word next
+    → GoesOnReplying scope.begins command bytes (last_of (events_of pieces ++ events))
+    (levels_of (profile_of scope.begins) (levels_before scope) pieces) (Word at Peripheral word)
+    word next
     → Extended scope (ReplyTail command bytes events ∷ pieces) (Word at Peripheral word) next
 in_reply scope command bytes events pieces at word (step.ReplyByte byte) are leads =
     let said = are.0.said in

@@ -29,12 +29,13 @@ use Rattle.mdb_bus.specs.declared.scope.Beginning.{Beginning}
 use Rattle.mdb_bus.specs.declared.scope.Beginning.TheVariants.{PowerOn, Joined}
 use Rattle.mdb_bus.specs.declared.scope.Profile.{Profile}
 use Rattle.mdb_bus.specs.declared.scope.Profile.TheVariants as profiles
-use Rattle.mdb_bus.specs.Formats.{IsReadAs, format_at, levels_for}
+use Rattle.mdb_bus.specs.declared.format.Format.{Format}
+use Rattle.mdb_bus.specs.Formats.{IsReadAs, format_at, format_by, levels_for, untold_format}
 use Rattle.mdb_bus.specs.declared.scope.Scope.{Scope}
 use Rattle.mdb_bus.specs.Acts.{IsForeign, Say, reply_words}
-use Rattle.mdb_bus.specs.ActLists.{Piece, Whole, AskTail, ReplyTail, RepeatTail, Position, Quiet, InAsk, Asked, InReply, Replied, Returned, InRepeat, InForeign, ArePieces, AreSpaced, BlockMayCome, ForeignMayCome, IsLow, IsPiece, IsSaid, MayCome, MayStand, NotBefore, PieceFits, ReplyFits, events_of, first_position, last_of, left_by, last_level, levels_after, levels_of, levels_told, piece_events, position_of}
+use Rattle.mdb_bus.specs.ActLists.{Piece, Whole, AskTail, ReplyTail, RepeatTail, Position, Quiet, InAsk, Asked, InReply, Replied, Returned, InRepeat, InForeign, ArePieces, AreSpaced, BlockMayCome, ForeignMayCome, IsInProfile, IsLow, IsPiece, IsSaid, MayCome, MayStand, NotBefore, PieceFits, ReplyFits, events_of, first_position, last_of, left_by, last_level, levels_after, levels_of, levels_told, piece_events, position_of}
 use Rattle.mdb_bus.specs.LeavingOut.{LeavesOutMore, begin_left_out, is_left_out, is_one_left_out, leave_out, position_without, with_foreign}
-use Rattle.mdb_bus.specs.Scopes.{HasCommand, IsFollowed, IsLeftOut, profile_of}
+use Rattle.mdb_bus.specs.Scopes.{HasCommand, IsFollowed, IsLeftOut, first_levels, levels_before, profile_of}
 use Rattle.mdb_bus.specs.inner.Steps.{IsCommandFront}
 use Rattle.mdb_msgs.proofs.CommandBytes.{spelled_low}
 use Rattle.mdb_bus.proofs.Followed.{FirstTells, front_followed, plain_front}
@@ -491,14 +492,15 @@ levels_go_on profile told command piece one other same = same
 -- a piece of a device that is left out tells another reader nothing, and of it nothing
 levels_stay : (scope : Scope) (command : Command) (piece : Piece) (pieces : List Piece)
     → IsFollowed scope (device_of command) → is_left_out scope piece ≡ true
-    → levels_for command (levels_of (profile_of scope.begins) scope.levels (piece ∷ pieces))
-    ≡ levels_for command (levels_of (profile_of scope.begins) scope.levels pieces)
+    → levels_for command
+    (levels_of (profile_of scope.begins) (levels_before scope) (piece ∷ pieces))
+    ≡ levels_for command (levels_of (profile_of scope.begins) (levels_before scope) pieces)
 levels_stay scope command (Whole (acts.Ask asked) events) pieces followed out =
     told_another scope.without command asked
-    (levels_of (profile_of scope.begins) scope.levels pieces) followed out
+    (levels_of (profile_of scope.begins) (levels_before scope) pieces) followed out
 levels_stay scope command (Whole (acts.Reply asked reply) events) pieces followed out =
     told_by_another (profile_of scope.begins) scope.without command asked reply
-    (levels_of (profile_of scope.begins) scope.levels pieces) followed out
+    (levels_of (profile_of scope.begins) (levels_before scope) pieces) followed out
 levels_stay scope command (Whole act events) pieces followed out = refl
 levels_stay scope command piece pieces followed out = refl
 
@@ -506,42 +508,52 @@ levels_stay scope command piece pieces followed out = refl
 same_level : (scope : Scope) (command : Command) (pieces : List Piece)
     → IsFollowed scope (device_of command)
     → levels_for command
-    (levels_of (profile_of scope.begins) scope.levels (leave_out scope pieces))
-    ≡ levels_for command (levels_of (profile_of scope.begins) scope.levels pieces)
+    (levels_of (profile_of scope.begins) (levels_before scope) (leave_out scope pieces))
+    ≡ levels_for command (levels_of (profile_of scope.begins) (levels_before scope) pieces)
 same_level scope command [] followed = refl
 same_level scope command (piece ∷ pieces) followed =
     let profile = profile_of scope.begins in
     let same = same_level scope command pieces followed in
     cond_both (is_left_out scope piece)
     (with_foreign (piece_events piece) (leave_out scope pieces)) (piece ∷ leave_out scope pieces)
-    (λ ps. levels_for command (levels_of profile scope.levels ps)
-    ≡ levels_for command (levels_of profile scope.levels (piece ∷ pieces)))
+    (λ ps. levels_for command (levels_of profile (levels_before scope) ps)
+    ≡ levels_for command (levels_of profile (levels_before scope) (piece ∷ pieces)))
     (λ out. ap (levels_for command)
-    (foreign_levels profile scope.levels (piece_events piece) (leave_out scope pieces))
+    (foreign_levels profile (levels_before scope) (piece_events piece) (leave_out scope pieces))
     ∙ (same ∙ sym (levels_stay scope command piece pieces followed out)))
-    (λ kept. levels_go_on profile scope.levels command piece (leave_out scope pieces) pieces same)
+    (λ kept. levels_go_on profile (levels_before scope) command piece (leave_out scope pieces)
+    pieces same)
 
 -- a reply fits levels that are the same for its command
-fits_alike : (profile : Profile) (one other : Levels) (command : Command) (reply : Reply)
-    → levels_for command one ≡ levels_for command other → ReplyFits profile other command reply
-    → ReplyFits profile one command reply
-fits_alike profiles.Base one other command reply same fits =
+fits_so : (profile : Profile) (untold : Format) (one other : Levels) (command : Command)
+    (reply : Reply) → levels_for command one ≡ levels_for command other
+    → IsReadAs (format_by profile untold other command) command reply
+    × IsInProfile profile other command reply
+    → IsReadAs (format_by profile untold one command) command reply
+    × IsInProfile profile one command reply
+fits_so profiles.Base untold one other command reply same fits =
     let Low : ReaderLevels → Type 0 = λ levels. IsLow levels.asked in
     (fits.0, λ high. subst Low (sym same) (fits.1 high))
-fits_alike profiles.Extended one other (commands.Reader unit command) reply same fits =
+fits_so profiles.Extended untold one other (commands.Reader unit command) reply same fits =
     let Read : ReaderLevels → Type 0 = λ levels.
-    IsReadAs (format_at levels.asked levels.told) (commands.Reader unit command) reply in
+    IsReadAs (format_at untold levels.asked levels.told) (commands.Reader unit command) reply in
     (subst Read (sym same) fits.0, fits.1)
-fits_alike profiles.Extended one other command reply same fits = fits
+fits_so profiles.Extended untold one other command reply same fits = fits
+
+fits_alike : (begins : Beginning) (one other : Levels) (command : Command) (reply : Reply)
+    → levels_for command one ≡ levels_for command other → ReplyFits begins other command reply
+    → ReplyFits begins one command reply
+fits_alike begins = fits_so (profile_of begins) (untold_format begins)
 
 -- so a piece that stays fits the levels of the pieces that stay
 levels_fit : (scope : Scope) (piece : Piece) (pieces : List Piece)
     → is_left_out scope piece ≡ false
-    → PieceFits scope.begins (levels_of (profile_of scope.begins) scope.levels pieces) piece
+    → PieceFits scope.begins (levels_of (profile_of scope.begins) (levels_before scope) pieces)
+    piece
     → PieceFits scope.begins
-    (levels_of (profile_of scope.begins) scope.levels (leave_out scope pieces)) piece
+    (levels_of (profile_of scope.begins) (levels_before scope) (leave_out scope pieces)) piece
 levels_fit scope (Whole (acts.Reply command reply) events) pieces kept fits =
-    fits_alike (profile_of scope.begins) _ _ command reply (same_level scope command pieces kept)
+    fits_alike scope.begins _ _ command reply (same_level scope command pieces kept)
     fits
 levels_fit scope piece pieces kept fits = fits
 
@@ -563,7 +575,8 @@ in_order law less more wider (piece ∷ pieces) order =
     λ from. Becomes more (position_of more rest) from stands.first stands.others in
     let Pieces : List Event → Type 0 = λ events. ArePieces more (with_foreign events rest) in
     let Fits : Beginning → Levels → Type 0 =
-    λ begins told. PieceFits begins (levels_of (profile_of begins) told pieces) piece in
+    λ begins told.
+    PieceFits begins (levels_of (profile_of begins) (first_levels begins told) pieces) piece in
     cond_both (is_left_out more piece) (with_foreign (piece_events piece) rest) (piece ∷ rest)
     (ArePieces more)
     (λ out. subst Pieces (sym stands.begins)

@@ -19,6 +19,7 @@ pub mod Needs
 pub mod OneActList
 pub mod OneFault
 pub mod OneStep
+pub mod PlainMoney
 pub mod Polls
 pub mod Promises
 pub mod Rows

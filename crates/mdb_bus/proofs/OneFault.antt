@@ -8,6 +8,7 @@ use Rattle.mdb_bus.specs.declared.fault.Rule.{Rule}
 use Rattle.mdb_bus.specs.ActLists.{Piece, position_of}
 use Rattle.mdb_bus.specs.LinkFaults.{IsFirstBroken, IsLinkFault, RowBreaks, Situation, asked_device, blame_of}
 use Rattle.mdb_bus.specs.declared.scope.Scope.{Scope}
+use Rattle.mdb_bus.specs.WideMoney.{counted_as, wide_of}
 
 -- of rules in an order, one is the first that is broken
 one_first : (Breaks : Rule → Type 0) (r s : Rule) (before other after rest : List Rule)
@@ -36,7 +37,12 @@ pub one_fault : (scope : Scope) (pieces : List Piece) (row : Event) (r s : Rule)
     → IsLinkFault scope pieces row r a
     → IsLinkFault scope pieces row s b → (r ≡ s) × (a ≡ b)
 one_fault scope pieces row r s a b first second =
-    let same : r ≡ s = one_broken _ row r s first.rule second.rule in (
+    let one : first.first ≡ second.first =
+    one_broken _ row first.first second.first first.rule second.rule in
+    let same : r ≡ s =
+    first.counts
+    ∙ (ap (λ x. counted_as x (position_of scope pieces) (wide_of scope pieces)) one
+    ∙ sym second.counts) in (
       same,
       first.blame ∙ (ap (λ x. blame_of (position_of scope pieces) (asked_device pieces) row x) same
           ∙ sym second.blame),

@@ -21,9 +21,9 @@ use Rattle.mdb_bus.specs.inner.Grammar.{Grammar}
 use Rattle.mdb_bus.proofs.Lists.{nothing_after, some_length}
 use Rattle.mdb_bus.specs.declared.format.Format.{Format}
 use Rattle.mdb_bus.specs.Formats.{IsReadAs, format_for}
-use Rattle.mdb_bus.specs.Scopes.{Asks, needed_in, profile_of}
+use Rattle.mdb_bus.specs.Scopes.{Asks, needed_in}
 use Rattle.mdb_bus.specs.declared.scope.Scope.{Scope}
-use Rattle.mdb_bus.specs.declared.scope.Profile.{Profile}
+use Rattle.mdb_bus.specs.declared.scope.Beginning.{Beginning}
 
 -- what mdb_msgs promises of the commands and replies that a block may be
 pub record Readings (scope : Scope) : Type 0 where
@@ -228,28 +228,28 @@ one_answer command from to word (step.ReplyByte byte) other p q = answer_byte co
 one_answer command from to word one other p q = absurd p
 
 -- a reply goes on with one step
-reply_byte : (profile : Profile) (command : Command) (bytes : List ℕ) (from : Option Event)
+reply_byte : (begins : Beginning) (command : Command) (bytes : List ℕ) (from : Option Event)
     (levels : Levels) (to : Event) (word byte : ℕ) (other : Step)
-    → GoesOnReplying profile command bytes from levels to word (step.ReplyByte byte)
-    → GoesOnReplying profile command bytes from levels to word other → step.ReplyByte byte ≡ other
-reply_byte profile command bytes from levels to word byte (step.ReplyByte other) p q =
+    → GoesOnReplying begins command bytes from levels to word (step.ReplyByte byte)
+    → GoesOnReplying begins command bytes from levels to word other → step.ReplyByte byte ≡ other
+reply_byte begins command bytes from levels to word byte (step.ReplyByte other) p q =
     ap step.ReplyByte (sym p.0 ∙ q.0)
-reply_byte profile command bytes from levels to word byte (step.Reply reply) p q =
+reply_byte begins command bytes from levels to word byte (step.Reply reply) p q =
     absurd (omega (arith, p.1, q.0))
-reply_byte profile command bytes from levels to word byte other p q = absurd q
+reply_byte begins command bytes from levels to word byte other p q = absurd q
 
 reply_end : (scope : Scope) (readings : Readings scope) (command : Command) (bytes : List ℕ)
     (from : Option Event)
     (levels : Levels)
     (to : Event) (word : ℕ)
     (reply : Reply) (other : Step)
-    → GoesOnReplying (profile_of scope.begins) command bytes from levels to word (step.Reply reply)
-    → GoesOnReplying (profile_of scope.begins) command bytes from levels to word other
+    → GoesOnReplying scope.begins command bytes from levels to word (step.Reply reply)
+    → GoesOnReplying scope.begins command bytes from levels to word other
     → step.Reply reply ≡ other
 reply_end scope readings command bytes from levels to word reply (step.ReplyByte byte) p q =
     absurd (omega (arith, q.1, p.0))
 reply_end scope readings command bytes from levels to word reply (step.Reply other) p q =
-    ap step.Reply (readings.one_reply (format_for (profile_of scope.begins) levels command) command
+    ap step.Reply (readings.one_reply (format_for scope.begins levels command) command
     reply other p.3.0 q.3.0 p.1.answers q.1.answers (sym p.2 ∙ q.2))
 reply_end scope readings command bytes from levels to word reply other p q = absurd q
 
@@ -258,10 +258,10 @@ one_replying : (scope : Scope) (readings : Readings scope) (command : Command) (
     (levels : Levels)
     (to : Event) (word : ℕ)
     (one other : Step)
-    → GoesOnReplying (profile_of scope.begins) command bytes from levels to word one
-    → GoesOnReplying (profile_of scope.begins) command bytes from levels to word other → one ≡ other
+    → GoesOnReplying scope.begins command bytes from levels to word one
+    → GoesOnReplying scope.begins command bytes from levels to word other → one ≡ other
 one_replying scope readings command bytes from levels to word (step.ReplyByte byte) other p q =
-    reply_byte (profile_of scope.begins) command bytes from levels to word byte other p q
+    reply_byte scope.begins command bytes from levels to word byte other p q
 one_replying scope readings command bytes from levels to word (step.Reply reply) other p q =
     reply_end scope readings command bytes from levels to word reply other p q
 one_replying scope readings command bytes from levels to word one other p q = absurd p

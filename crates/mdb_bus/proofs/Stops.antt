@@ -596,15 +596,15 @@ same_reply scope grammar format command bytes one other first is read second sam
 not_left_out : (scope : Scope) → Grammar scope
     → (command : Command) (bytes : List ℕ) (reply : Reply) (levels : Levels)
     → IsReply command reply → bytes ≡ reply_bytes reply
-    → ReplyFits (profile_of scope.begins) levels command reply
-    → HasFault (format_for (profile_of scope.begins) levels command) command bytes reading.Profile
-    ⊎ LeavesProfile (profile_of scope.begins) command bytes levels → ⊥
+    → ReplyFits scope.begins levels command reply
+    → HasFault (format_for scope.begins levels command) command bytes reading.Profile
+    ⊎ LeavesProfile scope.begins command bytes levels → ⊥
 not_left_out scope grammar command bytes reply levels good same fits (inl bad) =
-    none_bad scope grammar (format_for (profile_of scope.begins) levels command) command bytes reply
+    none_bad scope grammar (format_for scope.begins levels command) command bytes reply
     reading.Profile good same fits.0 bad
 not_left_out scope grammar command bytes reply levels good same fits (inr leaves) =
     let one : leaves.0 ≡ reply =
-    same_reply scope grammar (format_for (profile_of scope.begins) levels command) command bytes
+    same_reply scope grammar (format_for scope.begins levels command) command bytes
     leaves.0 reply leaves.1 leaves.2 leaves.3 good same fits.0 in
     leaves.4 (subst (IsInProfile (profile_of scope.begins) levels command) (sym one) fits.1)
 
@@ -615,7 +615,7 @@ reply_ends : (scope : Scope) → Grammar scope
     (reply : Reply) (broken : Rule)
     → Broken scope (InReply command bytes) from levels (Word at Peripheral word) broken
     → word ≡ 256 + sum bytes % 256 → IsReply command reply → bytes ≡ reply_bytes reply
-    → ReplyFits (profile_of scope.begins) levels command reply
+    → ReplyFits scope.begins levels command reply
     → Within WORD_GAP_MIN BLOCK_GAP_MAX from (Word at Peripheral word) → ⊥
 reply_ends scope grammar command bytes from levels at word reply rule.Order breaks is good same low
     near =
@@ -640,12 +640,12 @@ reply_ends scope grammar command bytes from levels at word reply rule.Sum breaks
     breaks.1 is
 reply_ends scope grammar command bytes from levels at word reply rule.Answer breaks is good same low
     near =
-    none_bad scope grammar (format_for (profile_of scope.begins) levels command) command bytes reply
+    none_bad scope grammar (format_for scope.begins levels command) command bytes reply
     reading.Answer good same low.0 breaks.1
 reply_ends scope grammar command bytes from levels at word reply rule.Message breaks is good same
     low
     near =
-    none_bad scope grammar (format_for (profile_of scope.begins) levels command) command bytes reply
+    none_bad scope grammar (format_for scope.begins levels command) command bytes reply
     reading.Message good same low.0 breaks.1
 reply_ends scope grammar command bytes from levels at word reply rule.Profile breaks is good same
     low
@@ -661,7 +661,7 @@ in_reply : (scope : Scope) → Grammar scope
     (at word : ℕ)
     (broken : Rule) (next : Step)
     → Broken scope (InReply command bytes) from levels (Word at Peripheral word) broken
-    → GoesOnReplying (profile_of scope.begins) command bytes from levels (Word at Peripheral word)
+    → GoesOnReplying scope.begins command bytes from levels (Word at Peripheral word)
     word next → ⊥
 in_reply scope grammar command bytes from levels at word broken (step.ReplyByte byte) breaks leads =
     reply_goes_on scope command bytes from levels at word broken breaks leads.1 leads.2 leads.3

@@ -42,7 +42,7 @@ use Rattle.mdb_bus.specs.declared.scope.Scope.{Scope}
 use Rattle.mdb_bus.specs.ActLists.{IsAskFront}
 use Rattle.mdb_bus.specs.declared.format.Format.{Format}
 use Rattle.mdb_bus.specs.Formats.{HasFault, format_for}
-use Rattle.mdb_bus.proofs.FormatLaws.{none_as, one_bad, some_bad}
+use Rattle.mdb_bus.proofs.FormatLaws.{none_as, one_bad, bad_length}
 use Rattle.mdb_bus.specs.declared.scope.Profile.{Profile}
 use Rattle.mdb_bus.specs.Scopes.{HasCommand, leaves_options, needed_by, needed_in, profile_of}
 use Rattle.mdb_bus.proofs.Masked.{AreKnown, TwoTell, another_known, begins_one, content_tells, front_known, known_front, known_need, more_known, none_of_both, one_need, options_more, unmasked}
@@ -453,7 +453,7 @@ going_on scope bytes from at word levels (Err other) order early late small law 
 length_read : (format : Format) (command : Command) (bytes : List ℕ)
     → HasDataAnswer command (length bytes) → HasFault format command bytes reading.Length → ⊥
 length_read format command bytes has faulty =
-    let bad = (some_bad format command bytes reading.Length faulty).1 in
+    let bad = (bad_length format command bytes faulty).1 in
     let both : Some bad.0 ≡ Some has.0 = sym bad.1 ∙ has.1 in
     let same : has.0 ≡ bad.0 = cc in
     let P : DataForm → Type 0 = λ form. IsDataLength form (length bytes) in
@@ -513,7 +513,7 @@ reply_read : (scope : Scope) → BytesHaveOneFault → ReplyHasNoFault
     → (IsBefore WORD_GAP_MIN from (Word at Peripheral word) → ⊥)
     → (IsAfter BLOCK_GAP_MAX from (Word at Peripheral word) → ⊥)
     → 256 ≤ word → HasDataAnswer command (length bytes) → word ≡ 256 + sum bytes % 256
-    → IsRead (profile_of scope.begins) command bytes levels result
+    → IsRead scope.begins command bytes levels result
     → IsSettled
     (record { scope = scope; position = InReply command bytes; last = from; levels = levels })
     (Word at Peripheral word)
@@ -527,7 +527,7 @@ reply_read scope one none command bytes from at word levels (Ok reply) order ear
 reply_read scope one none command bytes from at word levels (Err rule.Length) order early late
     marked has
     total h =
-    absurd (length_read (format_for (profile_of scope.begins) levels command) command bytes has h)
+    absurd (length_read (format_for scope.begins levels command) command bytes has h)
 reply_read scope one none command bytes from at word levels (Err rule.Answer) order early late
     marked has
     total h =
@@ -555,7 +555,7 @@ reply_read scope one none command bytes from at word levels (Err rule.Message) o
     first rule.Sum b = absurd (b.1 total)
     first rule.Answer b =
         let clash : reading.Answer ≡ reading.Message =
-        one_bad one (format_for (profile_of scope.begins) levels command) command bytes
+        one_bad one none (format_for scope.begins levels command) command bytes
         reading.Answer reading.Message b.1 h in
         absurd (cc)
     first other b = search rules
@@ -573,12 +573,12 @@ reply_read scope one none command bytes from at word levels (Err rule.Profile) o
     first rule.Sum b = absurd (b.1 total)
     first rule.Answer b =
         let clash : reading.Answer ≡ reading.Profile =
-        one_bad one (format_for (profile_of scope.begins) levels command) command bytes
+        one_bad one none (format_for scope.begins levels command) command bytes
         reading.Answer reading.Profile b.1 h in
         absurd (cc)
     first rule.Message b =
         let clash : reading.Message ≡ reading.Profile =
-        one_bad one (format_for (profile_of scope.begins) levels command) command bytes
+        one_bad one none (format_for scope.begins levels command) command bytes
         reading.Message reading.Profile b.1 h in
         absurd (cc)
     first other b = search rules
@@ -588,9 +588,9 @@ reply_read scope one none command bytes from at word levels (Err rule.Profile) o
     record { breaks = (marked, inr h); first = first }
   where
     faultless : (fault : MsgFault)
-        → HasFault (format_for (profile_of scope.begins) levels command) command bytes fault → ⊥
+        → HasFault (format_for scope.begins levels command) command bytes fault → ⊥
     faultless fault bad =
-        let format = format_for (profile_of scope.begins) levels command in
+        let format = format_for scope.begins levels command in
         let P : List ℕ → Type 0 = λ bs. HasFault format command bs fault in
         none_as none format command h.0 fault h.1.answers h.3 (subst P h.2 bad)
 

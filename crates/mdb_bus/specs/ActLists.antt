@@ -31,7 +31,7 @@ use Rattle.mdb_bus.specs.declared.scope.Profile.TheVariants.{Base, Extended}
 use Rattle.mdb_bus.specs.declared.scope.Scope.{Scope}
 use Rattle.mdb_bus.specs.Acts.{IsAct, IsBlockWord, IsForeignWord, Say, reply_words}
 use Rattle.mdb_bus.specs.Formats.{IsReadAs, format_for, levels_for}
-use Rattle.mdb_bus.specs.Scopes.{Asks, profile_of}
+use Rattle.mdb_bus.specs.Scopes.{Asks, levels_before, profile_of}
 
 -- A piece of a transcript with its events: a whole act; or a tail, the words of an act that has
 -- begun and not ended, with the bytes that they have.
@@ -327,16 +327,16 @@ IsInProfile Base levels command reply =
 IsInProfile Extended levels command reply = tells_of_revalues reply ≡ false
 
 -- a reply fits the levels told before it: it is read so, and what it says is followed
-abbrev pub ReplyFits : Profile → Levels → Command → Reply → Type 0
-ReplyFits profile levels command reply =
-    IsReadAs (format_for profile levels command) command reply
-    × IsInProfile profile levels command reply
+abbrev pub ReplyFits : Beginning → Levels → Command → Reply → Type 0
+ReplyFits begins levels command reply =
+    IsReadAs (format_for begins levels command) command reply
+    × IsInProfile (profile_of begins) levels command reply
 
 -- a piece fits the levels told before it; an ask doesn't ask for what isn't followed
 abbrev pub PieceFits : Beginning → Levels → Piece → Type 0
 PieceFits begins levels (Whole (acts.Ask command) events) = ¬ EnablesMore command
 PieceFits begins levels (Whole (acts.Reply command reply) events) =
-    ReplyFits (profile_of begins) levels command reply
+    ReplyFits begins levels command reply
 PieceFits begins levels _ = Unit {0}
 
 -- a piece may stand after the pieces before it
@@ -346,7 +346,7 @@ pub record MayStand (scope : Scope) (pieces : List Piece) (piece : Piece) : Type
   pub begins : piece_events piece ≡ first ∷ others
   pub comes : MayCome piece (position_of scope pieces) (last_of (events_of pieces)) first
   pub levels : PieceFits scope.begins
-      (levels_of (profile_of scope.begins) scope.levels pieces) piece
+      (levels_of (profile_of scope.begins) (levels_before scope) pieces) piece
 
 -- pieces, each right by itself and after those before it
 abbrev pub ArePieces : Scope → List Piece → Type 0

@@ -12,7 +12,8 @@ use Rattle.mdb_bus.specs.declared.phase.Phase.TheVariants as phase
 use Rattle.mdb_bus.specs.Acts.{reply_words}
 use Rattle.mdb_bus.specs.ActLists.{Piece, Position, Quiet, InAsk, Asked, InReply, Replied, Returned, InRepeat, InForeign, ArePieces, IsTail, act_in, acts_of, events_of, last_of, levels_of, piece_events, position_of, with_act}
 use Rattle.mdb_bus.specs.LinkFaults.{asked_device}
-use Rattle.mdb_bus.specs.Scopes.{profile_of}
+use Rattle.mdb_bus.specs.Scopes.{levels_before, profile_of}
+use Rattle.mdb_bus.specs.WideMoney.{first_known, known_of}
 
 -- the position that a phase is, with the last bytes, the last command and the last reply
 abbrev pub position_in : Phase → List ℕ → Command → Reply → Position
@@ -39,8 +40,9 @@ pub record StandsFor (bus : Bus) (pieces : List Piece) : Type 0 where
   pub in_order : ArePieces (scope_of bus) pieces
   pub position : position_of (scope_of bus) pieces ≡ position_at bus.place
   pub last : last_of (events_of pieces) ≡ bus.last
-  pub levels : levels_of (profile_of (scope_of bus).begins) (scope_of bus).levels pieces
+  pub levels : levels_of (profile_of (scope_of bus).begins) (levels_before (scope_of bus)) pieces
       ≡ bus.levels
+  pub options : known_of (first_known (scope_of bus).begins) (acts_of pieces) ≡ bus.options
   pub asked : asked_device pieces ≡ bus.asked
 
 -- the act, if one was ended

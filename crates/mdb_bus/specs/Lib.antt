@@ -7,5 +7,7 @@ pub mod Wish
 pub mod LinkFaults
 pub mod LeavingOut
 pub mod Loss
+pub mod OpenReplies
 pub mod Scopes
+pub mod WideMoney
 pub mod inner

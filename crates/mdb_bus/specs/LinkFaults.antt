@@ -25,11 +25,12 @@ use Rattle.mdb_bus.specs.declared.fault.Blame.TheVariants as blame
 use Rattle.mdb_bus.specs.declared.fault.Rule.{Rule}
 use Rattle.mdb_bus.specs.declared.fault.Rule.TheVariants as rule
 use Rattle.mdb_bus.specs.declared.levels.Levels.{Levels}
-use Rattle.mdb_bus.specs.declared.scope.Profile.{Profile}
+use Rattle.mdb_bus.specs.declared.scope.Beginning.{Beginning}
 use Rattle.mdb_bus.specs.declared.scope.Scope.{Scope}
 use Rattle.mdb_bus.specs.Acts.{IsReply, reply_words}
 use Rattle.mdb_bus.specs.Formats.{HasFault, IsReadAs, format_for}
-use Rattle.mdb_bus.specs.Scopes.{Asks, needed_in, profile_of}
+use Rattle.mdb_bus.specs.Scopes.{Asks, levels_before, needed_in, profile_of}
+use Rattle.mdb_bus.specs.WideMoney.{counted_as, wide_of}
 use Rattle.mdb_bus.specs.ActLists.{Piece, Whole, Position, Quiet, InAsk, Asked, InReply, Replied, Returned, InRepeat, IsInProfile, events_of, last_of, levels_of, position_of, rest_before_block, rest_before_break}
 
 -- What the rows so far leave for the next one.
@@ -48,7 +49,7 @@ situation_of scope pieces = record {
   scope = scope;
   position = position_of scope pieces;
   last = last_of (events_of pieces);
-  levels = levels_of (profile_of scope.begins) scope.levels pieces;
+  levels = levels_of (profile_of scope.begins) (levels_before scope) pieces;
 }
 
 -- the device of the last whole ask, unless a break or a foreign block came since
@@ -157,19 +158,19 @@ abbrev pub IsNoVmcAnswer : ℕ → Type 0
 IsNoVmcAnswer word = (word < 256) × ((answer : Answer) → word ≢ answer_word Controller answer)
 
 -- Answer: an answer that the command cannot have, or a controller's answer that no reply can have.
-abbrev pub WrongAnswer : Profile → Levels → Position → Event → Type 0
-WrongAnswer profile levels (Asked command) (Word at Peripheral word) =
+abbrev pub WrongAnswer : Beginning → Levels → Position → Event → Type 0
+WrongAnswer begins levels (Asked command) (Word at Peripheral word) =
     IsNoAnswer word ⊎ ((word < 256) × ¬ MayHaveData command)
-WrongAnswer profile levels (InReply command bytes) (Word at Peripheral word) =
-    (256 ≤ word) × HasFault (format_for profile levels command) command bytes reading.Answer
-WrongAnswer profile levels (Replied command reply) (Word at Controller word) = IsNoVmcAnswer word
-WrongAnswer profile levels _ _ = ⊥
+WrongAnswer begins levels (InReply command bytes) (Word at Peripheral word) =
+    (256 ≤ word) × HasFault (format_for begins levels command) command bytes reading.Answer
+WrongAnswer begins levels (Replied command reply) (Word at Controller word) = IsNoVmcAnswer word
+WrongAnswer begins levels _ _ = ⊥
 
 -- Message: the leftmost message of a reply that can't be taken can't be read.
-abbrev pub HasBadMessage : Profile → Levels → Position → Event → Type 0
-HasBadMessage profile levels (InReply command bytes) (Word at Peripheral word) =
-    (256 ≤ word) × HasFault (format_for profile levels command) command bytes reading.Message
-HasBadMessage profile levels _ _ = ⊥
+abbrev pub HasBadMessage : Beginning → Levels → Position → Event → Type 0
+HasBadMessage begins levels (InReply command bytes) (Word at Peripheral word) =
+    (256 ≤ word) × HasFault (format_for begins levels command) command bytes reading.Message
+HasBadMessage begins levels _ _ = ⊥
 
 -- a word comes next in words of which some were said
 abbrev pub IsNext : List ℕ → List ℕ → ℕ → Type 0
@@ -188,11 +189,11 @@ IsOutside scope word = (byte : ℕ) × (word ≡ 256 + byte)
     × (needed_in scope (byte ∷ []) ≡ need.Outside)
 
 -- the reply that these bytes are says what isn't followed
-abbrev pub LeavesProfile : Profile → Command → List ℕ → Levels → Type 0
-LeavesProfile profile command bytes levels =
+abbrev pub LeavesProfile : Beginning → Command → List ℕ → Levels → Type 0
+LeavesProfile begins command bytes levels =
     (reply : Reply) × IsReply command reply × (bytes ≡ reply_bytes reply)
-    × IsReadAs (format_for profile levels command) command reply
-    × ¬ IsInProfile profile levels command reply
+    × IsReadAs (format_for begins levels command) command reply
+    × ¬ IsInProfile (profile_of begins) levels command reply
 
 -- a block is a command that asks for what isn't followed
 abbrev pub AsksForMore : Scope → List ℕ → Type 0
@@ -205,8 +206,8 @@ IsBeyondProfile scope (InAsk bytes) levels (Word at Controller word) =
     ⊎ AsksForMore scope (bytes ++ word ∷ [])
 IsBeyondProfile scope (InReply command bytes) levels (Word at Peripheral word) =
     (256 ≤ word)
-    × (HasFault (format_for (profile_of scope.begins) levels command) command bytes reading.Profile
-    ⊎ LeavesProfile (profile_of scope.begins) command bytes levels)
+    × (HasFault (format_for scope.begins levels command) command bytes reading.Profile
+    ⊎ LeavesProfile scope.begins command bytes levels)
 IsBeyondProfile scope (InReply command bytes) levels _ = ⊥
 IsBeyondProfile scope (InRepeat command reply words) levels _ = ⊥
 IsBeyondProfile scope position levels (Word at Controller word) = IsOutside scope word
@@ -224,9 +225,9 @@ RowBreaks s row rule.Spacing = TooFarApart s.position s.last row
 RowBreaks s row rule.Length = WrongLength s.position row
 RowBreaks s row rule.Sum = WrongSum s.scope s.position row
 RowBreaks s row rule.Break = TooShort row
-RowBreaks s row rule.Answer = WrongAnswer (profile_of s.scope.begins) s.levels s.position row
+RowBreaks s row rule.Answer = WrongAnswer s.scope.begins s.levels s.position row
 RowBreaks s row rule.Message =
-    HasBadMessage (profile_of s.scope.begins) s.levels s.position row
+    HasBadMessage s.scope.begins s.levels s.position row
 RowBreaks s row rule.Same = IsChanged s.position row
 RowBreaks s row rule.Profile = IsBeyondProfile s.scope s.position s.levels row
 RowBreaks s row rule.Changer = ⊥
@@ -270,8 +271,10 @@ blame_of position asked (Word at Peripheral word) broken = blame_on asked
 blame_of position asked (Word at Controller word) broken = vmc_blame position asked broken
 blame_of position asked (Break at length) broken = blame.Controller
 
--- the fault of a row after pieces
+-- the fault of a row after pieces: the rule that counts for the first one that it breaks
 pub record IsLinkFault (scope : Scope) (pieces : List Piece) (row : Event) (broken : Rule)
     (blamed : Blame) : Type 0 where
-  pub rule : IsFirstBroken (situation_of scope pieces) row broken
+  pub first : Rule
+  pub rule : IsFirstBroken (situation_of scope pieces) row first
+  pub counts : broken ≡ counted_as first (position_of scope pieces) (wide_of scope pieces)
   pub blame : blamed ≡ blame_of (position_of scope pieces) (asked_device pieces) row broken

@@ -2,7 +2,9 @@
 
 ghost use Rattle.std.specs.Prelude.{◌≡◌, ◌≢◌, [], ◌∷◌, ◌++◌, ℕ, List, Some, false, true, IfOk, IfErr, OnErr, Ok, Err};
 ghost use Rattle.mdb_msgs.specs.declared.reply.Reply.{Reply};
+ghost use Rattle.mdb_bus.specs.declared.fault.Rule.{Rule};
 ghost use Rattle.mdb_bus.specs.Scopes.{all_joined, power_on, profile_of};
+ghost use Rattle.mdb_bus.specs.WideMoney.{counted_as, wide_at};
 ghost use Rattle.mdb_bus.specs.inner.Step.{EachStep};
 
 use super::act::Act;
@@ -12,6 +14,7 @@ use super::judged::Judged;
 use super::judging::judge;
 use super::laws;
 use super::levels::Levels;
+use super::options::{KnownOptions, asked_with_amounts, reader_asked};
 use super::phase::Phase;
 use super::place::Place;
 use super::scope::{Beginning, Scope};
@@ -28,6 +31,7 @@ pub struct Bus {
     place: Place,
     last: Option<Event>,
     levels: Levels,
+    options: KnownOptions,
     asked: Option<Device>,
 }
 
@@ -76,7 +80,8 @@ impl Bus {
                 last_reply: Spelled::placeholder(),
             },
             last: None,
-            levels: scope.levels,
+            levels: scope.levels_before(),
+            options: KnownOptions::before(&scope.begins),
             asked: None,
         }
     }
@@ -146,12 +151,14 @@ impl Bus {
     fn take_reply(&mut self, event: Event, act: &mut Act) -> Result<bool, LinkFault>
         requires { self.old.place.phase ≡ Phase.InReply }
         ensures taken { IfOk result (λ ended. (reply : Reply)
-            × IsReadAt (profile_of self.old.scope.begins) (position_at self.old.place)
+            × IsReadAt self.old.scope.begins (position_at self.old.place)
             self.old.levels (Ok reply)
             × HasGone self.old (step.Reply reply) event self.new (ended_act ended act.new)) }
-        ensures rule { IfErr result (λ fault.
-            IsReadAt (profile_of self.old.scope.begins) (position_at self.old.place)
-            self.old.levels (Err fault.rule)) }
+        ensures rule { IfErr result (λ fault. (first : Rule)
+            × IsReadAt self.old.scope.begins (position_at self.old.place)
+            self.old.levels (Err first)
+            × (fault.rule ≡ counted_as first (position_at self.old.place)
+            (wide_at self.old.options self.old.levels))) }
         ensures blame { IfErr result (λ fault. fault.blame
             ≡ blame_of (position_at self.old.place) self.old.asked event fault.rule) }
         ensures unchanged { OnErr result (self.new ≡ self.old) }
@@ -159,10 +166,10 @@ impl Bus {
         ensures scope { self.new.scope ≡ self.old.scope }
         ensures untouched { OnErr result (act.new ≡ act.old) }
     {
-        let profile = self.scope.begins.profile();
-        match self.place.end_reply(profile, self.levels, act) {
+        match self.place.end_reply(&self.scope.begins, self.levels, act) {
             Ok(()) => {
-                self.levels.note(profile, act);
+                self.levels.note(self.scope.begins.profile(), act);
+                self.options.note(act);
                 self.last = Some(event);
                 Ok(true)
             }
@@ -189,7 +196,12 @@ impl Bus {
         self.last = Some(event);
         match judged {
             Judged::Ask => self.note_ask(act),
-            Judged::Foreign | Judged::Break => self.asked = None,
+            Judged::Ack => self.options.note(act),
+            Judged::Foreign => self.asked = None,
+            Judged::Break => {
+                self.options.note(act);
+                self.asked = None;
+            }
             _ => {}
         }
         ended
@@ -199,6 +211,7 @@ impl Bus {
     #[inline(always)]
     fn note_ask(&mut self, act: &Act)
         ensures scope { self.new.scope ≡ self.old.scope }
+        ensures options { self.new.options ≡ self.old.options }
         ensures levels { (command : Command) → act.now ≡ Act.Ask command
             → self.new.levels ≡ levels_after command self.old.levels }
         ensures asked { (command : Command) → act.now ≡ Act.Ask command
@@ -214,17 +227,37 @@ impl Bus {
         }
     }
 
-    /// The fault of a row that breaks a rule.
+    /// The fault of a row that breaks this rule first.
     fn fault(&self, rule: Rule, event: &Event) -> LinkFault
-        ensures rule { result.rule ≡ rule }
+        ensures rule { result.rule ≡ counted_as rule (position_at self.now.place)
+            (wide_at self.now.options self.now.levels) }
         ensures blame { result.blame
-            ≡ blame_of (position_at self.now.place) self.now.asked event.now rule }
+            ≡ blame_of (position_at self.now.place) self.now.asked event.now result.rule }
     {
+        let rule = self.counted(rule);
         let blame = match *event {
             Event::Word { line, .. } => self.blame(line, rule),
             Event::Break { .. } => Blame::Controller,
         };
         LinkFault { rule, blame }
+    }
+
+    /// The rule that counts for a row that breaks this rule first: `Profile` where what it breaks
+    /// may be money of 32 bits.
+    fn counted(&self, rule: Rule) -> Rule
+        ensures { result ≡ counted_as rule (position_at self.now.place)
+            (wide_at self.now.options self.now.levels) }
+    {
+        let reader = match (rule, self.place.phase) {
+            (Rule::Sum, Phase::InAsk) => asked_with_amounts(self.place.bytes.as_slice()),
+            (Rule::Message, Phase::InReply) => reader_asked(self.place.command),
+            _ => return rule,
+        };
+        if self.options.leave_wide(reader, self.levels) {
+            Rule::Profile
+        } else {
+            rule
+        }
     }
 
     /// Who is to blame for a word on a line.

@@ -9,7 +9,9 @@ ghost use Rattle.mdb_bus.specs.declared.fault.Blame.{Blame};
 ghost use Rattle.mdb_bus.specs.declared.fault.Rule.{Rule};
 ghost use Rattle.mdb_bus.specs.declared.scope.Scope.{Scope};
 ghost use Rattle.mdb_bus.specs.Acts.{NamesAReply};
-ghost use Rattle.mdb_bus.specs.ActLists.{ArePieces, GoesOnFrom, HasActList, IsActList, Piece, Whole, acts_of, events_of, position_of};
+ghost use Rattle.mdb_bus.specs.ActLists.{ArePieces, GoesOnFrom, HasActList, IsActList, Piece, Position, Whole, acts_of, events_of, position_of};
+ghost use Rattle.mdb_bus.specs.OpenReplies.{OpenAgrees, OpenLeavesOut};
+ghost use Rattle.mdb_bus.specs.WideMoney.{all_known, counted_as, first_known, wide_of};
 ghost use Rattle.mdb_bus.specs.Wish.{Wish, HearsFreeAsWished, HearsAsWished, nothing_told};
 ghost use Rattle.mdb_bus.specs.inner.Grammar.{Grammar};
 ghost use Rattle.mdb_bus.specs.LeavingOut.{LeavesOutMore, acts_with, breaks_among, device_in, leave_out, position_without};
@@ -33,6 +35,15 @@ fn grammar()
     messages::block_has_one_reply();
     messages::reply_has_no_fault();
     messages::reply_has_its_length();
+}
+
+/// If controller and reader haven't reported enough of their levels, a reply of a joined recording
+/// is read as at any levels by the extended profile, or is left out.
+pub fn open_replies_are_read_as_at_any_levels()
+    ensures agrees { OpenAgrees }
+    ensures left_out { OpenLeavesOut }
+{
+    messages::reply_has_no_fault();
 }
 
 /// The rows of a recording divide into acts in at most one way.
@@ -103,6 +114,14 @@ pub fn rows_have_one_fault()
     ensures { (scope : Scope) (pieces : List Piece) (row : Event) (r s : Rule) (a b : Blame)
         → IsLinkFault scope pieces row r a
         → IsLinkFault scope pieces row s b → (r ≡ s) × (a ≡ b) }
+{}
+
+/// Where the options of all readers are known, as from power-on and by the base profile, a row's
+/// fault is the first rule that it breaks.
+pub fn first_broken_rules_count_where_options_are_known()
+    ensures { (scope : Scope) (pieces : List Piece) (broken : Rule) (position : Position)
+        → first_known scope.begins ≡ all_known
+        → counted_as broken position (wide_of scope pieces) ≡ broken }
 {}
 
 /// No act of an act list names a device that is left out.

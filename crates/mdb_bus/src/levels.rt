@@ -8,8 +8,10 @@ ghost use Rattle.mdb_bus.specs.Formats.{format_at, or_short};
 
 use super::act::Act;
 use super::format::Format;
-use super::scope::Profile;
-use mdb_msgs::{Command, ReaderCommand, ReaderList, ReaderMsg, ReaderUnit, Reading, Reply};
+use super::scope::{Beginning, Profile};
+use mdb_msgs::{
+    Command, ReaderCommand, ReaderList, ReaderMsg, ReaderSetup, ReaderUnit, Reading, Reply, Setups,
+};
 
 /// What was reported of the feature level of one reader.
 #[derive(Clone, Copy, PartialEq, Eq, Debug)]
@@ -29,17 +31,28 @@ impl ReaderLevels {
         told: None,
     };
 
-    /// How the reader's replies are read by the extended profile.
-    fn format(self) -> Format
-        ensures { result ≡ format_at self.asked self.told }
+    /// The levels that are known of a reader.
+    fn known(setup: ReaderSetup) -> ReaderLevels
+        ensures asked { result.asked ≡ setup.asked }
+        ensures told { result.told ≡ setup.told }
+    {
+        ReaderLevels {
+            asked: setup.asked,
+            told: setup.told,
+        }
+    }
+
+    /// How the reader's replies are read by the extended profile, and how if the levels don't tell
+    /// it.
+    fn format(self, untold: Format) -> Format
+        ensures { result ≡ format_at untold self.asked self.told }
     {
         match (self.asked, self.told) {
             (Some(asked), Some(told)) => {
                 or_short(asked, or_short(told, Format::As(Reading::Long)))
             }
-            (Some(asked), None) => or_short(asked, Format::Early),
-            (None, Some(told)) => or_short(told, Format::Early),
-            (None, None) => Format::Early,
+            (Some(level), None) | (None, Some(level)) => or_short(level, untold),
+            (None, None) => untold,
         }
     }
 }
@@ -57,14 +70,27 @@ impl Levels {
     ghost use Rattle.std.specs.Prelude.{true};
     ghost use Rattle.std.specs.Bool.{OnTrue, OnFalse};
     ghost use Rattle.mdb_msgs.specs.declared.command.Command.TheVariants as commands;
+    ghost use Rattle.mdb_msgs.specs.declared.command.ReaderUnit.TheVariants.{First, Second};
     ghost use Rattle.mdb_bus.specs.ActLists.{IsInProfile, levels_after, levels_by, levels_told};
-    ghost use Rattle.mdb_bus.specs.Formats.{format_for, levels_for};
+    ghost use Rattle.mdb_bus.specs.Scopes.{levels_in};
+    ghost use Rattle.mdb_bus.specs.Formats.{format_by, format_for, levels_for, untold_format};
 
     /// No level reported yet.
     pub const NONE: Levels = Levels {
         first: ReaderLevels::NONE,
         second: ReaderLevels::NONE,
     };
+
+    /// The levels that setup data tell.
+    pub(crate) fn known(setups: &Setups) -> Levels
+        ensures first { result.first ≡ levels_in setups.now First }
+        ensures second { result.second ≡ levels_in setups.now Second }
+    {
+        Levels {
+            first: ReaderLevels::known(setups.first_reader),
+            second: ReaderLevels::known(setups.second_reader),
+        }
+    }
 
     /// The levels after a whole ask.
     pub fn after(self, command: Command) -> Levels
@@ -125,24 +151,28 @@ impl Levels {
         levels
     }
 
-    /// How a reply to a command is read.
-    pub fn format(self, profile: Profile, command: Command) -> Format
-        ensures { result ≡ format_for profile self command }
+    /// How a reply to a command is read, in a recording that begins so.
+    pub fn format(self, begins: &Beginning, command: Command) -> Format
+        ensures { result ≡ format_for begins.now self command }
     {
-        match profile {
+        match begins.profile() {
             Profile::Base => Format::As(Reading::Base),
-            Profile::Extended => self.extended_format(command),
+            Profile::Extended => self.extended_format(begins, command),
         }
     }
 
     /// The same, by the extended profile.
     #[inline(never)]
-    fn extended_format(self, command: Command) -> Format
-        ensures { result ≡ format_for Profile.Extended self command }
+    fn extended_format(self, begins: &Beginning, command: Command) -> Format
+        ensures { result ≡ format_by Profile.Extended (untold_format begins.now) self command }
     {
+        let untold = match begins {
+            Beginning::PowerOn(_) => Format::Early,
+            Beginning::Joined(_, _) => Format::Open,
+        };
         match command {
-            Command::Reader(ReaderUnit::First, _) => self.first.format(),
-            Command::Reader(ReaderUnit::Second, _) => self.second.format(),
+            Command::Reader(ReaderUnit::First, _) => self.first.format(untold),
+            Command::Reader(ReaderUnit::Second, _) => self.second.format(untold),
             _ => Format::As(Reading::Short),
         }
     }

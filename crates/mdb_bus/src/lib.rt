@@ -19,6 +19,7 @@ mod judged;
 mod judging;
 pub mod laws;
 mod levels;
+mod options;
 mod phase;
 mod place;
 mod scope;

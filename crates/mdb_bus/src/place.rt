@@ -12,7 +12,7 @@ use super::format::read_as;
 use super::judged::Judged;
 use super::levels::Levels;
 use super::phase::Phase;
-use super::scope::Profile;
+use super::scope::Beginning;
 use super::spelled::Spelled;
 use mdb_msgs::{Command, MsgFault, Reply, command_of, laws, polled};
 use mdb_words::Event;
@@ -201,24 +201,24 @@ impl Place {
     #[inline(always)]
     pub(crate) fn end_reply(
         &mut self,
-        profile: Profile,
+        begins: &Beginning,
         levels: Levels,
         act: &mut Act,
     ) -> Result<(), Rule>
         requires { self.old.phase ≡ Phase.InReply }
         ensures taken { IfOk result (λ _.
-            IsTaken profile (position_at self.old) levels (position_at self.new) (Ok act.new)) }
+            IsTaken begins.now (position_at self.old) levels (position_at self.new) (Ok act.new)) }
         ensures rule { IfErr result (λ rule.
-            IsTaken profile (position_at self.old) levels (position_at self.new) (Err rule)) }
+            IsTaken begins.now (position_at self.old) levels (position_at self.new) (Err rule)) }
         ensures unchanged { OnErr result (self.new ≡ self.old) }
         ensures untouched { OnErr result (act.new ≡ act.old) }
     {
-        let format = levels.format(profile, self.command);
+        let format = levels.format(begins, self.command);
         let reply = match read_as(format, &self.command, self.bytes.as_slice()) {
             Ok(reply) => reply,
             Err(fault) => return Err(rule_of(fault)),
         };
-        if !levels.fit(profile, self.command, &reply) {
+        if !levels.fit(begins.profile(), self.command, &reply) {
             return Err(Rule::Profile);
         }
         *act = Act::Reply(self.command, reply.copy());

@@ -1,7 +1,7 @@
 //! The scope of a check.
 
 ghost use Rattle.std.specs.Prelude.{◌≡◌, ◌<◌, ◌∷◌, [], length};
-ghost use Rattle.mdb_bus.specs.Scopes.{from_power_on, joined, leaves_options, leaving_out, needed_by, needed_in, profile_of, told};
+ghost use Rattle.mdb_bus.specs.Scopes.{from_power_on, joined, joined_by, leaves_options, leaving_out, levels_before, needed_by, needed_in, profile_of, told};
 
 use super::levels::Levels;
 use mdb_msgs::{DeviceSet, Need, Setups, begins_options, need_of, need_without};
@@ -14,7 +14,7 @@ pub enum Profile {
     /// (17 04 and 67 04) is foreign traffic.
     Base,
     /// The same without the rule on levels: also card readers of feature levels 2 and 3, and bills
-    /// that go to a recycler. This holds for recordings from power-on.
+    /// that go to a recycler.
     Extended,
 }
 
@@ -47,8 +47,8 @@ pub enum Beginning {
     /// state.
     PowerOn(Profile),
     /// While the machine was running. Nothing is known of what was sent before, and each device may
-    /// be in any state. These setup data are known from elsewhere. By the extended profile this
-    /// isn't followed yet: where levels weren't seen, or with always idle, blame may be wrong.
+    /// be in any state. These setup data are known from elsewhere. What they tell of a reader's
+    /// levels and of its always idle counts by the extended profile alone.
     Joined(Setups, Profile),
 }
 
@@ -84,7 +84,8 @@ pub struct Scope {
     /// The devices that are left out.
     pub without: DeviceSet,
     /// The feature levels that controller and readers had reported to each other before the
-    /// recording began, where they are known.
+    /// recording began, where they are known. In a joined recording by the extended profile those
+    /// of its setup data count instead.
     pub levels: Levels,
 }
 
@@ -114,15 +115,33 @@ impl Scope {
         Scope::from_power_on(Profile::Base, devices)
     }
 
-    /// A recording of a machine that was running, with these setup data known and these devices
-    /// left out.
+    /// A recording of a machine that was running, followed by a profile, with these setup data
+    /// known and these devices left out.
+    pub fn joined_by(profile: Profile, setups: Setups, without: DeviceSet) -> Scope
+        ensures { result ≡ joined_by profile setups without }
+    {
+        Scope {
+            begins: Beginning::Joined(setups, profile),
+            without,
+            levels: Levels::NONE,
+        }
+    }
+
+    /// The same by the base profile.
     pub fn joined(setups: Setups, without: DeviceSet) -> Scope
         ensures { result ≡ joined setups without }
     {
-        Scope {
-            begins: Beginning::Joined(setups, Profile::Base),
-            without,
-            levels: Levels::NONE,
+        Scope::joined_by(Profile::Base, setups, without)
+    }
+
+    /// The feature levels that are known as the recording begins: `levels`, or in a joined
+    /// recording by the extended profile those of the setup data.
+    pub fn levels_before(&self) -> Levels
+        ensures { result ≡ levels_before self.now }
+    {
+        match &self.begins {
+            Beginning::Joined(setups, Profile::Extended) => Levels::known(setups),
+            _ => self.levels,
         }
     }
 

@@ -3,7 +3,7 @@ use Rattle.std.specs.Prelude.{ℕ, Bool, Option, Some, None, not, nat_eq, nat_le
 use Rattle.std.specs.Int.Bits.{bit_and}
 use Rattle.mdb_msgs.specs.declared.device_set.DeviceSet.{DeviceSet}
 use Rattle.mdb_msgs.specs.Setups.{nothing_known}
-use Rattle.mdb_bus.specs.Scopes.{from_power_on, joined}
+use Rattle.mdb_bus.specs.Scopes.{from_power_on, joined_by}
 use Rattle.mdb_bus.specs.declared.scope.Profile.{Profile}
 use Rattle.mdb_bus.specs.declared.scope.Profile.TheVariants.{Base, Extended}
 use Rattle.mdb_bus.specs.declared.scope.Scope.{Scope}
@@ -26,11 +26,9 @@ left_out options = record {
 abbrev pub profile_of : ℕ → Profile
 profile_of options = if is_given options EXTENDED then Extended else Base
 
--- how the recording is taken: no way where a bit is set that is no option, or where a recording in
--- mid-session is to be followed by the extended profile
+-- how the recording is taken: no way where a bit is set that is no option
 abbrev pub scope_of : ℕ → Option Scope
 scope_of options =
-    if nat_le 64 options then None else (if is_given options JOINED
-    then (if is_given options EXTENDED then None
-    else Some (joined nothing_known (left_out options)))
-    else Some (from_power_on (profile_of options) (left_out options)))
+    if nat_le 64 options then None else Some (if is_given options JOINED
+    then joined_by (profile_of options) nothing_known (left_out options)
+    else from_power_on (profile_of options) (left_out options))

@@ -46,7 +46,7 @@ pub struct MdbcheckTold {
 /// - `UNREAD`: the text has more bytes than it may have;
 /// - `NO_MEMORY`: memory was refused;
 /// - `NO_ROOM`: there is a verdict, and its text has no room;
-/// - `BAD_OPTIONS`: a bit is set that is no option, or `EXTENDED` stands with `JOINED`.
+/// - `BAD_OPTIONS`: a bit is set that is no option.
 ///
 /// With any code but `YES` and `NO` the buffer stays as it was.
 #[unsafe(no_mangle)]

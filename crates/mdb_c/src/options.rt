@@ -23,14 +23,13 @@ pub const WITHOUT_CASHLESS: u32 = 8;
 pub const WITHOUT_CASHLESS_2: u32 = 16;
 
 /// What card readers of feature levels 2 and 3 say is followed too, with the options that readers
-/// have, and what a bill recycler reports. Not with `JOINED`.
+/// have, and what a bill recycler reports.
 pub const EXTENDED: u32 = 32;
 
 /// The least number that is no sum of options.
 const OPTIONS_END: u32 = 64;
 
-/// The scope that options name. `None` where a bit is set that is no option, and where `EXTENDED`
-/// stands with `JOINED`.
+/// The scope that options name. `None` where a bit is set that is no option.
 pub(crate) fn scope_of(options: u32) -> Option<Scope>
     ensures { result ≡ spec.scope_of options }
 {
@@ -38,13 +37,12 @@ pub(crate) fn scope_of(options: u32) -> Option<Scope>
         return None;
     }
     let without = left_out(options);
+    let profile = profile_of(options);
     if options & JOINED != 0 {
-        if options & EXTENDED != 0 {
-            return None;
-        }
-        return Some(Scope::joined(Setups::NONE, without));
+        Some(Scope::joined_by(profile, Setups::NONE, without))
+    } else {
+        Some(Scope::from_power_on(profile, without))
     }
-    Some(Scope::from_power_on(profile_of(options), without))
 }
 
 /// What options say is followed.

@@ -33,7 +33,8 @@ fn a_row_that_cannot_be_is_told(rt: HostRuntime) {
 #[test]
 fn a_yes_is_told_as_it_is_taken(rt: HostRuntime) {
     let mut report = [0; 2048];
-    let (code, row, length, fault) = checked(&rt, JOINED + WITHOUT_BILL, b"", &mut report);
+    let options = JOINED + EXTENDED + WITHOUT_BILL;
+    let (code, row, length, fault) = checked(&rt, options, b"", &mut report);
     assert_eq!(rt; (code, row, fault), (YES, 0, 0));
     let said = &report[..(length as usize).min(2048)];
     assert!(rt; said.starts_with(b"verdict yes\nrows 0\n"));
@@ -47,6 +48,5 @@ fn what_has_no_verdict_is_told(rt: HostRuntime) {
     assert_eq!(rt; checked(&rt, 0, text, &mut report), (BAD_ROW, 2, 0, 4));
     let bad = (BAD_OPTIONS, 0, 0, 0);
     assert_eq!(rt; checked(&rt, 64, text, &mut report), bad);
-    assert_eq!(rt; checked(&rt, JOINED + EXTENDED, text, &mut report), bad);
     assert_eq!(rt; report, [7; 4]);
 }

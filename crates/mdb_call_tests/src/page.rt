@@ -5,22 +5,6 @@ use mdb_page::{
     mdb_page_layout, mdb_page_list, mdb_page_replay,
 };
 
-/// Nothing is known of a device.
-const UNKNOWN: PageSetup = PageSetup {
-    count: 0,
-    bytes: [0; 36],
-};
-
-/// From power-on, with all devices.
-fn power_on() -> PageOptions {
-    PageOptions {
-        joined: 0,
-        extended: 0,
-        without: [0; 4],
-        setups: [UNKNOWN; 4],
-    }
-}
-
 /// Nothing was told yet.
 fn nothing() -> PageTold {
     PageTold {
@@ -45,7 +29,7 @@ fn checked(options: &PageOptions, text: &[u8]) -> (u32, PageTold, PageText) {
 
 #[test]
 fn an_empty_text_is_possible(rt: HostRuntime) {
-    let (number, told, answer) = checked(&power_on(), b"");
+    let (number, told, answer) = checked(&PageOptions::POWER_ON, b"");
     assert_eq!(rt; number, 0);
     assert_eq!(rt; told.row, 0);
     assert!(rt;
@@ -57,7 +41,10 @@ fn an_empty_text_is_possible(rt: HostRuntime) {
 
 #[test]
 fn a_row_that_cannot_be_is_told(rt: HostRuntime) {
-    let (number, told, answer) = checked(&power_on(), b"\xEF\xBB\xBF0,M,108\r\n\n1146,M,009");
+    let (number, told, answer) = checked(
+        &PageOptions::POWER_ON,
+        b"\xEF\xBB\xBF0,M,108\r\n\n1146,M,009",
+    );
     assert_eq!(rt; number, 1);
     assert_eq!(rt; told.row, 2);
     assert_eq!(rt; told.offset, 13);
@@ -68,28 +55,35 @@ fn a_row_that_cannot_be_is_told(rt: HostRuntime) {
 
 #[test]
 fn lines_that_are_no_rows_are_told(rt: HostRuntime) {
-    let (number, told, _) = checked(&power_on(), b"0,M,108\n1146,M,8\n");
+    let (number, told, _) = checked(&PageOptions::POWER_ON, b"0,M,108\n1146,M,8\n");
     assert_eq!(rt; (number, told.row, told.offset, told.fault), (2, 2, 8, 3));
-    let (number, told, _) = checked(&power_on(), b"\"0\",M,108\n");
+    let (number, told, _) = checked(&PageOptions::POWER_ON, b"\"0\",M,108\n");
     assert_eq!(rt; (number, told.row), (4, 1));
-    let (number, told, _) = checked(&power_on(), b"0,M,108\r1146,M,008\n");
+    let (number, told, _) = checked(&PageOptions::POWER_ON, b"0,M,108\r1146,M,008\n");
     assert_eq!(rt; (number, told.row), (4, 1));
 }
 
 #[test]
 fn options_that_name_no_scope_are_refused(rt: HostRuntime) {
-    let mut options = power_on();
+    let mut options = PageOptions::POWER_ON;
     options.joined = 1;
     options.setups[0].count = 2;
     let (number, _, _) = checked(&options, b"");
     assert_eq!(rt; number, 5);
     options.setups[0].count = 0;
-    options.extended = 1;
+    options.readers[0].level = 3;
     let (number, _, _) = checked(&options, b"");
     assert_eq!(rt; number, 5);
-    options.joined = 0;
+    options.extended = 1;
     let (number, _, _) = checked(&options, b"");
     assert_eq!(rt; number, 0);
+    options.readers[0].level = 4;
+    let (number, _, _) = checked(&options, b"");
+    assert_eq!(rt; number, 5);
+    options.readers[0].level = 3;
+    options.joined = 0;
+    let (number, _, _) = checked(&options, b"");
+    assert_eq!(rt; number, 5);
 }
 
 /// A coin of 25 that the changer reported twice. The controller acknowledged both reports.
@@ -117,10 +111,10 @@ fn replayed(options: &PageOptions, text: &[u8]) -> (u32, PageTold, PageText) {
 fn a_coin_told_twice_is_two_coins_if_nothing_was_lost(rt: HostRuntime) {
     let lines = b"verdict yes\nrows 41\ndecimals changer 2 bill - cashless - cashless-2 -\n\
 coins-in device 50..50 controller 50..50 difference 0..0\n";
-    let (number, told, answer) = replayed(&power_on(), TWICE);
+    let (number, told, answer) = replayed(&PageOptions::POWER_ON, TWICE);
     assert_eq!(rt; (number, told.row), (0, 41));
     assert!(rt; answer.bytes.starts_with(lines));
-    let mut options = power_on();
+    let mut options = PageOptions::POWER_ON;
     options.without[0] = 1;
     let (number, _, answer) = replayed(&options, TWICE);
     assert_eq!(rt; number, 0);
@@ -133,14 +127,14 @@ coins-in device 50..50 controller 50..50 difference 0..0\n";
 
 #[test]
 fn a_row_without_a_place_in_the_replay_is_told(rt: HostRuntime) {
-    let (number, told, answer) = replayed(&power_on(), b"0,M,108\n1146,M,009\n");
+    let (number, told, answer) = replayed(&PageOptions::POWER_ON, b"0,M,108\n1146,M,009\n");
     assert_eq!(rt; (number, told.row, told.offset), (1, 2, 8));
     assert!(rt;
         answer
             .bytes
             .starts_with(b"verdict no\nrow 2\nrule Sum\nblame controller\n")
     );
-    let mut options = power_on();
+    let mut options = PageOptions::POWER_ON;
     options.joined = 1;
     let (number, _, _) = replayed(&options, TWICE);
     assert_eq!(rt; number, 5);
@@ -166,7 +160,15 @@ fn acts_are_listed_the_first_and_the_last(rt: HostRuntime) {
     let mut acts = [BLANK; 4];
     let mut told = nothing();
     assert_eq!(rt;
-        mdb_page_list(&power_on(), text, 0, 0, &mut told, &mut acts, &mut []),
+        mdb_page_list(
+            &PageOptions::POWER_ON,
+            text,
+            0,
+            0,
+            &mut told,
+            &mut acts,
+            &mut []
+        ),
         0
     );
     assert_eq!(rt; (told.acts, told.news, told.row), (3, 1, 4));
@@ -185,12 +187,28 @@ fn acts_are_listed_the_first_and_the_last(rt: HostRuntime) {
     // The last ones stand in a ring behind the first.
     let mut two = [BLANK; 2];
     assert_eq!(rt;
-        mdb_page_list(&power_on(), text, 1, 0, &mut told, &mut two, &mut []),
+        mdb_page_list(
+            &PageOptions::POWER_ON,
+            text,
+            1,
+            0,
+            &mut told,
+            &mut two,
+            &mut []
+        ),
         0
     );
     assert_eq!(rt; (told.acts, two[0].first, two[1].first), (3, 1, 4));
     assert_eq!(rt;
-        mdb_page_list(&power_on(), text, 0, 0, &mut told, &mut two, &mut []),
+        mdb_page_list(
+            &PageOptions::POWER_ON,
+            text,
+            0,
+            0,
+            &mut told,
+            &mut two,
+            &mut []
+        ),
         0
     );
     assert_eq!(rt; (told.acts, two[0].first, two[1].first), (3, 4, 3));
@@ -202,7 +220,15 @@ fn a_block_that_a_break_cuts_is_listed(rt: HostRuntime) {
     let mut acts = [BLANK; 4];
     let mut told = nothing();
     assert_eq!(rt;
-        mdb_page_list(&power_on(), text, 0, 0, &mut told, &mut acts, &mut []),
+        mdb_page_list(
+            &PageOptions::POWER_ON,
+            text,
+            0,
+            0,
+            &mut told,
+            &mut acts,
+            &mut []
+        ),
         1
     );
     assert_eq!(rt; (told.acts, told.row, told.offset), (2, 4, 35));
@@ -245,7 +271,15 @@ fn news_are_listed_and_taken_up_again(rt: HostRuntime) {
     let mut news = [NO_NEWS; 7];
     let mut told = nothing();
     assert_eq!(rt;
-        mdb_page_list(&power_on(), COINS, 0, 0, &mut told, &mut [], &mut news),
+        mdb_page_list(
+            &PageOptions::POWER_ON,
+            COINS,
+            0,
+            0,
+            &mut told,
+            &mut [],
+            &mut news
+        ),
         0
     );
     assert_eq!(rt; (told.news, told.row), (6, 36));
@@ -266,7 +300,15 @@ fn news_are_listed_and_taken_up_again(rt: HostRuntime) {
     assert_eq!(rt; news[6].kind, 99);
     let mut one = [NO_NEWS; 1];
     assert_eq!(rt;
-        mdb_page_list(&power_on(), COINS, 0, 4, &mut told, &mut [], &mut one),
+        mdb_page_list(
+            &PageOptions::POWER_ON,
+            COINS,
+            0,
+            4,
+            &mut told,
+            &mut [],
+            &mut one
+        ),
         0
     );
     assert_eq!(rt; (told.news, one[0].kind), (6, 1));
@@ -282,7 +324,7 @@ const APPROVED: &[u8] =
 
 #[test]
 fn news_have_the_amounts_of_their_devices(rt: HostRuntime) {
-    let mut options = power_on();
+    let mut options = PageOptions::POWER_ON;
     options.joined = 1;
     let mut bill = [0; 36];
     bill[..14].copy_from_slice(b"\x01\x19\x78\x00\x64\x02\x01\x90\x00\x00\xFF\x01\xFF\x88");
@@ -320,6 +362,7 @@ fn sizes_are_told(rt: HostRuntime) {
     let mut layout = PageLayout {
         options: 0,
         setup: 0,
+        reader: 0,
         told: 0,
         answer: 0,
         act: 0,
@@ -329,7 +372,11 @@ fn sizes_are_told(rt: HostRuntime) {
         rise: 0,
     };
     mdb_page_layout(&mut layout);
-    assert_eq!(rt; (layout.options, layout.setup, layout.told), (154, 37, 40));
+    assert_eq!(rt;
+        (layout.options, layout.setup, layout.reader),
+        (304, 37, 75)
+    );
+    assert_eq!(rt; layout.told, 40);
     assert_eq!(rt; (layout.answer, layout.act, layout.news), (4104, 80, 64));
     assert_eq!(rt;
         (layout.fault, layout.lines, layout.rise),

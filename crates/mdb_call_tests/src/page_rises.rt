@@ -1,6 +1,6 @@
 //! What the page's call for open ranges answers to small texts.
 
-use mdb_page::{PageOptions, PageRise, PageSetup, PageTold, mdb_page_rises};
+use mdb_page::{PageOptions, PageRise, PageTold, mdb_page_rises};
 
 /// A changer that is reset, and reports its set-up and two equal coins (rows 32 to 34, and 38 to
 /// 40). It is the same coin if the first acknowledgement was lost. Then two equal payouts are
@@ -18,22 +18,6 @@ const OPEN: &[u8] =
 /// A coin of a machine that was running already, and the controller's acknowledgement.
 const COIN: &[u8] =
     b"115800,M,10B\n117000,M,00B\n119000,S,052\n120200,S,009\n121400,S,15B\n123400,M,000\n";
-
-/// Nothing is known of a device.
-const UNKNOWN: PageSetup = PageSetup {
-    count: 0,
-    bytes: [0; 36],
-};
-
-/// From power-on, with all devices.
-fn power_on() -> PageOptions {
-    PageOptions {
-        joined: 0,
-        extended: 0,
-        without: [0; 4],
-        setups: [UNKNOWN; 4],
-    }
-}
 
 /// Nothing was told yet.
 const NOTHING: PageTold = PageTold {
@@ -70,7 +54,7 @@ fn is_opening(rise: &PageRise, row: u64, account: u8, side: u8) -> bool {
 #[test]
 fn the_second_of_two_equal_coins_and_of_two_equal_payouts_is_listed(rt: HostRuntime) {
     let mut rises = [BLANK; 3];
-    let (number, told) = risen(&power_on(), OPEN, 0, &mut rises);
+    let (number, told) = risen(&PageOptions::POWER_ON, OPEN, 0, &mut rises);
     assert_eq!(rt; (number, told.row, told.news), (0, 49, 2));
     assert_eq!(rt; (told.offset, told.acts), (OPEN.len() as u64, 9));
     assert!(rt; is_opening(&rises[0], 40, 0, 0));
@@ -81,22 +65,22 @@ fn the_second_of_two_equal_coins_and_of_two_equal_payouts_is_listed(rt: HostRunt
 #[test]
 fn entries_are_passed_over_and_have_room_or_none(rt: HostRuntime) {
     let mut one = [BLANK; 1];
-    let (_, told) = risen(&power_on(), OPEN, 0, &mut one);
+    let (_, told) = risen(&PageOptions::POWER_ON, OPEN, 0, &mut one);
     assert_eq!(rt; told.news, 2);
     assert!(rt; is_opening(&one[0], 40, 0, 0));
-    let (_, told) = risen(&power_on(), OPEN, 1, &mut one);
+    let (_, told) = risen(&PageOptions::POWER_ON, OPEN, 1, &mut one);
     assert_eq!(rt; told.news, 2);
     assert!(rt; is_opening(&one[0], 48, 2, 1));
     let mut none = [BLANK; 1];
-    let (number, told) = risen(&power_on(), OPEN, 2, &mut none);
+    let (number, told) = risen(&PageOptions::POWER_ON, OPEN, 2, &mut none);
     assert_eq!(rt; (number, told.news, none[0].row), (0, 2, 0));
-    let (number, told) = risen(&power_on(), OPEN, 0, &mut []);
+    let (number, told) = risen(&PageOptions::POWER_ON, OPEN, 0, &mut []);
     assert_eq!(rt; (number, told.news), (0, 2));
 }
 
 #[test]
 fn a_first_coin_is_listed_where_the_machine_was_running(rt: HostRuntime) {
-    let mut options = power_on();
+    let mut options = PageOptions::POWER_ON;
     options.joined = 1;
     let mut rises = [BLANK; 2];
     let (number, told) = risen(&options, COIN, 0, &mut rises);
@@ -115,21 +99,36 @@ fn entries_stand_for_the_rows_before_the_one_that_ends_the_reading(rt: HostRunti
     let mut rises = [BLANK; 3];
     // The second order is cut after its first word.
     let cut = &OPEN[..OPEN.len() - 39];
-    let (number, told) = risen(&power_on(), cut, 0, &mut rises);
+    let (number, told) = risen(&PageOptions::POWER_ON, cut, 0, &mut rises);
     assert_eq!(rt; (number, told.row, told.news), (0, 46, 1));
     assert!(rt; is_opening(&rises[0], 40, 0, 0));
     assert_eq!(rt; rises[1].row, 0);
-    let (number, told) = risen(&power_on(), b"1000,M,108\n2200,M,009\n", 0, &mut rises);
+    let (number, told) = risen(
+        &PageOptions::POWER_ON,
+        b"1000,M,108\n2200,M,009\n",
+        0,
+        &mut rises,
+    );
     assert_eq!(rt; (number, told.row, told.offset, told.news), (1, 2, 11, 0));
-    let (number, told) = risen(&power_on(), b"1000,M,108\n2200,M,8\n", 0, &mut rises);
+    let (number, told) = risen(
+        &PageOptions::POWER_ON,
+        b"1000,M,108\n2200,M,8\n",
+        0,
+        &mut rises,
+    );
     assert_eq!(rt; (number, told.row, told.offset, told.fault), (2, 2, 11, 3));
-    let (number, told) = risen(&power_on(), b"1000,M,108\n\"2200\",M,008\n", 0, &mut rises);
+    let (number, told) = risen(
+        &PageOptions::POWER_ON,
+        b"1000,M,108\n\"2200\",M,008\n",
+        0,
+        &mut rises,
+    );
     assert_eq!(rt; (number, told.row, told.offset, told.news), (4, 2, 11, 0));
 }
 
 #[test]
 fn options_that_name_no_scope_list_nothing(rt: HostRuntime) {
-    let mut options = power_on();
+    let mut options = PageOptions::POWER_ON;
     options.setups[0].count = 2;
     let mut rises = [BLANK; 1];
     let (number, told) = risen(&options, OPEN, 0, &mut rises);

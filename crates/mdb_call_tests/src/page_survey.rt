@@ -1,6 +1,6 @@
 //! What the page's survey answers to small texts.
 
-use mdb_page::{PageFault, PageLines, PageOptions, PageSetup, PageText, PageTold, mdb_page_survey};
+use mdb_page::{PageFault, PageLines, PageOptions, PageText, PageTold, mdb_page_survey};
 
 /// A changer that is reset, and reports its set-up and coins. Row 37 has a wrong sum, and row 47 is
 /// a coin that nobody asked for.
@@ -60,20 +60,6 @@ total silences changer 0 bill 0 cashless 0 cashless-2 0\n\
 total unvalued changer 0 bill 0 cashless 0 cashless-2 0\n\
 faults 2 controller 1 changer 1 bill 0 cashless 0 cashless-2 0 other 0 profile 0\n";
 
-/// Nothing is known of a device.
-const UNKNOWN: PageSetup = PageSetup {
-    count: 0,
-    bytes: [0; 36],
-};
-
-/// From power-on, with all devices.
-const POWER_ON: PageOptions = PageOptions {
-    joined: 0,
-    extended: 0,
-    without: [0; 4],
-    setups: [UNKNOWN; 4],
-};
-
 /// Nothing was told yet.
 const NOTHING: PageTold = PageTold {
     row: 0,
@@ -101,7 +87,15 @@ fn surveyed(
 ) -> (u32, PageTold, PageText) {
     let mut told = NOTHING;
     let mut answer = NO_TEXT;
-    let number = mdb_page_survey(&POWER_ON, text, skip, &mut told, faults, lines, &mut answer);
+    let number = mdb_page_survey(
+        &PageOptions::POWER_ON,
+        text,
+        skip,
+        &mut told,
+        faults,
+        lines,
+        &mut answer,
+    );
     (number, told, answer)
 }
 

@@ -129,7 +129,7 @@ impl Pair for Bill {
         act: &Act,
         code: usize,
         choice: Choice,
-    ) -> ArrayVec<(usize, Gains), 72> {
+    ) -> ArrayVec<(usize, Gains), 144> {
         let steps = steps(known, act, choice, BillState::at(code));
         coded(steps.as_slice())
     }

@@ -129,7 +129,7 @@ impl Pair for Changer {
         act: &Act,
         code: usize,
         choice: Choice,
-    ) -> ArrayVec<(usize, Gains), 72> {
+    ) -> ArrayVec<(usize, Gains), 144> {
         let steps = steps(known, act, choice, ChangerState::at(code));
         coded(steps.as_slice())
     }

@@ -13,7 +13,7 @@ use Rattle.mdb_machine.specs.declared.choice.Choice.TheVariants.{Plain, Lost, Re
 use Rattle.mdb_machine.specs.declared.gains.Gains.{Gains}
 use Rattle.mdb_machine.specs.Gains.{device_gains, in_slots}
 use Rattle.mdb_machine.specs.Kept.{IsNew, held, holds_after, kept_of}
-use Rattle.mdb_machine.specs.Past.{or_else}
+use Rattle.mdb_machine.specs.Past.{or_else, tells_out_of_sequence}
 use Rattle.mdb_cashless.specs.declared.reader.device.DeviceState.{DeviceState}
 use Rattle.mdb_cashless.specs.declared.reader.device.DeviceState.TheVariants as device
 use Rattle.mdb_cashless.specs.declared.reader.messages.ReaderActivity.{ReaderActivity}
@@ -24,10 +24,10 @@ use Rattle.mdb_cashless.specs.declared.reader.transaction.Transaction.TheVariant
 use Rattle.mdb_cashless.specs.declared.reader.view.View.{View}
 use Rattle.mdb_cashless.specs.declared.reader.view.View.TheVariants as view
 use Rattle.mdb_cashless.specs.Reader.{AckStep, AskStep, ReplyStep, all_approved, asked, before_messages, drops, is_poll, read, sold_any, take_any, taken, value, view_heard}
-use Rattle.mdb_cashless.specs.ReaderDevice.{all_told, effect_by, has_approved, then_by, told, told_by}
+use Rattle.mdb_cashless.specs.ReaderDevice.{all_told, effect_by, has_approved, then_by, told, told_at_any_time, told_by}
 use Rattle.mdb_cashless.specs.ReaderFacts.{Facts, own_transaction}
 use Rattle.mdb_cashless.specs.ReaderMessages.{config_in, last_said, messages_of, parts_of}
-use Rattle.mdb_cashless.specs.ReaderView.{may_as_in_idle, sent}
+use Rattle.mdb_cashless.specs.ReaderView.{may_as_in_idle, sent, sent_in_turn}
 use Rattle.mdb_cashless.specs.Transactions.{amounts, ended_by, is_again, is_request, is_same, no_end, transaction_of}
 use Rattle.mdb_cashless.specs.inner.Guesses.{again}
 
@@ -385,3 +385,199 @@ fronts other poll true (x ∷ xs) kept news some (inl order) =
       inl (order ∙ ap (λ l. l ++ news) (sym (ap (take (suc (length xs))) order
           ∙ take-append_seam (x ∷ xs) news))),
     )
+
+-- facts with always idle on or off, and with its last transaction a VEND REQUEST or not
+abbrev pub idling : Facts → Bool → Bool → Facts
+idling facts idle requested = record facts { always_idle = idle; requested = requested }
+
+-- what may be sent without always idle may be sent with it
+more_idle : (i j refused : Bool) (before : View) → (i ≡ true → j ≡ true)
+    → may_as_in_idle i refused before ≡ true → may_as_in_idle j refused before ≡ true
+more_idle i j refused view.NoSession more may = more may
+more_idle i j refused view.Idle more may = may
+more_idle i j refused view.Approved more may = may
+more_idle i j refused before more may = may
+
+more_sent : (i j : Bool) (last : Option Transaction) (t : Transaction) (before after : View)
+    → (i ≡ true → j ≡ true) → sent i last t before ≡ Some after
+    → sent j last t before ≡ Some after
+more_sent true true last t before after more e = e
+more_sent true false last t before after more e =
+    let clash : false ≡ true = more refl in absurd cc
+more_sent false true last t before after more e =
+    ap (λ o. or_else o (sent_in_turn last t view.Idle)) e
+more_sent false false last t before after more e = e
+
+more_asked : (i j : Bool) (last : Option Transaction) (command : ReaderCommand)
+    (before after : View) → (i ≡ true → j ≡ true)
+    → asked_after i last command before ≡ Some after
+    → asked_after j last command before ≡ Some after
+more_asked i j last (reader.VendRequest price item) before after more e =
+    more_sent i j last (Request price item) before after more e
+more_asked i j last reader.VendCancel before after more e =
+    more_sent i j last Cancel before after more e
+more_asked i j last (reader.VendSuccess item) before after more e =
+    more_sent i j last (Success item) before after more e
+more_asked i j last reader.VendFailure before after more e =
+    more_sent i j last Failure before after more e
+more_asked i j last reader.SessionComplete before after more e =
+    more_sent i j last Complete before after more e
+more_asked i j last command before after more e = e
+
+pub ask_wider : (facts : Facts) (i j r s : Bool) (command : ReaderCommand)
+    (before after : ReaderState) (gains : Gains) → (i ≡ true → j ≡ true)
+    → AskStep (idling facts i r) command before after gains
+    → AskStep (idling facts j s) command before after gains
+ask_wider facts i j r s command before after gains more step = record {
+  view = asked_is (idling facts j s) command before.view
+      ∙ more_asked (may_as_in_idle i facts.refused before.view)
+      (may_as_in_idle j facts.refused before.view) facts.asked command before.view after.view
+      (more_idle i j facts.refused before.view more)
+      (sym (asked_is (idling facts i r) command before.view) ∙ step.view);
+  device = step.device;
+  holds = step.holds;
+  gained = step.gained;
+}
+
+-- only a transaction command has another effect with always idle
+no_effect : (command : ReaderCommand) (before : DeviceState) → transaction_of command ≡ None
+    → effect_by true command before ≡ effect_by false command before
+no_effect (reader.VendRequest price item) before none = absurd cc
+no_effect reader.VendCancel before none = absurd cc
+no_effect command before none = refl
+
+same_effect : (i j : Bool) (command : ReaderCommand) (before : DeviceState)
+    → (j ≡ i) ⊎ (transaction_of command ≡ None)
+    → effect_by i command before ≡ effect_by j command before
+same_effect i j command before (inl same) = ap (λ b. effect_by b command before) (sym same)
+same_effect true true command before (inr none) = refl
+same_effect true false command before (inr none) = no_effect command before none
+same_effect false true command before (inr none) = sym (no_effect command before none)
+same_effect false false command before (inr none) = refl
+
+pub ack_wider : (facts : Facts) (i j r s : Bool) (command : ReaderCommand) (choice : Choice)
+    (before after : ReaderState) (gains : Gains)
+    → (j ≡ i) ⊎ (transaction_of command ≡ None)
+    → AckStep (idling facts i r) command choice before after gains
+    → AckStep (idling facts j s) command choice before after gains
+ack_wider facts i j r s command choice before after gains same step = record {
+  poll = step.poll;
+  to = step.to ∙ ap (λ (d : DeviceState). record (if repeats facts.taken (transaction_of command)
+      before.holds then before else record {
+        device = d;
+        view = before.view;
+        holds = if drops command then false else before.holds;
+      }) { view = view_heard choice command before.view })
+      (same_effect i j command before.device same);
+  gained = step.gained;
+}
+
+-- what may be told without always idle, or where its last transaction is none, may be told with it
+more_requested : (i r s : Bool) (message : ReaderActivity) (before after : DeviceState)
+    → (r ≡ true → s ≡ true) → told_by i r message before ≡ Some after
+    → told_by i s message before ≡ Some after
+more_requested i true true message before after more e = e
+more_requested i true false message before after more e =
+    let clash : false ≡ true = more refl in absurd cc
+more_requested i false true message before after more e =
+    told_by_request i false message before after e
+more_requested i false false message before after more e = e
+
+more_told : (i j r s : Bool) (message : ReaderActivity) (before after : DeviceState)
+    → (i ≡ true → j ≡ true) → (r ≡ true → s ≡ true) → told_by i r message before ≡ Some after
+    → told_by j s message before ≡ Some after
+more_told true true r s message before after idle more e =
+    more_requested true r s message before after more e
+more_told true false r s message before after idle more e =
+    let clash : false ≡ true = idle refl in absurd cc
+more_told false true r s message before after idle more e =
+    ap (λ o. or_else o (told_at_any_time message before))
+    (more_requested false r s message before after more e)
+more_told false false r s message before after idle more e =
+    more_requested false r s message before after more e
+
+first_more : (i j r s : Bool) (message : ReaderActivity) (news : List ReaderActivity)
+    (before after : DeviceState) → (i ≡ true → j ≡ true) → (r ≡ true → s ≡ true)
+    → ((between : DeviceState) → all_told i r news between ≡ Some after
+    → all_told j s news between ≡ Some after)
+    → (one : Option DeviceState) → told_by i r message before ≡ one
+    → then_by one (all_told i r news) ≡ Some after
+    → then_by (told_by j s message before) (all_told j s news) ≡ Some after
+first_more i j r s message news before after idle more rest None is e = absurd cc
+first_more i j r s message news before after idle more rest (Some x) is e =
+    ap (λ o. then_by o (all_told j s news)) (more_told i j r s message before x idle more is)
+    ∙ rest x e
+
+all_more : (i j r s : Bool) (news : List ReaderActivity) (before after : DeviceState)
+    → (i ≡ true → j ≡ true) → (r ≡ true → s ≡ true) → all_told i r news before ≡ Some after
+    → all_told j s news before ≡ Some after
+all_more i j r s [] before after idle more e = e
+all_more i j r s (message ∷ news) before after idle more e =
+    first_more i j r s message news before after idle more
+    (λ between. all_more i j r s news between after idle more) (told_by i r message before) refl e
+
+more_by : (a b r s : Bool) → (r ≡ true → s ≡ true) → (a || (b && r)) ≡ true
+    → (a || (b && s)) ≡ true
+more_by true b r s more e = refl
+more_by false true r s more e = more e
+more_by false false r s more e = e
+
+taken_wider : (facts : Facts) (i j r s : Bool) (its : Option ReaderCommand) (before : ReaderState)
+    → ((c : ReaderCommand) → its ≡ Some c → (j ≡ i) ⊎ (transaction_of c ≡ None))
+    → take_any (idling facts i r) its before ≡ take_any (idling facts j s) its before
+taken_wider facts i j r s None before same = refl
+taken_wider facts i j r s (Some command) before same =
+    ap (λ (d : DeviceState). if repeats facts.taken (transaction_of command) before.holds
+    then before else record {
+      device = d;
+      view = before.view;
+      holds = if drops command then false else before.holds;
+    }) (same_effect i j command before.device (same command refl))
+
+sold_wider : (facts : Facts) (i j r s : Bool) (its : Option ReaderCommand) (before : ReaderState)
+    → sold_any (idling facts i r) its before ≡ sold_any (idling facts j s) its before
+sold_wider facts i j r s None before = refl
+sold_wider facts i j r s (Some command) before = refl
+
+taken_own : (i j refused : Bool) (command c : ReaderCommand)
+    → (j ≡ i) ⊎ (transaction_of command ≡ None)
+    → (if refused then None else Some command) ≡ Some c → (j ≡ i) ⊎ (transaction_of c ≡ None)
+taken_own i j true command c same is = absurd cc
+taken_own i j false command c same is =
+    let its : command ≡ c = cc in
+    subst (λ (x : ReaderCommand). (j ≡ i) ⊎ (transaction_of x ≡ None)) its same
+
+pub reply_wider : (facts : Facts) (i j r s : Bool) (command : ReaderCommand) (reply : Reply)
+    (choice : Choice) (before after : ReaderState) (gains : Gains)
+    → (j ≡ i) ⊎ (transaction_of command ≡ None) → (i ≡ true → j ≡ true) → (r ≡ true → s ≡ true)
+    → ReplyStep (idling facts i r) command reply choice before after gains
+    → ReplyStep (idling facts j s) command reply choice before after gains
+reply_wider facts i j r s command reply choice before after gains same idle more step =
+    let start = read choice before in
+    let its = taken command reply in
+    let own = own_transaction its in
+    let middle = taken_wider facts i j r s its start
+    (λ c. taken_own i j (tells_out_of_sequence reply) command c same) in
+    let news = step.news in
+    let approved =
+    all_approved (or_else (last_said config_in (messages_of reply)) facts.config) news in
+    record {
+      news = news;
+      has_news = record {
+        read = step.has_news.read;
+        reset = step.has_news.reset;
+        new = subst (λ (m : ReaderState). IsNew (is_poll command)
+            (held m.holds facts.past.last_kept) (kept_of (parts_of reply)) news)
+            middle step.has_news.new;
+      };
+      told = all_more i j (requested_by own facts.taken r) (requested_by own facts.taken s) news _
+          after.device idle
+          (more_by (is_request (or_else own facts.taken)) (is_none own) r s more)
+          (sym (ap (λ (m : ReaderState). all_told i (requested_by own facts.taken r) news m.device)
+          middle) ∙ step.told);
+      view = step.view;
+      holds = step.holds ∙ ap (λ (m : ReaderState).
+          holds_after (kept_of (parts_of reply)) m.holds) middle;
+      gained = step.gained ∙ ap (λ n. device_gains (in_slots (amounts approved n)))
+          (sold_wider facts i j r s its start);
+    }

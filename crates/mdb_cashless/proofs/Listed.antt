@@ -1,5 +1,6 @@
 -- Lists of steps, to which steps are added one after another.
-use Rattle.std.proofs.Common.{◌≡◌, ◌⊎◌, ◌↔◌, ◌+◌, ℕ, List, [], ◌∷◌, length, take, Contains, Bool, true, false, Option, Some, None, IfSome, refl, arith, ap, subst, inl, inr}
+use Rattle.std.proofs.Common.{◌≡◌, ◌⊎◌, ◌↔◌, ◌+◌, ℕ, List, [], ◌∷◌, ◌++◌, length, take, Contains, Bool, true, false, Option, Some, None, IfSome, refl, arith, ap, subst, sym, inl, inr}
+use Rattle.std.proofs.lemmas.List.Elements.{Contains-append_cases, Contains-append_left, Contains-append_right}
 use Rattle.std.proofs.Math.Nat.{eq-or-lt_of_le}
 use Rattle.mdb_msgs.specs.declared.command.ReaderCommand.{ReaderCommand}
 use Rattle.mdb_msgs.specs.declared.reply.Reply.{Reply}
@@ -115,6 +116,33 @@ adds_as old new Step Other adds is after gains =
       λ either.
           has.1 (elim either [ inl was ↦ inl was | inr other ↦ inr ((is after gains).1 other) ]),
     )
+
+-- all steps of a list are added
+pub adds_list : (old more new : List (ReaderState × Gains)) (Step : ReaderState → Gains → Type 0)
+    → new ≡ old ++ more
+    → ((after : ReaderState) (gains : Gains) → Contains more (after, gains) ↔ Step after gains)
+    → Adds old new Step
+adds_list old more new Step is each after gains =
+    let step = each after gains in (
+      λ among. elim (Contains-append_cases old more (after, gains)
+          (subst (λ l. Contains l (after, gains)) is among)) [
+            | inl was ↦ inl was
+            | inr has ↦ inr (step.0 has)
+          ],
+      λ either. subst (λ l. Contains l (after, gains)) (sym is) (elim either [
+        | inl was ↦ Contains-append_left old more (after, gains) was
+        | inr has ↦ Contains-append_right old more (after, gains) (step.1 has)
+      ]),
+    )
+
+pub small_list : (old more new : List (ReaderState × Gains)) → new ≡ old ++ more → AreSmall more
+    → AreSmall old → AreSmall new
+small_list old more new is small were after gains among =
+    elim (Contains-append_cases old more (after, gains)
+    (subst (λ l. Contains l (after, gains)) is among)) [
+      | inl was ↦ were after gains was
+      | inr has ↦ small after gains has
+    ]
 
 -- no front is the last kept list, and one more is
 pub no_front : (old : List (ReaderState × Gains)) (facts : Facts) (kept : List ReaderActivity)

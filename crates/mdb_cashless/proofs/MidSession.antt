@@ -20,6 +20,7 @@ use Rattle.mdb_machine.specs.declared.gains.Gains.{Gains}
 use Rattle.mdb_machine.specs.Gains.{device_gains, in_slots}
 use Rattle.mdb_machine.specs.Kept.{IsNew, MayBeKept, held, holds_after, kept_of}
 use Rattle.mdb_machine.specs.Known.{Allows, AllowsKept, known_by}
+use Rattle.mdb_machine.specs.MidSession.{past_recorded}
 use Rattle.mdb_machine.specs.Past.{last_list, last_told, or_else, past_of, powers_on, resets, unless_empty}
 use Rattle.mdb_machine.specs.shared.PastWays.{same_past}
 use Rattle.mdb_cashless.specs.declared.reader.messages.ReaderActivity.{ReaderActivity}
@@ -34,7 +35,7 @@ use Rattle.mdb_cashless.specs.ReaderMessages.{config_in, last_said, messages_of,
 use Rattle.mdb_cashless.specs.Transactions.{amounts, ended_by, is_again, is_request, is_same, no_end, transaction_of}
 use Rattle.std.specs.Option.{is_none}
 use Rattle.mdb_cashless.specs.Units.{own}
-use Rattle.mdb_cashless.specs.MidSession.{AckWay, AreHeld, IsSettled, ReplyWay, SendsNone, Takes, TakesNone, TellsNone, effected, facts_recorded, sale}
+use Rattle.mdb_cashless.specs.MidSession.{AckWay, AreHeld, IsSettled, MayIdle, ReplyWay, SendsNone, Takes, TakesNone, TellsNone, effected, facts_recorded, sale}
 use Rattle.mdb_machine.specs.shared.ToldWays.{allows_if, allows_told, as_allowed, asked_so, empty_unless, keeps_if, kept_so, kept_told, list_told, none_told, not_not, told_by_none}
 use Rattle.mdb_cashless.proofs.Guesses.{ask_again, ask_same, guessing, held_before}
 use Rattle.mdb_cashless.proofs.Knowing.{Same, same_facts, step_same}
@@ -157,35 +158,51 @@ kept_allows unit setups profile so_far holds last some is =
 -- the facts that acts tell are those that are known
 same_owed : (unit : ReaderUnit) (setups : Setups) (profile : Profile) (so_far : List Act)
     → (known_of (Joined setups profile) unit so_far).past.reset_owed
-    ≡ (facts_recorded unit setups profile so_far).past.reset_owed
+    ≡ (past_recorded (effect_of unit) (parts_by unit) so_far).reset_owed
 same_owed unit setups profile so_far = not_not
     (past_of (effect_of unit) (parts_by unit) so_far).reset_owed
     (list_any (powers_on (effect_of unit)) so_far)
 
-as_guess : (unit : ReaderUnit) (setups : Setups) (profile : Profile) (so_far : List Act)
+-- with always idle as it is
+abbrev its_idle : (unit : ReaderUnit) (setups : Setups) (profile : Profile) (so_far : List Act)
     (holds : Bool) (facts : Facts)
     → AllowsFacts (known_of (Joined setups profile) unit so_far) holds facts
-    → facts ≡ guessing (facts_recorded unit setups profile so_far) facts.asked facts.taken
+    → MayIdle unit setups profile so_far
+its_idle unit setups profile so_far holds facts is = record {
+  on = facts.always_idle;
+  may_be_on = is.always_idle;
+  request = is.request;
+  may_be_request = is.is_request;
+}
+
+as_guess : (unit : ReaderUnit) (setups : Setups) (profile : Profile) (so_far : List Act)
+    (holds : Bool) (facts : Facts)
+    → (is : AllowsFacts (known_of (Joined setups profile) unit so_far) holds facts)
+    → facts ≡ guessing (facts_recorded unit setups profile so_far
+    (its_idle unit setups profile so_far holds facts is)) facts.asked facts.taken
     facts.past.last_kept
 as_guess unit setups profile so_far holds facts is =
-    same_facts is.config refl refl is.amount is.refused is.always_idle is.requested
+    same_facts is.config refl refl is.amount is.refused refl is.requested
     (same_past (λ kind. ap (λ e. e kind) is.past.enabled)
     (is.past.reset_owed ∙ same_owed unit setups profile so_far) refl)
 
 guess_allowed : (unit : ReaderUnit) (setups : Setups) (profile : Profile) (so_far : List Act)
-    (holds : Bool) (a t : Option Transaction) (k : List ReaderActivity)
+    (idle : MayIdle unit setups profile so_far) (holds : Bool) (a t : Option Transaction)
+    (k : List ReaderActivity)
     → Allows (known_of (Joined setups profile) unit so_far).asked a
     → Allows (known_of (Joined setups profile) unit so_far).taken t
     → AllowsKept (known_of (Joined setups profile) unit so_far).past.last_kept holds k
     → AllowsFacts (known_of (Joined setups profile) unit so_far) holds
-    (guessing (facts_recorded unit setups profile so_far) a t k)
-guess_allowed unit setups profile so_far holds a t k asked taken kept = record {
+    (guessing (facts_recorded unit setups profile so_far idle) a t k)
+guess_allowed unit setups profile so_far idle holds a t k asked taken kept = record {
   config = refl;
   asked = asked;
   taken = taken;
   amount = refl;
   refused = refl;
-  always_idle = refl;
+  always_idle = idle.may_be_on;
+  request = idle.request;
+  is_request = idle.may_be_request;
   requested = refl;
   past = record {
     enabled = refl;
@@ -217,37 +234,44 @@ pub sent_way : (unit : ReaderUnit) (setups : Setups) (profile : Profile) (so_far
     → ((facts : Facts) × AllowsFacts (known_of (Joined setups profile) unit so_far) before.holds
     facts
     × AskStep facts command before after gains)
-    ↔ AskStep (record (facts_recorded unit setups profile so_far)
+    ↔ (idle : MayIdle unit setups profile so_far)
+    × AskStep (record (facts_recorded unit setups profile so_far idle)
     { asked = transaction_of command })
     command
     before after gains
-sent_way unit setups profile so_far command before after gains none =
-    let base = facts_recorded unit setups profile so_far in
-    let kept = a_list unit setups profile so_far before.holds in (
-      λ some.
-          let facts = some.0 in
-          ask_again base facts.asked facts.taken base.taken facts.past.last_kept base.past.last_kept
-          command before after gains
-          (subst (λ f. AskStep f command before after gains)
-          (as_guess unit setups profile so_far before.holds facts some.1) some.2),
-      λ step. (
+sent_way unit setups profile so_far command before after gains none = (
+  λ some.
+      let facts = some.0 in
+      let idle = its_idle unit setups profile so_far before.holds facts some.1 in
+      let base = facts_recorded unit setups profile so_far idle in (
+        idle,
+        ask_again base facts.asked facts.taken base.taken facts.past.last_kept base.past.last_kept
+            command before after gains
+            (subst (λ f. AskStep f command before after gains)
+            (as_guess unit setups profile so_far before.holds facts some.1) some.2),
+      ),
+  λ some.
+      let idle = some.0 in
+      let base = facts_recorded unit setups profile so_far idle in
+      let kept = a_list unit setups profile so_far before.holds in (
         guessing base (transaction_of command) base.taken kept.0,
-        guess_allowed unit setups profile so_far before.holds (transaction_of command) base.taken
-            kept.0 (subst (λ o. Allows (known_by (Joined setups profile) None
+        guess_allowed unit setups profile so_far idle before.holds (transaction_of command)
+            base.taken kept.0 (subst (λ o. Allows (known_by (Joined setups profile) None
             (option_map (λ (t : Transaction). Some t) o)) (transaction_of command))
             (sym (none_asked unit so_far none)) tt)
             (its_taken unit setups profile so_far) kept.1,
         ask_same base (transaction_of command) (transaction_of command) base.taken base.taken
-            base.past.last_kept kept.0 command before after gains (inl refl) step,
+            base.past.last_kept kept.0 command before after gains (inl refl) some.1,
       ),
-    )
+)
 
 pub sent : (unit : ReaderUnit) (setups : Setups) (profile : Profile) (so_far : List Act)
     (command : ReaderCommand) (choice : Choice) (before after : ReaderState) (gains : Gains)
     → SendsNone unit so_far
     → (machine unit (Joined setups profile)).Step so_far (acts.Ask (commands.Reader unit command))
     choice before after gains
-    ↔ AskStep (record (facts_recorded unit setups profile so_far)
+    ↔ (idle : MayIdle unit setups profile so_far)
+    × AskStep (record (facts_recorded unit setups profile so_far idle)
     { asked = transaction_of command })
     command
     before after gains
@@ -338,10 +362,11 @@ taken_anew facts command before is = (
 
 -- a command that is taken after facts that may be is taken in one of the ways
 takes_to : SameFields → (unit : ReaderUnit) (setups : Setups) (profile : Profile)
-    (so_far : List Act) (facts : Facts) (holds : Bool) → AllowsFacts
-    (known_of (Joined setups profile) unit so_far) holds facts
+    (so_far : List Act) (facts : Facts) (holds : Bool)
+    → (allowed : AllowsFacts (known_of (Joined setups profile) unit so_far) holds facts)
     → (its : Option ReaderCommand) (before : ReaderState)
-    → Takes unit so_far (facts_recorded unit setups profile so_far) its before
+    → Takes unit so_far (facts_recorded unit setups profile so_far
+    (its_idle unit setups profile so_far holds facts allowed)) its before
     (take_any facts its before) (sold_any facts its before)
 takes_to fields unit setups profile so_far facts holds allowed None before =
     inr (λ t is held known same. absurd cc, refl, refl)
@@ -350,6 +375,7 @@ takes_to fields unit setups profile so_far facts holds allowed (Some command) be
   where
     base : Facts
     base = facts_recorded unit setups profile so_far
+        (its_idle unit setups profile so_far holds facts allowed)
 
     by : (r : Bool) → is_repeated facts command before.holds ≡ r
         → Takes unit so_far base (Some command) before (take_any facts (Some command) before)
@@ -378,10 +404,7 @@ takes_to fields unit setups profile so_far facts holds allowed (Some command) be
               let clash : false ≡ true =
               sym is ∙ ap (λ l. repeats l (transaction_of command) before.holds) last ∙ again in
               absurd cc,
-          to.0 ∙ ap (λ i. record before {
-            device = effect_by i command before.device;
-            holds = if drops command then false else before.holds;
-          }) allowed.always_idle,
+          to.0,
           to.1 ∙ ap (λ c. ended_by (has_approved before.device) command (value c facts.amount))
               allowed.config
               ∙ ap (λ a. ended_by (has_approved before.device) command (value base.config a))
@@ -390,15 +413,17 @@ takes_to fields unit setups profile so_far facts holds allowed (Some command) be
 
 -- and each way is one after some guess of the last transaction, which may be; where no transaction
 -- is taken, any that may be does
-abbrev TakesAfter : ReaderUnit → Setups → Profile → List Act → Option ReaderCommand → ReaderState
-    → ReaderState
+abbrev TakesAfter : (unit : ReaderUnit) (setups : Setups) (profile : Profile) (so_far : List Act)
+    → MayIdle unit setups profile so_far → Option ReaderCommand → ReaderState → ReaderState
     → Ended → Option Transaction → Option Transaction → Type 0
-TakesAfter unit setups profile so_far its before after sold guess t =
+TakesAfter unit setups profile so_far idle its before after sold guess t =
     Allows (known_of (Joined setups profile) unit so_far).taken t
     × (or_else (own_transaction its) t ≡ or_else (own_transaction its) guess)
     × ((a : Option Transaction) (k : List ReaderActivity)
-    → (take_any (guessing (facts_recorded unit setups profile so_far) a t k) its before ≡ after)
-    × (sold_any (guessing (facts_recorded unit setups profile so_far) a t k) its before ≡ sold))
+    → (take_any (guessing (facts_recorded unit setups profile so_far idle) a t k) its before
+    ≡ after)
+    × (sold_any (guessing (facts_recorded unit setups profile so_far idle) a t k) its before
+    ≡ sold))
 
 own_is : (its : Option Transaction) (t : Transaction) (one other : Option Transaction)
     → its ≡ Some t → or_else its one ≡ or_else its other
@@ -433,13 +458,15 @@ another_guess fields unit setups profile so_far (Some s) holds guess may other =
     ]
 
 takes_from : SameFields → (unit : ReaderUnit) (setups : Setups) (profile : Profile)
-    (so_far : List Act) (its : Option ReaderCommand) (before after : ReaderState) (sold : Ended)
+    (so_far : List Act) (idle : MayIdle unit setups profile so_far) (its : Option ReaderCommand)
+    (before after : ReaderState) (sold : Ended)
     (guess : Option Transaction) → Allows (known_of (Joined setups profile) unit so_far).taken guess
-    → Takes unit so_far (facts_recorded unit setups profile so_far) its before after sold
-    → (t : Option Transaction) × TakesAfter unit setups profile so_far its before after sold guess t
-takes_from fields unit setups profile so_far None before after sold guess may (inl again) = absurd
-    cc
-takes_from fields unit setups profile so_far (Some command) before after sold guess may
+    → Takes unit so_far (facts_recorded unit setups profile so_far idle) its before after sold
+    → (t : Option Transaction)
+    × TakesAfter unit setups profile so_far idle its before after sold guess t
+takes_from fields unit setups profile so_far idle None before after sold guess may (inl again) =
+    absurd cc
+takes_from fields unit setups profile so_far idle (Some command) before after sold guess may
     (inl again) =
     let t = again.0.transaction in (
       Some t,
@@ -447,16 +474,16 @@ takes_from fields unit setups profile so_far (Some command) before after sold gu
         taken_allows unit setups profile so_far (Some t) (λ known. sym (again.0.last known)),
         own_is (transaction_of command) t (Some t) guess again.0.is,
         λ a k.
-            let facts = guessing (facts_recorded unit setups profile so_far) a (Some t) k in
+            let facts = guessing (facts_recorded unit setups profile so_far idle) a (Some t) k in
             let to = taken_again facts command before
             (repeated fields t (transaction_of command) before.holds again.0.is
             again.0.holds_some) in
             (to.0 ∙ sym again.1, to.1 ∙ sym again.2),
       ),
     )
-takes_from fields unit setups profile so_far None before after sold guess may (inr another) =
+takes_from fields unit setups profile so_far idle None before after sold guess may (inr another) =
     (guess, (may, refl, λ a k. (sym another.1, sym another.2)))
-takes_from fields unit setups profile so_far (Some command) before after sold guess may
+takes_from fields unit setups profile so_far idle (Some command) before after sold guess may
     (inr another) =
     let one =
     another_guess fields unit setups profile so_far (transaction_of command) before.holds guess may
@@ -466,7 +493,7 @@ takes_from fields unit setups profile so_far (Some command) before after sold gu
         one.1,
         one.2,
         λ a k.
-            let facts = guessing (facts_recorded unit setups profile so_far) a one.0 k in
+            let facts = guessing (facts_recorded unit setups profile so_far idle) a one.0 k in
             let to = taken_anew facts command before one.3 in
             (to.0 ∙ sym another.1, to.1 ∙ sym another.2),
       ),
@@ -479,29 +506,34 @@ pub ack_ways : SameFields → (unit : ReaderUnit) (setups : Setups) (profile : P
     → ((facts : Facts) × AllowsFacts (known_of (Joined setups profile) unit so_far) before.holds
     facts
     × AckStep facts command choice before after gains)
-    ↔ AckWay unit so_far (facts_recorded unit setups profile so_far) command choice before after
-    gains
+    ↔ (idle : MayIdle unit setups profile so_far)
+    × AckWay unit so_far (facts_recorded unit setups profile so_far idle) command choice before
+    after gains
 ack_ways fields unit setups profile so_far command choice before after gains = (
   λ some.
       let facts = some.0 in
-      let step = some.2 in
-      record {
-        middle = take_any facts (Some command) before;
-        sold = sold_any facts (Some command) before;
-        poll = step.poll;
-        takes = takes_to fields unit setups profile so_far facts before.holds some.1 (Some command)
-            before;
-        to = step.to;
-        gained = step.gained;
-      },
-  λ way.
-      let base = facts_recorded unit setups profile so_far in
-      let one = takes_from fields unit setups profile so_far (Some command) before way.middle
+      let step = some.2 in (
+        its_idle unit setups profile so_far before.holds facts some.1,
+        record {
+          middle = take_any facts (Some command) before;
+          sold = sold_any facts (Some command) before;
+          poll = step.poll;
+          takes = takes_to fields unit setups profile so_far facts before.holds some.1
+              (Some command) before;
+          to = step.to;
+          gained = step.gained;
+        },
+      ),
+  λ some.
+      let idle = some.0 in
+      let way = some.1 in
+      let base = facts_recorded unit setups profile so_far idle in
+      let one = takes_from fields unit setups profile so_far idle (Some command) before way.middle
       way.sold base.taken (its_taken unit setups profile so_far) way.takes in
       let kept = a_list unit setups profile so_far before.holds in
       let to = one.1.2 base.asked kept.0 in (
         guessing base base.asked one.0 kept.0,
-        guess_allowed unit setups profile so_far before.holds base.asked one.0 kept.0
+        guess_allowed unit setups profile so_far idle before.holds base.asked one.0 kept.0
             (its_asked unit setups profile so_far) one.1.0 kept.1,
         record {
           poll = way.poll;
@@ -571,12 +603,13 @@ pub reply_ways : SameFields → (unit : ReaderUnit) (setups : Setups) (profile :
     → ((facts : Facts) × AllowsFacts (known_of (Joined setups profile) unit so_far) before.holds
     facts
     × ReplyStep facts command reply choice before after gains)
-    ↔ ReplyWay unit so_far (facts_recorded unit setups profile so_far) command reply choice before
-    after gains
+    ↔ (idle : MayIdle unit setups profile so_far)
+    × ReplyWay unit so_far (facts_recorded unit setups profile so_far idle) command reply choice
+    before after gains
 reply_ways fields unit setups profile so_far command reply choice before after gains = (forth, back)
   where
-    base : Facts
-    base = facts_recorded unit setups profile so_far
+    base_of : MayIdle unit setups profile so_far → Facts
+    base_of = facts_recorded unit setups profile so_far
 
     its : Option ReaderCommand
     its = taken command reply
@@ -594,10 +627,13 @@ reply_ways fields unit setups profile so_far command reply choice before after g
     forth : (facts : Facts) × AllowsFacts (known_of (Joined setups profile) unit so_far)
         before.holds facts
         × ReplyStep facts command reply choice before after gains
-        → ReplyWay unit so_far base command reply choice before after gains
+        → (idle : MayIdle unit setups profile so_far)
+        × ReplyWay unit so_far (base_of idle) command reply choice before after gains
     forth some =
         let facts = some.0 in
         let allowed = some.1 in
+        let idle = its_idle unit setups profile so_far before.holds facts allowed in
+        let base = base_of idle in
         let step = some.2 in
         let middle = before_messages facts command reply choice before in
         let sold = sold_any facts its (read choice before) in
@@ -607,48 +643,53 @@ reply_ways fields unit setups profile so_far command reply choice before after g
         (λ holds. some_kept unit setups profile so_far before.holds last allowed.past.last_kept
         (held_before facts command reply choice before holds))
         (same_kept unit setups profile so_far before.holds last allowed.past.last_kept)
-        step.has_news.new in
-        record {
-          middle = middle;
-          sold = sold;
-          count = is.0;
-          last = facts.taken;
-          may_be_read = step.has_news.read;
-          takes = takes_to fields unit setups profile so_far facts before.holds allowed its
-              (read choice before);
-          held = is.1.0;
-          reset = subst (λ b. MayBeKept (resets (effect_of_own its) || b) (parts_of reply)) owed
-              step.has_news.reset;
-          known = taken_so unit setups profile so_far facts.taken allowed.taken;
-          told = ap (λ i. all_told i (requested_with facts.taken base.requested)
-              (drop is.0 kept) middle.device) (sym allowed.always_idle)
-              ∙ ap (λ r. all_told facts.always_idle (requested_with facts.taken r) (drop is.0 kept)
-              middle.device) (sym allowed.requested)
-              ∙ ap (λ n. all_told facts.always_idle (requested_with facts.taken facts.requested) n
-              middle.device) (sym is.1.1) ∙ step.told;
-          view = step.view;
-          holds = step.holds;
-          gained = step.gained
-              ∙ ap (λ n.
-              device_gains (in_slots (amounts (all_approved (config facts.config) n) sold)))
-              is.1.1
-              ∙ ap (λ c. device_gains (in_slots
-              (amounts (all_approved (config c) (drop is.0 kept)) sold))) allowed.config;
-        }
+        step.has_news.new in (
+          idle,
+          record {
+            middle = middle;
+            sold = sold;
+            count = is.0;
+            last = facts.taken;
+            may_be_read = step.has_news.read;
+            takes = takes_to fields unit setups profile so_far facts before.holds allowed its
+                (read choice before);
+            held = is.1.0;
+            reset = subst (λ b. MayBeKept (resets (effect_of_own its) || b) (parts_of reply)) owed
+                step.has_news.reset;
+            known = taken_so unit setups profile so_far facts.taken allowed.taken;
+            told = ap (λ r. all_told facts.always_idle (requested_with facts.taken r)
+                (drop is.0 kept) middle.device) (sym allowed.requested)
+                ∙ ap (λ n. all_told facts.always_idle (requested_with facts.taken facts.requested) n
+                middle.device) (sym is.1.1) ∙ step.told;
+            view = step.view;
+            holds = step.holds;
+            gained = step.gained
+                ∙ ap (λ n.
+                device_gains (in_slots (amounts (all_approved (config facts.config) n) sold)))
+                is.1.1
+                ∙ ap (λ c. device_gains (in_slots
+                (amounts (all_approved (config c) (drop is.0 kept)) sold))) allowed.config;
+          },
+        )
 
-    back : ReplyWay unit so_far base command reply choice before after gains
+    back : (idle : MayIdle unit setups profile so_far)
+        × ReplyWay unit so_far (base_of idle) command reply choice before after gains
         → (facts : Facts) × AllowsFacts (known_of (Joined setups profile) unit so_far) before.holds
         facts
         × ReplyStep facts command reply choice before after gains
-    back way =
-        let one = takes_from fields unit setups profile so_far its (read choice before) way.middle
-        way.sold way.last (taken_allows unit setups profile so_far way.last way.known) way.takes in
+    back some =
+        let idle = some.0 in
+        let way = some.1 in
+        let base = base_of idle in
+        let one = takes_from fields unit setups profile so_far idle its (read choice before)
+        way.middle way.sold way.last (taken_allows unit setups profile so_far way.last way.known)
+        way.takes in
         let list = held_from unit setups profile so_far (is_poll command) way.middle.holds
         before.holds kept way.count way.held in
         let facts = guessing base base.asked one.0 list.0 in
         let to = one.1.2 base.asked list.0 in (
           facts,
-          guess_allowed unit setups profile so_far before.holds base.asked one.0 list.0
+          guess_allowed unit setups profile so_far idle before.holds base.asked one.0 list.0
               (its_asked unit setups profile so_far) one.1.0 list.1.0,
           record {
             news = drop way.count kept;
@@ -677,34 +718,39 @@ pub settled_way : (unit : ReaderUnit) (setups : Setups) (profile : Profile) (so_
     (act : Act) (choice : Choice) (before after : ReaderState) (gains : Gains)
     → IsSettled unit so_far act
     → StepKnowing unit (known_of (Joined setups profile) unit so_far) act choice before after gains
-    ↔ ReaderStep unit (facts_recorded unit setups profile so_far) act choice before after gains
+    ↔ (idle : MayIdle unit setups profile so_far)
+    × ReaderStep unit (facts_recorded unit setups profile so_far idle) act choice before after gains
 settled_way unit setups profile so_far act choice before after gains settled = (
   λ step.
       let facts = step.facts in
-      step_same unit base facts.asked base.asked facts.taken base.taken facts.past.last_kept
-      base.past.last_kept act choice before after gains
-      (same_so act settled facts.asked base.asked facts.taken base.taken facts.past.last_kept
-      base.past.last_kept
-      (λ known. sym (asked_so setups profile (last_told (asked_by unit) so_far) facts.asked
-      step.allowed.asked (λ none. known (asked_by_none unit so_far none)))))
-      (subst (λ f. ReaderStep unit f act choice before after gains)
-      (as_guess unit setups profile so_far before.holds facts step.allowed) step.step),
-  λ step.
+      let idle = its_idle unit setups profile so_far before.holds facts step.allowed in
+      let base = facts_recorded unit setups profile so_far idle in (
+        idle,
+        step_same unit base facts.asked base.asked facts.taken base.taken facts.past.last_kept
+            base.past.last_kept act choice before after gains
+            (same_so act settled facts.asked base.asked facts.taken base.taken facts.past.last_kept
+            base.past.last_kept
+            (λ known. sym (asked_so setups profile (last_told (asked_by unit) so_far) facts.asked
+            step.allowed.asked (λ none. known (asked_by_none unit so_far none)))))
+            (subst (λ f. ReaderStep unit f act choice before after gains)
+            (as_guess unit setups profile so_far before.holds facts step.allowed) step.step),
+      ),
+  λ some.
+      let idle = some.0 in
+      let base = facts_recorded unit setups profile so_far idle in
       let kept = a_list unit setups profile so_far before.holds in
       record {
         facts = guessing base base.asked base.taken kept.0;
-        allowed = guess_allowed unit setups profile so_far before.holds base.asked base.taken kept.0
-            (its_asked unit setups profile so_far) (its_taken unit setups profile so_far) kept.1;
+        allowed = guess_allowed unit setups profile so_far idle before.holds base.asked base.taken
+            kept.0 (its_asked unit setups profile so_far) (its_taken unit setups profile so_far)
+            kept.1;
         step = step_same unit base base.asked base.asked base.taken base.taken base.past.last_kept
             kept.0 act choice before after gains
             (same_so act settled base.asked base.asked base.taken base.taken base.past.last_kept
-            kept.0 (λ known. refl)) step;
+            kept.0 (λ known. refl)) some.1;
       },
 )
   where
-    base : Facts
-    base = facts_recorded unit setups profile so_far
-
     no_own : (found : Option ReaderCommand) (X : ReaderCommand → Type 0) → found ≡ None
         → (its : ReaderCommand) → found ≡ Some its → X its
     no_own None X none its is = absurd cc
@@ -738,8 +784,9 @@ pub acked : SameFields → (unit : ReaderUnit) (setups : Setups) (profile : Prof
     (gains : Gains)
     → (machine unit (Joined setups profile)).Step so_far (acts.Ack (commands.Reader unit command))
     choice before after gains
-    ↔ AckWay unit so_far (facts_recorded unit setups profile so_far) command choice before after
-    gains
+    ↔ (idle : MayIdle unit setups profile so_far)
+    × AckWay unit so_far (facts_recorded unit setups profile so_far idle) command choice before
+    after gains
 acked fields First setups profile so_far command choice before after gains =
     let ways = ack_ways fields First setups profile so_far command choice before after gains in (
       λ step. ways.0 (step.facts, step.allowed, step.step),
@@ -760,8 +807,9 @@ pub replied : SameFields → (unit : ReaderUnit) (setups : Setups) (profile : Pr
     (before after : ReaderState) (gains : Gains)
     → (machine unit (Joined setups profile)).Step so_far
     (acts.Reply (commands.Reader unit command) reply) choice before after gains
-    ↔ ReplyWay unit so_far (facts_recorded unit setups profile so_far) command reply choice before
-    after gains
+    ↔ (idle : MayIdle unit setups profile so_far)
+    × ReplyWay unit so_far (facts_recorded unit setups profile so_far idle) command reply choice
+    before after gains
 replied fields First setups profile so_far command reply choice before after gains =
     let ways = reply_ways fields First setups profile so_far command reply choice before after
     gains in (

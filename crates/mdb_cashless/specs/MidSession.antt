@@ -16,6 +16,7 @@ use Rattle.mdb_machine.specs.declared.choice.Choice.{Choice}
 use Rattle.mdb_machine.specs.declared.gains.Gains.{Gains}
 use Rattle.mdb_machine.specs.Gains.{device_gains, in_slots}
 use Rattle.mdb_machine.specs.Kept.{MayBeKept, MayBeRead, holds_after, kept_of}
+use Rattle.mdb_machine.specs.Known.{Allows}
 use Rattle.mdb_machine.specs.MidSession.{past_recorded}
 use Rattle.mdb_machine.specs.Past.{last_told, or_else, past_of}
 use Rattle.mdb_cashless.specs.declared.reader.messages.ReaderActivity.{ReaderActivity}
@@ -25,7 +26,7 @@ use Rattle.mdb_cashless.specs.declared.reader.transaction.Transaction.{Transacti
 use Rattle.mdb_cashless.specs.Reader.{all_approved, drops, is_poll, is_requested, owes_reset, read, taken, value, view_heard}
 use Rattle.mdb_cashless.specs.ReaderDevice as reader_device
 use Rattle.mdb_cashless.specs.ReaderDevice.{all_told, effect_by}
-use Rattle.mdb_cashless.specs.ReaderFacts.{Facts, asked_by, config_by, effect_of, ends_transactions, facts_of, last_taken, own_transaction, parts_by, transaction_taken_by}
+use Rattle.mdb_cashless.specs.ReaderFacts.{Facts, asked_by, config_by, effect_of, ends_transactions, extended_of, facts_of, known_idle, known_requested, last_taken, own_transaction, parts_by, transaction_taken_by}
 use Rattle.mdb_cashless.specs.Transactions.{amounts, ended_by, no_end}
 use Rattle.mdb_cashless.specs.Units.{own}
 use Rattle.mdb_cashless.specs.ReaderMessages.{config_in, last_said, messages_of, parts_of}
@@ -44,14 +45,27 @@ TakesNone unit so_far =
     All (λ act. (ends_transactions unit act ≡ false) × (transaction_taken_by unit act ≡ None))
     so_far
 
+-- What always idle may be after acts: on or off, and its last transaction a VEND REQUEST or not,
+-- each as far as it isn't known.
+pub record MayIdle (unit : ReaderUnit) (setups : Setups) (profile : Profile) (so_far : List Act)
+    : Type 0 where
+  pub on : Bool
+  pub may_be_on : Allows (known_idle (extended_of (Joined setups profile) unit so_far)) on
+  pub request : Bool
+  pub may_be_request : Allows (known_requested (extended_of (Joined setups profile) unit so_far))
+      request
+
 -- The facts after acts, as the acts of the recording tell them. They are those from power-on, with
--- three changes: the config message may be known from elsewhere; until a break, or a RESET that the
--- reader takes, no reset message is owed; and by the extended profile the controller may do as if
--- it was refused, until it sends a transaction command.
-abbrev pub facts_recorded : ReaderUnit → Setups → Profile → List Act → Facts
-facts_recorded unit setups profile so_far =
+-- four changes: the config message may be known from elsewhere; until a break, or a RESET that the
+-- reader takes, no reset message is owed; by the extended profile the controller may do as if it
+-- was refused, until it sends a transaction command; and always idle is what it may be.
+abbrev pub facts_recorded : (unit : ReaderUnit) (setups : Setups) (profile : Profile)
+    (so_far : List Act) → MayIdle unit setups profile so_far → Facts
+facts_recorded unit setups profile so_far idle =
     record (facts_of (Joined setups profile) unit so_far) {
       config = or_else (last_told (config_by unit) so_far) (config_known setups unit);
+      always_idle = idle.on;
+      requested = idle.request && idle.on;
       past = past_recorded (effect_of unit) (parts_by unit) so_far;
     }
 

@@ -12,6 +12,7 @@ use Rattle.mdb_msgs.specs.declared.setups.ReaderConfig.{ReaderConfig}
 use Rattle.mdb_bus.specs.declared.act.Act.{Act}
 use Rattle.mdb_bus.specs.declared.act.Act.TheVariants as acts
 use Rattle.mdb_machine.specs.declared.past.Effect.TheVariants as effects
+use Rattle.mdb_machine.specs.Known.{Known, Is, Unknown}
 use Rattle.mdb_machine.specs.PastValues.{if_known, known_more, known_past_with, past_after, past_in, past_known, past_with}
 use Rattle.mdb_machine.specs.Past.{PastFacts, or_else, powers_on, resets, taken_by, tells_out_of_sequence}
 use Rattle.mdb_cashless.specs.declared.reader.extended.ExtendedFacts.{ExtendedFacts}
@@ -20,12 +21,23 @@ use Rattle.mdb_cashless.specs.declared.reader.known.ReaderKnown.{ReaderKnown}
 use Rattle.mdb_cashless.specs.declared.reader.messages.ReaderActivity.{ReaderActivity}
 use Rattle.mdb_cashless.specs.declared.reader.transaction.Transaction.{Transaction}
 use Rattle.mdb_cashless.specs.Reader.{drops}
-use Rattle.mdb_cashless.specs.ReaderFacts.{Facts, KnownFacts, amount_by, asked_by, asks_for_always_idle, config_by, effect_of, effect_of_own, ends_transactions, is_always_idle, is_below_3, is_refused, is_requested, level_asked_by, level_of, level_told_by, own_of, own_transaction, parts_by, refusal_by, taken_told, transaction_taken_by}
+use Rattle.mdb_cashless.specs.ReaderFacts.{Facts, KnownFacts, amount_by, asked_by, asks_for_always_idle, config_by, effect_of, effect_of_own, ends_transactions, is_refused, known_idle, known_requested, level_asked_by, level_of, level_told_by, own_of, own_transaction, parts_by, refusal_by, switched, taken_told, transaction_taken_by}
 use Rattle.mdb_cashless.specs.ReaderMessages.{amount_in, begin_session, config_in, last_said, level_in, messages_of, part_of, refuses}
 use Rattle.mdb_cashless.specs.Transactions.{is_request, transaction_of}
 use Rattle.mdb_cashless.specs.Units.{own}
 
--- the facts that are kept: an amount that wasn't told counts as 0
+-- whether something may be so
+abbrev pub may_be_so : Known Bool → Bool
+may_be_so Unknown = true
+may_be_so (Is so) = so
+
+-- whether it is known
+abbrev pub is_known : {X : Type 0} → Known X → Bool
+is_known Unknown = false
+is_known (Is x) = true
+
+-- The facts that are kept. An amount that wasn't told counts as 0, and what isn't known of always
+-- idle may be so.
 abbrev pub facts_in : ReaderFacts → Facts
 facts_in facts =
     record {
@@ -34,8 +46,9 @@ facts_in facts =
       taken = facts.taken;
       amount = unwrap_or facts.amount 0;
       refused = is_refused facts.extended;
-      always_idle = is_always_idle facts.extended;
-      requested = is_requested facts.extended;
+      always_idle = may_be_so (known_idle facts.extended);
+      requested = may_be_so (known_requested facts.extended)
+          && may_be_so (known_idle facts.extended);
       past = past_in facts.past;
     }
 
@@ -76,11 +89,12 @@ extended_taking powers command extended =
       asked = facts.asked;
       told = facts.told;
       refused = facts.refused;
-      switched_on = if powers then false
-          else (asks_for_always_idle command && not (is_below_3 facts.asked facts.told))
-          || facts.switched_on;
-      requested = if powers then false
-          else unwrap_or (option_map (λ transaction. is_request (Some transaction))
+      switched_on = if powers then Some false
+          else if asks_for_always_idle command
+          then switched facts.joined facts.asked facts.told facts.switched_on
+          else facts.switched_on;
+      requested = or_else (if powers then Some false
+          else option_map (λ transaction. is_request (Some transaction))
           (own_transaction command)) facts.requested;
     }) extended
 
@@ -102,16 +116,27 @@ known_with unit act known =
       past = known_past_with (effect_of unit) (parts_by unit) act known.past;
     }
 
+-- What counts by the extended profile alone, where always idle is switched on, or isn't.
+abbrev pub idling : Bool → Option ExtendedFacts → Option ExtendedFacts
+idling on = option_map (λ (facts : ExtendedFacts). record facts { switched_on = Some on })
+
+-- whether it is known if always idle is on
+abbrev pub knows_idle : ReaderKnown → Bool
+knows_idle known = is_known (known_idle known.facts.extended)
+
 -- Whether what is known settles an act: an ask of a transaction command, where the last one that
--- was asked is known, an ACK to one, where the last one that the reader took is, and a reply, where
--- the last kept list is too. All other acts it settles.
+-- was asked is known, an ACK to one, where the last one that the reader took and always idle are,
+-- and a reply, where the last kept list is too. A reply to no transaction command leads where it
+-- does with always idle, if that isn't known. All other acts it settles.
 abbrev pub settled : ReaderUnit → ReaderKnown → Act → Bool
 settled unit known (acts.Ask command) =
     known.knows_asked || is_none (own_transaction (own unit command))
 settled unit known (acts.Ack command) =
-    known.knows_taken || is_none (own_transaction (own unit command))
+    (known.knows_taken && knows_idle known) || is_none (own_transaction (own unit command))
 settled unit known (acts.Reply command reply) =
-    (known.knows_taken && known.knows_kept) || is_none (own unit command)
+    ((known.knows_taken && known.knows_kept)
+    && (knows_idle known || is_none (own_transaction (own unit command))))
+    || is_none (own unit command)
 settled unit known act = true
 
 -- the facts as acts tell them: there may be no amount yet

@@ -1,3 +1,4 @@
+pub mod PowerOnReader
 pub mod ReaderCodes
 pub mod ReaderWays
 pub mod SaleViews

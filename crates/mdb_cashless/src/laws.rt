@@ -18,7 +18,7 @@ ghost use Rattle.mdb_machine.specs.declared.gains.Gains.{Gains};
 ghost use Rattle.mdb_machine.specs.Pair.{IsBreak, own_acts};
 ghost use Rattle.mdb_cashless.specs.declared.reader.state.ReaderState.{ReaderState};
 ghost use Rattle.mdb_cashless.specs.declared.reader.transaction.Transaction.{Transaction};
-ghost use Rattle.mdb_cashless.specs.MidSession.{AckWay, IsSettled, ReplyWay, SendsNone};
+ghost use Rattle.mdb_cashless.specs.MidSession.{AckWay, IsSettled, MayIdle, ReplyWay, SendsNone};
 ghost use Rattle.mdb_cashless.specs.MidSession.{facts_recorded};
 ghost use Rattle.mdb_cashless.specs.Reader.{AskStep, ReaderStep, machine, unvalued};
 ghost use Rattle.mdb_cashless.specs.ReaderFacts.{AllowsFacts, Facts, facts_of, known_of};
@@ -100,33 +100,38 @@ pub fn breaks_tell_nothing_of_a_reader()
 /// transaction that the reader takes while it holds messages is the last one again or another, and
 /// of a reply's kept messages some, from the first on, are those that it holds (`acked`,
 /// `replied`). Any other act leads where it does after the facts that the acts tell (`settled`).
+/// Always idle may be what it may, at each act anew, and is the same for both sides at one act.
 pub fn in_mid_session_a_reader_has_these_ways_alone()
     ensures sent { (unit : ReaderUnit) (setups : Setups) (profile : Profile) (so_far : List Act)
         (command : ReaderCommand) (choice : Choice) (before after : ReaderState) (gains : Gains)
         → SendsNone unit so_far
         → (machine unit (Joined setups profile)).Step so_far
         (acts.Ask (commands.Reader unit command)) choice before after gains
-        ↔ AskStep (record (facts_recorded unit setups profile so_far)
+        ↔ (idle : MayIdle unit setups profile so_far)
+        × AskStep (record (facts_recorded unit setups profile so_far idle)
         { asked = transaction_of command })
         command before after gains }
     ensures acked { (unit : ReaderUnit) (setups : Setups) (profile : Profile) (so_far : List Act)
         (command : ReaderCommand) (choice : Choice) (before after : ReaderState) (gains : Gains)
         → (machine unit (Joined setups profile)).Step so_far
         (acts.Ack (commands.Reader unit command)) choice before after gains
-        ↔ AckWay unit so_far (facts_recorded unit setups profile so_far) command choice before after
-        gains }
+        ↔ (idle : MayIdle unit setups profile so_far)
+        × AckWay unit so_far (facts_recorded unit setups profile so_far idle) command choice before
+        after gains }
     ensures replied { (unit : ReaderUnit) (setups : Setups) (profile : Profile) (so_far : List Act)
         (command : ReaderCommand) (reply : Reply) (choice : Choice) (before after : ReaderState)
         (gains : Gains)
         → (machine unit (Joined setups profile)).Step so_far
         (acts.Reply (commands.Reader unit command) reply) choice before after gains
-        ↔ ReplyWay unit so_far (facts_recorded unit setups profile so_far) command reply choice
+        ↔ (idle : MayIdle unit setups profile so_far)
+        × ReplyWay unit so_far (facts_recorded unit setups profile so_far idle) command reply choice
         before after gains }
     ensures settled { (unit : ReaderUnit) (setups : Setups) (profile : Profile) (so_far : List Act)
         (act : Act) (choice : Choice) (before after : ReaderState) (gains : Gains)
         → IsSettled unit so_far act
         → (machine unit (Joined setups profile)).Step so_far act choice before after gains
-        ↔ ReaderStep unit (facts_recorded unit setups profile so_far) act choice before after
+        ↔ (idle : MayIdle unit setups profile so_far)
+        × ReaderStep unit (facts_recorded unit setups profile so_far idle) act choice before after
         gains }
 {
     transactions_with_the_same_fields_are_the_same();

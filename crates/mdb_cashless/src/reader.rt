@@ -144,7 +144,7 @@ impl<const UNIT: usize> Pair for Reader<UNIT> {
         act: &Act,
         code: usize,
         choice: Choice,
-    ) -> ArrayVec<(usize, Gains), 72> {
+    ) -> ArrayVec<(usize, Gains), 144> {
         let steps = steps(unit_of(UNIT), known, act, choice, ReaderState::at(code));
         coded(steps.as_slice())
     }

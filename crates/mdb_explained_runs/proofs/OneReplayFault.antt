@@ -64,7 +64,7 @@ unlisted : (scope : Scope) → BusLaws scope → (events : List Event) (row : Ev
     (a : Blame) → BreaksLink scope events row r a → (pieces : List Piece)
     → IsActList scope pieces (events ++ row ∷ []) → ⊥
 unlisted scope laws events row r a p pieces list =
-    laws.ends p.pieces row r p.act_list.in_order p.fault.rule.breaks (
+    laws.ends p.pieces row p.fault.first p.act_list.in_order p.fault.rule.breaks (
       pieces,
       subst (λ es. IsActList scope pieces (es ++ row ∷ [])) (sym p.act_list.whole) list,
     )

@@ -1,6 +1,6 @@
 -- From power-on a machine has one step at most by an act under a choice, from a state: so it has
 -- one way through acts with given choices.
-use Rattle.std.proofs.Common.{sym, ap, subst, ◌∙◌, ◌≡◌, inl, inr, Bool, true, false}
+use Rattle.std.proofs.Common.{sym, ap, subst, ◌∙◌, ◌≡◌, ◌↔◌, inl, inr, Bool, true, false}
 use Rattle.std.proofs.Common.{List, [], ◌∷◌, ◌++◌, Option, Some, None}
 use Rattle.std.proofs.lemmas.List.{append_cancel_left}
 use Rattle.mdb_msgs.specs.declared.command.ChangerCommand.{ChangerCommand}
@@ -30,12 +30,11 @@ use Rattle.mdb_cash.specs.BillFacts as bill_facts
 use Rattle.mdb_cash.specs.Changer as changer
 use Rattle.mdb_cash.specs.ChangerFacts as changer_facts
 use Rattle.mdb_machine.specs.Gains.{Stays, device_gains, in_slots}
-use Rattle.mdb_machine.specs.Keeper.{AllowsFacts, Facts, Tables, known_of}
-use Rattle.mdb_machine.specs.KeeperSteps.{AckStep, Conduct, KeeperStep, ReplyStep, StepKnowing, worth}
+use Rattle.mdb_machine.specs.Keeper.{Facts, Tables}
+use Rattle.mdb_machine.specs.KeeperSteps.{AckStep, Conduct, KeeperStep, ReplyStep, worth}
 use Rattle.mdb_machine.specs.Kept.{IsNew}
-use Rattle.mdb_machine.specs.Known.{Allows, AllowsKept, known_by}
 use Rattle.mdb_machine.specs.Machine.{Machine}
-use Rattle.mdb_machine.specs.Past.{PastFacts, or_else}
+use Rattle.mdb_machine.specs.Past.{or_else}
 use Rattle.mdb_machine.specs.Steps.{ForOwn}
 use Rattle.mdb_cash.specs.shared.BillCodes.{same_type}
 use Rattle.mdb_cashless.specs.declared.reader.device.DeviceState.{DeviceState}
@@ -87,43 +86,38 @@ one_new poll held kept one other (inr p) (inr q) = p.2 ∙ sym q.2
 
 -- Facts that are known.
 
--- from power-on what counts is known
-allowed_one : {X : Type 0} (profile : Profile) (none : X) (told : Option X) (one other : X)
-    → Allows (known_by (PowerOn profile) none told) one → Allows
-    (known_by (PowerOn profile) none told) other
-    → one ≡ other
-allowed_one profile none None one other p q = p ∙ sym q
-allowed_one profile none (Some x) one other p q = p ∙ sym q
+-- From power-on all is known: each step of a machine is one after the facts that acts leave.
+abbrev pub StepsAfterFacts : {State Facts : Type 0} → (Profile → Machine State)
+    → (Profile → List Act → Facts)
+    → (Facts → Act → Choice → State → State → Gains → Type 0) → Type 0
+StepsAfterFacts {State} machine facts Step =
+    (profile : Profile) (so_far : List Act) (act : Act) (choice : Choice) (before after : State)
+    (gains : Gains) → (machine profile).Step so_far act choice before after gains
+    ↔ Step (facts profile so_far) act choice before after gains
 
--- and so is the last kept list
-kept_one : {M : Type 0} (profile : Profile) (told : Option (List M)) (holds : Bool)
-    (one other : List M)
-    → AllowsKept (known_by (PowerOn profile) [] told) holds one
-    → AllowsKept (known_by (PowerOn profile) [] told) holds other → one ≡ other
-kept_one profile None holds one other p q = p ∙ sym q
-kept_one profile (Some xs) holds one other p q = p ∙ sym q
+-- so it is with each device
+pub record AllIsKnown : Type 0 where
+  pub changer : StepsAfterFacts (λ profile. changer.machine (PowerOn profile))
+      (λ profile. changer_facts.facts_of) changer.ChangerStep
+  pub bill : StepsAfterFacts (λ profile. bill.machine (PowerOn profile))
+      (λ profile. bill_facts.facts_of) bill.BillStep
+  pub reader : (unit : ReaderUnit) → StepsAfterFacts
+      (λ profile. reader.machine unit (PowerOn profile))
+      (λ profile. reader_facts.facts_of (PowerOn profile) unit) (reader.ReaderStep unit)
 
--- what counts of the acts, where the last kept list is one
-past_alike : {M : Type 0} (one other : PastFacts M) → one.enabled ≡ other.enabled
-    → one.reset_owed ≡ other.reset_owed → one.last_kept ≡ other.last_kept → one ≡ other
-past_alike one other enabled owed kept i =
-    record { enabled = enabled i; reset_owed = owed i; last_kept = kept i }
-
--- a device's facts
-facts_one : {Own Setup Asked M : Type 0} (tables : Tables Own Setup Asked M)
-    (profile : Profile) (so_far : List Act) (holds : Bool) (one other : Facts Setup Asked M)
-    → AllowsFacts (known_of tables (PowerOn profile) so_far) holds one
-    → AllowsFacts (known_of tables (PowerOn profile) so_far) holds other → one ≡ other
-facts_one tables profile so_far holds one other p q =
-    let setup : one.setup ≡ other.setup = p.setup ∙ sym q.setup in
-    let asked : one.last_asked ≡ other.last_asked =
-    allowed_one profile None _ one.last_asked other.last_asked p.last_asked q.last_asked in
-    let past : one.past ≡ other.past =
-    past_alike one.past other.past (p.past.enabled ∙ sym q.past.enabled)
-    (p.past.reset_owed ∙ sym q.past.reset_owed)
-    (kept_one profile _ holds one.past.last_kept other.past.last_kept p.past.last_kept
-    q.past.last_kept) in
-    λ i. record { setup = setup i; last_asked = asked i; past = past i }
+-- Then it has one step at most, where there is one after facts.
+one_after : {State Facts : Type 0} (machine : Profile → Machine State)
+    (facts : Profile → List Act → Facts)
+    (Step : Facts → Act → Choice → State → State → Gains → Type 0)
+    → StepsAfterFacts machine facts Step
+    → ((facts : Facts) (act : Act) (choice : Choice) (before : State)
+    → IsOneStep (Step facts act choice before))
+    → (profile : Profile) (so_far : List Act) (act : Act) (choice : Choice) (before : State)
+    → IsOneStep ((machine profile).Step so_far act choice before)
+one_after machine facts Step after is profile so_far act choice before one other gains more p q =
+    is (facts profile so_far) act choice before one other gains more
+    ((after profile so_far act choice before one gains).0 p)
+    ((after profile so_far act choice before other more).0 q)
 
 -- Devices that keep messages: what such a device does of its own is one thing.
 record IsOneConduct {Own Setup Asked M State : Type 0} (conduct : Conduct Own Setup Asked M State)
@@ -175,19 +169,6 @@ keeper_one tables conduct is facts (acts.VmcAck command reply) choice before =
 keeper_one tables conduct is facts (acts.Break length) choice before =
     λ one other gains more p q. (p.0 ∙ sym q.0, p.1 ∙ sym q.1)
 keeper_one tables conduct is facts act choice before = stays_one before
-
--- so is its step where all is known
-knowing_one : {Own Setup Asked M State : Type 0} (tables : Tables Own Setup Asked M)
-    (conduct : Conduct Own Setup Asked M State) → IsOneConduct conduct → (profile : Profile)
-    (so_far : List Act) (act : Act) (choice : Choice) (before : State)
-    → IsOneStep (StepKnowing tables conduct (known_of tables (PowerOn profile) so_far) act choice
-    before)
-knowing_one tables conduct is profile so_far act choice before one other gains more p q =
-    let same : p.facts ≡ q.facts =
-    facts_one tables profile so_far (conduct.holds before) p.facts q.facts p.allowed q.allowed in
-    keeper_one tables conduct is q.facts act choice before one other gains more
-    (subst (λ facts. KeeperStep tables conduct facts act choice before one gains) same p.step)
-    q.step
 
 -- The changer.
 
@@ -321,47 +302,6 @@ reader_one unit facts (acts.Break length) choice before =
     λ one other gains more p q. (p.0 ∙ sym q.0, p.1 ∙ sym q.1)
 reader_one unit facts act choice before = stays_one before
 
-reader_facts_one : (unit : ReaderUnit) (profile : Profile) (so_far : List Act) (holds : Bool)
-    (one other : reader_facts.Facts)
-    → reader_facts.AllowsFacts (reader_facts.known_of (PowerOn profile) unit so_far) holds one
-    → reader_facts.AllowsFacts (reader_facts.known_of (PowerOn profile) unit so_far) holds other
-    → one ≡ other
-reader_facts_one unit profile so_far holds one other p q =
-    let config : one.config ≡ other.config = p.config ∙ sym q.config in
-    let asked : one.asked ≡ other.asked =
-    allowed_one profile None _ one.asked other.asked p.asked q.asked in
-    let taken : one.taken ≡ other.taken =
-    allowed_one profile None _ one.taken other.taken p.taken q.taken in
-    let amount : one.amount ≡ other.amount = p.amount ∙ sym q.amount in
-    let refused : one.refused ≡ other.refused = p.refused ∙ sym q.refused in
-    let always_idle : one.always_idle ≡ other.always_idle = p.always_idle ∙ sym q.always_idle in
-    let requested : one.requested ≡ other.requested = p.requested ∙ sym q.requested in
-    let past : one.past ≡ other.past =
-    past_alike one.past other.past (p.past.enabled ∙ sym q.past.enabled)
-    (p.past.reset_owed ∙ sym q.past.reset_owed)
-    (kept_one profile _ holds one.past.last_kept other.past.last_kept p.past.last_kept
-    q.past.last_kept) in
-    λ i. record {
-      config = config i;
-      asked = asked i;
-      taken = taken i;
-      amount = amount i;
-      refused = refused i;
-      always_idle = always_idle i;
-      requested = requested i;
-      past = past i;
-    }
-
-reader_knowing_one : (unit : ReaderUnit) (profile : Profile) (so_far : List Act) (act : Act)
-    (choice : Choice) (before : ReaderState)
-    → IsOneStep (reader.StepKnowing unit (reader_facts.known_of (PowerOn profile) unit so_far) act
-    choice before)
-reader_knowing_one unit profile so_far act choice before one other gains more p q =
-    let same : p.facts ≡ q.facts =
-    reader_facts_one unit profile so_far before.holds p.facts q.facts p.allowed q.allowed in
-    reader_one unit q.facts act choice before one other gains more
-    (subst (λ facts. reader.ReaderStep unit facts act choice before one gains) same p.step) q.step
-
 -- Each machine.
 
 -- a machine that starts in one state, and has one step at most
@@ -370,19 +310,25 @@ pub record IsOneMachine {State : Type 0} (machine : Machine State) : Type 0 wher
   pub steps : (so_far : List Act) (act : Act) (choice : Choice) (before : State)
       → IsOneStep (machine.Step so_far act choice before)
 
-pub machine_is_one : (profile : Profile) (device : Device)
+pub machine_is_one : AllIsKnown → (profile : Profile) (device : Device)
     → IsOneMachine (machine_of (PowerOn profile) device)
-machine_is_one profile devices.Changer = record {
+machine_is_one known profile devices.Changer = record {
   starts = λ one other p q. p ∙ sym q;
-  steps = knowing_one changer_facts.tables changer.conduct changer_is_one profile;
+  steps = one_after (λ profile. changer.machine (PowerOn profile))
+      (λ profile. changer_facts.facts_of) changer.ChangerStep known.changer
+      (keeper_one changer_facts.tables changer.conduct changer_is_one) profile;
 }
-machine_is_one profile devices.Bill = record {
+machine_is_one known profile devices.Bill = record {
   starts = λ one other p q. p ∙ sym q;
-  steps = knowing_one bill_facts.tables bill.conduct bill_is_one profile;
+  steps = one_after (λ profile. bill.machine (PowerOn profile))
+      (λ profile. bill_facts.facts_of) bill.BillStep known.bill
+      (keeper_one bill_facts.tables bill.conduct bill_is_one) profile;
 }
-machine_is_one profile (devices.Reader unit) = record {
+machine_is_one known profile (devices.Reader unit) = record {
   starts = λ one other p q. p ∙ sym q;
-  steps = reader_knowing_one unit profile;
+  steps = one_after (λ profile. reader.machine unit (PowerOn profile))
+      (λ profile. reader_facts.facts_of (PowerOn profile) unit) (reader.ReaderStep unit)
+      (known.reader unit) (reader_one unit) profile;
 }
 
 -- so it has one way with given choices

@@ -31,7 +31,7 @@ use Rattle.mdb_follow.specs.Runs.{AllSums, Run}
 use Rattle.mdb_follow.specs.Sums.{AccountSums}
 use Rattle.mdb_follow.proofs.Following.{OneActList}
 use Rattle.mdb_follow.proofs.OneAnswer.{named, named-account, one-end, one-list, with_accounts}
-use Rattle.mdb_explained_runs.proofs.OneStep.{machine_is_one, one_way}
+use Rattle.mdb_explained_runs.proofs.OneStep.{AllIsKnown, machine_is_one, one_way}
 use Rattle.mdb_explained_runs.proofs.Replaying.{MarksTell, SplitWithChoices, followed}
 
 -- rows with given marks have one report
@@ -119,12 +119,12 @@ comes_to_the_end scope rows goal marks checked replayed explains of_runs of_run 
     )
 
 -- from power-on, runs with the same marks come to the same sums
-only_sums : SplitWithChoices → MarksTell → (scope : Scope) → OneActList scope
+only_sums : AllIsKnown → SplitWithChoices → MarksTell → (scope : Scope) → OneActList scope
     → scope.begins ≡ PowerOn (profile_of scope.begins) → (rows : List Event)
     (marks : List (ℕ × Mark)) (sums other : AllSums)
     → MarkedRun scope rows marks sums → MarkedRun scope rows marks other → (device : Device)
     → other device ≡ sums device
-only_sums splits tell scope one begins rows marks sums other marked also device =
+only_sums known splits tell scope one begins rows marks sums other marked also device =
     let run = marked.run in
     let chosen : Choices (acts_of run.pieces) =
     choices_of scope.begins run.loss run.pieces run.states sums run.way in
@@ -134,7 +134,7 @@ only_sums splits tell scope one begins rows marks sums other marked also device 
     followed splits tell scope one rows marks run.pieces chosen run.act_list marked.are other also
     in
     (one_way (machine_of (PowerOn (profile_of scope.begins)) device)
-    (machine_is_one (profile_of scope.begins) device) (acts_of run.pieces) chosen
+    (machine_is_one known (profile_of scope.begins) device) (acts_of run.pieces) chosen
     (also.run.states device) (run.states device) (other device) (sums device)
     ((subst (λ b. AllFollow b (acts_of run.pieces) chosen also.run.states other) begins others)
     device)
@@ -163,15 +163,16 @@ account_at sums = record {
 }
 
 -- the report on rows that have a run from power-on with given marks
-pub report_of_run : SplitWithChoices → MarksTell → (scope : Scope) → OneActList scope
+pub report_of_run : AllIsKnown → SplitWithChoices → MarksTell → (scope : Scope) → OneActList scope
     → (rows : List Event) (marks : List (ℕ × Mark))
     → scope.begins ≡ PowerOn (profile_of scope.begins) → HasMarkedRun scope rows marks
     → (report : Report) × IsReplayReport scope rows marks report
-report_of_run splits tell scope one rows marks begins reached =
+report_of_run known splits tell scope one rows marks begins reached =
     let sums : AllSums = reached.0 in
     let only : (other : AllSums) → MarkedRun scope rows marks other → (device : Device)
     → other device ≡ sums device =
-    λ other also. only_sums splits tell scope one begins rows marks sums other reached.1 also in
+    λ other also.
+    only_sums known splits tell scope one begins rows marks sums other reached.1 also in
     let accounts : AccountName → Account = λ account. account_at (sums_of account sums) in
     let same : (account : AccountName) (other : AllSums) → MarkedRun scope rows marks other
     → sums_of account other ≡ sums_of account sums =

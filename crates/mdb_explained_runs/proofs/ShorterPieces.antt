@@ -21,7 +21,7 @@ use Rattle.mdb_bus.specs.ActLists.{AreSpaced, AskTail, IsAskFront, IsPiece, IsRe
 use Rattle.mdb_bus.specs.ActLists.{IsReplyFront, IsSaid, IsTail, MayCome, MayStand, Piece}
 use Rattle.mdb_bus.specs.ActLists.{PieceFits, RepeatTail, ReplyTail, Whole, events_of, last_of}
 use Rattle.mdb_bus.specs.ActLists.{levels_of, piece_events, position_of}
-use Rattle.mdb_bus.specs.Scopes.{Asks, profile_of}
+use Rattle.mdb_bus.specs.Scopes.{Asks, levels_before, profile_of}
 use Rattle.mdb_bus.proofs.Lists.{all_front, controller_last, first_stays, peripheral_push, say_last, say_length, some_length}
 use Rattle.mdb_bus.proofs.Backward.{some_words, answer_alone}
 
@@ -47,7 +47,7 @@ as_tail : (scope : Scope) (rest : List Piece) (piece tail : Piece) (front : List
     → piece_events tail ≡ front → IsSaid scope tail
     → ((to : Event) → MayCome piece (position_of scope rest) (last_of (events_of rest)) to
     → MayCome tail (position_of scope rest) (last_of (events_of rest)) to)
-    → PieceFits scope.begins (levels_of (profile_of scope.begins) scope.levels rest) tail
+    → PieceFits scope.begins (levels_of (profile_of scope.begins) (levels_before scope) rest) tail
     → AreSpaced (piece_events piece) → MayStand scope rest piece → TailOf scope rest front
 as_tail scope rest piece tail front row some long is short said may levels spaced stands =
     let kept = first_stays front row stands.first stands.others some (sym long ∙ stands.begins) in

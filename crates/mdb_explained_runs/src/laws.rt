@@ -31,6 +31,8 @@ ghost use Rattle.mdb_follow.specs.AccountNames.{account_of};
 ghost use Rattle.mdb_follow.specs.Runs.{AllSums};
 
 use mdb_bus::laws;
+use mdb_cash::laws as cash_laws;
+use mdb_cashless::laws as cashless_laws;
 use mdb_follow::laws as follow_laws;
 use mdb_machine::laws as machine_laws;
 
@@ -133,6 +135,9 @@ pub fn rows_with_a_marked_run_have_a_replay_report()
     laws::transcripts_have_one_act_list();
     follow_laws::ways_split_with_choices();
     marks_tell_what_is_chosen();
+    cash_laws::from_power_on_all_is_known_of_the_changer();
+    cash_laws::from_power_on_all_is_known_of_the_validator();
+    cashless_laws::from_power_on_all_is_known_of_a_reader();
 }
 
 /// No offence of a replay is blamed on a device that is left out.

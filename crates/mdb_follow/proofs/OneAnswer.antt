@@ -152,7 +152,7 @@ link-or-machine : (scope : Scope) → BusLaws scope
     → (events : List Event) (row : Event) (r s : Rule) (a b : Blame)
     → BreaksLink scope events row r a → BreaksMachine scope events row s b → ⊥
 link-or-machine scope laws events row r s a b p q =
-    laws.ends p.pieces row r p.act_list.in_order p.fault.rule.breaks (
+    laws.ends p.pieces row p.fault.first p.act_list.in_order p.fault.rule.breaks (
       broken-list scope events row s b q,
       subst (λ es. IsActList scope (broken-list scope events row s b q) (es ++ row ∷ []))
           (sym p.act_list.whole) q.act_list,

@@ -157,7 +157,7 @@ pub changer_stays : (begins : Beginning) (setups : Setups)
 changer_stays begins setups = record {
   starts = told_first tables conduct Fits steady begins;
   goes_on = told_on tables conduct Fits steady begins;
-  step = λ later front act choice before after gains names idle told step.
+  step = λ later front act choice before after gains names levels told step.
       let goes = step_in_end tables conduct Fits steady begins setups later front act choice before
       after gains names told step in
       record { other = goes.other; step = goes.step; valued = goes.valued; alike = goes.alike };

@@ -1,10 +1,11 @@
 -- The words of pieces where a transcript is cut: all but the first of a piece are foreign words,
 -- and the first is one, or begins a block or a break.
-use Rattle.std.proofs.Common.{arith, sym, subst, ◌∙◌, ◌≡◌, ◌++◌, ◌⊎◌, inl, inr, ℕ, List, [], ◌∷◌, Option}
+use Rattle.std.proofs.Common.{ap, arith, sym, subst, ◌∙◌, ◌≡◌, ◌++◌, ◌⊎◌, inl, inr, ℕ, List, [], ◌∷◌, ◌+◌, Option, Some}
 use Rattle.std.specs.List.{AllByRecursion}
 use Rattle.mdb_words.specs.declared.limits.TheConstants.{WORD_GAP_MIN}
 use Rattle.mdb_words.specs.declared.event.Event.{Event}
-use Rattle.mdb_words.specs.declared.event.Event.TheVariants.{Break}
+use Rattle.mdb_words.specs.declared.event.Event.TheVariants.{Word, Break}
+use Rattle.mdb_words.specs.declared.word.Line.{Line}
 use Rattle.mdb_words.specs.declared.word.Line.TheVariants.{Controller, Peripheral}
 use Rattle.mdb_blocks.specs.Answer.{answer_word}
 use Rattle.mdb_blocks.specs.Block.{block_of, controller_words}
@@ -12,8 +13,9 @@ use Rattle.mdb_blocks.specs.declared.answer.Answer.TheVariants as answers
 use Rattle.mdb_msgs.specs.Commands.{IsByte, command_bytes}
 use Rattle.mdb_bus.specs.declared.act.Act.TheVariants as acts
 use Rattle.mdb_bus.specs.declared.scope.Scope.{Scope}
-use Rattle.mdb_bus.specs.Acts.{IsForeign, IsForeignWord, Say, reply_words}
+use Rattle.mdb_bus.specs.Acts.{IsBlockWord, IsForeign, IsForeignWord, Say, reply_words, said_by}
 use Rattle.mdb_bus.specs.ActLists.{Piece, Whole, AskTail, ReplyTail, RepeatTail, Position, InForeign, ForeignMayCome, IsSaid, MayCome, NotBefore, piece_events}
+use Rattle.mdb_late_start.specs.Cuts.{IsBreakEvent}
 use Rattle.mdb_msgs.proofs.CommandBytes.{begun_low, whole_low}
 use Rattle.mdb_bus.proofs.LeftOutWords.{AreForeignWords, low_words, peripheral_foreign, answer_foreign}
 use Rattle.mdb_bus.proofs.LeftOutOrder.{block_waits}
@@ -57,13 +59,38 @@ foreign_others scope first others (inr further) =
     let alone : [] ≡ others = cc in
     subst AreForeignWords alone tt
 
+-- a marked word of the controller begins a block
+marked_word : (event : Event) (byte : ℕ) → said_by event ≡ Some (Controller, 256 + byte)
+    → IsBlockWord event
+marked_word (Word at Controller word) byte said =
+    let here : Line × ℕ = (Controller, word) in
+    let there : Line × ℕ = (Controller, 256 + byte) in
+    let same : here ≡ there = cc in
+    let is : word ≡ 256 + byte = ap (λ (p : Line × ℕ). p.1) same in
+    omega (arith, is)
+marked_word (Word at Peripheral word) byte said =
+    let here : Line × ℕ = (Peripheral, word) in
+    let there : Line × ℕ = (Controller, 256 + byte) in
+    let same : here ≡ there = cc in
+    let clash : Peripheral ≡ Controller = ap (λ (p : Line × ℕ). p.0) same in
+    cc clash
+marked_word (Break at length) byte said = cc said
+
+-- the first event of a block is its marked word
+pub block_begins : (bytes : List ℕ) (first : Event) (others : List Event)
+    → Say Controller (controller_words bytes) (first ∷ others) → IsBlockWord first
+block_begins [] first others says = cc
+block_begins (byte ∷ bytes) first others says =
+    let one : said_by first ≡ Some (Controller, 256 + byte) = cc in
+    marked_word first byte one
+
 -- How a piece may go on from a cut: all its events but the first are foreign words, and the first
--- is one, too, or the piece may come in foreign traffic.
+-- is one, too, or the piece may come in foreign traffic, and begins anew.
 pub record Kind (piece : Piece) (from : Option Event) (first : Event) (others : List Event)
     : Type 0 where
   pub words : AreForeignWords others
   pub way : (IsForeignWord first × NotBefore WORD_GAP_MIN from first)
-      ⊎ MayCome piece InForeign from first
+      ⊎ ((IsBlockWord first ⊎ IsBreakEvent first) × MayCome piece InForeign from first)
 
 -- a piece of foreign words goes on as these
 plain : (piece : Piece) (from : Option Event) (first : Event) (others : List Event)
@@ -78,9 +105,9 @@ plain piece from first others words late = record {
 foreign_way : (position : Position) (from : Option Event) (first : Event)
     → ForeignMayCome position from first
     → (IsForeignWord first × NotBefore WORD_GAP_MIN from first)
-    ⊎ ForeignMayCome InForeign from first
+    ⊎ ((IsBlockWord first ⊎ IsBreakEvent first) × ForeignMayCome InForeign from first)
 foreign_way position from first (inl opens) =
-    inr (inl (opens.0, block_waits position from first opens.1))
+    inr (inl opens.0, inl (opens.0, block_waits position from first opens.1))
 foreign_way position from first (inr further) = inl (further.0, further.2)
 
 -- each piece is of such a kind
@@ -93,7 +120,11 @@ kind_of scope (Whole (acts.Ask command) events) position from first others said 
     record {
       words = block_words block first others (whole_low command block said.0.spells)
           (subst (Say Controller (controller_words block)) are said.1);
-      way = inr (block_waits position from first comes);
+      way = inr (
+        inl (block_begins block first others
+            (subst (Say Controller (controller_words block)) are said.1)),
+        block_waits position from first comes,
+      );
     }
 kind_of scope (Whole (acts.Ack command) events) position from first others said are comes =
     plain (Whole (acts.Ack command) events) from first others
@@ -128,14 +159,22 @@ kind_of scope (Whole acts.Foreign events) position from first others said are co
 kind_of scope (Whole (acts.Break length) events) position from first others said are comes =
     let is : first ∷ others ≡ Break said.0 length ∷ [] = sym are ∙ said.1 in
     let alone : [] ≡ others = cc in
-    record { words = subst AreForeignWords alone tt; way = inr comes }
+    let same : Break said.0 length ≡ first = cc in
+    record {
+      words = subst AreForeignWords alone tt;
+      way = inr (inr (subst IsBreakEvent same tt), comes);
+    }
 kind_of scope (AskTail bytes events) position from first others said are comes =
     let front = said.0 in
     record {
       words = block_words bytes first others
           (begun_low front.command bytes front.rest front.spelled.spells)
           (subst (Say Controller (controller_words bytes)) are said.1);
-      way = inr (block_waits position from first comes);
+      way = inr (
+        inl (block_begins bytes first others
+            (subst (Say Controller (controller_words bytes)) are said.1)),
+        block_waits position from first comes,
+      );
     }
 kind_of scope (ReplyTail command bytes events) position from first others said are comes =
     plain (ReplyTail command bytes events) from first others

@@ -1,39 +1,29 @@
 -- The end of a transcript has an act list of its own, as a recording that begins in mid-session:
 -- the pieces that begin in it stand there as they stood, and what is left of the others stands as
 -- foreign words.
-use Rattle.std.proofs.Common.{ap, refl, sym, subst, ◌∙◌, ◌≡◌, ◌++◌, ◌⊎◌, arith, inl, inr, ℕ, List, [], ◌∷◌, Option, Some, None, append_assoc}
+use Rattle.std.proofs.Common.{ap, refl, sym, subst, ◌∙◌, ◌≡◌, ◌≢◌, ◌++◌, ◌⊎◌, arith, inl, inr, List, [], ◌∷◌, All, Option, Some, None, append_assoc}
 use Rattle.std.proofs.lemmas.List.{append-nil}
+use Rattle.std.specs.List.{AllByRecursion}
+use Rattle.std.proofs.lemmas.List.Elements.{All-from_recursion}
 use Rattle.mdb_words.specs.declared.limits.TheConstants.{WORD_GAP_MIN}
 use Rattle.mdb_words.specs.declared.event.Event.{Event}
 use Rattle.mdb_words.specs.declared.event.Event.TheVariants.{Word, Break}
 use Rattle.mdb_words.specs.declared.word.Line.TheVariants.{Controller, Peripheral}
-use Rattle.mdb_msgs.specs.declared.command.Command.{Command}
-use Rattle.mdb_msgs.specs.declared.command.Command.TheVariants as commands
-use Rattle.mdb_msgs.specs.declared.command.ReaderCommand.TheVariants as readers
-use Rattle.mdb_msgs.specs.declared.command.ReaderUnit.TheVariants.{First, Second}
 use Rattle.mdb_msgs.specs.declared.setups.Setups.{Setups}
-use Rattle.mdb_msgs.specs.declared.reply.Reply.{Reply}
-use Rattle.mdb_msgs.specs.declared.reply.Reply.TheVariants as replies
-use Rattle.mdb_bus.specs.declared.act.Act.{Act}
 use Rattle.mdb_bus.specs.declared.act.Act.TheVariants as acts
-use Rattle.mdb_bus.specs.declared.levels.Levels.{Levels}
-use Rattle.mdb_bus.specs.declared.scope.Beginning.{Beginning}
 use Rattle.mdb_bus.specs.declared.scope.Beginning.TheVariants.{Joined}
-use Rattle.mdb_bus.specs.declared.scope.Profile.{Profile}
-use Rattle.mdb_bus.specs.declared.scope.Profile.TheVariants.{Base, Extended}
 use Rattle.mdb_bus.specs.declared.scope.Scope.{Scope}
 use Rattle.mdb_bus.specs.Acts.{IsBlockWord, IsForeignWord}
-use Rattle.mdb_bus.specs.ActLists.{Piece, Whole, AskTail, ReplyTail, RepeatTail, Position, Quiet, InAsk, Asked, InReply, Replied, Returned, InRepeat, InForeign, ArePieces, AreSpaced, BlockMayCome, ForeignMayCome, IsActList, IsLow, IsPiece, MayCome, MayStand, NotBefore, PieceFits, ReplyFits, events_of, last_of, left_by, levels_after, levels_by, levels_of, levels_told, piece_events, position_of}
-use Rattle.mdb_bus.specs.Formats.{levels_for}
+use Rattle.mdb_bus.specs.ActLists.{Piece, Whole, AskTail, ReplyTail, RepeatTail, Position, Quiet, InAsk, Asked, InReply, Replied, Returned, InRepeat, InForeign, ArePieces, AreSpaced, BlockMayCome, ForeignMayCome, IsActList, IsPiece, MayCome, MayStand, NotBefore, PieceFits, events_of, last_of, left_by, levels_of, piece_events, position_of}
 use Rattle.mdb_bus.specs.LeavingOut.{with_foreign}
-use Rattle.mdb_bus.specs.Scopes.{no_levels, profile_of}
-use Rattle.mdb_late_start.specs.Cuts.{BeginAnew, IsBreakEvent, SplitsAt, joined_with}
+use Rattle.mdb_bus.specs.Scopes.{levels_before, no_levels, profile_of}
+use Rattle.mdb_late_start.specs.Cuts.{BeginAnew, IsBreakEvent, joined_with}
 use Rattle.mdb_late_start.specs.MidSession.{IsNothingOr}
-use Rattle.mdb_late_start.specs.Told.{IsLessTold}
+use Rattle.mdb_late_start.specs.inner.Splits.{Splits}
 use Rattle.mdb_late_start.proofs.CutWords.{Kind, foreign_both, foreign_end, kind_of}
 use Rattle.mdb_late_start.proofs.Said.{said_stays}
 use Rattle.mdb_bus.proofs.Lists.{last_push}
-use Rattle.mdb_bus.proofs.LeftOutOrder.{foreign_rows, foreign_levels}
+use Rattle.mdb_bus.proofs.LeftOutOrder.{foreign_rows}
 use Rattle.mdb_bus.proofs.LeftOutWords.{AreForeignWords}
 
 -- A list of two parts is divided at another place: in the first part, or after an element of the
@@ -174,7 +164,7 @@ words_stand scope (event ∷ events) pieces are here late words =
     refl (subst Late (sym (last_push (events_of pieces) event)) late.1) words.1
 
 -- foreign acts leave foreign traffic
-foreign_position : (scope : Scope) (events : List Event) (pieces : List Piece)
+pub foreign_position : (scope : Scope) (events : List Event) (pieces : List Piece)
     → position_of scope pieces ≡ InForeign
     → position_of scope (with_foreign events pieces) ≡ InForeign
 foreign_position scope [] pieces here = here
@@ -188,88 +178,78 @@ foreign_joined [] others pieces = refl
 foreign_joined (event ∷ events) others pieces =
     foreign_joined events others (Whole acts.Foreign (event ∷ []) ∷ pieces)
 
--- less told stays so with a command
-told_after : (asked : Command) (one other : Levels) → IsLessTold one other
-    → IsLessTold (levels_after asked one) (levels_after asked other)
-told_after (commands.Reader First (readers.SetupConfig level columns rows display)) one other less =
-    (refl, less.1)
-told_after (commands.Reader Second (readers.SetupConfig level columns rows display)) one other
-    less = (less.0, refl)
-told_after asked one other less = less
+-- rows are none, or begin anew
+abbrev AreNoneOrBeginAnew : List Event → Type 0
+AreNoneOrBeginAnew [] = Unit {0}
+AreNoneOrBeginAnew (event ∷ events) = BeginAnew (event ∷ events)
 
--- with what a reader tells of its own level
-told_with : (profile : Profile) (command : Command) (reply : Reply) (one other : Levels)
-    → IsLessTold one other
-    → IsLessTold (levels_told profile command reply one) (levels_told profile command reply other)
-told_with Extended (commands.Reader First command) (replies.Reader list) one other less = less
-told_with Extended (commands.Reader Second command) (replies.Reader list) one other less = less
-told_with profile command reply one other less = less
+-- What a cut leaves of a transcript: what goes on of the pieces in front of it are foreign words,
+-- and the others begin anew.
+pub record Cutting (scope : Scope) (setups : Setups) (front end : List Event)
+    (pieces : List Piece) : Type 0 where
+  pub later : List Piece
+  pub words : List Event
+  pub before : List Piece
+  pub order : pieces ≡ later ++ before
+  pub in_front : ArePieces scope before
+  pub rows : events_of before ≡ front ++ words
+  pub stand : ArePieces (joined_with setups scope) (later ++ with_foreign words [])
+  pub whole : events_of (later ++ with_foreign words []) ≡ end
+  pub foreign : AreForeignWords words
+  pub anew : AreNoneOrBeginAnew (events_of later)
 
--- and so with an act
-told_by : (profile : Profile) (act : Act) (one other : Levels) → IsLessTold one other
-    → IsLessTold (levels_by profile act one) (levels_by profile act other)
-told_by profile (acts.Ask command) one other less = told_after command one other less
-told_by profile (acts.Reply command reply) one other less =
-    told_with profile command reply one other less
-told_by profile act one other less = less
+-- the pieces of the end by itself
+abbrev pub alone : List Piece → List Event → List Piece
+alone later words = later ++ with_foreign words []
 
--- so it is in the end of pieces, where it is so in front of the end
-pub less_told : (profile : Profile) (less more : Levels) (later : List Piece) (words : List Event)
-    (before : List Piece) → IsLessTold less (levels_of profile more before)
-    → IsLessTold (levels_of profile less (later ++ with_foreign words []))
-    (levels_of profile more (later ++ before))
-less_told profile less more [] words before told =
-    subst (λ (levels : Levels). IsLessTold levels (levels_of profile more before))
-    (sym (foreign_levels profile less words [])) told
-less_told profile less more (Whole act events ∷ later) words before told =
-    told_by profile act (levels_of profile less (later ++ with_foreign words []))
-    (levels_of profile more (later ++ before)) (less_told profile less more later words before told)
-less_told profile less more (piece ∷ later) words before told =
-    less_told profile less more later words before told
+-- a piece may come after pieces of the end
+abbrev pub ComesAlone : Scope → Setups → List Piece → Piece → Event → Type 0
+ComesAlone scope setups pieces piece first =
+    MayCome piece (position_of (joined_with setups scope) pieces) (last_of (events_of pieces)) first
 
--- a level that is none or the same is low if it was
-is_low : (one other : Option ℕ) → IsNothingOr one other → IsLow other → IsLow one
-is_low None other less low = tt
-is_low (Some level) other less low = subst IsLow less low
+-- what it says of levels fits there
+abbrev pub FitsAlone : Scope → Setups → List Piece → Piece → Type 0
+FitsAlone scope setups pieces piece =
+    PieceFits (Joined setups (profile_of scope.begins))
+    (levels_of (profile_of scope.begins) (levels_before (joined_with setups scope)) pieces) piece
 
--- and so is that of a command's reader
-low_for : (command : Command) (one other : Levels) → IsLessTold one other
-    → IsLow (levels_for command other).asked → IsLow (levels_for command one).asked
-low_for (commands.Reader First command) one other less low =
-    is_low one.first.asked other.first.asked less.0 low
-low_for (commands.Reader Second command) one other less low =
-    is_low one.second.asked other.second.asked less.1 low
-low_for command one other less low = low
+-- so it does where a piece of the whole may come in the end after the pieces before it
+abbrev pub AllFitAlone : Scope → Setups → List Event → List Event → Type 0
+AllFitAlone scope setups front end =
+    (middle more : List Event) (piece : Piece) (pieces : List Piece)
+    → end ≡ (middle ++ piece_events piece) ++ more
+    → (cut : Cutting scope setups front middle pieces)
+    → (are : ArePieces scope (piece ∷ pieces))
+    → ComesAlone scope setups (alone cut.later cut.words) piece are.1.first
+    → FitsAlone scope setups (alone cut.later cut.words) piece
 
--- so by the base profile a reply fits as it did
-reply_fits : (profile : Profile) → profile ≡ Base → (command : Command) (reply : Reply)
-    (one other : Levels) → IsLessTold one other → ReplyFits profile other command reply
-    → ReplyFits profile one command reply
-reply_fits Base base command reply one other less fits =
-    (fits.0, λ high. low_for command one other less (fits.1 high))
-reply_fits Extended base command reply one other less fits = absurd (cc base)
+-- rows that begin anew do so with others after them
+pub anew_still : (rows others : List Event) → BeginAnew rows → BeginAnew (rows ++ others)
+anew_still [] others anew = absurd anew
+anew_still (row ∷ rows) others anew = anew
 
--- and what a piece says of levels does in mid-session
-pub levels_fit : (begins : Beginning) (setups : Setups) → profile_of begins ≡ Base
-    → (piece : Piece) (one other : Levels) → IsLessTold one other → PieceFits begins other piece
-    → PieceFits (Joined setups (profile_of begins)) one piece
-levels_fit begins setups base (Whole (acts.Reply command reply) events) one other less fits =
-    reply_fits (profile_of begins) base command reply one other less fits
-levels_fit begins setups base piece one other less fits = fits
+-- so do those of pieces of an end, if these are some
+anew_some : (rows : List Event) → rows ≢ [] → AreNoneOrBeginAnew rows → BeginAnew rows
+anew_some [] some anew = absurd (some refl)
+anew_some (row ∷ rows) some anew = anew
 
--- What a cut leaves of a transcript, and that what goes on of the pieces in front of it are foreign
--- words.
-record Cutting (scope : Scope) (setups : Setups) (front end : List Event) (pieces : List Piece)
-    : Type 0 where
-  later : List Piece
-  words : List Event
-  before : List Piece
-  order : pieces ≡ later ++ before
-  in_front : ArePieces scope before
-  rows : events_of before ≡ front ++ words
-  stand : ArePieces (joined_with setups scope) (later ++ with_foreign words [])
-  whole : events_of (later ++ with_foreign words []) ≡ end
-  foreign : AreForeignWords words
+none_or_anew : (rows : List Event) → BeginAnew rows → AreNoneOrBeginAnew rows
+none_or_anew [] anew = tt
+none_or_anew (row ∷ rows) anew = anew
+
+-- pieces have rows
+some_rows : (scope : Scope) (top : Piece) (pieces others : List Piece)
+    → ArePieces scope (top ∷ pieces ++ others) → events_of (top ∷ pieces) ≢ []
+some_rows scope top pieces others are none =
+    let stands = are.1 in
+    let whole : events_of pieces ++ stands.first ∷ stands.others ≡ [] =
+    ap (λ rows. events_of pieces ++ rows) (sym stands.begins) ∙ none in
+    no_rows (events_of pieces) stands.first stands.others whole
+  where
+    no_rows : (rows : List Event) (row : Event) (others : List Event)
+        → rows ++ row ∷ others ≡ [] → ⊥
+    no_rows [] row others is = cc is
+    no_rows (first ∷ rows) row others is = cc is
 
 -- the last row in the end, before a piece, is none, or the one that is there
 last_before : (scope : Scope) (setups : Setups) (front middle : List Event) (pieces : List Piece)
@@ -284,47 +264,38 @@ last_before scope setups front middle pieces are cut =
 
 -- a piece in the end stands after what is in the end
 stands_on : (scope : Scope) (setups : Setups) (front middle end : List Event) (piece : Piece)
-    (pieces : List Piece) → profile_of scope.begins ≡ Base → IsPiece scope piece
-    → (stands : MayStand scope pieces piece)
+    (pieces : List Piece) → IsPiece scope piece → (stands : MayStand scope pieces piece)
     → end ≡ middle ++ piece_events piece → (cut : Cutting scope setups front middle pieces)
-    → MayCome piece
-    (position_of (joined_with setups scope) (cut.later ++ with_foreign cut.words []))
-    (last_of (events_of (cut.later ++ with_foreign cut.words []))) stands.first
+    → ComesAlone scope setups (alone cut.later cut.words) piece stands.first
+    → FitsAlone scope setups (alone cut.later cut.words) piece
+    → AreNoneOrBeginAnew (events_of cut.later ++ piece_events piece)
     → Cutting scope setups front end (piece ∷ pieces)
-stands_on scope setups front middle end piece pieces base is stands ends cut comes =
-    let profile : Profile = profile_of scope.begins in
-    let Told : List Piece → Type 0 =
-    λ ps. IsLessTold (levels_of profile no_levels (cut.later ++ with_foreign cut.words []))
-    (levels_of profile scope.levels ps) in
+stands_on scope setups front middle end piece pieces is stands ends cut comes fits anew = record {
+  later = piece ∷ cut.later;
+  words = cut.words;
+  before = cut.before;
+  order = ap (λ ps. piece ∷ ps) cut.order;
+  in_front = cut.in_front;
+  rows = cut.rows;
+  stand = (
     record {
-      later = piece ∷ cut.later;
-      words = cut.words;
-      before = cut.before;
-      order = ap (λ ps. piece ∷ ps) cut.order;
-      in_front = cut.in_front;
-      rows = cut.rows;
-      stand = (
-        record {
-          said = said_stays (Joined setups profile) no_levels scope piece refl is.said;
-          spaced = is.spaced;
-        },
-        record {
-          first = stands.first;
-          others = stands.others;
-          begins = stands.begins;
-          comes = comes;
-          levels = levels_fit scope.begins setups base piece
-              (levels_of profile no_levels (cut.later ++ with_foreign cut.words []))
-              (levels_of profile scope.levels pieces)
-              (subst Told (sym cut.order)
-              (less_told profile no_levels scope.levels cut.later cut.words cut.before (tt, tt)))
-              stands.levels;
-        },
-        cut.stand,
-      );
-      whole = ap (λ rows. rows ++ piece_events piece) cut.whole ∙ sym ends;
-      foreign = cut.foreign;
-    }
+      said = said_stays (Joined setups (profile_of scope.begins)) no_levels scope piece refl
+          is.said;
+      spaced = is.spaced;
+    },
+    record {
+      first = stands.first;
+      others = stands.others;
+      begins = stands.begins;
+      comes = comes;
+      levels = fits;
+    },
+    cut.stand,
+  );
+  whole = ap (λ rows. rows ++ piece_events piece) cut.whole ∙ sym ends;
+  foreign = cut.foreign;
+  anew = anew;
+}
 
 -- a piece that begins with a foreign word, after such words alone, stands as foreign words
 stands_as_words : (scope : Scope) (setups : Setups) (front middle end : List Event) (piece : Piece)
@@ -366,6 +337,7 @@ stands_as_words scope setups front middle end piece pieces are first others begi
           ∙ (ap (λ rows. rows ++ piece_events piece) all ∙ sym ends);
       foreign = foreign_both cut.words (piece_events piece) cut.foreign
           (subst Words (sym begins) words);
+      anew = tt;
     }
 
 -- a piece in the end, where no piece began in it before
@@ -387,48 +359,68 @@ stands_first scope setups front middle end piece pieces are first others begins 
 
 -- a piece in the end
 stands_in_end : (scope : Scope) (setups : Setups) (front middle end : List Event) (piece : Piece)
-    (pieces : List Piece) → profile_of scope.begins ≡ Base → ArePieces scope (piece ∷ pieces)
+    (pieces : List Piece) → (are : ArePieces scope (piece ∷ pieces))
     → events_of pieces ≡ front ++ middle → end ≡ middle ++ piece_events piece
-    → (cut : Cutting scope setups front middle pieces) (later : List Piece) → cut.later ≡ later
-    → Cutting scope setups front end (piece ∷ pieces)
-stands_in_end scope setups front middle end piece pieces base are rows ends cut (top ∷ later) is =
+    → (cut : Cutting scope setups front middle pieces)
+    → (ComesAlone scope setups (alone cut.later cut.words) piece are.1.first
+    → FitsAlone scope setups (alone cut.later cut.words) piece)
+    → (later : List Piece) → cut.later ≡ later → Cutting scope setups front end (piece ∷ pieces)
+stands_in_end scope setups front middle end piece pieces are rows ends cut fits (top ∷ later) is =
     let new = joined_with setups scope in
     let stands = are.1 in
     let here : position_of scope pieces ≡ left_by top =
     ap (position_of scope) (cut.order ∙ ap (λ ps. ps ++ cut.before) is) in
-    let there : position_of new (cut.later ++ with_foreign cut.words []) ≡ left_by top =
-    ap (λ ps. position_of new (ps ++ with_foreign cut.words [])) is in
+    let there : position_of new (alone cut.later cut.words) ≡ left_by top =
+    ap (λ ps. position_of new (alone ps cut.words)) is in
     let At : Position → Type 0 =
-    λ position. MayCome piece position
-    (last_of (events_of (cut.later ++ with_foreign cut.words []))) stands.first in
-    stands_on scope setups front middle end piece pieces base are.0 stands ends cut
-    (subst At (here ∙ sym there)
+    λ position. MayCome piece position (last_of (events_of (alone cut.later cut.words)))
+    stands.first in
+    let Stand : List Piece → Type 0 = λ ps. ArePieces new (alone ps cut.words) in
+    let Anew : List Piece → Type 0 = λ ps. AreNoneOrBeginAnew (events_of ps) in
+    let More : List Piece → Type 0 =
+    λ ps. AreNoneOrBeginAnew (events_of ps ++ piece_events piece) in
+    let comes : ComesAlone scope setups (alone cut.later cut.words) piece stands.first =
+    subst At (here ∙ sym there)
     (comes_after piece (position_of scope pieces)
-    (last_of (events_of (cut.later ++ with_foreign cut.words []))) (last_of (events_of pieces))
-    stands.first (last_before scope setups front middle pieces rows cut) stands.comes))
-stands_in_end scope setups front middle end piece pieces base are rows ends cut [] none =
+    (last_of (events_of (alone cut.later cut.words))) (last_of (events_of pieces))
+    stands.first (last_before scope setups front middle pieces rows cut) stands.comes) in
+    let anew : AreNoneOrBeginAnew (events_of cut.later ++ piece_events piece) =
+    subst More (sym is)
+    (none_or_anew (events_of (top ∷ later) ++ piece_events piece)
+    (anew_still (events_of (top ∷ later)) (piece_events piece)
+    (anew_some (events_of (top ∷ later))
+    (some_rows new top later (with_foreign cut.words []) (subst Stand is cut.stand))
+    (subst Anew is cut.anew)))) in
+    stands_on scope setups front middle end piece pieces are.0 stands ends cut comes (fits comes)
+    anew
+stands_in_end scope setups front middle end piece pieces are rows ends cut fits [] none =
     let new = joined_with setups scope in
     let stands = are.1 in
     let kind : Kind piece (last_of (events_of pieces)) stands.first stands.others =
     kind_of scope piece (position_of scope pieces) (last_of (events_of pieces)) stands.first
     stands.others are.0.said stands.begins stands.comes in
-    let there : position_of new (cut.later ++ with_foreign cut.words []) ≡ InForeign =
-    ap (λ ps. position_of new (ps ++ with_foreign cut.words [])) none
+    let there : position_of new (alone cut.later cut.words) ≡ InForeign =
+    ap (λ ps. position_of new (alone ps cut.words)) none
     ∙ foreign_position new cut.words [] refl in
     let At : Position → Type 0 =
-    λ position. MayCome piece position
-    (last_of (events_of (cut.later ++ with_foreign cut.words []))) stands.first in
+    λ position. MayCome piece position (last_of (events_of (alone cut.later cut.words)))
+    stands.first in
     let less = last_before scope setups front middle pieces rows cut in
     let Less : List Event → Type 0 =
     λ rows. IsNothingOr (last_of rows) (last_of (events_of pieces)) in
+    let More : List Piece → Type 0 =
+    λ ps. AreNoneOrBeginAnew (events_of ps ++ piece_events piece) in
     elim kind.way [
       | inl way ↦ stands_first scope setups front middle end piece pieces are stands.first
           stands.others stands.begins ends cut none kind.words (subst Less cut.whole less) way
-      | inr comes ↦ stands_on scope setups front middle end piece pieces base are.0 stands ends cut
-          (subst At (sym there)
-          (comes_after piece InForeign
-          (last_of (events_of (cut.later ++ with_foreign cut.words [])))
-          (last_of (events_of pieces)) stands.first less comes))
+      | inr way ↦
+          let comes : ComesAlone scope setups (alone cut.later cut.words) piece stands.first =
+          subst At (sym there)
+          (comes_after piece InForeign (last_of (events_of (alone cut.later cut.words)))
+          (last_of (events_of pieces)) stands.first less way.1) in
+          stands_on scope setups front middle end piece pieces are.0 stands ends cut comes
+          (fits comes)
+          (subst More (sym none) (subst AreNoneOrBeginAnew (sym stands.begins) way.0))
     ]
 
 -- a cut inside a piece leaves foreign words of it
@@ -461,28 +453,33 @@ cut_inside scope setups front end piece pieces are whole event middle is =
           (subst (AreLate (Some stands.first)) rest late)) words;
       whole = foreign_rows end [];
       foreign = words;
+      anew = tt;
     }
 
 -- a cut of pieces with one more: before its events, or inside them
-cut_on : (scope : Scope) (setups : Setups) (front end : List Event) (piece : Piece)
-    (pieces : List Piece) → profile_of scope.begins ≡ Base → ArePieces scope (piece ∷ pieces)
-    → events_of (piece ∷ pieces) ≡ front ++ end
-    → ((middle : List Event) → events_of pieces ≡ front ++ middle
-    → Cutting scope setups front middle pieces)
+cut_on : (scope : Scope) (setups : Setups) (front end whole_end more : List Event) (piece : Piece)
+    (pieces : List Piece) → AllFitAlone scope setups front whole_end → whole_end ≡ end ++ more
+    → (are : ArePieces scope (piece ∷ pieces)) → events_of (piece ∷ pieces) ≡ front ++ end
+    → ((middle : List Event) → end ≡ middle ++ piece_events piece
+    → events_of pieces ≡ front ++ middle → Cutting scope setups front middle pieces)
     → IsDivided (events_of pieces) (piece_events piece) front end
     → Cutting scope setups front end (piece ∷ pieces)
-cut_on scope setups front end piece pieces base are whole earlier (inl (middle, rows, ends)) =
-    let cut = earlier middle rows in
-    stands_in_end scope setups front middle end piece pieces base are rows ends cut cut.later refl
-cut_on scope setups front end piece pieces base are whole earlier
+cut_on scope setups front end whole_end more piece pieces fit all are whole earlier
+    (inl (middle, rows, ends)) =
+    let cut = earlier middle ends rows in
+    stands_in_end scope setups front middle end piece pieces are rows ends cut
+    (fit middle more piece pieces (all ∙ ap (λ es. es ++ more) ends) cut are)
+    cut.later refl
+cut_on scope setups front end whole_end more piece pieces fit all are whole earlier
     (inr (event, middle, rows, ends)) =
     cut_inside scope setups front end piece pieces are whole event middle ends
 
 -- pieces in order may be cut anywhere
-cut_at : (scope : Scope) (setups : Setups) (pieces : List Piece) (front end : List Event)
-    → profile_of scope.begins ≡ Base → ArePieces scope pieces → events_of pieces ≡ front ++ end
+cut_at : (scope : Scope) (setups : Setups) (pieces : List Piece)
+    (front end whole_end more : List Event) → AllFitAlone scope setups front whole_end
+    → whole_end ≡ end ++ more → ArePieces scope pieces → events_of pieces ≡ front ++ end
     → Cutting scope setups front end pieces
-cut_at scope setups [] [] [] base are whole = record {
+cut_at scope setups [] [] [] whole_end more fit all are whole = record {
   later = [];
   words = [];
   before = [];
@@ -492,16 +489,19 @@ cut_at scope setups [] [] [] base are whole = record {
   stand = tt;
   whole = refl;
   foreign = tt;
+  anew = tt;
 }
-cut_at scope setups [] [] (event ∷ end) base are whole = absurd cc
-cut_at scope setups [] (event ∷ front) end base are whole = absurd cc
-cut_at scope setups (piece ∷ pieces) front end base are whole =
-    cut_on scope setups front end piece pieces base are whole
-    (λ middle rows. cut_at scope setups pieces front middle base are.2 rows)
+cut_at scope setups [] [] (event ∷ end) whole_end more fit all are whole = absurd cc
+cut_at scope setups [] (event ∷ front) end whole_end more fit all are whole = absurd cc
+cut_at scope setups (piece ∷ pieces) front end whole_end more fit all are whole =
+    cut_on scope setups front end whole_end more piece pieces fit all are whole
+    (λ middle ends rows.
+    cut_at scope setups pieces front middle whole_end (piece_events piece ++ more) fit
+    (all ∙ ap (λ es. es ++ more) ends ∙ append_assoc middle (piece_events piece) more) are.2 rows)
     (divide (events_of pieces) (piece_events piece) front end whole)
 
 -- the rows of an end begin with its foreign words
-rows_begin : (later : List Piece) (words : List Event)
+pub rows_begin : (later : List Piece) (words : List Event)
     → events_of (later ++ with_foreign words []) ≡ words ++ events_of later
 rows_begin [] words = foreign_rows words [] ∙ sym (append-nil words)
 rows_begin (piece ∷ later) words =
@@ -509,7 +509,8 @@ rows_begin (piece ∷ later) words =
     ∙ append_assoc words (events_of later) (piece_events piece)
 
 -- a foreign word begins nothing anew
-begins_nothing : (event : Event) → IsForeignWord event → IsBlockWord event ⊎ IsBreakEvent event → ⊥
+pub begins_nothing : (event : Event) → IsForeignWord event
+    → IsBlockWord event ⊎ IsBreakEvent event → ⊥
 begins_nothing (Word at Controller word) low (inl high) = omega (arith, low, high)
 begins_nothing (Word at Controller word) low (inr break) = absurd break
 begins_nothing (Word at Peripheral word) low (inl high) = absurd high
@@ -522,22 +523,106 @@ none_anew : (words rest : List Event) → AreForeignWords words → BeginAnew (w
 none_anew [] rest foreign anew = refl
 none_anew (word ∷ words) rest foreign anew = absurd (begins_nothing word foreign.0 anew)
 
--- the end of a transcript has an act list of its own
-pub ends_have_act_lists : (scope : Scope) (setups : Setups) (front end : List Event)
-    (pieces : List Piece) → profile_of scope.begins ≡ Base
-    → IsActList scope pieces (front ++ end) → SplitsAt scope setups front end pieces
-ends_have_act_lists scope setups front end pieces base list =
-    let cut = cut_at scope setups pieces front end base list.in_order list.whole in
+-- Pieces have a boundary at the end of rows in front.
+pub record Passed (front : List Event) (pieces : List Piece) : Type 0 where
+  pub later : List Piece
+  pub before : List Piece
+  pub order : pieces ≡ later ++ before
+  pub rows : events_of before ≡ front
+
+-- with one piece more
+passed_on : (piece : Piece) (front : List Event) (pieces : List Piece) → Passed front pieces
+    → Passed front (piece ∷ pieces)
+passed_on piece front pieces passed = record {
+  later = piece ∷ passed.later;
+  before = passed.before;
+  order = ap (λ ps. piece ∷ ps) passed.order;
+  rows = passed.rows;
+}
+
+-- rows that go on don't begin anew with words of a piece after its first
+goes_on : (middle end : List Event) → AreForeignWords (middle ++ end) → BeginAnew end → ⊥
+goes_on middle [] words anew = anew
+goes_on middle (event ∷ end) words anew =
+    begins_nothing event (foreign_end middle (event ∷ end) words).0 anew
+
+-- where the rest begins anew
+pass_on : (scope : Scope) (front end : List Event) (piece : Piece) (pieces : List Piece)
+    → ArePieces scope (piece ∷ pieces) → BeginAnew end
+    → ((middle : List Event) → events_of pieces ≡ front ++ middle → BeginAnew middle
+    → Passed front pieces)
+    → IsDivided (events_of pieces) (piece_events piece) front end → Passed front (piece ∷ pieces)
+pass_on scope front end piece pieces are anew earlier (inl ([], rows, ends)) = record {
+  later = piece ∷ [];
+  before = pieces;
+  order = refl;
+  rows = rows ∙ append-nil front;
+}
+pass_on scope front end piece pieces are anew earlier (inl (event ∷ middle, rows, ends)) =
+    passed_on piece front pieces (earlier (event ∷ middle) rows (subst BeginAnew ends anew))
+pass_on scope front end piece pieces are anew earlier (inr (event, middle, rows, ends)) =
+    let stands = are.1 in
+    let both : stands.first ∷ stands.others ≡ event ∷ (middle ++ end) = sym stands.begins ∙ ends in
+    let rest : stands.others ≡ middle ++ end = cc in
+    let kind : Kind piece (last_of (events_of pieces)) stands.first stands.others =
+    kind_of scope piece (position_of scope pieces) (last_of (events_of pieces)) stands.first
+    stands.others are.0.said stands.begins stands.comes in
+    absurd (goes_on middle end (subst AreForeignWords rest kind.words) anew)
+
+-- so pieces in order have one there
+pub pass_at : (scope : Scope) (pieces : List Piece) (front end : List Event)
+    → ArePieces scope pieces → events_of pieces ≡ front ++ end → BeginAnew end
+    → Passed front pieces
+pass_at scope [] front [] are whole anew = absurd anew
+pass_at scope [] [] (event ∷ end) are whole anew = absurd cc
+pass_at scope [] (first ∷ front) (event ∷ end) are whole anew = absurd cc
+pass_at scope (piece ∷ pieces) front end are whole anew =
+    pass_on scope front end piece pieces are anew
+    (λ middle rows begun. pass_at scope pieces front middle are.2 rows begun)
+    (divide (events_of pieces) (piece_events piece) front end whole)
+
+-- foreign words, each by itself
+pub all_foreign : (words : List Event) → AreForeignWords words → All IsForeignWord words
+all_foreign words foreign = All-from_recursion IsForeignWord words (each words foreign)
+  where
+    each : (words : List Event) → AreForeignWords words → AllByRecursion IsForeignWord words
+    each [] foreign = tt
+    each (word ∷ words) foreign = (foreign.0, each words foreign.1)
+
+-- the end begins anew with its pieces, if these are some
+pub later_anew : (scope : Scope) (setups : Setups) (front end : List Event) (pieces : List Piece)
+    (cut : Cutting scope setups front end pieces) → (later : List Piece) → cut.later ≡ later
+    → later ≢ [] → BeginAnew (events_of cut.later)
+later_anew scope setups front end pieces cut [] is some = absurd (some refl)
+later_anew scope setups front end pieces cut (top ∷ later) is some =
+    let new = joined_with setups scope in
+    let Stand : List Piece → Type 0 = λ ps. ArePieces new (alone ps cut.words) in
+    let Some_rows : List Piece → Type 0 = λ ps. events_of ps ≢ [] in
+    anew_some (events_of cut.later)
+    (subst Some_rows (sym is)
+    (some_rows new top later (alone [] cut.words) (subst Stand is cut.stand))) cut.anew
+
+-- the end of a transcript has an act list of its own, where all pieces fit
+pub splits : (scope : Scope) (setups : Setups) (front end : List Event) (pieces : List Piece)
+    → AllFitAlone scope setups front end → IsActList scope pieces (front ++ end)
+    → Splits scope setups front end pieces
+splits scope setups front end pieces fit list =
+    let cut = cut_at scope setups pieces front end end [] fit (sym (append-nil end)) list.in_order
+    list.whole in
     let rows : end ≡ cut.words ++ events_of cut.later =
     sym cut.whole ∙ rows_begin cut.later cut.words in
     record {
-      later = cut.later;
-      words = cut.words;
-      before = cut.before;
-      order = cut.order;
-      in_front = cut.in_front;
-      rows = cut.rows;
-      act_list = record { in_order = cut.stand; whole = cut.whole };
-      clean = λ anew. none_anew cut.words (events_of cut.later) cut.foreign
-          (subst BeginAnew rows anew);
+      cut = record {
+        later = cut.later;
+        words = cut.words;
+        before = cut.before;
+        order = cut.order;
+        in_front = cut.in_front;
+        rows = cut.rows;
+        act_list = record { in_order = cut.stand; whole = cut.whole };
+        clean = λ anew. none_anew cut.words (events_of cut.later) cut.foreign
+            (subst BeginAnew rows anew);
+      };
+      foreign = all_foreign cut.words cut.foreign;
+      anew = λ some. later_anew scope setups front end pieces cut cut.later refl some;
     }

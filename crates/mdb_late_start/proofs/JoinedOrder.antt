@@ -1,79 +1,118 @@
 -- The act list of a transcript from power-on is one of the same rows as a recording that begins in
--- mid-session: where no row stands before them, pieces that may come as nothing is open may come in
--- foreign traffic.
-use Rattle.std.proofs.Common.{refl, ◌≡◌, inl, inr, List, [], ◌∷◌, None}
+-- mid-session: from power-on rows begin anew, so that all pieces begin in the end that they are.
+use Rattle.std.proofs.Common.{ap, refl, sym, subst, ◌∙◌, ◌≡◌, ◌++◌, ◌⊎◌, inl, inr, List, [], ◌∷◌, All, None}
+use Rattle.std.specs.List.{AllByRecursion}
+use Rattle.std.proofs.lemmas.List.Elements.{recursion_from_All}
 use Rattle.mdb_words.specs.declared.event.Event.{Event}
+use Rattle.mdb_words.specs.declared.event.Event.TheVariants.{Break}
+use Rattle.mdb_words.specs.declared.word.Line.TheVariants.{Controller}
+use Rattle.mdb_blocks.specs.Block.{block_of, controller_words}
+use Rattle.mdb_msgs.specs.Commands.{command_bytes}
 use Rattle.mdb_msgs.specs.declared.device_set.DeviceSet.{DeviceSet}
 use Rattle.mdb_msgs.specs.declared.setups.Setups.{Setups}
 use Rattle.mdb_bus.specs.declared.act.Act.TheVariants as acts
-use Rattle.mdb_bus.specs.declared.levels.Levels.{Levels}
-use Rattle.mdb_bus.specs.declared.scope.Beginning.TheVariants.{PowerOn, Joined}
-use Rattle.mdb_bus.specs.declared.scope.Profile.TheVariants.{Base}
-use Rattle.mdb_bus.specs.ActLists.{Piece, Whole, AskTail, ReplyTail, RepeatTail, Quiet, InForeign, ArePieces, ForeignMayCome, IsActList, MayCome, PieceFits, events_of, last_of, levels_of, position_of}
-use Rattle.mdb_bus.specs.Scopes.{joined, leaving_out, no_levels}
-use Rattle.mdb_late_start.proofs.Said.{said_stays}
+use Rattle.mdb_bus.specs.declared.scope.Profile.{Profile}
+use Rattle.mdb_bus.specs.declared.scope.Scope.{Scope}
+use Rattle.mdb_bus.specs.Acts.{IsBlockWord, IsForeignWord, Say}
+use Rattle.mdb_bus.specs.ActLists.{Piece, Whole, AskTail, ReplyTail, RepeatTail, Position, Quiet, InForeign, ArePieces, IsActList, IsSaid, MayCome, events_of, first_position, piece_events}
+use Rattle.mdb_bus.specs.LeavingOut.{with_foreign}
+use Rattle.mdb_bus.specs.Scopes.{from_power_on, joined_by}
+use Rattle.mdb_late_start.specs.Alone.{MayBeReadAlone}
+use Rattle.mdb_late_start.specs.Cuts.{BeginAnew, IsBreakEvent}
+use Rattle.mdb_late_start.specs.inner.Splits.{MayBeLinkedAlone, Splits}
+use Rattle.mdb_late_start.proofs.CutWords.{block_begins}
+use Rattle.mdb_late_start.proofs.Cutting.{anew_still, begins_nothing}
+use Rattle.mdb_late_start.proofs.KnownLevels.{may_be_linked}
 
--- a first foreign act may come in foreign traffic, too
-foreign_too : (to : Event) → ForeignMayCome Quiet None to → ForeignMayCome InForeign None to
-foreign_too to (inl opens) = inl (opens.0, tt)
-foreign_too to (inr further) = absurd (let quiet : Quiet ≡ InForeign = further.1 in cc quiet)
+-- a piece that may come where nothing is open, and no row stands before it, begins anew
+first_anew : (scope : Scope) (piece : Piece) (position : Position) (first : Event)
+    (others : List Event) → IsSaid scope piece → piece_events piece ≡ first ∷ others
+    → position ≡ Quiet → MayCome piece position None first → IsBlockWord first ⊎ IsBreakEvent first
+first_anew scope (Whole (acts.Ask command) events) position first others said are quiet comes =
+    let block = block_of (command_bytes command) in
+    inl (block_begins block first others (subst (Say Controller (controller_words block)) are
+    said.1))
+first_anew scope (Whole (acts.Ack command) events) position first others said are quiet comes =
+    cc (sym comes.0 ∙ quiet)
+first_anew scope (Whole (acts.Nak command) events) position first others said are quiet comes =
+    cc (sym comes.0 ∙ quiet)
+first_anew scope (Whole (acts.Reply command reply) events) position first others said are quiet
+    comes = cc (sym comes.0 ∙ quiet)
+first_anew scope (Whole (acts.VmcAck command reply) events) position first others said are quiet
+    comes = cc (sym comes.0 ∙ quiet)
+first_anew scope (Whole (acts.VmcNak command reply) events) position first others said are quiet
+    comes = cc (sym comes.0 ∙ quiet)
+first_anew scope (Whole (acts.VmcRet command reply) events) position first others said are quiet
+    comes = cc (sym comes.0 ∙ quiet)
+first_anew scope (Whole (acts.Repeat command reply) events) position first others said are quiet
+    comes = cc (sym comes.0 ∙ quiet)
+first_anew scope (Whole acts.Foreign events) position first others said are quiet (inl opens) =
+    inl opens.0
+first_anew scope (Whole acts.Foreign events) position first others said are quiet (inr further) =
+    let clash : InForeign ≡ Quiet = sym further.1 ∙ quiet in
+    cc clash
+first_anew scope (Whole (acts.Break length) events) position first others said are quiet comes =
+    let is : first ∷ others ≡ Break said.0 length ∷ [] = sym are ∙ said.1 in
+    let same : Break said.0 length ≡ first = cc in
+    inr (subst IsBreakEvent same tt)
+first_anew scope (AskTail bytes events) position first others said are quiet comes =
+    inl (block_begins bytes first others (subst (Say Controller (controller_words bytes)) are
+    said.1))
+first_anew scope (ReplyTail command bytes events) position first others said are quiet comes =
+    cc (sym comes.0 ∙ quiet)
+first_anew scope (RepeatTail command reply words events) position first others said are quiet
+    comes = cc (sym comes.0 ∙ quiet)
 
--- and so may each first piece
-first_too : (piece : Piece) (to : Event) → MayCome piece Quiet None to
-    → MayCome piece InForeign None to
-first_too (Whole (acts.Ask command) events) to comes = tt
-first_too (Whole (acts.Ack command) events) to comes = absurd (let no = comes.0 in cc no)
-first_too (Whole (acts.Nak command) events) to comes = absurd (let no = comes.0 in cc no)
-first_too (Whole (acts.Reply command reply) events) to comes = absurd (let no = comes.0 in cc no)
-first_too (Whole (acts.VmcAck command reply) events) to comes = absurd (let no = comes.0 in cc no)
-first_too (Whole (acts.VmcNak command reply) events) to comes = absurd (let no = comes.0 in cc no)
-first_too (Whole (acts.VmcRet command reply) events) to comes = absurd (let no = comes.0 in cc no)
-first_too (Whole (acts.Repeat command reply) events) to comes = absurd (let no = comes.0 in cc no)
-first_too (Whole acts.Foreign events) to comes = foreign_too to comes
-first_too (Whole (acts.Break length) events) to comes = comes
-first_too (AskTail bytes events) to comes = tt
-first_too (ReplyTail command bytes events) to comes = absurd (let no = comes.0 in cc no)
-first_too (RepeatTail command reply words events) to comes = absurd (let no = comes.0 in cc no)
+-- so pieces in order begin anew, where nothing is open before them
+pub begin_anew : (scope : Scope) → first_position scope.begins ≡ Quiet → (piece : Piece)
+    (pieces : List Piece) → ArePieces scope (piece ∷ pieces)
+    → BeginAnew (events_of (piece ∷ pieces))
+begin_anew scope quiet piece [] are =
+    let stands = are.1 in
+    subst BeginAnew (sym stands.begins)
+    (first_anew scope piece (first_position scope.begins) stands.first stands.others are.0.said
+    stands.begins quiet stands.comes)
+begin_anew scope quiet piece (earlier ∷ pieces) are =
+    anew_still (events_of (earlier ∷ pieces)) (piece_events piece)
+    (begin_anew scope quiet earlier pieces are.2)
 
--- and the others stand where they stood
-comes_too : (setups : Setups) (without : DeviceSet) (pieces : List Piece) (piece : Piece)
-    (to : Event)
-    → MayCome piece (position_of (leaving_out without) pieces) (last_of (events_of pieces)) to
-    → MayCome piece (position_of (joined setups without) pieces) (last_of (events_of pieces)) to
-comes_too setups without [] piece to comes = first_too piece to comes
-comes_too setups without (last ∷ pieces) piece to comes = comes
+-- foreign words don't
+words_never : (words : List Event) → All IsForeignWord words → BeginAnew words → ⊥
+words_never words foreign anew = each words (recursion_from_All IsForeignWord words foreign) anew
+  where
+    each : (words : List Event) → AllByRecursion IsForeignWord words → BeginAnew words → ⊥
+    each [] foreign anew = anew
+    each (word ∷ words) foreign anew = begins_nothing word foreign.0 anew
 
--- what a piece says of levels fits as it did
-fits_too : (setups : Setups) (levels : Levels) (piece : Piece)
-    → PieceFits (PowerOn Base) levels piece → PieceFits (Joined setups Base) levels piece
-fits_too setups levels (Whole (acts.Reply command reply) events) fits = fits
-fits_too setups levels piece fits = fits
+-- nothing stands in front where all rows are the end
+all_later : (profile : Profile) (setups : Setups) (without : DeviceSet) (pieces : List Piece)
+    (rows : List Event) → (it : Splits (from_power_on profile without) setups [] rows pieces)
+    → (before : List Piece) → it.cut.before ≡ before
+    → IsActList (joined_by profile setups without) pieces rows
+all_later profile setups without pieces rows it [] none =
+    let new = joined_by profile setups without in
+    let words : it.cut.words ≡ [] = sym it.cut.rows ∙ ap events_of none in
+    let later : it.cut.later ++ with_foreign it.cut.words [] ≡ pieces =
+    ap (λ ws. it.cut.later ++ with_foreign ws []) words
+    ∙ sym (it.cut.order ∙ ap (λ ps. it.cut.later ++ ps) none) in
+    subst (λ ps. IsActList new ps rows) later it.cut.act_list
+all_later profile setups without pieces rows it (piece ∷ before) is =
+    let scope = from_power_on profile without in
+    let rows_there : events_of (piece ∷ before) ≡ it.cut.words =
+    ap events_of (sym is) ∙ it.cut.rows in
+    absurd (words_never it.cut.words it.foreign
+    (subst BeginAnew rows_there
+    (begin_anew scope refl piece before (subst (ArePieces scope) is it.cut.in_front))))
 
--- so pieces in order are in order
-in_order_too : (setups : Setups) (without : DeviceSet) (pieces : List Piece)
-    → ArePieces (leaving_out without) pieces → ArePieces (joined setups without) pieces
-in_order_too setups without [] are = tt
-in_order_too setups without (piece ∷ pieces) are =
-    let stands = are.1 in (
-      record {
-        said = said_stays (Joined setups Base) no_levels (leaving_out without) piece refl
-            are.0.said;
-        spaced = are.0.spaced;
-      },
-      record {
-        first = stands.first;
-        others = stands.others;
-        begins = stands.begins;
-        comes = comes_too setups without pieces piece stands.first stands.comes;
-        levels = fits_too setups (levels_of Base no_levels pieces) piece stands.levels;
-      },
-      in_order_too setups without pieces are.2,
-    )
-
--- and an act list is one
-pub joined_too : (setups : Setups) (without : DeviceSet) (pieces : List Piece) (rows : List Event)
-    → IsActList (leaving_out without) pieces rows → IsActList (joined setups without) pieces rows
-joined_too setups without pieces rows list = record {
-  in_order = in_order_too setups without pieces list.in_order;
-  whole = list.whole;
-}
+-- so an act list from power-on is one in mid-session
+pub joined_too : ((scope : Scope) (setups : Setups) (front end : List Event)
+    (pieces : List Piece) → MayBeLinkedAlone scope setups front end
+    → IsActList scope pieces (front ++ end) → Splits scope setups front end pieces)
+    → (profile : Profile) (setups : Setups) (without : DeviceSet) (pieces : List Piece)
+    (rows : List Event) → MayBeReadAlone (from_power_on profile without) setups [] rows
+    → IsActList (from_power_on profile without) pieces rows
+    → IsActList (joined_by profile setups without) pieces rows
+joined_too cuts profile setups without pieces rows may list =
+    let scope = from_power_on profile without in
+    let it = cuts scope setups [] rows pieces (may_be_linked scope setups [] rows may) list in
+    all_later profile setups without pieces rows it it.cut.before refl

@@ -12,9 +12,13 @@ pub mod FromPowerOn
 pub mod InEnds
 pub mod JoinedOrder
 pub mod Keepers
+pub mod KnownLevels
+pub mod LessTold
 pub mod Middles
 pub mod NoOptions
 pub mod Onward
+pub mod OpenEnds
+pub mod OpenFaults
 pub mod ReaderCovers
 pub mod ReaderHolds
 pub mod ReaderOtherwise

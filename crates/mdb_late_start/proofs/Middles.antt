@@ -1,6 +1,6 @@
 -- Rows that have foreign words in front of a middle, and tails after it: a run of the middle is one
 -- of the rows. Lists of acts and of pieces stand newest first, lists of events oldest first.
-use Rattle.std.proofs.Common.{ap, refl, subst, sym, ◌∙◌, ◌≡◌, ◌+◌, ℕ, List, [], ◌∷◌, ◌++◌, Option, Some, None}
+use Rattle.std.proofs.Common.{ap, refl, subst, sym, ◌∙◌, ◌≡◌, ◌+◌, inl, inr, ℕ, List, [], ◌∷◌, ◌++◌, All, Option, Some, None}
 use Rattle.std.specs.List.{AllByRecursion}
 use Rattle.std.proofs.lemmas.List.{append-nil}
 use Rattle.std.proofs.lemmas.List.Elements.{recursion_from_All}
@@ -16,7 +16,7 @@ use Rattle.mdb_bus.specs.declared.levels.Levels.{Levels}
 use Rattle.mdb_bus.specs.declared.scope.Beginning.TheVariants.{Joined}
 use Rattle.mdb_bus.specs.declared.scope.Scope.{Scope}
 use Rattle.mdb_bus.specs.declared.scope.Profile.{Profile}
-use Rattle.mdb_bus.specs.declared.scope.Profile.TheVariants.{Base}
+use Rattle.mdb_bus.specs.declared.scope.Profile.TheVariants.{Base, Extended}
 use Rattle.mdb_bus.specs.Acts.{IsForeignWord, Say, said_by}
 use Rattle.mdb_bus.specs.ActLists.{Piece, Whole, AskTail, ReplyTail, RepeatTail, Position, InForeign, ArePieces, IsActList, IsSaid, IsTail, MayCome, acts_of, events_of, first_position, last_of, levels_of, piece_events, position_of}
 use Rattle.mdb_bus.specs.LeavingOut.{with_foreign}
@@ -29,16 +29,20 @@ use Rattle.mdb_follow.specs.Runs.{AllSums, Run}
 use Rattle.mdb_follow.specs.Sums.{no_sums}
 use Rattle.mdb_late_start.specs.Middle.{HasMiddle}
 use Rattle.mdb_late_start.specs.MidSession.{IsNothingOr}
-use Rattle.mdb_late_start.specs.Told.{AreToldBy, IsLessTold, told_later}
+use Rattle.mdb_late_start.specs.Cuts.{SplitsAt}
+use Rattle.mdb_late_start.specs.Told.{IsLessTold, told_later}
 use Rattle.mdb_late_start.specs.inner.EndLaws.{EndLaws}
+use Rattle.mdb_late_start.specs.inner.Splits.{IsLessKnown, MayBeLinkedAlone}
 use Rattle.mdb_follow.proofs.Ways.{no-gains}
-use Rattle.mdb_late_start.proofs.CutWords.{foreign_end}
+use Rattle.mdb_late_start.proofs.CutWords.{foreign_both, foreign_end}
+use Rattle.mdb_late_start.proofs.LessTold.{as_told, by_profile}
+use Rattle.mdb_late_start.proofs.ToldCuts.{other_levels}
 use Rattle.mdb_late_start.proofs.EndRuns.{front_in_order, run_by}
 use Rattle.mdb_late_start.proofs.Foreign.{after_others, is_machine_of, own_later, starts_anywhere}
 use Rattle.mdb_late_start.proofs.Onward.{acts_in_two}
 use Rattle.mdb_bus.proofs.Backward.{marked_not_foreign as marked_word}
 use Rattle.mdb_bus.proofs.LeftOutWords.{AreForeignWords}
-use Rattle.mdb_bus.specs.Scopes.{profile_of}
+use Rattle.mdb_bus.specs.Scopes.{first_levels, levels_before, no_levels, profile_of}
 
 -- pieces are foreign acts, and no others
 abbrev pub AreForeign : List Piece → Type 0
@@ -191,16 +195,88 @@ pub record Parts (scope : Scope) (rows middle : List Event) (has : HasMiddle sco
   pub foreign : AreForeign before
   pub list : IsActList scope later middle
 
+-- what is known as such rows begin
+first_less : (setups : Setups) (profile : Profile) (levels : Levels)
+    → IsLessKnown (first_levels (Joined setups profile) no_levels)
+    (first_levels (Joined setups profile) levels)
+first_less setups Base levels = record {
+  first = record { asked = tt; told = tt };
+  second = record { asked = tt; told = tt };
+}
+first_less setups Extended levels = record {
+  first = record {
+    asked = the_same setups.first_reader.asked;
+    told = the_same setups.first_reader.told;
+  };
+  second = record {
+    asked = the_same setups.second_reader.asked;
+    told = the_same setups.second_reader.told;
+  };
+}
+
+-- pieces of foreign words alone tell no level
+none_told_in : (scope : Scope) (pieces : List Piece) (rows : List Event)
+    → first_position scope.begins ≡ InForeign → IsActList scope pieces rows
+    → AreForeignWords rows
+    → levels_of (profile_of scope.begins) (levels_before scope) pieces ≡ levels_before scope
+none_told_in scope pieces rows begins list words =
+    none_told_by (profile_of scope.begins) (levels_before scope) pieces
+    (foreign_only scope pieces begins list.in_order
+    (subst AreForeignWords (sym list.whole) words))
+
+-- so the link may read the middle by itself, where that has an act list
+pub middle_linked : (setups : Setups) (levels : Levels) (scope : Scope)
+    (words middle : List Event) (pieces : List Piece) → All IsForeignWord words
+    → IsActList (told_later setups levels scope) pieces middle
+    → MayBeLinkedAlone (told_later setups levels scope) setups words middle
+middle_linked setups levels scope words middle pieces foreign list =
+    let mine = told_later setups levels scope in
+    let profile = profile_of scope.begins in
+    let here : Levels = first_levels (Joined setups profile) no_levels in
+    elim (by_profile profile) [
+      | inl base ↦ inl base
+      | inr extended ↦ inr (record {
+        act_list = (pieces, other_levels setups levels no_levels scope pieces middle extended list);
+        knows = λ more rest before parts others anew front.
+            subst (IsLessKnown here)
+            (sym (none_told_in mine before (words ++ more) refl front
+            (foreign_both words more
+            (words_each words (recursion_from_All IsForeignWord words foreign))
+            (words_each more (recursion_from_All IsForeignWord more others)))))
+            (first_less setups profile levels);
+      })
+    ]
+
+-- where no level was told in front of a middle, its act list is one with the levels told before
+list_there : EndLaws → (setups : Setups) (levels : Levels) (scope : Scope)
+    (words middle : List Event) (pieces : List Piece)
+    → IsActList (told_later setups levels scope) pieces (words ++ middle)
+    → (cut : SplitsAt (told_later setups levels scope) setups words middle pieces)
+    → levels_of (profile_of scope.begins) (first_levels (Joined setups (profile_of scope.begins))
+    levels) cut.before ≡ first_levels (Joined setups (profile_of scope.begins)) levels
+    → IsActList (told_later setups levels scope) (cut.later ++ with_foreign cut.words []) middle
+list_there laws setups levels scope words middle pieces list cut before =
+    let mine = told_later setups levels scope in
+    elim (by_profile (profile_of scope.begins)) [
+      | inl base ↦ laws.told mine setups levels words middle pieces list cut
+          (subst (λ ls. IsLessTold levels ls)
+          (sym (before ∙ as_told setups (profile_of scope.begins) base levels))
+          (the_same levels.first.asked, the_same levels.second.asked))
+      | inr extended ↦ other_levels setups no_levels levels scope
+          (cut.later ++ with_foreign cut.words []) middle extended cut.act_list
+    ]
+
 pub parts : EndLaws → (setups : Setups) (levels : Levels) (scope : Scope)
     (rows middle : List Event) (has : HasMiddle (told_later setups levels scope) rows middle)
-    → profile_of scope.begins ≡ Base → Parts (told_later setups levels scope) rows middle has
-parts laws setups levels scope rows middle has base =
+    → MayBeLinkedAlone (told_later setups levels scope) setups has.words middle
+    → Parts (told_later setups levels scope) rows middle has
+parts laws setups levels scope rows middle has linked =
     let mine = told_later setups levels scope in
     let list : IsActList mine has.whole (has.words ++ middle) = record {
       in_order = front_in_order mine has.tail has.whole has.act_list.in_order;
       whole = has.of_whole;
     } in
-    let cut = laws.cut mine setups has.words middle has.whole base list in
+    let cut = (laws.splits_rows mine setups has.words middle has.whole linked list).cut in
     let none = cut.clean has.anew in
     let before_rows : events_of cut.before ≡ has.words =
     cut.rows ∙ ap (λ ws. has.words ++ ws) none ∙ append-nil has.words in
@@ -208,13 +284,12 @@ parts laws setups levels scope rows middle has base =
     foreign_only mine cut.before refl cut.in_front
     (subst AreForeignWords (sym before_rows)
     (words_each has.words (recursion_from_All IsForeignWord has.words has.foreign))) in
-    let told : AreToldBy mine cut.before levels =
-    subst (λ ls. IsLessTold levels ls)
-    (sym (none_told_by (profile_of scope.begins) levels cut.before foreign))
-    (the_same levels.first.asked, the_same levels.second.asked) in
+    let before : levels_of (profile_of scope.begins) (levels_before mine) cut.before
+    ≡ levels_before mine =
+    none_told_by (profile_of scope.begins) (levels_before mine) cut.before foreign in
     let clean : IsActList mine (cut.later ++ []) middle =
     subst (λ ws. IsActList mine (cut.later ++ with_foreign ws []) middle) none
-    (laws.told mine setups levels has.words middle has.whole base list cut told) in
+    (list_there laws setups levels scope has.words middle has.whole list cut before) in
     record {
       later = cut.later;
       before = cut.before;
@@ -236,12 +311,12 @@ own_in_middle scope rows middle has parted device =
 -- and a run of the middle is one of the rows
 pub run_of_rows : EndLaws → (setups : Setups) (levels : Levels) (scope : Scope)
     (rows middle : List Event) (has : HasMiddle (told_later setups levels scope) rows middle)
-    (sums : AllSums) → profile_of scope.begins ≡ Base
+    (sums : AllSums) → MayBeLinkedAlone (told_later setups levels scope) setups has.words middle
     → Run (told_later setups levels scope) middle sums
     → Run (told_later setups levels scope) rows sums
-run_of_rows laws setups levels scope rows middle has sums base run =
+run_of_rows laws setups levels scope rows middle has sums linked run =
     let mine = told_later setups levels scope in
-    let parted = parts laws setups levels scope rows middle has base in
+    let parted = parts laws setups levels scope rows middle has linked in
     let same : run.pieces ≡ parted.later =
     laws.one mine middle run.pieces parted.later run.act_list parted.list in
     let ways : EachArrives (Joined setups (profile_of scope.begins)) (acts_of parted.later)

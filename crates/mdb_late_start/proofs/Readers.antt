@@ -1,5 +1,5 @@
 -- What a reader does in the course of a recording, it may do in the end of that by itself.
-use Rattle.std.proofs.Common.{◌≡◌, Bool, false, subst, List, ◌++◌, refl, ap, sym, ◌∙◌, unwrap_or}
+use Rattle.std.proofs.Common.{Bool, subst, List, ◌++◌, refl, ap, sym, ◌∙◌, unwrap_or}
 use Rattle.mdb_msgs.specs.declared.command.Device.TheVariants as devices
 use Rattle.mdb_msgs.specs.declared.command.ReaderUnit.{ReaderUnit}
 use Rattle.mdb_msgs.specs.declared.setups.Setups.{Setups}
@@ -11,27 +11,29 @@ use Rattle.mdb_machine.specs.declared.choice.Choice.{Choice}
 use Rattle.mdb_machine.specs.declared.gains.Gains.{Gains}
 use Rattle.mdb_cashless.specs.declared.reader.state.ReaderState.{ReaderState}
 use Rattle.mdb_cashless.specs.Reader.{StepKnowing}
-use Rattle.mdb_cashless.specs.ReaderFacts.{AllowsFacts, Facts, KnownFacts, extended_of, is_always_idle, known_of}
-use Rattle.mdb_late_start.specs.MidSession.{GoesOnInEnd, HasTold, IsNothingOr, MayJoinLate}
-use Rattle.mdb_late_start.proofs.ReaderCovers.{Covers, allows_kept_too, allows_too, config_covers, covers, idle_off, none_requested, refused_too, same_amount, same_config}
+use Rattle.mdb_cashless.specs.ReaderFacts.{AllowsFacts, Facts, KnownFacts, known_idle, known_of, known_requested}
+use Rattle.mdb_late_start.specs.MidSession.{GoesOnInEnd, HasTold, IsNothingOr, MayJoinLate, TellsLevelsAsKnown}
+use Rattle.mdb_late_start.proofs.ReaderCovers.{Covers, CoversExtended, allows_kept_too, allows_too, config_covers, covers, extended_covers, same_amount, same_config}
 use Rattle.mdb_late_start.proofs.ReaderHolds.{goes_on_told, starts_told}
 use Rattle.mdb_late_start.proofs.ReaderOtherwise.{all_priced, goes_otherwise, otherwise}
 use Rattle.mdb_late_start.proofs.ReaderPrices.{IsTrue, priced, same_where_known}
 
--- the facts with what is known in the end may be there, where always idle is off here and there
+-- the facts with what is known in the end may be there
 allowed_otherwise : (here there : KnownFacts) (holds : Bool) (facts : Facts) → Covers here there
-    → is_always_idle here.extended ≡ false → is_always_idle there.extended ≡ false
-    → HasTold holds there.past.last_kept → AllowsFacts there holds facts
-    → AllowsFacts here holds (otherwise facts here)
-allowed_otherwise here there holds facts covers off idle told allowed = record {
+    → CoversExtended here.extended there.extended → HasTold holds there.past.last_kept
+    → AllowsFacts there holds facts → AllowsFacts here holds (otherwise facts here)
+allowed_otherwise here there holds facts covers idle told allowed = record {
   config = refl;
   asked = allows_too here.asked there.asked facts.asked covers.asked allowed.asked;
   taken = allows_too here.taken there.taken facts.taken covers.taken allowed.taken;
   amount = refl;
   refused = refl;
-  always_idle = allowed.always_idle ∙ idle ∙ sym off;
-  requested = allowed.requested ∙ none_requested there.extended idle
-      ∙ sym (none_requested here.extended off);
+  always_idle = allows_too (known_idle here.extended) (known_idle there.extended)
+      facts.always_idle idle.always_idle allowed.always_idle;
+  request = allowed.request;
+  is_request = allows_too (known_requested here.extended) (known_requested there.extended)
+      allowed.request idle.requested allowed.is_request;
+  requested = allowed.requested;
   past = record {
     enabled = refl;
     reset_owed = refl;
@@ -52,25 +54,26 @@ counts here there holds facts covers config allowed = record {
 -- so each step is one in the end, which gains the same where it has to
 step_in_end : (begins : Beginning) (setups : Setups) (unit : ReaderUnit) (later front : List Act)
     (act : Act) (choice : Choice) (before after : ReaderState) (gains : Gains)
-    → is_always_idle (extended_of begins unit (later ++ front)) ≡ false
+    → TellsLevelsAsKnown setups begins (devices.Reader unit) front
     → HasTold before.holds (known_of begins unit (later ++ front)).past.last_kept
     → StepKnowing unit (known_of begins unit (later ++ front)) act choice before after gains
     → GoesOnInEnd begins setups (devices.Reader unit) later front act choice before after gains
-step_in_end begins setups unit later front act choice before after gains idle told step =
+step_in_end begins setups unit later front act choice before after gains levels told step =
     let here = known_of (Joined setups (profile_of begins)) unit later in
     let there = known_of begins unit (later ++ front) in
     let facts = step.facts in
     let known = covers unit begins setups later front in
+    let extended = extended_covers unit begins setups later front levels in
     let other = goes_otherwise unit facts here act choice before after gains
     (λ owed. step.allowed.past.reset_owed ∙ known.reset_owed owed)
-    (λ refused. refused_too unit begins setups later front (sym step.allowed.refused ∙ refused))
+    (λ refused. extended.refused (sym step.allowed.refused ∙ refused))
     step.step in
     record {
       other = other.0;
       step = record {
         facts = otherwise facts here;
-        allowed = allowed_otherwise here there before.holds facts known
-            (idle_off setups (profile_of begins) unit later) idle told step.allowed;
+        allowed = allowed_otherwise here there before.holds facts known extended told
+            step.allowed;
         step = other.1;
       };
       valued = λ are answers none. other.2
@@ -91,6 +94,6 @@ stays begins setups unit = record {
   starts = starts_told begins unit;
   goes_on = λ so_far act choice before after gains told step.
       goes_on_told begins unit so_far step.facts act choice before after gains told step.step;
-  step = λ later front act choice before after gains names idle told step.
-      step_in_end begins setups unit later front act choice before after gains idle told step;
+  step = λ later front act choice before after gains names levels told step.
+      step_in_end begins setups unit later front act choice before after gains levels told step;
 }

@@ -1,6 +1,6 @@
 -- The same ways from power-on by either profile. Lists of acts and of pieces stand newest first.
 use Rattle.std.proofs.Common.{ap, arith, refl, subst, sym, ◌∙◌, ◌≡◌, ◌⊎◌, inl, inr, List, [], ◌∷◌}
-use Rattle.std.proofs.Common.{ℕ, zero, suc, Bool, true, false, not, ◌&&◌, ◌||◌, ◌↔◌, Option, Some, None, if◌then◌else◌}
+use Rattle.std.proofs.Common.{ℕ, zero, suc, Bool, true, false, ◌&&◌, ◌↔◌, Option, Some, None, if◌then◌else◌}
 use Rattle.std.specs.List.{All, AllByRecursion}
 use Rattle.std.proofs.lemmas.List.Elements.{recursion_from_All}
 use Rattle.mdb_msgs.specs.declared.command.Device.{Device}
@@ -14,18 +14,19 @@ use Rattle.mdb_bus.specs.declared.scope.Profile.{Profile}
 use Rattle.mdb_bus.specs.declared.scope.Profile.TheVariants.{Base, Extended}
 use Rattle.mdb_machine.specs.declared.choice.Choice.{Choice}
 use Rattle.mdb_machine.specs.declared.gains.Gains.{Gains}
+use Rattle.mdb_machine.specs.Known.{Is}
 use Rattle.mdb_machine.specs.Machine.{Machine}
-use Rattle.mdb_machine.specs.Past.{last_told, powers_on, taken_by}
+use Rattle.mdb_machine.specs.Past.{last_told, or_else, powers_on, taken_by}
 use Rattle.mdb_cashless.specs.ReaderFacts as reader
 use Rattle.mdb_follow.specs.Machines.{StateOf, machine_of}
 use Rattle.mdb_follow.specs.Runs.{AllSums, IsWay, States}
 use Rattle.mdb_late_start.specs.Ends.{AreAlike}
 use Rattle.mdb_late_start.specs.NeverLong.{IsNeverLong, IsNotLong, TakesNoAlwaysIdle}
-use Rattle.mdb_late_start.proofs.ReaderCovers.{none_requested}
 
 -- The facts of a reader.
 
-not_high : (level : Option ℕ) → IsLow level → reader.may_be_high false level ≡ false
+not_high : (level : Option ℕ) → IsLow level
+    → reader.may_be_high false (or_else level None) ≡ false
 not_high None low = refl
 not_high (Some zero) low = refl
 not_high (Some (suc zero)) low = refl
@@ -43,8 +44,9 @@ not_refused : (profile : Profile) (unit : ReaderUnit) (acts : List Act) → IsNo
     → reader.is_refused (reader.extended_of (PowerOn profile) unit acts) ≡ false
 not_refused Base unit acts short = refl
 not_refused Extended unit acts short =
-    both_low (reader.may_be_high false asked) (reader.may_be_high false told)
-    (reader.extended_since false unit acts).refused (by short)
+    both_low (reader.may_be_high false (or_else asked None))
+    (reader.may_be_high false (or_else told None))
+    (reader.extended_since false reader.powered_known unit acts).refused (by short)
   where
     asked : Option ℕ
     asked = last_told (reader.level_asked_by unit) acts
@@ -53,39 +55,63 @@ not_refused Extended unit acts short =
     told = last_told (reader.level_told_by unit) acts
 
     by : IsLow asked ⊎ IsLow told
-        → (reader.may_be_high false asked ≡ false) ⊎ (reader.may_be_high false told ≡ false)
+        → (reader.may_be_high false (or_else asked None) ≡ false)
+        ⊎ (reader.may_be_high false (or_else told None) ≡ false)
     by (inl low) = inl (not_high asked low)
     by (inr low) = inr (not_high told low)
 
--- one act more leaves always idle off
-stays_off : (powers asks high on : Bool) → asks ≡ false → on ≡ false
-    → (if powers then false else (asks && high) || on) ≡ false
-stays_off true asks high on none off = refl
-stays_off false asks high on none off = ap (λ b. (b && high) || on) none ∙ off
+-- always idle of this reader isn't switched on after acts from power-on
+abbrev pub IsNotSwitched : ReaderUnit → List Act → Type 0
+IsNotSwitched unit acts = reader.switch false reader.powered_known unit acts ≡ Some false
 
--- by acts by which no reader takes a command that asks for it, it isn't switched on
+-- one act more leaves it off
+stays_off : (powers asks : Bool) (turned was : Option Bool) → asks ≡ false → was ≡ Some false
+    → (if powers then Some false else if asks then turned else was) ≡ Some false
+stays_off true asks turned was none off = refl
+stays_off false asks turned was none off =
+    ap (λ b. if b then turned else was) none ∙ off
+
+-- so do acts by which no reader takes a command that asks for it
 not_switched : (unit : ReaderUnit) (acts : List Act) → AllByRecursion TakesNoAlwaysIdle acts
-    → reader.is_switched_on unit acts ≡ false
+    → IsNotSwitched unit acts
 not_switched unit [] none = refl
 not_switched unit (act ∷ acts) none =
     stays_off (powers_on (reader.effect_of unit) act)
-    (reader.asks_for_always_idle (reader.own_of unit (taken_by act)))
-    (not (reader.is_below_3 (last_told (reader.level_asked_by unit) acts)
-    (last_told (reader.level_told_by unit) acts))) (reader.is_switched_on unit acts) (none.0 unit)
+    (reader.asks_for_always_idle (reader.own_of unit (taken_by act))) _
+    (reader.switch false reader.powered_known unit acts) (none.0 unit)
     (not_switched unit acts none.1)
 
 -- where it isn't switched on, it is off
-off : (profile : Profile) (unit : ReaderUnit) (acts : List Act)
-    → reader.is_switched_on unit acts ≡ false
-    → reader.is_always_idle (reader.extended_of (PowerOn profile) unit acts) ≡ false
+off : (profile : Profile) (unit : ReaderUnit) (acts : List Act) → IsNotSwitched unit acts
+    → reader.known_idle (reader.extended_of (PowerOn profile) unit acts) ≡ Is false
 off Base unit acts none = refl
 off Extended unit acts none =
-    ap (λ on. on && not (reader.is_below_3 (last_told (reader.level_asked_by unit) acts)
-    (last_told (reader.level_told_by unit) acts)) && true) none
+    ap (λ on. if below then Is false else reader.known_if on) none ∙ by below
+  where
+    below : Bool
+    below = reader.is_below_3 (reader.level_asked reader.powered_known unit acts)
+        (reader.level_told reader.powered_known unit acts)
+
+    by : (below : Bool) → (if below then Is false else Is false) ≡ Is false
+    by true = refl
+    by false = refl
+
+-- then nothing that counts is requested
+none_of_both : (a b : Bool) → b ≡ false → (a && b) ≡ false
+none_of_both true b none = none
+none_of_both false b none = refl
+
+none_requested : (profile : Profile) (unit : ReaderUnit) (acts : List Act)
+    → IsNotSwitched unit acts
+    → (reader.facts_of (PowerOn profile) unit acts).requested ≡ false
+none_requested profile unit acts none =
+    let facts = reader.extended_of (PowerOn profile) unit acts in
+    none_of_both (reader.is_so (reader.known_requested facts))
+    (reader.is_so (reader.known_idle facts)) (ap reader.is_so (off profile unit acts none))
 
 -- at this point of acts the reader isn't long, and has always idle not switched on
 abbrev pub IsPlain : ReaderUnit → List Act → Type 0
-IsPlain unit acts = IsNotLong unit acts × (reader.is_switched_on unit acts ≡ false)
+IsPlain unit acts = IsNotLong unit acts × IsNotSwitched unit acts
 
 -- so its facts are the same by either profile
 pub same_facts : (one other : Profile) (unit : ReaderUnit) (acts : List Act) → IsPlain unit acts
@@ -93,11 +119,10 @@ pub same_facts : (one other : Profile) (unit : ReaderUnit) (acts : List Act) →
 same_facts one other unit acts plain = λ i.
     record (reader.facts_of (PowerOn one) unit acts) {
       refused = (not_refused one unit acts plain.0 ∙ sym (not_refused other unit acts plain.0)) i;
-      always_idle = (off one unit acts plain.1 ∙ sym (off other unit acts plain.1)) i;
-      requested = (none_requested (reader.extended_of (PowerOn one) unit acts)
-          (off one unit acts plain.1)
-          ∙ sym (none_requested (reader.extended_of (PowerOn other) unit acts)
-          (off other unit acts plain.1))) i;
+      always_idle = (ap reader.is_so (off one unit acts plain.1)
+          ∙ sym (ap reader.is_so (off other unit acts plain.1))) i;
+      requested = (none_requested one unit acts plain.1
+          ∙ sym (none_requested other unit acts plain.1)) i;
     }
 
 -- Ways.

@@ -1,6 +1,6 @@
 -- An end has its act list as well where levels are told that were told in front of it: what its
 -- replies say of levels fits those as it fitted in the whole.
-use Rattle.std.proofs.Common.{ap, refl, subst, ◌∙◌, ◌≡◌, ◌++◌, List, [], ◌∷◌}
+use Rattle.std.proofs.Common.{ap, inl, inr, refl, subst, ◌∙◌, ◌≡◌, ◌++◌, List, [], ◌∷◌}
 use Rattle.std.proofs.lemmas.List.{append-nil}
 use Rattle.mdb_words.specs.declared.event.Event.{Event}
 use Rattle.mdb_msgs.specs.declared.setups.Setups.{Setups}
@@ -8,21 +8,23 @@ use Rattle.mdb_bus.specs.declared.act.Act.TheVariants as acts
 use Rattle.mdb_bus.specs.declared.levels.Levels.{Levels}
 use Rattle.mdb_bus.specs.declared.scope.Beginning.{Beginning}
 use Rattle.mdb_bus.specs.declared.scope.Beginning.TheVariants.{Joined}
-use Rattle.mdb_bus.specs.declared.scope.Profile.TheVariants.{Base}
+use Rattle.mdb_bus.specs.declared.scope.Profile.{Profile}
+use Rattle.mdb_bus.specs.declared.scope.Profile.TheVariants.{Base, Extended}
 use Rattle.mdb_bus.specs.declared.scope.Scope.{Scope}
 use Rattle.mdb_bus.specs.ActLists.{ArePieces, HasActList, IsActList, MayCome, Piece, PieceFits, Position, Whole, events_of, last_of, levels_of, position_of}
 use Rattle.mdb_bus.specs.LeavingOut.{with_foreign}
-use Rattle.mdb_bus.specs.Scopes.{profile_of, told}
+use Rattle.mdb_bus.specs.Scopes.{first_levels, levels_before, no_levels, profile_of, told}
+use Rattle.mdb_late_start.specs.Alone.{MayBeReadAlone}
 use Rattle.mdb_late_start.specs.Cuts.{BeginAnew, SplitsAt, joined_with}
 use Rattle.mdb_late_start.specs.Told.{AreToldBy, WereTold, told_later}
-use Rattle.mdb_late_start.proofs.Cutting.{less_told, levels_fit}
+use Rattle.mdb_late_start.proofs.LessTold.{by_profile, less_before, less_told, levels_fit}
 use Rattle.mdb_late_start.proofs.Said.{said_stays}
 
 -- what pieces say of levels fits, where these were told before them
 abbrev AllFit : Beginning → Levels → List Piece → Type 0
 AllFit begins levels [] = Unit {0}
 AllFit begins levels (piece ∷ pieces) =
-    PieceFits begins (levels_of (profile_of begins) levels pieces) piece
+    PieceFits begins (levels_of (profile_of begins) (first_levels begins levels) pieces) piece
     × AllFit begins levels pieces
 
 -- foreign words say nothing of levels
@@ -40,11 +42,15 @@ later_fit : (scope : Scope) (setups : Setups) (levels : Levels) (words : List Ev
 later_fit scope setups levels words before base less [] are =
     foreign_fit (Joined setups (profile_of scope.begins)) levels words [] tt
 later_fit scope setups levels words before base less (piece ∷ later) are =
-    let profile = profile_of scope.begins in (
+    let profile = profile_of scope.begins in
+    let here : Levels = first_levels (Joined setups profile) levels in
+    let there : Levels = levels_before scope in (
       levels_fit scope.begins setups base piece
-          (levels_of profile levels (later ++ with_foreign words []))
-          (levels_of profile scope.levels (later ++ before))
-          (less_told profile levels scope.levels later words before less) are.1.levels,
+          (levels_of profile here (later ++ with_foreign words []))
+          (levels_of profile there (later ++ before))
+          (less_told profile here there later words before
+          (less_before setups profile base levels (levels_of profile there before) less))
+          are.1.levels,
       later_fit scope setups levels words before base less later are.2,
     )
 
@@ -76,34 +82,70 @@ told_order levels scope (piece ∷ pieces) are fit =
       told_order levels scope pieces are.2 fit.1,
     )
 
--- and the act list of an end is one where levels are told that were told in front of it
+-- by the extended profile the levels that are known as an end begins are those of its setup data
+first_same : (setups : Setups) (profile : Profile) → profile ≡ Extended → (one other : Levels)
+    → first_levels (Joined setups profile) one ≡ first_levels (Joined setups profile) other
+first_same setups Base extended one other = absurd (cc extended)
+first_same setups Extended extended one other = refl
+
+-- so all fits whatever else is told
+other_fit : (setups : Setups) (levels other : Levels) (scope : Scope) (pieces : List Piece)
+    → profile_of scope.begins ≡ Extended → ArePieces (told_later setups levels scope) pieces
+    → AllFit (Joined setups (profile_of scope.begins)) other pieces
+other_fit setups levels other scope [] extended are = tt
+other_fit setups levels other scope (piece ∷ pieces) extended are =
+    let profile = profile_of scope.begins in
+    let Fits : Levels → Type 0 =
+    λ first. PieceFits (Joined setups profile) (levels_of profile first pieces) piece in (
+      subst Fits (first_same setups profile extended levels other) are.1.levels,
+      other_fit setups levels other scope pieces extended are.2,
+    )
+
+-- and an act list is one
+pub other_levels : (setups : Setups) (levels other : Levels) (scope : Scope)
+    (pieces : List Piece) (rows : List Event) → profile_of scope.begins ≡ Extended
+    → IsActList (told_later setups levels scope) pieces rows
+    → IsActList (told_later setups other scope) pieces rows
+other_levels setups levels other scope pieces rows extended list = record {
+  in_order = told_order other (told_later setups levels scope) pieces list.in_order
+      (other_fit setups levels other scope pieces extended list.in_order);
+  whole = list.whole;
+}
+
+-- The act list of an end is one where levels are told that were told in front of it. By the
+-- extended profile these don't count.
 pub told_list : (scope : Scope) (setups : Setups) (levels : Levels) (front end : List Event)
-    (pieces : List Piece) → profile_of scope.begins ≡ Base
+    (pieces : List Piece)
     → IsActList scope pieces (front ++ end) → (cut : SplitsAt scope setups front end pieces)
     → AreToldBy scope cut.before levels
     → IsActList (told_later setups levels scope) (cut.later ++ with_foreign cut.words []) end
-told_list scope setups levels front end pieces base list cut less = record {
-  in_order = told_order levels (joined_with setups scope)
-      (cut.later ++ with_foreign cut.words []) cut.act_list.in_order
-      (later_fit scope setups levels cut.words cut.before base less cut.later
-      (subst (ArePieces scope) cut.order list.in_order));
-  whole = cut.act_list.whole;
-}
+told_list scope setups levels front end pieces list cut less =
+    elim (by_profile (profile_of scope.begins)) [
+      | inl base ↦ record {
+        in_order = told_order levels (joined_with setups scope)
+            (cut.later ++ with_foreign cut.words []) cut.act_list.in_order
+            (later_fit scope setups levels cut.words cut.before base less cut.later
+            (subst (ArePieces scope) cut.order list.in_order));
+        whole = cut.act_list.whole;
+      }
+      | inr extended ↦ other_levels setups no_levels levels scope
+          (cut.later ++ with_foreign cut.words []) end extended cut.act_list
+    ]
 
 -- Where an end begins anew, levels were told in front of it that the act list of the rows there
 -- tells.
 pub told_anew : ((scope : Scope) (setups : Setups) (front end : List Event) (pieces : List Piece)
-    → profile_of scope.begins ≡ Base → IsActList scope pieces (front ++ end)
+    → MayBeReadAlone scope setups front end → IsActList scope pieces (front ++ end)
     → SplitsAt scope setups front end pieces)
     → ((scope : Scope) (rows : List Event) (one other : List Piece)
     → IsActList scope one rows → IsActList scope other rows → one ≡ other)
     → (scope : Scope) (setups : Setups) (levels : Levels) (front end : List Event)
-    (before : List Piece) → profile_of scope.begins ≡ Base → HasActList scope (front ++ end)
-    → BeginAnew end
+    (before : List Piece) → MayBeReadAlone scope setups front end
+    → HasActList scope (front ++ end) → BeginAnew end
     → IsActList scope before front → AreToldBy scope before levels
     → WereTold scope setups levels front end
-told_anew cuts one scope setups levels front end before base has anew list less =
-    let cut = cuts scope setups front end has.0 base has.1 in
+told_anew cuts one scope setups levels front end before may has anew list less =
+    let cut = cuts scope setups front end has.0 may has.1 in
     let there : IsActList scope cut.before front = record {
       in_order = cut.in_front;
       whole = cut.rows ∙ ap (λ ws. front ++ ws) (cut.clean anew) ∙ append-nil front;

@@ -12,7 +12,6 @@ use Rattle.mdb_bus.specs.declared.scope.Beginning.{Beginning}
 use Rattle.mdb_bus.specs.declared.scope.Beginning.TheVariants.{Joined}
 use Rattle.mdb_bus.specs.declared.scope.Scope.{Scope}
 use Rattle.mdb_bus.specs.declared.scope.Profile.{Profile}
-use Rattle.mdb_bus.specs.declared.scope.Profile.TheVariants.{Base}
 use Rattle.mdb_machine.specs.Pair.{own_acts}
 use Rattle.mdb_follow.specs.declared.account.Account.{Account}
 use Rattle.mdb_follow.specs.declared.account_name.AccountName.{AccountName}
@@ -23,6 +22,7 @@ use Rattle.mdb_follow.specs.LeavingOut.{AreSumsWithout}
 use Rattle.mdb_follow.specs.Ranges.{IsAccount, IsRange}
 use Rattle.mdb_follow.specs.Report.{IsReport, device_unvalued, unvalued_of}
 use Rattle.mdb_follow.specs.Runs.{AllSums, Run}
+use Rattle.mdb_late_start.specs.Alone.{MayBeReadAlone}
 use Rattle.mdb_late_start.specs.Cuts.{BeginAnew}
 use Rattle.mdb_late_start.specs.Ends.{CameToWithin, IsInside, Passes, both_accounts, both_sums}
 use Rattle.mdb_late_start.specs.Middle.{HasMiddle}
@@ -30,7 +30,7 @@ use Rattle.mdb_late_start.specs.MidSession.{TellsOnlyWhatIsSo}
 use Rattle.mdb_late_start.specs.Told.{AreToldBy, told_later}
 use Rattle.mdb_late_start.specs.inner.EndLaws.{EndLaws}
 use Rattle.mdb_late_start.proofs.EndRuns.{gained_there, later_pieces}
-use Rattle.mdb_late_start.proofs.Middles.{own_in_middle, parts, run_of_rows}
+use Rattle.mdb_late_start.proofs.Middles.{middle_linked, own_in_middle, parts, run_of_rows}
 
 -- what the crate below says of reports
 pub record ReportLaws : Type 0 where
@@ -79,7 +79,7 @@ lies_within Kind account ranges is whole before gained both within kind same = r
 pub came_within : EndLaws → ReportLaws → (scope : Scope) (setups : Setups) (levels : Levels)
     (front end : List Event) (sums : AllSums) (run : Run scope (front ++ end) sums)
     (report : Report)
-    → profile_of scope.begins ≡ Base → BeginAnew end
+    → MayBeReadAlone scope setups front end → BeginAnew end
     → (passes : Passes scope (front ++ end) sums run front)
     → AreToldBy scope passes.before levels
     → IsReport (told_later setups levels scope) end report → (account : AccountName)
@@ -87,14 +87,13 @@ pub came_within : EndLaws → ReportLaws → (scope : Scope) (setups : Setups) (
     → device_unvalued (account_device account) report ≡ 0
     → CameToWithin (account_of account report) (sums_of account passes.sums_then)
     (sums_of account sums)
-came_within laws reports scope setups levels front end sums run report base anew passes
-    levels_told is
-    account told none =
+came_within laws reports scope setups levels front end sums run report may anew passes levels_told
+    is account told none =
     let end_scope = told_later setups levels scope in
     let list =
-    later_pieces laws scope setups levels front end sums run base anew passes levels_told in
+    later_pieces laws scope setups levels front end sums run may anew passes levels_told in
     let there =
-    gained_there laws scope setups levels front end sums run base anew passes levels_told in
+    gained_there laws scope setups levels front end sums run may anew passes levels_told in
     let device = account_device account in
     let valued : unvalued_of (Joined setups (profile_of scope.begins)) device (acts_of passes.later)
     ≡ 0 =
@@ -113,7 +112,8 @@ UnvaluedAlike = (begins : Beginning) (device : Device) (one other : List Act)
 pub came_in_middle : EndLaws → ReportLaws → UnvaluedAlike → (scope : Scope) (setups : Setups)
     (levels : Levels) (front middle rows : List Event) (sums : AllSums)
     (run : Run scope (front ++ middle) sums) (report : Report)
-    → profile_of scope.begins ≡ Base → HasMiddle (told_later setups levels scope) rows middle
+    → MayBeReadAlone scope setups front middle
+    → HasMiddle (told_later setups levels scope) rows middle
     → IsReport (told_later setups levels scope) rows report
     → (passes : Passes scope (front ++ middle) sums run front)
     → AreToldBy scope passes.before levels → (account : AccountName)
@@ -121,14 +121,15 @@ pub came_in_middle : EndLaws → ReportLaws → UnvaluedAlike → (scope : Scope
     → device_unvalued (account_device account) report ≡ 0
     → CameToWithin (account_of account report) (sums_of account passes.sums_then)
     (sums_of account sums)
-came_in_middle laws reports alike scope setups levels front middle rows sums run report base has is
+came_in_middle laws reports alike scope setups levels front middle rows sums run report may has is
     passes levels_told account told none =
     let mine = told_later setups levels scope in
     let list =
-    later_pieces laws scope setups levels front middle sums run base has.anew passes levels_told in
+    later_pieces laws scope setups levels front middle sums run may has.anew passes levels_told in
     let there =
-    gained_there laws scope setups levels front middle sums run base has.anew passes levels_told in
-    let parted = parts laws setups levels scope rows middle has base in
+    gained_there laws scope setups levels front middle sums run may has.anew passes levels_told in
+    let linked = middle_linked setups levels scope has.words middle passes.later has.foreign list in
+    let parted = parts laws setups levels scope rows middle has linked in
     let device = account_device account in
     let same : passes.later ≡ parted.later =
     laws.one mine middle passes.later parted.later list parted.list in
@@ -142,7 +143,7 @@ came_in_middle laws reports alike scope setups levels front middle rows sums run
     lies_within (Run mine rows) account (account_of account report)
     (reports.accounts mine rows report is account) sums passes.sums_then there.0
     (there.2 device told valued) there.0
-    (run_of_rows laws setups levels scope rows middle has there.0 base there.1) refl
+    (run_of_rows laws setups levels scope rows middle has there.0 linked there.1) refl
 
 -- what the crates below say of leaving out further devices
 pub record FewerLaws : Type 0 where
@@ -176,7 +177,7 @@ is_told setups profile levels more begins same =
 came_in_fewer : EndLaws → ReportLaws → UnvaluedAlike → FewerLaws → (scope more : Scope)
     (setups : Setups) (levels : Levels) (front middle rows : List Event) (sums : AllSums)
     (run : Run scope (front ++ middle) sums) (report : Report)
-    → profile_of scope.begins ≡ Base
+    → MayBeReadAlone scope setups front middle
     → LeavesOutMore (told_later setups levels scope) (told_later setups levels more)
     → HasMiddle (told_later setups levels more) rows middle
     → IsReport (told_later setups levels more) rows report
@@ -188,21 +189,21 @@ came_in_fewer : EndLaws → ReportLaws → UnvaluedAlike → FewerLaws → (scop
     → CameToWithin (account_of account report) (sums_of account passes.sums_then)
     (sums_of account sums)
 came_in_fewer laws reports alike fewer scope more setups levels front middle rows sums run report
-    base leaves has is passes levels_told account followed told none =
+    may leaves has is passes levels_told account followed told none =
     let less = told_later setups levels scope in
     let mine = told_later setups levels more in
     let list =
-    later_pieces laws scope setups levels front middle sums run base has.anew passes levels_told in
+    later_pieces laws scope setups levels front middle sums run may has.anew passes levels_told in
     let there =
-    gained_there laws scope setups levels front middle sums run base has.anew passes levels_told in
+    gained_there laws scope setups levels front middle sums run may has.anew passes levels_told in
     let other = fewer.runs less mine middle there.0 leaves there.1 in
-    let also : profile_of more.begins ≡ Base = sym (ap profile_of leaves.begins) ∙ base in
-    let parted = parts laws setups levels more rows middle has also in
-    let device = account_device account in
     let left = leave_out mine passes.later in
+    let left_list = fewer.stays less mine middle passes.later leaves list in
+    let linked = middle_linked setups levels more has.words middle left has.foreign left_list in
+    let parted = parts laws setups levels more rows middle has linked in
+    let device = account_device account in
     let same : left ≡ parted.later =
-    laws.one mine middle left parted.later (fewer.stays less mine middle passes.later leaves list)
-    parted.list in
+    laws.one mine middle left parted.later left_list parted.list in
     let own : own_acts device (acts_of passes.later) ≡ own_acts device (acts_of parted.later) =
     sym (fewer.followed mine passes.later device followed)
     ∙ ap (λ ps. own_acts device (acts_of ps)) same in
@@ -217,13 +218,14 @@ came_in_fewer laws reports alike fewer scope more setups levels front middle row
     lies_within (Run mine rows) account (account_of account report)
     (reports.accounts mine rows report is account) sums passes.sums_then there.0
     (there.2 device told valued_there) other.0
-    (run_of_rows laws setups levels more rows middle has other.0 also other.2)
+    (run_of_rows laws setups levels more rows middle has other.0 linked other.2)
     (other.1.followed device followed)
 
 pub came_in_less : EndLaws → ReportLaws → UnvaluedAlike → FewerLaws → (scope more : Scope)
     (setups : Setups) (levels : Levels) (front middle rows : List Event) (sums : AllSums)
     (run : Run scope (front ++ middle) sums) (report : Report)
-    → profile_of scope.begins ≡ Base → LeavesOutMore (told_later setups levels scope) more
+    → MayBeReadAlone scope setups front middle
+    → LeavesOutMore (told_later setups levels scope) more
     → HasMiddle more rows middle → IsReport more rows report
     → (passes : Passes scope (front ++ middle) sums run front)
     → AreToldBy scope passes.before levels → (account : AccountName)
@@ -233,10 +235,10 @@ pub came_in_less : EndLaws → ReportLaws → UnvaluedAlike → FewerLaws → (s
     → CameToWithin (account_of account report) (sums_of account passes.sums_then)
     (sums_of account sums)
 came_in_less laws reports alike fewer scope more setups levels front middle rows sums run report
-    base leaves has is =
+    may leaves has is =
     let back : more ≡ told_later setups levels more =
     sym (is_told setups (profile_of scope.begins) levels more leaves.begins leaves.levels) in
     came_in_fewer laws reports alike fewer scope more setups levels front middle rows sums run
-    report base (subst (λ s. LeavesOutMore (told_later setups levels scope) s) back leaves)
+    report may (subst (λ s. LeavesOutMore (told_later setups levels scope) s) back leaves)
     (subst (λ s. HasMiddle s rows middle) back has)
     (subst (λ s. IsReport s rows report) back is)

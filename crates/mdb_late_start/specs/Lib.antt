@@ -1,3 +1,4 @@
+pub mod Alone
 pub mod Cuts
 pub mod Ends
 pub mod MidSession

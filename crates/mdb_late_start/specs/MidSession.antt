@@ -1,10 +1,12 @@
 -- What a device does in the course of a recording, it may do in the end of that, too, taken as a
 -- recording that begins in mid-session (this profile). Lists of acts stand newest first.
-use Rattle.std.specs.Prelude.{◌≡◌, ◌≢◌, Bool, true, false, List, [], ◌∷◌, ◌++◌, Option, Some, None}
+use Rattle.std.specs.Prelude.{◌≡◌, ◌≢◌, Bool, true, List, [], ◌∷◌, ◌++◌, Option, Some, None}
+use Rattle.std.specs.Option.{ForSome}
 use Rattle.mdb_msgs.specs.declared.command.Device.{Device}
 use Rattle.mdb_msgs.specs.declared.command.Device.TheVariants as devices
+use Rattle.mdb_msgs.specs.declared.setups.ReaderSetup.{ReaderSetup}
 use Rattle.mdb_msgs.specs.declared.setups.Setups.{Setups}
-use Rattle.mdb_msgs.specs.Setups.{config_known}
+use Rattle.mdb_msgs.specs.Setups.{config_known, reader_known}
 use Rattle.mdb_bus.specs.declared.act.Act.{Act}
 use Rattle.mdb_bus.specs.declared.act.Act.TheVariants as acts
 use Rattle.mdb_bus.specs.declared.scope.Beginning.{Beginning}
@@ -16,6 +18,7 @@ use Rattle.mdb_machine.specs.declared.gains.Gains.{Gains}
 use Rattle.mdb_cash.specs.BillFacts as bill
 use Rattle.mdb_cash.specs.ChangerFacts as changer
 use Rattle.mdb_machine.specs.Known.{Known, Is}
+use Rattle.mdb_cashless.specs.declared.reader.extended.ExtendedFacts.{ExtendedFacts}
 use Rattle.mdb_cashless.specs.ReaderFacts as reader
 use Rattle.mdb_cashless.specs.Sales.{EndsInReply}
 use Rattle.mdb_follow.specs.LeavingOut.{IsNotKnown}
@@ -61,12 +64,18 @@ TellsOnlyWhatIsSo setups begins devices.Bill so_far =
 TellsOnlyWhatIsSo setups begins (devices.Reader unit) so_far =
     IsNothingOr (config_known setups unit) (reader.known_of begins unit so_far).config
 
--- Always idle isn't on for a device after acts of a recording that begins so. Changer and validator
--- don't have it.
-abbrev pub IsNotAlwaysIdle : Beginning → Device → List Act → Type 0
-IsNotAlwaysIdle begins (devices.Reader unit) so_far =
-    reader.is_always_idle (reader.extended_of begins unit so_far) ≡ false
-IsNotAlwaysIdle begins device so_far = Unit {0}
+-- what is told of a reader's levels and of its always idle is nothing, or what is known here
+pub record IsToldAsKnown (told : ReaderSetup) (here : ExtendedFacts) : Type 0 where
+  pub asked : IsNothingOr told.asked here.asked
+  pub answered : IsNothingOr told.told here.told
+  pub always_idle : IsNothingOr told.always_idle here.switched_on
+
+-- So it is with what setup data tell of a device and acts of a recording that begins so. By the
+-- base profile, and of changer and validator, nothing of this counts.
+abbrev pub TellsLevelsAsKnown : Setups → Beginning → Device → List Act → Type 0
+TellsLevelsAsKnown setups begins (devices.Reader unit) so_far =
+    ForSome (reader.extended_of begins unit so_far) (IsToldAsKnown (reader_known setups unit))
+TellsLevelsAsKnown setups begins device so_far = Unit {0}
 
 -- A step in the end of a recording (`later`, after acts `front`) is one in that end by itself, by
 -- the same act under the same choice, from the same state to the same. It gains the same where the
@@ -84,8 +93,9 @@ pub record GoesOnInEnd (begins : Beginning) (setups : Setups) (device : Device)
       → IsNotKnown (Joined setups (profile_of begins)) device → other ≡ gains
 
 -- A device may do in mid-session what it does: in the end of a recording that begins so each of its
--- steps is one of that end by itself, where always idle isn't on in the whole. For that it has to
--- have told what it holds, and so it has as the recording begins, and after each step.
+-- steps is one of that end by itself, where levels and always idle are told as they are known in
+-- front of it. For that the device has to have told what it holds, and so it has as the recording
+-- begins, and after each step.
 pub record MayJoinLate (begins : Beginning) (setups : Setups) (device : Device)
     : Type 0 where
   pub starts : (state : StateOf device) → (machine_of begins device).Starts state
@@ -96,7 +106,7 @@ pub record MayJoinLate (begins : Beginning) (setups : Setups) (device : Device)
       → HasToldWhatItHolds begins device (act ∷ so_far) after
   pub step : (later front : List Act) (act : Act) (choice : Choice)
       (before after : StateOf device) (gains : Gains) → NamesAReply act
-      → IsNotAlwaysIdle begins device (later ++ front)
+      → TellsLevelsAsKnown setups begins device front
       → HasToldWhatItHolds begins device (later ++ front) before
       → (machine_of begins device).Step (later ++ front) act choice before after gains
       → GoesOnInEnd begins setups device later front act choice before after gains

@@ -7,7 +7,7 @@ use Rattle.mdb_msgs.specs.declared.setups.Setups.{Setups}
 use Rattle.mdb_bus.specs.declared.levels.Levels.{Levels}
 use Rattle.mdb_bus.specs.declared.scope.Scope.{Scope}
 use Rattle.mdb_bus.specs.ActLists.{IsActList, Piece, levels_of}
-use Rattle.mdb_bus.specs.Scopes.{profile_of, told}
+use Rattle.mdb_bus.specs.Scopes.{levels_before, profile_of, told}
 use Rattle.mdb_late_start.specs.Cuts.{SplitsAt, joined_with}
 use Rattle.mdb_late_start.specs.MidSession.{IsNothingOr}
 
@@ -24,7 +24,7 @@ IsLessTold one other = IsNothingOr one.first.asked other.first.asked
 -- or before them.
 abbrev pub AreToldBy : Scope → List Piece → Levels → Type 0
 AreToldBy scope pieces levels =
-    IsLessTold levels (levels_of (profile_of scope.begins) scope.levels pieces)
+    IsLessTold levels (levels_of (profile_of scope.begins) (levels_before scope) pieces)
 
 -- Levels were told in front of a cut: by the pieces that began there. A command that the cut
 -- divides is one of them.

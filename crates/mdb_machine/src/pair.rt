@@ -155,7 +155,7 @@ pub trait Pair {
         act: &Act,
         code: usize,
         choice: Choice,
-    ) -> ArrayVec<(usize, Gains), 72>
+    ) -> ArrayVec<(usize, Gains), 144>
         requires { code < CODES }
         ensures steps { (begins : Beginning) (acts : List Act) → stands_for begins facts.now acts
             → (next : ℕ) (gains : Gains) → Contains result.items (next, gains)
@@ -280,8 +280,8 @@ pub trait HasCode: Copy {
 }
 
 /// Steps with the codes of the states after them.
-pub fn coded<S: HasCode>(steps: &[(S, Gains)]) -> ArrayVec<(usize, Gains), 72>
-    requires { length steps.now ≤ 72 }
+pub fn coded<S: HasCode>(steps: &[(S, Gains)]) -> ArrayVec<(usize, Gains), 144>
+    requires { length steps.now ≤ 144 }
     ensures { (next : ℕ) (gains : Gains) → Contains result.items (next, gains)
         ↔ (after : S) × (S.code_of after ≡ next) × Contains steps.now (after, gains) }
 {

@@ -1,5 +1,6 @@
 -- Setup data, as they are read.
-use Rattle.std.proofs.Common.{ap, refl, subst, sym, true, false, ◌∙◌, ◌≡◌, ℕ, Bool, List, [], ◌∷◌, ◌++◌, Option, Some, None, Result, Ok, Err, unwrap_or}
+use Rattle.std.proofs.Common.{ap, refl, subst, sym, true, false, ◌∙◌, ◌≡◌, ℕ, Bool, List, [], ◌∷◌, ◌++◌, Option, Some, None, Result, Ok, Err, option_map, unwrap_or}
+use Rattle.std.specs.Option.{option_or}
 use Rattle.mdb_msgs.specs.declared.command.Command.{Command}
 use Rattle.mdb_msgs.specs.declared.command.Device.{Device}
 use Rattle.mdb_msgs.specs.declared.command.Device.TheVariants.{Changer, Bill, Reader}
@@ -10,7 +11,7 @@ use Rattle.mdb_msgs.specs.declared.setups.ReaderConfig.{ReaderConfig}
 use Rattle.mdb_msgs.specs.declared.setups.Setups.{Setups}
 use Rattle.mdb_msgs.specs.declared.reading.Reading.TheVariants.{Base}
 use Rattle.mdb_msgs.specs.Replies.{IsIn, SpellsReply}
-use Rattle.mdb_msgs.specs.SetupData.{IsSetup, IsSetupOf, config_in, known_with, last_config, or_else}
+use Rattle.mdb_msgs.specs.SetupData.{IsSetup, IsSetupOf, config_in, known_with, last_config, last_level, level_in, leveled, or_else}
 use Rattle.mdb_msgs.specs.inner.SetupAsked.{setup_of}
 use Rattle.mdb_msgs.proofs.OneReply.{one_reply}
 
@@ -33,6 +34,10 @@ spells_so (Reader unit) asked answer bytes (level, columns, rows, display, is) s
       bytes = so.bytes;
     }
 
+-- what is known with an answer
+abbrev pub told_by : Device → Setups → Reply → Option Setups
+told_by device before answer = option_map (leveled device answer) (known_with before device answer)
+
 -- one thing is known with it
 pub one_setup : (device : Device) (bytes : List ℕ) (before a b : Setups)
     → IsSetupOf device bytes before a → IsSetupOf device bytes before b → a ≡ b
@@ -42,7 +47,8 @@ one_setup device bytes before a b is_a is_b =
     let answer : is_a.answer ≡ is_b.answer =
     one_reply Base (setup_of device) bytes is_a.answer is_b.answer is_a.reading is_b.reading
     spells_a spells_b in
-    let some : Some a ≡ Some b = sym is_a.told ∙ ap (known_with before device) answer ∙ is_b.told in
+    let some : Some a ≡ Some b =
+    sym is_a.told ∙ ap (told_by device before) answer ∙ is_b.told in
     ap (λ o. unwrap_or o a) some
 
 -- what is read of such a block is its answer
@@ -68,17 +74,18 @@ module _ (device : Device) (bytes : List ℕ) (before : Setups) (asked : Command
       (spells_so device is.asked is.answer bytes is.asks is.spells)) is.reading
 
   adds : (reply : Reply) → read ≡ Ok reply → (after : Setups) → IsSetupOf device bytes before after
-      → known_with before device reply ≡ Some after
+      → told_by device before reply ≡ Some after
   adds reply found after is =
       let same : reply ≡ is.answer = ap (answer_or reply) (sym found ∙ reads after is) in
-      ap (known_with before device) same ∙ is.told
+      ap (told_by device before) same ∙ is.told
 
   pub learns : (reply : Reply) → read ≡ Ok reply → (added : Bool)
       → (added ≡ false → known_with before device reply ≡ None)
       → (after : Setups) → IsSetupOf device bytes before after → added ≡ true
   learns reply found true untold after is = refl
   learns reply found false untold after is =
-      absurd (no_setup after (sym (untold refl) ∙ adds reply found after is))
+      absurd (no_setup after
+      (sym (ap (option_map (leveled device reply)) (untold refl)) ∙ adds reply found after is))
 
   pub learns_none : (fault : MsgFault) → read ≡ Err fault → (after : Setups)
       → IsSetupOf device bytes before after → false ≡ true
@@ -99,3 +106,19 @@ last_more [] message = sym (or_none (config_in message))
 last_more (first ∷ before) message =
     ap (λ last. or_else last (config_in first)) (last_more before message)
     ∙ sym (both (config_in message) (last_config before) (config_in first))
+
+-- and of levels
+or_no_level : (a : Option ℕ) → option_or a None ≡ a
+or_no_level None = refl
+or_no_level (Some level) = refl
+
+both_levels : (a b c : Option ℕ) → option_or a (option_or b c) ≡ option_or (option_or a b) c
+both_levels None b c = refl
+both_levels (Some level) b c = refl
+
+pub last_level_more : (before : List ReaderMsg) (message : ReaderMsg)
+    → last_level (before ++ message ∷ []) ≡ option_or (level_in message) (last_level before)
+last_level_more [] message = sym (or_no_level (level_in message))
+last_level_more (first ∷ before) message =
+    ap (λ last. option_or last (level_in first)) (last_level_more before message)
+    ∙ sym (both_levels (level_in message) (last_level before) (level_in first))

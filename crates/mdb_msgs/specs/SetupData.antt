@@ -1,6 +1,8 @@
--- What a device's answer to SETUP tells of how it is set up (MDB/ICP 4.3, coin changer, bill
--- validator and cashless device; that it may be known from an earlier recording, this profile).
-use Rattle.std.specs.Prelude.{◌≡◌, ℕ, List, [], ◌∷◌, Option, Some, None, option_map}
+-- What a device's answer to SETUP tells of how it is set up, and what the controller's SETUP config
+-- and ENABLE OPTIONS tell of a reader (MDB/ICP 4.3, coin changer, bill validator and cashless
+-- device; that it may be known from an earlier recording, this profile).
+use Rattle.std.specs.Prelude.{◌≡◌, ℕ, Bool, false, List, [], ◌∷◌, Option, Some, None, option_map, is_some}
+use Rattle.std.specs.Option.{option_or}
 use Rattle.mdb_blocks.specs.Block.{IsBlock}
 use Rattle.mdb_msgs.specs.declared.command.BillCommand.TheVariants as bill
 use Rattle.mdb_msgs.specs.declared.command.ChangerCommand.TheVariants as changer
@@ -16,9 +18,12 @@ use Rattle.mdb_msgs.specs.declared.reply.reader.ReaderMsg.TheVariants as message
 use Rattle.mdb_msgs.specs.declared.reply.Reply.{Reply}
 use Rattle.mdb_msgs.specs.declared.reply.Reply.TheVariants as reply
 use Rattle.mdb_msgs.specs.declared.setups.ReaderConfig.{ReaderConfig}
+use Rattle.mdb_msgs.specs.declared.setups.ReaderSetup.{ReaderSetup}
 use Rattle.mdb_msgs.specs.declared.setups.Setups.{Setups}
 use Rattle.mdb_msgs.specs.declared.reading.Reading.TheVariants.{Base}
+use Rattle.mdb_msgs.specs.Commands.{EnablesMore, Spells, ask_for_always_idle, device_of}
 use Rattle.mdb_msgs.specs.Replies.{IsIn, SpellsReply}
+use Rattle.mdb_msgs.specs.Setups.{reader_known, with_reader}
 
 -- the command asks the device how it is set up: SETUP, of a reader SETUP config
 abbrev pub IsSetup : Device → Command → Type 0
@@ -59,6 +64,27 @@ known_with known (Reader unit) (reply.Reader list) =
     option_map (with_config known unit) (last_config list.messages)
 known_with known device answer = None
 
+-- the feature level that a config message tells (Z2)
+abbrev pub level_in : ReaderMsg → Option ℕ
+level_in (message.Config level code scale decimals response options) = Some level
+level_in other = None
+
+-- and the last one of an answer
+abbrev pub last_level : List ReaderMsg → Option ℕ
+last_level [] = None
+last_level (first ∷ messages) = option_or (last_level messages) (level_in first)
+
+-- what is known of a reader with the level that these messages tell: a level that is known goes
+-- before it
+abbrev pub with_told : ReaderSetup → List ReaderMsg → ReaderSetup
+with_told known messages = record known { told = option_or known.told (last_level messages) }
+
+-- the same of any device's answer: only a reader tells a level
+abbrev pub leveled : Device → Reply → Setups → Setups
+leveled (Reader unit) (reply.Reader list) known =
+    with_reader known unit (with_told (reader_known known unit) list.messages)
+leveled device answer known = known
+
 -- These bytes, their sum included, are the block of a device's answer to its SETUP, and so much is
 -- known with it, where this was known before.
 pub record IsSetupOf (device : Device) (bytes : List ℕ) (before after : Setups) : Type 0 where
@@ -68,4 +94,33 @@ pub record IsSetupOf (device : Device) (bytes : List ℕ) (before after : Setups
   pub answer : Reply
   pub reading : IsIn Base answer
   pub spells : SpellsReply asked answer bytes
-  pub told : known_with before device answer ≡ Some after
+  pub told : option_map (leveled device answer) (known_with before device answer) ≡ Some after
+
+-- what is known with a block of the controller, if it tells anything of a reader: SETUP config its
+-- feature level (Y2), ENABLE OPTIONS whether always idle is switched on (bit 5 of Y5)
+abbrev pub known_by : Setups → Command → Option Setups
+known_by known (command.Reader unit (reader.SetupConfig level columns rows display)) =
+    Some (with_reader known unit (record (reader_known known unit) { asked = Some level }))
+known_by known (command.Reader unit (reader.EnableOptions options)) =
+    Some (with_reader known unit
+    (record (reader_known known unit) { always_idle = Some (ask_for_always_idle options) }))
+known_by known other = None
+
+-- whether that is known
+abbrev pub has_ask : Setups → Command → Bool
+has_ask known (command.Reader unit (reader.SetupConfig level columns rows display)) =
+    is_some (reader_known known unit).asked
+has_ask known (command.Reader unit (reader.EnableOptions options)) =
+    is_some (reader_known known unit).always_idle
+has_ask known other = false
+
+-- These bytes, their sum included, are a block of the controller to a reader that tells something
+-- that wasn't known before, and so much is known with it. It asks for no money that isn't followed.
+pub record IsToldBy (device : Device) (bytes : List ℕ) (before after : Setups) : Type 0 where
+  pub block : IsBlock bytes
+  pub command : Command
+  pub spells : Spells command bytes
+  pub to : device_of command ≡ device
+  pub followed : EnablesMore command → ⊥
+  pub new : has_ask before command ≡ false
+  pub told : known_by before command ≡ Some after

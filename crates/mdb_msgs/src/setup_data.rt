@@ -1,9 +1,11 @@
-//! What a device's answer to SETUP reports of how it is set up.
+//! What a device's answer to SETUP reports of how it is set up, and what the controller's blocks
+//! to a reader report of it.
 
 ghost use Rattle.std.specs.Prelude.{◌≡◌, None, Some, true, false};
 ghost use Rattle.mdb_msgs.specs.SetupData.{IsSetupOf};
 ghost use Rattle.mdb_msgs.specs.SetupData as spec;
 ghost use Rattle.mdb_msgs.specs.declared.setups.Setups.{Setups};
+ghost use Rattle.mdb_msgs.specs.Commands.{ask_for_always_idle};
 ghost use Rattle.mdb_msgs.specs.inner.SetupAsked.{setup_of};
 
 use crate::command::{BillCommand, ChangerCommand, Command, Device, ReaderCommand, ReaderUnit};
@@ -19,9 +21,9 @@ impl Setups {
     /// whether the block is such an answer.
     ///
     /// A changer and a validator report their setup tables. A reader reports its scale factor,
-    /// decimal places and response time in seconds; of several config messages, the last counts
-    /// (this profile). They replace what was known of that device. What is known of the other
-    /// devices stays.
+    /// decimal places and response time in seconds, and its feature level; of several config
+    /// messages, the last counts (this profile). They replace what was known of that device, except
+    /// a feature level. What is known of the other devices stays.
     ///
     /// The return value is `false`, and nothing changes, if the block is no answer to that command,
     /// or if a reader's answer has no config message.
@@ -33,7 +35,13 @@ impl Setups {
     {
         answer.bytes();
         match read_reply(Reading::Base, &setup_of(device), answer) {
-            Ok(reply) => self.learn_reply(device, &reply),
+            Ok(reply) => {
+                let is_answer = self.learn_reply(device, &reply);
+                if is_answer {
+                    self.learn_level(device, &reply);
+                }
+                is_answer
+            }
             Err(_) => false,
         }
     }
@@ -56,6 +64,62 @@ impl Setups {
         }
         true
     }
+
+    /// Learns the feature level that a reader's reply reports, unless one is known.
+    fn learn_level(&mut self, device: Device, reply: &Reply)
+        ensures { self.new ≡ spec.leveled device reply.now self.old }
+    {
+        if let (Device::Reader(unit), Reply::Reader(list)) = (device, reply) {
+            let mut reader = self.reader(unit);
+            reader.told = reader.told.or(level_of(list));
+            self.set_reader(unit, reader);
+        }
+    }
+
+    /// Learns what a command to a reader reports (MDB/ICP 4.3, cashless device): SETUP config the
+    /// controller's feature level, ENABLE OPTIONS whether always idle is switched on. Returns
+    /// whether the command is one of these. If it isn't, nothing changes.
+    pub fn learn_ask(&mut self, command: &Command) -> bool
+        ensures told { result ≡ true → spec.known_by self.old command.now ≡ Some self.new }
+        ensures untold { result ≡ false → spec.known_by self.old command.now ≡ None }
+        ensures kept { result ≡ false → self.new ≡ self.old }
+    {
+        let Command::Reader(unit, asked) = *command else {
+            return false;
+        };
+        let mut reader = self.reader(unit);
+        match asked {
+            ReaderCommand::SetupConfig { level, .. } => reader.asked = Some(level),
+            ReaderCommand::EnableOptions(options) => {
+                reader.always_idle = Some(asks_for_always_idle(&options));
+            }
+            _ => return false,
+        }
+        self.set_reader(unit, reader);
+        true
+    }
+
+    /// Whether what `learn_ask` would learn from a command is known.
+    pub fn has_ask(&self, command: &Command) -> bool
+        ensures { result ≡ spec.has_ask self.now command.now }
+    {
+        match *command {
+            Command::Reader(unit, ReaderCommand::SetupConfig { .. }) => {
+                self.reader(unit).asked.is_some()
+            }
+            Command::Reader(unit, ReaderCommand::EnableOptions(_)) => {
+                self.reader(unit).always_idle.is_some()
+            }
+            _ => false,
+        }
+    }
+}
+
+/// Whether the options of ENABLE OPTIONS ask for always idle.
+fn asks_for_always_idle(options: &[u8; 4]) -> bool
+    ensures { result ≡ ask_for_always_idle options.now }
+{
+    options[3] & 0x20 != 0
 }
 
 /// The command that asks a device how it is set up. What it reports to a reader doesn't matter.
@@ -96,6 +160,27 @@ fn config_of(list: &ReaderList) -> Option<ReaderConfig>
         last = config_in(message).or(last);
     }
     last
+}
+
+/// The feature level of the last config message of a reader's answer.
+fn level_of(list: &ReaderList) -> Option<u8>
+    ensures { result ≡ spec.last_level list.now.messages }
+{
+    let mut last = None;
+    for message in list.iter() {
+        last = level_in(message).or(last);
+    }
+    last
+}
+
+/// The feature level that a config message reports (Z2).
+fn level_in(message: ReaderMsg) -> Option<u8>
+    ensures { result ≡ spec.level_in message }
+{
+    match message {
+        ReaderMsg::Config { level, .. } => Some(level),
+        _ => None,
+    }
 }
 
 /// What a config message says of how the reader is set up.

@@ -1,9 +1,9 @@
 //! Setup data that are known from elsewhere.
 
 ghost use Rattle.std.specs.Prelude.{◌≡◌};
-ghost use Rattle.mdb_msgs.specs.Setups.{config_known};
+ghost use Rattle.mdb_msgs.specs.Setups.{config_known, has_answer, reader_known, with_level, with_reader};
 
-use super::command::ReaderUnit;
+use super::command::{Device, ReaderUnit};
 use super::reply::setup::{BillSetup, ChangerSetup};
 
 /// The setup data of a cashless reader, from its config message (MDB/ICP 4.3, cashless device).
@@ -22,11 +22,23 @@ pub struct ReaderConfig {
 pub struct ReaderSetup {
     /// What counts of its answer to SETUP config.
     pub config: Option<ReaderConfig>,
+    /// The feature level that the controller told it last (Y2 of SETUP config). This level, the
+    /// next one and the option count by the extended profile alone.
+    pub asked: Option<u8>,
+    /// The feature level that it told last (Z2 of a config message).
+    pub told: Option<u8>,
+    /// Whether always idle is switched on, if its options are known (bit 5 of ENABLE OPTIONS).
+    pub always_idle: Option<bool>,
 }
 
 impl ReaderSetup {
     /// Nothing is known.
-    pub const NONE: ReaderSetup = ReaderSetup { config: None };
+    pub const NONE: ReaderSetup = ReaderSetup {
+        config: None,
+        asked: None,
+        told: None,
+        always_idle: None,
+    };
 }
 
 /// Setup data that a recording doesn't show: the devices' answers to SETUP in an earlier recording
@@ -64,13 +76,51 @@ impl Setups {
         }
     }
 
+    /// What is known of a reader.
+    pub fn reader(&self, unit: ReaderUnit) -> ReaderSetup
+        ensures { result ≡ reader_known self.now unit }
+    {
+        match unit {
+            ReaderUnit::First => self.first_reader,
+            ReaderUnit::Second => self.second_reader,
+        }
+    }
+
     /// The setup data of a reader, if they are known.
     pub fn config(&self, unit: ReaderUnit) -> Option<ReaderConfig>
         ensures { result ≡ config_known self.now unit }
     {
+        self.reader(unit).config
+    }
+
+    /// Whether a device's answer to SETUP is known.
+    pub fn has_answer(&self, device: Device) -> bool
+        ensures { result ≡ has_answer self.now device }
+    {
+        match device {
+            Device::Changer => self.changer.is_some(),
+            Device::Bill => self.bill.is_some(),
+            Device::Reader(unit) => self.config(unit).is_some(),
+        }
+    }
+
+    /// Sets the feature level that the controller and a reader reported to each other.
+    pub fn set_level(&mut self, unit: ReaderUnit, level: u8)
+        ensures { self.new ≡ with_level self.old unit level }
+    {
+        let mut reader = self.reader(unit);
+        reader.asked = Some(level);
+        reader.told = Some(level);
+        self.set_reader(unit, reader);
+    }
+
+    /// Sets what is known of a reader.
+    pub(crate) fn set_reader(&mut self, unit: ReaderUnit, reader: ReaderSetup)
+        ensures { self.new ≡ with_reader self.old unit reader }
+    {
         match unit {
-            ReaderUnit::First => self.first_reader.config,
-            ReaderUnit::Second => self.second_reader.config,
+            ReaderUnit::First => self.first_reader = reader,
+            ReaderUnit::Second => self.second_reader = reader,
         }
     }
 }

@@ -2,6 +2,7 @@ pub mod Ends
 pub mod Entries
 pub mod Fields
 pub mod OneFault
+pub mod OneOption
 pub mod PlainReplays
 pub mod QuietRows
 pub mod Ring

@@ -4,7 +4,7 @@ use crate::acts::PageAct;
 use crate::answer::PageTold;
 use crate::faults::PageFault;
 use crate::news::PageNews;
-use crate::options::{PageOptions, PageSetup};
+use crate::options::{PageOptions, PageReader, PageSetup};
 use crate::rises::PageRise;
 use crate::sheet::{PageLines, PageText};
 use std::mem::size_of;
@@ -17,6 +17,8 @@ pub struct PageLayout {
     pub options: u64,
     /// That of `PageSetup`.
     pub setup: u64,
+    /// That of `PageReader`.
+    pub reader: u64,
     /// That of `PageTold`.
     pub told: u64,
     /// That of `PageText`.
@@ -39,6 +41,7 @@ pub extern "C" fn mdb_page_layout(layout: &mut PageLayout) {
     *layout = PageLayout {
         options: size_of::<PageOptions>() as u64,
         setup: size_of::<PageSetup>() as u64,
+        reader: size_of::<PageReader>() as u64,
         told: size_of::<PageTold>() as u64,
         answer: size_of::<PageText>() as u64,
         act: size_of::<PageAct>() as u64,

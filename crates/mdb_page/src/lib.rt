@@ -32,7 +32,7 @@ pub use answer::{PageTold, mdb_page_check, mdb_page_replay};
 pub use faults::PageFault;
 pub use layout::{PageLayout, mdb_page_layout};
 pub use news::PageNews;
-pub use options::{PageOptions, PageSetup};
+pub use options::{PageOptions, PageReader, PageSetup};
 pub use rises::{PageRise, mdb_page_rises};
 pub use sheet::{PageLines, PageText};
 pub use survey::mdb_page_survey;

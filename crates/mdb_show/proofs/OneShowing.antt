@@ -144,7 +144,7 @@ ending form scope laws records (Ok (Some fault)) text is own = record {
         let P : List (List ℕ) → Type 0 = λ f. IsRow f event in
         let one : event ≡ is.row = row_one is.fields event is.row (subst P same row) is.row_told in
         let Q : Event → Type 0 = λ e. HasActList scope (events_of is.pieces ++ e ∷ []) in
-        laws.stops is.pieces is.row fault.rule is.shown.in_order is.is.rule.breaks
+        laws.stops is.pieces is.row is.is.first is.shown.in_order is.is.rule.breaks
         (subst Q one list)
 ending form scope laws records (Err (BadRow row fault)) text is own = record {
   pieces = is.pieces;

@@ -44,7 +44,7 @@ earlier_row scope laws rows row offence list why_not = by_why why_not.why
         ⊎ BreaksMachine scope rows row offence.rule offence.blame → IsMachineRule offence.rule
     by_why (inl link) =
         let P : List Event → Type 0 = λ es. HasActList scope (es ++ row ∷ []) in
-        absurd (laws.stops link.pieces row offence.rule link.act_list.in_order
+        absurd (laws.stops link.pieces row link.fault.first link.act_list.in_order
         link.fault.rule.breaks (subst P (sym link.act_list.whole) list))
     by_why (inr machine) = (machine.no_step.device, machine.no_step.rule)
 
@@ -67,7 +67,7 @@ at_the_row scope laws pieces row fault offence order is why_not = by_why why_not
         laws.one_fault pieces row offence.rule fault.rule offence.blame fault.blame
         (subst P one link.fault) is
     by_why (inr machine) =
-        absurd (laws.stops pieces row fault.rule order is.rule.breaks
+        absurd (laws.stops pieces row is.first order is.rule.breaks
         (Whole machine.act (machine.begun ++ row ∷ []) ∷ machine.earlier, machine.act_list))
 
 -- of two records at the front the fields are the same
@@ -91,7 +91,7 @@ none_beyond form scope laws records fault text shown rows on list =
     let same : on.event ≡ shown.row =
     same_row shown.fields on.fields shown.rest on.after shown.row on.event on.record_is
     shown.row_told on.row in
-    laws.stops shown.pieces shown.row fault.rule shown.shown.in_order shown.is.rule.breaks
+    laws.stops shown.pieces shown.row shown.is.first shown.shown.in_order shown.is.rule.breaks
     (up_to scope laws (events_of shown.pieces) rows on.more shown.row on.event same on.longer_is
     list)
 

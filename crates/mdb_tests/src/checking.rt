@@ -156,6 +156,9 @@ const READER: ReaderSetup = ReaderSetup {
         decimals: 2,
         response: 5,
     }),
+    asked: None,
+    told: None,
+    always_idle: None,
 };
 
 /// So do those of a recording that begins in mid-session, and the words of devices after them.

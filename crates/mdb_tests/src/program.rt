@@ -65,13 +65,12 @@ setup changer cashless\nwithout bill\n";
 const HELP: &[u8] = b"mdbcheck: commands: check (verdict), survey (all faults), show (acts), \
 explain (bound), replay (explanation); all: mdbcheck manual\n";
 
-const CHECK_HELP: &[u8] = b"mdbcheck: usage: mdbcheck check [--joined|--extended] \
-[--setup 'DEVICE ..'].. [--without DEVICE].. [--json] < FILE; \
+const CHECK_HELP: &[u8] = b"mdbcheck: usage: mdbcheck check [--joined] [--extended] \
+[--setup 'DEVICE ..'].. [--without ..].. [--json] < FILE; \
 all: mdbcheck manual check\n";
 
-const SHOW_HELP: &[u8] =
-    b"mdbcheck: usage: mdbcheck show [--extended] [--without DEVICE].. [--json] \
-< TRANSCRIPT; all: mdbcheck manual show\n";
+const SHOW_HELP: &[u8] = b"mdbcheck: usage: mdbcheck show [--extended [--joined \
+[--setup 'DEVICE ..']..]] [--without ..].. [--json] < FILE; all: mdbcheck manual show\n";
 
 const EXPLAIN_HELP: &[u8] = b"mdbcheck: usage: mdbcheck explain ACCOUNT SIDE BOUND \
 [--extended] [--without ..] < FILE; all: mdbcheck manual explain\n";
@@ -81,7 +80,7 @@ const REPLAY_HELP: &[u8] =
 < EXPLANATION; all: mdbcheck manual replay\n";
 
 /// What is told of one that asks for the version.
-const VERSION: &[u8] = b"mdbcheck 0.5.0\n";
+const VERSION: &[u8] = b"mdbcheck 0.6.0\n";
 
 /// A recording whose row isn't followed, its report, and what is told of it.
 const REVALUE: &[u8] = b"1000,M,115\n";
@@ -277,12 +276,13 @@ fn runs_have_their_status_and_their_texts(rt: HostRuntime) {
 
 /// The usage lines of the commands.
 const CHECK_USAGE: &str =
-    "check [--joined|--extended] [--setup 'DEVICE ..'].. [--without DEVICE].. [--json] < FILE";
+    "check [--joined] [--extended] [--setup 'DEVICE ..'].. [--without ..].. [--json] < FILE";
 
 const SURVEY_USAGE: &str = "survey [--joined] [--setup 'DEVICE BYTES'].. [--without DEVICE].. \
 [--json] < TRANSCRIPT";
 
-const SHOW_USAGE: &str = "show [--extended] [--without DEVICE].. [--json] < TRANSCRIPT";
+const SHOW_USAGE: &str = "show [--extended [--joined [--setup 'DEVICE ..']..]] \
+[--without ..].. [--json] < FILE";
 
 const EXPLAIN_USAGE: &str = "explain ACCOUNT SIDE BOUND [--extended] [--without ..] < FILE";
 
@@ -384,17 +384,14 @@ static REFUSED: [(&str, &str); 44] = [
         "one word too many: \"--without\"",
     ),
     ("mdbcheck check -- --", "one word too many: \"--\""),
-    (
-        "mdbcheck show --joined",
-        "show has no --joined: check has it",
-    ),
+    ("mdbcheck show --joined", "--joined needs --extended"),
     (
         "mdbcheck --without bill explain coins-in device least",
         "unknown option \"--without\" (explain --without?)",
     ),
     (
         "mdbcheck show --joint",
-        "unknown option \"--joint\" (--json?)",
+        "unknown option \"--joint\" (--joined?)",
     ),
     (
         "mdbcheck --joined check",
@@ -402,7 +399,7 @@ static REFUSED: [(&str, &str); 44] = [
     ),
     (
         "mdbcheck --joined show",
-        "unknown option \"--joined\" (show --json?)",
+        "unknown option \"--joined\" (show --joined?)",
     ),
     (
         "mdbcheck check -joined",
@@ -546,11 +543,11 @@ static REFUSED_SETUPS: [(&str, &str); 19] = [
     ),
     (
         "mdbcheck show --setup changer~02~00~01~05~02~00~07~01~02~05~19",
-        "show has no --setup: check has it",
+        "--setup needs --joined",
     ),
     (
         "mdbcheck show --without bill --setup=changer",
-        "show has no --setup: check has it",
+        "--setup needs --joined",
     ),
     (
         "mdbcheck check --joined -- --setup",

@@ -32,7 +32,8 @@ use Rattle.mdb_bus.specs.declared.fault.Rule.TheVariants as rules
 use Rattle.mdb_bus.specs.declared.levels.Levels.{Levels}
 use Rattle.mdb_bus.specs.declared.levels.ReaderLevels.{ReaderLevels}
 use Rattle.mdb_bus.specs.declared.scope.Beginning.{Beginning}
-use Rattle.mdb_bus.specs.declared.scope.Beginning.TheVariants.{PowerOn, Joined}
+use Rattle.mdb_bus.specs.declared.scope.Beginning.TheVariants.{Joined}
+use Rattle.mdb_bus.specs.declared.scope.Profile.TheVariants.{Base}
 use Rattle.mdb_bus.specs.declared.scope.Scope.{Scope}
 use Rattle.mdb_bus.specs.ActLists.{IsActList, Piece, acts_of, levels_after}
 use Rattle.mdb_follow.specs.declared.offence.Offence.{Offence}
@@ -162,8 +163,8 @@ unjudged_with unit so_far broken blamed begun =
     if not (is_of_level_1 levels) && depends_on_level broken blamed levels.asked begun
     then Some unit else None
 
--- the same where the last block, if there is one, is to any device; of a recording from power-on
--- each no is judged
+-- the same where the last block, if there is one, is to any device; of a recording from power-on,
+-- and by the extended profile, each no is judged
 abbrev pub unjudged : Bool → Levels → Rule → Blame → Option ℕ → Option ReaderUnit
 unjudged false so_far broken blamed begun = None
 unjudged true so_far broken blamed None = None
@@ -173,10 +174,11 @@ unjudged true so_far broken blamed (Some begun) =
       | None ↦ None
     ]
 
--- whether a recording begins in mid-session
+-- whether a recording begins in mid-session and is followed by the base profile: the extended one
+-- follows higher levels too
 abbrev pub is_joined : Beginning → Bool
-is_joined (PowerOn profile) = false
-is_joined (Joined setups profile) = true
+is_joined (Joined setups Base) = true
+is_joined begins = false
 
 -- The reader of the no at a row after rows, where it isn't judged, or None where it is: by the acts
 -- of the rows before it, by the last block of the controller up to it, and by levels of the readers

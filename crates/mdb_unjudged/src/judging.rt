@@ -11,7 +11,7 @@ ghost use Rattle.mdb_unjudged.specs.inner.Steps.{HasFollowed, IsMet, MeetsAmong}
 
 use super::reported::{known_before, reported_if};
 use super::unjudged::unjudged;
-use mdb_bus::{Beginning, Levels, Scope, laws as links};
+use mdb_bus::{Beginning, Levels, Profile, Scope, laws as links};
 use mdb_follow::{Follower, Offence};
 use mdb_msgs::ReaderUnit;
 use mdb_verdict::TakeRows;
@@ -32,7 +32,8 @@ pub(crate) struct Met {
 #[derive(Drop)]
 pub(crate) struct Judging {
     pub(crate) follower: Follower,
-    /// Whether the recording begins while the machine was running.
+    /// Whether the recording begins while the machine was running, and is followed by the base
+    /// profile.
     pub(crate) joined: bool,
     /// The levels that the rows so far report: of each reader Y2 of the last SETUP config ask, and
     /// Z2 of the last config message with which an answer of it begins.
@@ -150,11 +151,11 @@ impl TakeRows<Levels> for Judging {
     ghost counts = { λ judging readers after rows has. has.follows.counted };
 }
 
-/// Whether a recording begins while the machine was running.
+/// Whether a recording begins while the machine was running, and is followed by the base profile.
 fn is_joined(begins: &Beginning) -> bool
     ensures { result ≡ spec.is_joined begins.now }
 {
-    matches!(begins, Beginning::Joined(_, _))
+    matches!(begins, Beginning::Joined(_, Profile::Base))
 }
 
 /// The byte with which a block of the controller begins, where this row is its word.

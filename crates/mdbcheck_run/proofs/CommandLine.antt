@@ -17,9 +17,10 @@ use Rattle.mdb_msgs.specs.declared.device_set.DeviceSet.{DeviceSet}
 use Rattle.mdb_msgs.specs.Laws.{AnswerTellsOneSetup}
 use Rattle.mdb_msgs.specs.Setups.{nothing_known}
 use Rattle.mdb_bus.specs.declared.scope.Scope.{Scope}
-use Rattle.mdb_bus.specs.Scopes.{from_power_on, joined as in_mid_session}
+use Rattle.mdb_bus.specs.Scopes.{from_power_on, joined_by}
 use Rattle.mdb_follow.specs.declared.goal.Goal.{Goal}
-use Rattle.mdbcheck_run.specs.Program.{AreSetups, AskForGoal, AskToCheck, AskToShow, NameAReading}
+use Rattle.mdbcheck_run.specs.Program.{AreSetups, AskForGoal, AskFromPowerOn, AskToCheck, AskToShow}
+use Rattle.mdbcheck_run.specs.Program.{NameAReading}
 use Rattle.mdbcheck_run.specs.Program.{NamesCheck, NamesExplain, NamesManual, NamesReplay}
 use Rattle.mdbcheck_run.specs.Program.{NamesShow, NamesSurvey, check_command, explain_command}
 use Rattle.mdbcheck_run.specs.Program.{form_of, manual_command, profile_by, replay_command}
@@ -32,10 +33,10 @@ use Rattle.mdbcheck_run.specs.declared.command_line.Task.TheVariants.{Check, Sho
 use Rattle.mdbcheck_run.specs.declared.command_line.Task.TheVariants.{Manual, Survey}
 use Rattle.mdb_text.specs.declared.form.Form.{Form}
 use Rattle.mdbcheck_run.specs.declared.refusal.Refusal.{Refusal}
-use Rattle.mdbcheck_run.specs.declared.refusal.Refusal.TheVariants.{Words, Setup, Extended}
+use Rattle.mdbcheck_run.specs.declared.refusal.Refusal.TheVariants.{Words, Setup, NotExtended}
 use Rattle.mdbcheck_run.proofs.Devices.{one_set}
 use Rattle.mdbcheck_run.proofs.Goals.{one_goal}
-use Rattle.mdbcheck_run.proofs.KnownSetups.{one_setups}
+use Rattle.mdbcheck_run.proofs.KnownSetups.{OneCommand, one_setups}
 
 abbrev Values : Type 0
 Values = Text → List Text
@@ -68,8 +69,11 @@ Checks scope form values used = AskToCheck values used scope × InForm form used
 abbrev Shows : Scope → Form → Values → Flags → Type 0
 Shows scope form values used = AskToShow values used scope × InForm form used
 
+abbrev Replays : Scope → Form → Values → Flags → Type 0
+Replays scope form values used = AskFromPowerOn values used scope × InForm form used
+
 abbrev Explains : Goal → Scope → Values → Flags → Type 0
-Explains goal scope values used = AskForGoal values goal × AskToShow values used scope
+Explains goal scope values used = AskForGoal values goal × AskFromPowerOn values used scope
 
 abbrev Tells : Text → Values → Flags → Type 0
 Tells text values used = AskForManual mdbcheck_manual (values (codes "COMMAND")) text
@@ -91,7 +95,7 @@ module _ (words : List Text) (found : Named) (read : IsReadFrom commands words f
       (of_goal, asks) in
       (read.uses, named_as commands words found read explain_command refl is, of.0, of.1)
   asked (Replay profile without form) (is, asks, in_form) =
-      let of = asked_by found read.uses read.has (Shows (from_power_on profile without) form)
+      let of = asked_by found read.uses read.has (Replays (from_power_on profile without) form)
       (asks, in_form)
       in
       (read.uses, named_as commands words found read replay_command refl is, of.0, of.1)
@@ -121,8 +125,8 @@ module _ (words : List Text) (found : Named) (read : IsReadFrom commands words f
       (is, of.0, of.1)
   finds (Replay profile without form) (uses, names, asks, in_form) =
       let (is, has) = found_as commands words found read replay_command uses refl names in
-      let of = found_by found uses has (Shows (from_power_on profile without) form) (asks, in_form)
-      in
+      let of =
+      found_by found uses has (Replays (from_power_on profile without) form) (asks, in_form) in
       (is, of.0, of.1)
   finds (Manual part) (uses, names, asks) =
       let (is, has) = found_as commands words found read manual_command uses refl names in (
@@ -149,7 +153,7 @@ own_refusal kinds (Words kind) none (inl memory) = inl memory
 own_refusal kinds (Words kind) none (inr invalid) =
     inr (subst (λ ks. IsAmong kind (or_else ks (InvalidValue ∷ []))) (sym none) (inl invalid))
 own_refusal kinds (Setup fault) none own = none
-own_refusal kinds Extended none own = none
+own_refusal kinds NotExtended none own = none
 
 -- ---- names that differ
 
@@ -257,49 +261,67 @@ manual_found found named (Replay profile without form) (is, asks, in_form) =
 manual_found found named (Manual part) (is, asks) =
     (manual_text mdbcheck_manual (option_map (λ text. text.now) part), asks)
 
--- any other task takes no recording from mid-session on
+pub show_found : (found : Named) → name_in found ≡ codes "show" → (task : Task)
+    → FindTask found task → (scope : Scope) × AskToShow (values_in found) (used_in found) scope
+show_found found named (Check scope form) (is, asks, in_form) =
+    absurd (check_not_show (sym is ∙ named))
+show_found found named (Survey scope form) (is, asks, in_form) =
+    absurd (survey_not_show (sym is ∙ named))
+show_found found named (Show scope form) (is, asks, in_form) = (scope, asks)
+show_found found named (Explain goal profile without) (is, of_goal, asks) =
+    absurd (show_not_explain (sym named ∙ is))
+show_found found named (Replay profile without form) (is, asks, in_form) =
+    absurd (show_not_replay (sym named ∙ is))
+show_found found named (Manual part) (is, asks) = absurd (show_not_manual (sym named ∙ is))
+
+-- the others take no recording from mid-session on
 pub others_found : (found : Named) (name : Text) → name_in found ≡ name → codes "check" ≢ name
-    → codes "survey" ≢ name → name ≢ codes "manual" → (task : Task) → FindTask found task
-    → (scope : Scope) × AskToShow (values_in found) (used_in found) scope
-others_found found name named other no_survey no_manual (Check scope form) (is, asks, in_form) =
+    → codes "survey" ≢ name → codes "show" ≢ name → name ≢ codes "manual" → (task : Task)
+    → FindTask found task
+    → (scope : Scope) × AskFromPowerOn (values_in found) (used_in found) scope
+others_found found name named other no_survey no_show no_manual (Check scope form)
+    (is, asks, in_form) =
     absurd (other (sym is ∙ named))
-others_found found name named other no_survey no_manual (Survey scope form) (is, asks, in_form) =
+others_found found name named other no_survey no_show no_manual (Survey scope form)
+    (is, asks, in_form) =
     absurd (no_survey (sym is ∙ named))
-others_found found name named other no_survey no_manual (Show scope form) (is, asks, in_form) =
-    (scope, asks)
-others_found found name named other no_survey no_manual (Explain goal profile without)
+others_found found name named other no_survey no_show no_manual (Show scope form)
+    (is, asks, in_form) =
+    absurd (no_show (sym is ∙ named))
+others_found found name named other no_survey no_show no_manual (Explain goal profile without)
     (is, of_goal, asks) =
     (from_power_on profile without, asks)
-others_found found name named other no_survey no_manual (Replay profile without form)
+others_found found name named other no_survey no_show no_manual (Replay profile without form)
     (is, asks, in_form) =
     (from_power_on profile without, asks)
-others_found found name named other no_survey no_manual (Manual part) (is, asks) =
+others_found found name named other no_survey no_show no_manual (Manual part) (is, asks) =
     absurd (no_manual (sym named ∙ is))
 
 -- ---- one task with one scope
 
 -- what is asked for by the same values and flags is the same
-one_checked : (one_told : AnswerTellsOneSetup) (values : Values) (used : Flags) (a b : Scope)
-    → AskToCheck values used a → AskToCheck values used b → a ≡ b
-one_checked one_told values used a b (set, are, inl from) (other, too, inl from_too) =
+one_checked : (one_told : AnswerTellsOneSetup) (one_command : OneCommand) (values : Values)
+    (used : Flags) (a b : Scope) → AskToCheck values used a → AskToCheck values used b → a ≡ b
+one_checked one_told one_command values used a b (set, are, inl from) (other, too, inl from_too) =
     from.is
     ∙ ap (from_power_on (profile_by (used (codes "extended")))) (one_set _ set other are too)
     ∙ sym from_too.is
-one_checked one_told values used a b (set, are, inl from) (other, too, inr joined) =
+one_checked one_told one_command values used a b (set, are, inl from) (other, too, inr joined) =
     absurd (true≢false (sym joined.joined ∙ from.not_joined))
-one_checked one_told values used a b (set, are, inr joined) (other, too, inl from) =
+one_checked one_told one_command values used a b (set, are, inr joined) (other, too, inl from) =
     absurd (true≢false (sym joined.joined ∙ from.not_joined))
-one_checked one_told values used a b (set, are, inr joined) (other, too, inr also) =
+one_checked one_told one_command values used a b (set, are, inr joined) (other, too, inr also) =
+    let profile = profile_by (used (codes "extended")) in
     let same = one_set _ set other are too in
-    let With : DeviceSet
-    → Type 0 = λ devices. AreSetups devices nothing_known (values (codes "setup")) also.setups in
-    joined.is ∙ ap₂ in_mid_session
-    (one_setups one_told set nothing_known (values (codes "setup")) joined.setups also.setups
-    joined.told (subst With (sym same) also.told)) same ∙ sym also.is
+    let With : DeviceSet → Type 0 = λ devices. AreSetups profile devices nothing_known
+    (values (codes "setup")) also.setups in
+    joined.is ∙ ap₂ (joined_by profile)
+    (one_setups one_told one_command profile set nothing_known (values (codes "setup"))
+    joined.setups also.setups joined.told (subst With (sym same) also.told)) same ∙ sym also.is
 
-one_shown : (values : Values) (used : Flags) (a b : Scope) → AskToShow values used a
-    → AskToShow values used b → a ≡ b
-one_shown values used a b (set, are, is) (other, too, also) =
+one_start : (values : Values) (used : Flags) (a b : Scope) → AskFromPowerOn values used a
+    → AskFromPowerOn values used b → a ≡ b
+one_start values used a b (set, are, is) (other, too, also) =
     is ∙ ap (from_power_on (profile_by (used (codes "extended")))) (one_set _ set other are too)
     ∙ sym also
 
@@ -331,43 +353,48 @@ module _ (one : WordsNameOneCommand) where
       (λ i name. sym (alike.values name) i)
       (subst (Asks (λ name. chosen name also)) (λ i name. sym (alike.flags name) i) asks)
 
-  pub one_check : AnswerTellsOneSetup → (words : List Text) (a b : Scope) (form other : Form)
-      → NamesCheck words a form → NamesCheck words b other → (a ≡ b) × (form ≡ other)
-  one_check one_told words a b form other (uses, named, asks, in_form)
+  pub one_check : AnswerTellsOneSetup → OneCommand → (words : List Text) (a b : Scope)
+      (form other : Form) → NamesCheck words a form → NamesCheck words b other
+      → (a ≡ b) × (form ≡ other)
+  one_check one_told one_command words a b form other (uses, named, asks, in_form)
       (also, too, asks_too, in_form_too) =
       let of = same_asked words check_command uses also refl named too (Checks b other)
       (asks_too, in_form_too) in (
-        one_checked one_told (λ name. chosen name uses) (λ name. is_used name uses) a b asks
-            of.0,
+        one_checked one_told one_command (λ name. chosen name uses) (λ name. is_used name uses)
+            a b asks of.0,
         in_form ∙ sym of.1,
       )
 
-  pub one_survey : AnswerTellsOneSetup → (words : List Text) (a b : Scope) (form other : Form)
-      → NamesSurvey words a form → NamesSurvey words b other → (a ≡ b) × (form ≡ other)
-  one_survey one_told words a b form other (uses, named, asks, in_form)
+  pub one_survey : AnswerTellsOneSetup → OneCommand → (words : List Text) (a b : Scope)
+      (form other : Form) → NamesSurvey words a form → NamesSurvey words b other
+      → (a ≡ b) × (form ≡ other)
+  one_survey one_told one_command words a b form other (uses, named, asks, in_form)
       (also, too, asks_too, in_form_too) =
       let of = same_asked words survey_command uses also refl named too (Checks b other)
       (asks_too, in_form_too) in (
-        one_checked one_told (λ name. chosen name uses) (λ name. is_used name uses) a b asks
-            of.0,
+        one_checked one_told one_command (λ name. chosen name uses) (λ name. is_used name uses)
+            a b asks of.0,
         in_form ∙ sym of.1,
       )
 
-  pub one_show : (words : List Text) (a b : Scope) (form other : Form) → NamesShow words a form
-      → NamesShow words b other → (a ≡ b) × (form ≡ other)
-  one_show words a b form other (uses, named, asks, in_form) (also, too, asks_too, in_form_too) =
+  pub one_show : AnswerTellsOneSetup → OneCommand → (words : List Text) (a b : Scope)
+      (form other : Form) → NamesShow words a form → NamesShow words b other
+      → (a ≡ b) × (form ≡ other)
+  one_show one_told one_command words a b form other (uses, named, asks, in_form)
+      (also, too, asks_too, in_form_too) =
       let of = same_asked words show_command uses also refl named too (Shows b other)
       (asks_too, in_form_too) in (
-        one_shown (λ name. chosen name uses) (λ name. is_used name uses) a b asks of.0,
+        one_checked one_told one_command (λ name. chosen name uses) (λ name. is_used name uses)
+            a b asks.0 of.0.0,
         in_form ∙ sym of.1,
       )
 
   pub one_replay : (words : List Text) (a b : Scope) (form other : Form) → NamesReplay words a form
       → NamesReplay words b other → (a ≡ b) × (form ≡ other)
   one_replay words a b form other (uses, named, asks, in_form) (also, too, asks_too, in_form_too) =
-      let of = same_asked words replay_command uses also refl named too (Shows b other)
+      let of = same_asked words replay_command uses also refl named too (Replays b other)
       (asks_too, in_form_too) in (
-        one_shown (λ name. chosen name uses) (λ name. is_used name uses) a b asks of.0,
+        one_start (λ name. chosen name uses) (λ name. is_used name uses) a b asks of.0,
         in_form ∙ sym of.1,
       )
 
@@ -377,7 +404,7 @@ module _ (one : WordsNameOneCommand) where
       let of = same_asked words explain_command uses also refl named too (Explains other b)
       (of_goal_too, asks_too) in (
         one_goal (λ name. chosen name uses) goal other of_goal of.0,
-        one_shown
+        one_start
             (λ name. chosen name uses) (λ name. is_used name uses) a b asks of.1,
       )
 

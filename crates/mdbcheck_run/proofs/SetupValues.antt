@@ -17,10 +17,10 @@ use Rattle.mdbcheck_run.proofs.Devices.{one_device}
 
 -- ---- digits
 
-abbrev glyph_if : Bool → ℕ → ℕ
+abbrev pub glyph_if : Bool → ℕ → ℕ
 glyph_if low digit = if low then 48 + digit else 55 + digit
 
-glyph_is : (digit : ℕ) (low : Bool) → nat_lt digit 10 ≡ low
+pub glyph_is : (digit : ℕ) (low : Bool) → nat_lt digit 10 ≡ low
     → digit_glyph true digit ≡ glyph_if low digit
 glyph_is digit low is = ap (λ b. glyph_if b digit) is
 

@@ -8,7 +8,7 @@ use Rattle.mdb_msgs.specs.declared.device_set.DeviceSet.{DeviceSet}
 use Rattle.mdb_msgs.specs.declared.setups.Setups.{Setups}
 use Rattle.mdb_msgs.specs.Setups.{nothing_known}
 use Rattle.mdb_bus.specs.declared.scope.Scope.{Scope}
-use Rattle.mdb_bus.specs.Scopes.{from_power_on, joined as in_mid_session}
+use Rattle.mdb_bus.specs.Scopes.{from_power_on, joined_by}
 use Rattle.mdbcheck_run.specs.Program.{AreDevices, AreSetups, AskToCheck, profile_by}
 use Rattle.mdbcheck_run.proofs.Devices.{one_set}
 
@@ -29,18 +29,20 @@ module _ (values : Text → List Text) (used : Text → Bool) (words : List (Bor
     (left_out : DeviceSet) (are : map (λ v. v.now) words ≡ values (codes "setup"))
     (devices : AreDevices (values (codes "without")) left_out) where
   pub joined_asked : (setups : Setups) (scope : Scope) → used (codes "joined") ≡ true
-      → used (codes "extended") ≡ false → AreSetups left_out nothing_known (map (λ v. v.now) words)
-      setups → scope ≡ in_mid_session setups left_out → AskToCheck values used scope
-  joined_asked setups scope joined base told is = (
+      → AreSetups (profile_by (used (codes "extended"))) left_out nothing_known
+      (map (λ v. v.now) words) setups
+      → scope ≡ joined_by (profile_by (used (codes "extended"))) setups left_out
+      → AskToCheck values used scope
+  joined_asked setups scope joined told is = (
     left_out,
     devices,
     inr
         (record {
           joined = joined;
-          base = base;
           setups = setups;
           told = subst
-              (λ all. AreSetups left_out nothing_known all setups) are told;
+              (λ all. AreSetups (profile_by (used (codes "extended"))) left_out nothing_known all
+              setups) are told;
           is = is;
         }),
   )
@@ -62,20 +64,16 @@ module _ (values : Text → List Text) (used : Text → Bool) (words : List (Bor
   not_joined scope no_flag (other, of, inr joined) =
       absurd (true≢false (sym joined.joined ∙ no_flag))
 
-  -- no recording in mid-session is asked for by the extended profile
-  pub joined_base : (scope : Scope) → used (codes "joined") ≡ true → AskToCheck values used scope
-      → used (codes "extended") ≡ false
-  joined_base scope flag (other, of, inl from) = absurd (true≢false (sym flag ∙ from.not_joined))
-  joined_base scope flag (other, of, inr joined) = joined.base
-
   -- else something is known with them
   pub joined_told : (scope : Scope) → used (codes "joined") ≡ true → AskToCheck values used scope
-      → (setups : Setups) × AreSetups left_out nothing_known (map (λ v. v.now) words) setups
+      → (setups : Setups) × AreSetups (profile_by (used (codes "extended"))) left_out nothing_known
+      (map (λ v. v.now) words) setups
   joined_told scope flag (other, of, inl from) = absurd (true≢false (sym flag ∙ from.not_joined))
   joined_told scope flag (other, of, inr joined) =
-      let With : DeviceSet → Type 0 = λ set. AreSetups set nothing_known (values (codes "setup"))
-      joined.setups in (
+      let profile = profile_by (used (codes "extended")) in
+      let With : DeviceSet → Type 0 = λ set. AreSetups profile set nothing_known
+      (values (codes "setup")) joined.setups in (
         joined.setups,
-        subst (λ all. AreSetups left_out nothing_known all joined.setups) (sym are)
+        subst (λ all. AreSetups profile left_out nothing_known all joined.setups) (sym are)
             (subst With (one_set _ other left_out of devices) joined.told),
       )

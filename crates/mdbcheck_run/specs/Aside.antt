@@ -14,8 +14,8 @@ use Rattle.mdb_bus.specs.declared.fault.Rule.{Rule}
 use Rattle.mdb_bus.specs.declared.fault.Rule.TheVariants as rules
 use Rattle.mdb_bus.specs.declared.levels.Levels.{Levels}
 use Rattle.mdb_bus.specs.declared.scope.Beginning.{Beginning}
-use Rattle.mdb_bus.specs.declared.scope.Beginning.TheVariants.{PowerOn}
-use Rattle.mdb_bus.specs.declared.scope.Profile.TheVariants.{Base}
+use Rattle.mdb_bus.specs.declared.scope.Beginning.TheVariants.{PowerOn, Joined}
+use Rattle.mdb_bus.specs.declared.scope.Profile.TheVariants.{Base, Extended}
 use Rattle.mdb_bus.specs.declared.scope.Scope.{Scope}
 use Rattle.mdb_bus.specs.FaultWords.{blame_word}
 use Rattle.mdb_follow.specs.declared.follower.TheConstants.{ROWS_MAX}
@@ -28,33 +28,45 @@ use Rattle.mdb_unjudged.specs.Verdict.{IsJudgedNo}
 use Rattle.mdb_verdict.specs.declared.fault.RunFault.{RunFault}
 use Rattle.mdb_writing.specs.Written.{HasTaken}
 use Rattle.mdb_text.specs.declared.form.Form.{Form}
+use Rattle.mdbcheck_run.specs.declared.aside.Remedy.{Remedy}
+use Rattle.mdbcheck_run.specs.declared.aside.Remedy.TheVariants.{Extend, TellLevel, LeaveOut}
 use Rattle.mdbcheck_run.specs.Program.{NamesCheck, NamesExplain, NamesManual, NamesReplay, NamesShow, NamesSurvey, setup_text}
 
 -- the line on a no that isn't judged
 abbrev pub unjudged_line : ReaderUnit → List ℕ
 unjudged_line unit =
     line (codes "mdbcheck: not judged: the rows don't show whether " ++ device_word (Reader unit)
-    ++ codes " and the controller speak feature level 1; a recording of the machine's start would"
-    ++ codes " (or leave it out: --without " ++ device_word (Reader unit) ++ codes ")")
+    ++ codes " and the controller speak feature level 1: add --extended (or leave it out:"
+    ++ codes " --without " ++ device_word (Reader unit) ++ codes ")")
 
--- whether the extended profile may follow what the base profile doesn't: it is for recordings from
--- power-on
-abbrev pub may_extend : Beginning → Bool
-may_extend (PowerOn Base) = true
-may_extend begins = false
+-- what may help where a row isn't followed: the extended profile, where the base profile ends; and
+-- in mid-session the level of a reader, which may decide how it is read
+abbrev pub remedy_for : Beginning → Remedy
+remedy_for (PowerOn Base) = Extend
+remedy_for (Joined setups Base) = Extend
+remedy_for (Joined setups Extended) = TellLevel
+remedy_for (PowerOn Extended) = LeaveOut
 
--- why a row isn't followed, and the words to type: by who sent it, and by whether the extended
--- profile may follow it
-abbrev pub beyond_text : Bool → Blame → List ℕ
-beyond_text true blames.Bill = codes "bill may report a recycler: add --extended"
-beyond_text true blames.Cashless = codes "cashless goes beyond feature level 1: add --extended"
-beyond_text true blames.Cashless2 = codes "cashless-2 goes beyond feature level 1: add --extended"
-beyond_text extends blames.Controller =
+-- that a reader isn't followed, which may hang on its level
+abbrev pub level_text : List ℕ → List ℕ
+level_text reader =
+    reader ++ codes " sends a message that isn't followed, at least while its level isn't known:"
+    ++ codes " tell it, as in --setup '" ++ reader
+    ++ codes " level 3' (or leave it out: --without " ++ reader ++ codes ")"
+
+-- why a row isn't followed, and the words to type: by what may help, and by who sent the row
+abbrev pub beyond_text : Remedy → Blame → List ℕ
+beyond_text Extend blames.Bill = codes "bill may report a recycler: add --extended"
+beyond_text Extend blames.Cashless = codes "cashless goes beyond feature level 1: add --extended"
+beyond_text Extend blames.Cashless2 = codes "cashless-2 goes beyond feature level 1: add --extended"
+beyond_text TellLevel blames.Cashless = level_text (codes "cashless")
+beyond_text TellLevel blames.Cashless2 = level_text (codes "cashless-2")
+beyond_text remedy blames.Controller =
     codes "the controller sends a command that isn't followed (leave out the device that it is sent"
     ++ codes " to: --without DEVICE)"
-beyond_text extends blames.Other =
+beyond_text remedy blames.Other =
     codes "a device sends a message that isn't followed (leave it out: --without DEVICE)"
-beyond_text extends sender =
+beyond_text remedy sender =
     blame_word sender ++ codes " sends a message that isn't followed (leave it out: --without "
     ++ blame_word sender ++ codes ")"
 
@@ -62,7 +74,7 @@ beyond_text extends sender =
 abbrev pub beyond_line : Beginning → Offence → List ℕ
 beyond_line begins offence =
     line (codes "mdbcheck: row " ++ decimal offence.row ++ codes ": "
-    ++ beyond_text (may_extend begins) offence.blame)
+    ++ beyond_text (remedy_for begins) offence.blame)
 
 -- whether a row that breaks a rule isn't followed
 abbrev pub is_beyond : Rule → Bool

@@ -1,19 +1,23 @@
 -- What the words of a command line name, and what the program's exit status says.
-use Rattle.std.specs.Prelude.{◌≡◌, ◌≢◌, ◌⊎◌, ◌++◌, ◌<◌, ◌==◌, ℕ, Bool, true, false, List, [], ◌∷◌}
-use Rattle.std.specs.Prelude.{codes, if◌then◌else◌, Option, Some, None, Result, Ok, Err, IfSome, length}
+use Rattle.std.specs.Prelude.{◌≡◌, ◌≢◌, ◌⊎◌, ◌+◌, ◌++◌, ◌<◌, ◌==◌, ◌||◌, ℕ, Bool, true, false, List, [], ◌∷◌}
+use Rattle.std.specs.Prelude.{codes, if◌then◌else◌, Option, Some, None, Result, Ok, Err, IfSome, is_some, length}
+use Rattle.std.specs.Fmt.{decimal}
 use Rattle.std.specs.Io.KnownBytes.{Appends}
 use Rattle.csv.specs.Reading.{default_config, records, strip_bom}
 use Rattle.command_words.specs.Grammar.{Command, NameCommand, Uses, chosen, is_used}
 use Rattle.command_words.specs.Manual.{AskForManual, Manual}
 use Rattle.mdb_words.specs.Digits.{IsDecimal}
 use Rattle.mdb_msgs.specs.declared.command.Device.{Device}
+use Rattle.mdb_msgs.specs.declared.command.Device.TheVariants.{Reader}
+use Rattle.mdb_msgs.specs.declared.command.ReaderUnit.{ReaderUnit}
 use Rattle.mdb_msgs.specs.declared.device_set.DeviceSet.{DeviceSet}
 use Rattle.mdb_msgs.specs.declared.device_set.TheConstants.DeviceSet.{NONE}
 use Rattle.mdb_msgs.specs.Devices.{device_word}
 use Rattle.mdb_msgs.specs.DeviceSets.{has, with_device}
 use Rattle.mdb_msgs.specs.declared.setups.Setups.{Setups}
-use Rattle.mdb_msgs.specs.SetupData.{IsSetupOf}
-use Rattle.mdb_msgs.specs.Setups.{nothing_known}
+use Rattle.mdb_msgs.specs.Commands.{reader_address}
+use Rattle.mdb_msgs.specs.SetupData.{IsSetupOf, IsToldBy}
+use Rattle.mdb_msgs.specs.Setups.{has_answer, nothing_known, reader_known, with_level}
 use Rattle.mdb_bus.specs.declared.fault.LinkFault.{LinkFault}
 use Rattle.mdb_follow.specs.AccountNames.{account_word}
 use Rattle.mdb_follow.specs.declared.follower.TheConstants.{ROWS_MAX}
@@ -21,7 +25,6 @@ use Rattle.mdb_follow.specs.declared.goal.Goal.{Goal}
 use Rattle.mdb_follow.specs.declared.offence.Offence.{Offence}
 use Rattle.mdb_follow.specs.declared.report.Report.{Report}
 use Rattle.mdb_explain.specs.Explain.{IsCutExplanation, IsExplainedIn, bound_word}
-use Rattle.mdb_text.specs.Known.{known_devices}
 use Rattle.mdb_explain.specs.Replay.{IsReplayAnswer}
 use Rattle.mdb_show.specs.Show.{IsCutShortIn, IsShownToFaultIn, IsShownWholeIn, lines_in}
 use Rattle.mdb_show.specs.ShowText.{bytes_text}
@@ -39,7 +42,7 @@ use Rattle.mdb_verdict.specs.declared.verdict.TheConstants.{BYTES_MAX}
 use Rattle.mdb_bus.specs.declared.scope.Profile.{Profile}
 use Rattle.mdb_bus.specs.declared.scope.Profile.TheVariants.{Base, Extended}
 use Rattle.mdb_bus.specs.declared.scope.Scope.{Scope}
-use Rattle.mdb_bus.specs.Scopes.{from_power_on, joined as in_mid_session}
+use Rattle.mdb_bus.specs.Scopes.{from_power_on, joined_by}
 use Rattle.mdb_writing.specs.Written.{HasTaken}
 use Rattle.mdbcheck_run.specs.declared.manual.TheConstants.{ABOUT, CHECK, EXPLAIN, MANUAL, REPLAY, REST, SHOW, SURVEY}
 use Rattle.mdb_text.specs.declared.form.Form.{Form}
@@ -49,9 +52,17 @@ use Rattle.mdb_text.specs.declared.form.Form.TheVariants.{Text, Json}
 abbrev pub setup_text : Device → List ℕ → List ℕ
 setup_text device bytes = device_word device ++ bytes_text bytes
 
--- the word in front of them in a line of `show`
+-- the word in front of them in a line of `show`: of a reply, and of a command
 abbrev pub reply_word : List ℕ
 reply_word = codes "reply "
+
+abbrev pub ask_word : List ℕ
+ask_word = codes "ask "
+
+-- a line has such a word before these words, that of a command by the extended profile alone
+abbrev pub HasWord : Profile → List ℕ → List ℕ → Type 0
+HasWord profile line words =
+    (line ≡ reply_word ++ words) ⊎ ((profile ≡ Extended) × (line ≡ ask_word ++ words))
 
 -- the rows of a line of `show`: two numbers of up to 15 digits, and a dash (45) between them
 pub record AreRows (text : List ℕ) : Type 0 where
@@ -68,12 +79,17 @@ pub record HasRows (text line : List ℕ) : Type 0 where
   pub parts : text ≡ rows ++ 32 ∷ line
 
 -- A value of `--setup` that gives the bytes of a device: a line of `show` as it stands, the same
--- without its rows, or what it has after the word `reply`.
-pub data Gives (text : List ℕ) (device : Device) (bytes : List ℕ) : Type 0 where
-  with_rows : (line : List ℕ) → HasRows text line → line ≡ reply_word ++ setup_text device bytes
-      → Gives text device bytes
-  with_word : text ≡ reply_word ++ setup_text device bytes → Gives text device bytes
-  bare : text ≡ setup_text device bytes → Gives text device bytes
+-- without its rows, or what it has after the word `reply` or `ask`.
+pub data Gives (profile : Profile) (text : List ℕ) (device : Device) (bytes : List ℕ) : Type 0 where
+  with_rows : (line : List ℕ) → HasRows text line
+      → HasWord profile line (setup_text device bytes) → Gives profile text device bytes
+  with_word : HasWord profile text (setup_text device bytes) → Gives profile text device bytes
+  bare : text ≡ setup_text device bytes → Gives profile text device bytes
+
+-- A value that gives a feature level of a reader, from 1 to 3: `cashless level 3`.
+pub record GivesLevel (text : List ℕ) (unit : ReaderUnit) (level : ℕ) : Type 0 where
+  pub is_level : (level ≡ 1) ⊎ (level ≡ 2) ⊎ (level ≡ 3)
+  pub words : text ≡ device_word (Reader unit) ++ codes " level " ++ decimal level
 
 -- ---- the commands
 
@@ -94,18 +110,19 @@ survey_command = record check_command {
   flags = codes "joined" ∷ codes "json" ∷ [];
 }
 
--- what `show` and `replay` know
+-- `show` knows the same as `check`
 abbrev pub show_command : Command
-show_command = record {
-  name = codes "show";
+show_command = record check_command { name = codes "show" }
+
+-- what `replay` knows
+abbrev pub replay_command : Command
+replay_command = record {
+  name = codes "replay";
   options = codes "without" ∷ [];
   flags = codes "extended" ∷ codes "json" ∷ [];
   words = [];
   further = [];
 }
-
-abbrev pub replay_command : Command
-replay_command = record show_command { name = codes "replay" }
 
 -- what `explain` knows: its words are those of a goal
 abbrev pub explain_command : Command
@@ -155,22 +172,56 @@ abbrev pub profile_by : Bool → Profile
 profile_by true = Extended
 profile_by false = Base
 
--- A value of `--setup`, the next after those with which this was known: the answer to SETUP of a
--- device that isn't left out, and of which nothing was known.
-pub record AddsSetup (left_out : DeviceSet) (before : Setups) (text : List ℕ) (after : Setups)
-    : Type 0 where
+-- whether a block of a reader begins as the controller's SETUP or EXPANSION to it: 11 or 17, or to
+-- the second reader 61 or 67
+abbrev pub begins_as_asked : Device → List ℕ → Bool
+begins_as_asked (Reader unit) (first ∷ rest) =
+    first == reader_address unit + 1 || first == reader_address unit + 7
+begins_as_asked device bytes = false
+
+-- Whether a block is one of the controller. By the extended profile each is that begins so. No
+-- answer does: answers are read by the base profile, and its messages of readers begin with 00 to
+-- 0B.
+abbrev pub is_asked : Profile → Device → List ℕ → Bool
+is_asked Base device bytes = false
+is_asked Extended device bytes = begins_as_asked device bytes
+
+-- what is known with a block that is one of the controller, or with the first answer of a device
+abbrev pub AddsBlock : Bool → Device → List ℕ → Setups → Setups → Type 0
+AddsBlock true device bytes before after = IsToldBy device bytes before after
+AddsBlock false device bytes before after =
+    (has_answer before device ≡ false) × IsSetupOf device bytes before after
+
+-- A value of `--setup` with the block of a device that isn't left out, the next after those with
+-- which this was known.
+pub record GivesBlock (profile : Profile) (left_out : DeviceSet) (before : Setups) (text : List ℕ)
+    (after : Setups) : Type 0 where
   pub device : Device
   pub bytes : List ℕ
-  pub given : Gives text device bytes
+  pub given : Gives profile text device bytes
   pub followed : has left_out device ≡ false
-  pub new : has (known_devices before) device ≡ false
-  pub is : IsSetupOf device bytes before after
+  pub adds : AddsBlock (is_asked profile device bytes) device bytes before after
+
+-- One with the level of a reader, that of the controller too, in the place of the controller's.
+pub record AddsLevel (left_out : DeviceSet) (before : Setups) (text : List ℕ) (after : Setups)
+    : Type 0 where
+  pub unit : ReaderUnit
+  pub level : ℕ
+  pub given : GivesLevel text unit level
+  pub followed : has left_out (Reader unit) ≡ false
+  pub new : is_some (reader_known before unit).asked ≡ false
+  pub is : after ≡ with_level before unit level
+
+-- A value is one or the other, by the base profile a block.
+abbrev pub AddsSetup : Profile → DeviceSet → Setups → List ℕ → Setups → Type 0
+AddsSetup profile left_out before text after = GivesBlock profile left_out before text after
+    ⊎ ((profile ≡ Extended) × AddsLevel left_out before text after)
 
 -- The values of `--setup`, in their order, and what is known with them.
-abbrev pub AreSetups : DeviceSet → Setups → List (List ℕ) → Setups → Type 0
-AreSetups left_out before [] after = after ≡ before
-AreSetups left_out before (text ∷ more) after = (next : Setups)
-    × AddsSetup left_out before text next × AreSetups left_out next more after
+abbrev pub AreSetups : Profile → DeviceSet → Setups → List (List ℕ) → Setups → Type 0
+AreSetups profile left_out before [] after = after ≡ before
+AreSetups profile left_out before (text ∷ more) after = (next : Setups)
+    × AddsSetup profile left_out before text next × AreSetups profile left_out next more after
 
 -- A recording from power-on on is asked for, with no setup data, and it is taken so, by the profile
 -- that is asked for.
@@ -180,15 +231,15 @@ pub record IsFromPowerOn (values : List ℕ → List (List ℕ)) (used : List �
   pub no_setups : values (codes "setup") ≡ []
   pub is : scope ≡ from_power_on (profile_by (used (codes "extended"))) left_out
 
--- A recording in mid-session is asked for, with these setup data, and it is taken so. It is of the
--- base profile alone.
+-- A recording in mid-session is asked for, with these setup data, and it is taken so, by the
+-- profile that is asked for.
 pub record IsJoined (values : List ℕ → List (List ℕ)) (used : List ℕ → Bool)
     (left_out : DeviceSet) (scope : Scope) : Type 0 where
   pub joined : used (codes "joined") ≡ true
-  pub base : used (codes "extended") ≡ false
   pub setups : Setups
-  pub told : AreSetups left_out nothing_known (values (codes "setup")) setups
-  pub is : scope ≡ in_mid_session setups left_out
+  pub told : AreSetups (profile_by (used (codes "extended"))) left_out nothing_known
+      (values (codes "setup")) setups
+  pub is : scope ≡ joined_by (profile_by (used (codes "extended"))) setups left_out
 
 -- The values of the options of `check` or `survey`, and whether each flag was used, ask for a
 -- recording that is taken so.
@@ -197,9 +248,15 @@ AskToCheck values used scope = (left_out : DeviceSet)
     × AreDevices (values (codes "without")) left_out
     × (IsFromPowerOn values used left_out scope ⊎ IsJoined values used left_out scope)
 
--- Those of `show`, `explain` and `replay`, which take no recording from mid-session on.
+-- Those of `show`, which takes a recording in mid-session by the extended profile alone. By the
+-- base profile its lines don't hang on what is known.
 abbrev pub AskToShow : (List ℕ → List (List ℕ)) → (List ℕ → Bool) → Scope → Type 0
-AskToShow values used scope = (left_out : DeviceSet)
+AskToShow values used scope = AskToCheck values used scope
+    × (used (codes "joined") ≡ true → used (codes "extended") ≡ true)
+
+-- Those of `explain` and `replay`, which take no recording in mid-session.
+abbrev pub AskFromPowerOn : (List ℕ → List (List ℕ)) → (List ℕ → Bool) → Scope → Type 0
+AskFromPowerOn values used scope = (left_out : DeviceSet)
     × AreDevices (values (codes "without")) left_out
     × (scope ≡ from_power_on (profile_by (used (codes "extended"))) left_out)
 
@@ -233,14 +290,14 @@ NamesShow words scope form = (uses : Uses) × NameCommand words show_command use
 -- they name `replay`
 abbrev pub NamesReplay : List (List ℕ) → Scope → Form → Type 0
 NamesReplay words scope form = (uses : Uses) × NameCommand words replay_command uses
-    × AskToShow (λ name. chosen name uses) (λ name. is_used name uses) scope
+    × AskFromPowerOn (λ name. chosen name uses) (λ name. is_used name uses) scope
     × (form ≡ form_of (is_used (codes "json") uses))
 
 -- they name `explain` with a goal; it writes text alone
 abbrev pub NamesExplain : List (List ℕ) → Goal → Scope → Type 0
 NamesExplain words goal scope = (uses : Uses) × NameCommand words explain_command uses
     × AskForGoal (λ name. chosen name uses) goal
-    × AskToShow (λ name. chosen name uses) (λ name. is_used name uses) scope
+    × AskFromPowerOn (λ name. chosen name uses) (λ name. is_used name uses) scope
 
 -- they name `manual`, and ask for this text of it
 abbrev pub NamesManual : List (List ℕ) → List ℕ → Type 0

@@ -31,7 +31,7 @@ pub(crate) fn tell_aside<E: Write>(begins: &Beginning, judged: &Judged, err: &mu
             if matches!(offence.rule, Rule::Profile) {
                 tell_beyond(
                     offence.row,
-                    text_of_beyond(may_extend(begins), offence.blame),
+                    text_of_beyond(remedy_for(begins), offence.blame),
                     err,
                 );
             }
@@ -54,22 +54,47 @@ fn tell_beyond<E: Write>(row: u64, why: &str, err: &mut E)
     let _ = page.write_out(err);
 }
 
-/// Whether the extended profile may follow what ends a recording that begins so.
-fn may_extend(begins: &Beginning) -> bool
-    ensures { result ≡ spec.may_extend begins.now }
+/// What may help where a row isn't followed.
+#[derive(Clone, Copy)]
+pub enum Remedy {
+    /// The extended profile.
+    Extend,
+    /// That the reader's level is told.
+    TellLevel,
+    /// That the device is left out.
+    LeaveOut,
+}
+
+/// What may help where a row isn't followed, in a recording that begins so.
+fn remedy_for(begins: &Beginning) -> Remedy
+    ensures { result ≡ spec.remedy_for begins.now }
 {
-    matches!(begins, Beginning::PowerOn(Profile::Base))
+    match begins {
+        Beginning::PowerOn(Profile::Base) | Beginning::Joined(_, Profile::Base) => Remedy::Extend,
+        Beginning::Joined(_, Profile::Extended) => Remedy::TellLevel,
+        Beginning::PowerOn(Profile::Extended) => Remedy::LeaveOut,
+    }
 }
 
 /// Why a row isn't followed that this side sent, and which words to type.
-fn text_of_beyond(extends: bool, sender: Blame) -> &'static str
-    ensures text { result.now ≡ beyond_text extends sender }
+fn text_of_beyond(remedy: Remedy, sender: Blame) -> &'static str
+    ensures text { result.now ≡ beyond_text remedy sender }
     ensures short { length result.now ≤ 200 }
 {
-    match (extends, sender) {
-        (true, Blame::Bill) => "bill may report a recycler: add --extended",
-        (true, Blame::Cashless) => "cashless goes beyond feature level 1: add --extended",
-        (true, Blame::Cashless2) => "cashless-2 goes beyond feature level 1: add --extended",
+    match (remedy, sender) {
+        (Remedy::Extend, Blame::Bill) => "bill may report a recycler: add --extended",
+        (Remedy::Extend, Blame::Cashless) => "cashless goes beyond feature level 1: add --extended",
+        (Remedy::Extend, Blame::Cashless2) => {
+            "cashless-2 goes beyond feature level 1: add --extended"
+        }
+        (Remedy::TellLevel, Blame::Cashless) => {
+            "cashless sends a message that isn't followed, at least while its level isn't known: \
+             tell it, as in --setup 'cashless level 3' (or leave it out: --without cashless)"
+        }
+        (Remedy::TellLevel, Blame::Cashless2) => {
+            "cashless-2 sends a message that isn't followed, at least while its level isn't known: \
+             tell it, as in --setup 'cashless-2 level 3' (or leave it out: --without cashless-2)"
+        }
         (_, Blame::Controller) => {
             "the controller sends a command that isn't followed (leave out the device that it is \
              sent to: --without DEVICE)"
@@ -99,13 +124,11 @@ fn text_of_unjudged(unit: ReaderUnit) -> &'static str
     match unit {
         ReaderUnit::First => {
             "mdbcheck: not judged: the rows don't show whether cashless and the controller speak \
-             feature level 1; a recording of the machine's start would (or leave it out: \
-             --without cashless)\n"
+             feature level 1: add --extended (or leave it out: --without cashless)\n"
         }
         ReaderUnit::Second => {
             "mdbcheck: not judged: the rows don't show whether cashless-2 and the controller speak \
-             feature level 1; a recording of the machine's start would (or leave it out: \
-             --without cashless-2)\n"
+             feature level 1: add --extended (or leave it out: --without cashless-2)\n"
         }
     }
 }

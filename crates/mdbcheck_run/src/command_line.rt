@@ -10,7 +10,8 @@ ghost use Rattle.mdb_msgs.specs.declared.device_set.DeviceSet.{DeviceSet};
 ghost use Rattle.mdb_bus.specs.declared.scope.Scope.{Scope};
 ghost use Rattle.mdb_bus.specs.Scopes as scopes;
 ghost use Rattle.mdb_follow.specs.declared.goal.Goal.{Goal};
-ghost use Rattle.mdbcheck_run.specs.Program.{AreDevices, AskForGoal, AskToCheck, AskToShow, form_of};
+ghost use Rattle.mdbcheck_run.specs.Program.{AreDevices, AskForGoal, AskFromPowerOn, AskToCheck};
+ghost use Rattle.mdbcheck_run.specs.Program.{AskToShow, form_of};
 ghost use Rattle.mdbcheck_run.specs.Program.{profile_by};
 ghost use Rattle.mdbcheck_run.specs.Program.{mdbcheck_manual};
 ghost use Rattle.mdbcheck_run.specs.inner.CommandLine.{AsksFor, Fails, FindTask, IsOwnRefusal};
@@ -30,7 +31,7 @@ use mdb_text::Form;
 use std::alloc::Global;
 
 /// The program's version.
-pub(crate) const VERSION: &str = "0.5.0";
+pub(crate) const VERSION: &str = "0.6.0";
 
 /// The option that says that the recording begins in mid-session.
 const JOINED: &str = "joined";
@@ -71,7 +72,7 @@ pub(crate) const PROGRAM: Program<'static> = Program {
             words: &[],
             further: &[],
             // (so short that a line of 200 has room for a refused value before it)
-            usage: "check [--joined|--extended] [--setup 'DEVICE ..'].. [--without DEVICE].. \
+            usage: "check [--joined] [--extended] [--setup 'DEVICE ..'].. [--without ..].. \
 [--json] < FILE",
             manual: manual::CHECK,
         },
@@ -87,11 +88,13 @@ pub(crate) const PROGRAM: Program<'static> = Program {
         },
         CommandRow {
             name: "show",
-            options: &[WITHOUT],
-            flags: &[EXTENDED, JSON],
+            options: &[SETUP, WITHOUT],
+            flags: &[JOINED, EXTENDED, JSON],
             words: &[],
             further: &[],
-            usage: "show [--extended] [--without DEVICE].. [--json] < TRANSCRIPT",
+            // (so short for the same reason)
+            usage: "show [--extended [--joined [--setup 'DEVICE ..']..]] [--without ..].. \
+[--json] < FILE",
             manual: manual::SHOW,
         },
         CommandRow {
@@ -179,7 +182,7 @@ fn task_in(alloc: Global, found: &Named<'_>) -> Result<Task, Refusal>
     match found.command() {
         "check" => Ok(Task::Check(scope_of_check(alloc, found)?, form_asked(found))),
         "survey" => Ok(Task::Survey(scope_of_check(alloc, found)?, form_asked(found))),
-        "show" => Ok(Task::Show(scope_of_show(found)?, form_asked(found))),
+        "show" => Ok(Task::Show(scope_of_show(alloc, found)?, form_asked(found))),
         "explain" => {
             let goal = goal_of_explain(found)?;
             let (profile, without) = start_asked(found)?;
@@ -203,35 +206,33 @@ fn scope_of_check(alloc: Global, found: &Named<'_>) -> Result<Scope, Refusal>
     ensures own { IfErr result IsOwnRefusal }
 {
     let without = left_out_by(found).ok_or(Refusal::Words(ErrorKind::InvalidValue))?;
+    let profile = profile_asked(found);
     let texts = found.values(SETUP).unwrap_or(&[]);
     if found.is_used(JOINED) {
-        if found.is_used(EXTENDED) {
-            return Err(Refusal::Extended);
-        }
-        let setups = setups_of(alloc, without, texts)?;
-        Ok(Scope::joined(setups, without))
+        let setups = setups_of(alloc, profile, without, texts)?;
+        Ok(Scope::joined_by(profile, setups, without))
     } else if texts.is_empty() {
-        Ok(Scope::from_power_on(profile_asked(found), without))
-    } else if found.is_used(EXTENDED) {
-        Err(Refusal::Extended)
+        Ok(Scope::from_power_on(profile, without))
     } else {
         Err(Refusal::Setup(SetupFault::NotJoined))
     }
 }
 
 /// How the recording is taken that the options of `show` ask for.
-fn scope_of_show(found: &Named<'_>) -> Result<Scope, Refusal>
+fn scope_of_show(alloc: Global, found: &Named<'_>) -> Result<Scope, Refusal>
     ensures asked { IfOk result (AskToShow (values_in found.now) (used_in found.now)) }
     ensures refused { IfErr result (λ refusal. (scope : Scope)
         → AskToShow (values_in found.now) (used_in found.now) scope → refusal ≡ no_memory) }
     ensures own { IfErr result IsOwnRefusal }
 {
-    let (profile, without) = start_asked(found)?;
-    Ok(Scope::from_power_on(profile, without))
+    if found.is_used(JOINED) && !found.is_used(EXTENDED) {
+        return Err(Refusal::NotExtended);
+    }
+    scope_of_check(alloc, found)
 }
 
 /// The profile that the options of a command ask for.
-fn profile_asked(found: &Named<'_>) -> Profile
+pub(crate) fn profile_asked(found: &Named<'_>) -> Profile
     ensures { result ≡ profile_by (used_in found.now (codes "extended")) }
 {
     if found.is_used(EXTENDED) {
@@ -299,13 +300,13 @@ fn word_in<'a>(found: &Named<'a>, name: &str) -> Option<&'a str>
     }
 }
 
-/// The profile that the options of `show`, `explain` or `replay` ask for, and the devices that they
-/// leave out.
+/// The profile that the options of `explain` or `replay` ask for, and the devices that they leave
+/// out.
 fn start_asked(found: &Named<'_>) -> Result<(Profile, DeviceSet), Refusal>
-    ensures asked { IfOk result (λ start. AskToShow (values_in found.now) (used_in found.now)
+    ensures asked { IfOk result (λ start. AskFromPowerOn (values_in found.now) (used_in found.now)
         (scopes.from_power_on start.0 start.1)) }
     ensures refused { IfErr result (λ refusal. (scope : Scope)
-        → AskToShow (values_in found.now) (used_in found.now) scope → refusal ≡ no_memory) }
+        → AskFromPowerOn (values_in found.now) (used_in found.now) scope → refusal ≡ no_memory) }
     ensures own { IfErr result IsOwnRefusal }
 {
     let without = left_out_by(found).ok_or(Refusal::Words(ErrorKind::InvalidValue))?;

@@ -5,9 +5,11 @@ ghost use Rattle.std.specs.Prelude.{◌≡◌, ◌⊎◌, ◌<◌, ◌^◌, ◌+
 ghost use Rattle.mdb_blocks.specs.Block.{block_of};
 ghost use Rattle.mdb_msgs.specs.declared.command.Command.{Command};
 ghost use Rattle.mdb_msgs.specs.declared.reply.Reply.{Reply};
-ghost use Rattle.mdb_msgs.specs.Commands.{device_of};
+ghost use Rattle.mdb_msgs.specs.Commands.{command_bytes, device_of};
 ghost use Rattle.mdb_msgs.specs.Replies.{reply_bytes};
 ghost use Rattle.mdb_bus.specs.declared.act.Act.TheVariants as acts;
+ghost use Rattle.mdb_bus.specs.declared.scope.Profile.{Profile};
+ghost use Rattle.mdb_bus.specs.declared.scope.Profile.TheVariants.{Extended};
 ghost use Rattle.mdb_bus.specs.declared.scope.Scope.{Scope};
 ghost use Rattle.mdb_follow.specs.declared.goal.Goal.{Goal};
 ghost use Rattle.mdb_show.specs.ShowText.{act_text, rows_text};
@@ -56,13 +58,22 @@ pub fn command_lines_name_one_task()
 {
     command_lines::words_name_one_command();
     messages::answer_tells_one_setup();
+    messages::block_has_one_command();
 }
 
 /// Each line that `show` prints of a reply, as it stands, gives the bytes of that reply and the
 /// device that sent it, where it is a value of `--setup`.
 pub fn lines_of_show_give_replies()
-    ensures { (first last : ℕ) (command : Command) (reply : Reply)
+    ensures { (profile : Profile) (first last : ℕ) (command : Command) (reply : Reply)
         → first < 10 ^ 15 → last < 10 ^ 15
-        → Gives (rows_text first last ++ act_text (acts.Reply command reply))
+        → Gives profile (rows_text first last ++ act_text (acts.Reply command reply))
         (device_of command) (block_of (reply_bytes reply)) }
+{}
+
+/// By the extended profile each line that `show` prints of a command gives its bytes and the device
+/// that it is for.
+pub fn lines_of_show_give_commands()
+    ensures { (first last : ℕ) (command : Command) → first < 10 ^ 15 → last < 10 ^ 15
+        → Gives Extended (rows_text first last ++ act_text (acts.Ask command))
+        (device_of command) (block_of (command_bytes command)) }
 {}

@@ -38,7 +38,7 @@ DESCRIPTION
 /// `check`.
 pub const CHECK: &str = "\
 CHECK
-        mdbcheck check [--joined|--extended] [--setup 'DEVICE BYTES']..
+        mdbcheck check [--joined] [--extended] [--setup 'DEVICE BYTES']..
             [--without DEVICE].. [--json] < TRANSCRIPT
 
     Prints the verdict. The first line is \"verdict yes\" or \"verdict no\".
@@ -47,14 +47,22 @@ CHECK
                      Without this option the first row counts as power-on,
                      and the checker may blame the innocent.
     --extended       Also follows card readers of feature levels 2 and 3, and
-                     bills that go to a recycler. Use it for each recording
-                     from power-on. Not with --joined or --setup.
+                     bills that go to a recycler. Use it for each recording.
     --setup 'DEVICE BYTES'
                      With --joined: gives the device's answer to SETUP, from
                      an earlier recording: the line that \"mdbcheck show\"
                      prints of it, or what that line has after \"reply\". Give
                      it once for each device. A recording that contains no
                      such answer has sums of 0 without it.
+                     With --extended a reader may have two more: the line of
+                     the controller's SETUP (11 00), which gives its feature
+                     level, and that of its ENABLE OPTIONS (17 04), which
+                     says whether the reader sells without a session. To the
+                     reader at 60H they begin with 61 00 and 67 04.
+    --setup 'DEVICE level 3'
+                     With --joined and --extended: gives the feature level of
+                     a reader and of the controller, 1, 2 or 3, in the place
+                     of the controller's SETUP.
     --without DEVICE
                      Leaves a device out: all words to and from it are passed
                      over. Repeat it for more devices. DEVICE is changer,
@@ -107,7 +115,8 @@ SURVEY
 /// `show`.
 pub const SHOW: &str = "\
 SHOW
-        mdbcheck show [--extended] [--without DEVICE].. [--json] < TRANSCRIPT
+        mdbcheck show [--extended [--joined [--setup 'DEVICE BYTES']..]]
+            [--without DEVICE].. [--json] < TRANSCRIPT
 
     Prints what was said: one line for each command, answer and
     acknowledgement, with its rows, its device and its bytes. It knows the
@@ -115,6 +124,11 @@ SHOW
     RULE BLAME\".
 
     --extended       Follows the extended profile, as with check.
+    --joined, --setup
+                     As with check, but with --extended alone: the feature
+                     levels say how long a reader's message is. Without
+                     --extended a recording of a running machine is shown in
+                     the same way as any other.
     --without DEVICE
                      Leaves a device out, as with check.
     --json           Writes one JSON object on each line.
@@ -310,6 +324,6 @@ CAVEATS
     transfer, and of card readers revalue and money of 32 bits aren't
     followed: they end at the rule Profile. Without --extended so do reader
     levels 2 and 3, and recyclers. What a recycler pays out is in no sum. With
-    --joined, reader levels are known only if the rows show them. Nobody can
-    prove that the recorder heard every word.
+    --joined, reader levels are known only if the rows or --setup show them.
+    Nobody can prove that the recorder heard every word.
 ";

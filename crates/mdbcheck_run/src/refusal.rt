@@ -1,6 +1,7 @@
 //! Why a command line is refused.
 
 use clap::error::ErrorKind;
+use mdb_msgs::Device;
 
 /// Why a command line is refused.
 #[derive(Clone, Copy)]
@@ -11,8 +12,8 @@ pub(crate) enum Refusal {
     Words(ErrorKind),
     /// For the values of `--setup`.
     Setup(SetupFault),
-    /// For `--extended` beside `--joined` or `--setup`.
-    Extended,
+    /// For `--joined` of `show` without `--extended`.
+    NotExtended,
 }
 
 /// Why the values of `--setup` are refused.
@@ -21,13 +22,17 @@ pub(crate) enum SetupFault {
     /// They stand without `--joined`.
     NotJoined,
     /// A value isn't a device's word and bytes after it, with or without what a line of `show` has
-    /// before them.
+    /// before them. By the extended profile it isn't a reader's word and its level either.
     Form,
     /// The last byte isn't the sum of the others.
     Sum,
     /// The bytes are no answer of the device to SETUP.
     NoAnswer,
-    /// A device has two values.
+    /// The bytes are a block of the controller, but neither SETUP config nor ENABLE OPTIONS.
+    NoAsk,
+    /// They are an ENABLE OPTIONS that asks this reader for money that isn't followed.
+    OtherMoney(Device),
+    /// A device has two values of one kind.
     Twice,
     /// A device has a value, and is left out.
     LeftOut,

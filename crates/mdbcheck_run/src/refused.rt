@@ -1,13 +1,14 @@
 //! The line on a command line that is refused.
 
 use super::command_line::{
-    ACCOUNT, BOUND, COMMAND, PROGRAM, SETUP, SIDE, WITHOUT, left_out_by, read_words,
+    ACCOUNT, BOUND, COMMAND, PROGRAM, SETUP, SIDE, WITHOUT, left_out_by, profile_asked, read_words,
 };
 use super::goal_words::{account_of, bound_of, side_of};
 use super::refusal::{Refusal, SetupFault};
 use super::setup_value::setups_of;
 use clap::error::ErrorKind;
 use command_words::{Line, Named, Program, line_on_refused, row_of};
+use mdb_bus::Profile;
 use mdb_follow::AccountName;
 use mdb_msgs::{Device, DeviceSet};
 use std::alloc::Global;
@@ -64,14 +65,19 @@ fn line_on_values(
     }
     match refusal {
         Refusal::Setup(SetupFault::NotJoined) => line.add(&["--setup ", reason_of(refusal)]),
-        Refusal::Extended => line.add(&["--extended ", reason_of(refusal)]),
+        Refusal::NotExtended => line.add(&["--joined ", reason_of(refusal)]),
         Refusal::Setup(_) => {
             if let Some((text, reason)) = refused_setup(alloc, found) {
                 if is_memory(reason) {
                     return line_on_memory(program, reason);
                 }
                 line.add_word("--setup \"", text, "\" ");
-                line.add(&[reason_of(reason)]);
+                line.add(&[reason_on_value(reason, profile_asked(found))]);
+                if let Refusal::Setup(SetupFault::OtherMoney(device)) = reason {
+                    // (in the place of the usage, for which there is no room)
+                    line.add(&[": leave that reader out (--without ", device.word(), ")"]);
+                    return line;
+                }
             }
         }
         Refusal::Words(_) => add_value(&mut line, refusal, found),
@@ -95,9 +101,10 @@ fn line_on_memory(program: &Program<'_>, refusal: Refusal) -> Line {
 /// The first value of `--setup` that is refused, and why.
 fn refused_setup<'a>(alloc: Global, found: &Named<'a>) -> Option<(&'a str, Refusal)> {
     let without = left_out_by(found).unwrap_or(DeviceSet::NONE);
+    let profile = profile_asked(found);
     let texts = found.values(SETUP).unwrap_or(&[]);
     for place in 0..texts.len() {
-        if let Err(refusal) = setups_of(alloc, without, &texts[..=place]) {
+        if let Err(refusal) = setups_of(alloc, profile, without, &texts[..=place]) {
             return Some((texts[place], refusal));
         }
     }
@@ -142,7 +149,17 @@ fn refused_value<'a>(found: &Named<'a>, name: &str) -> Option<&'a str> {
     None
 }
 
-/// Why words, values of `--setup`, or `--extended` are refused.
+/// Why a value of `--setup` is refused by a profile.
+fn reason_on_value(refusal: Refusal, profile: Profile) -> &'static str {
+    match (refusal, profile) {
+        (Refusal::Setup(SetupFault::Form), Profile::Extended) => {
+            "isn't BYTES, level 1-3 or a line of show"
+        }
+        _ => reason_of(refusal),
+    }
+}
+
+/// Why words, values of `--setup`, or `--joined` are refused.
 fn reason_of(refusal: Refusal) -> &'static str {
     match refusal {
         Refusal::Words(kind) => kind.as_str().unwrap_or(""),
@@ -150,8 +167,10 @@ fn reason_of(refusal: Refusal) -> &'static str {
         Refusal::Setup(SetupFault::Form) => "isn't DEVICE BYTES or a line of show",
         Refusal::Setup(SetupFault::Sum) => "doesn't end with the sum of its bytes",
         Refusal::Setup(SetupFault::NoAnswer) => "is no answer of its device to SETUP",
+        Refusal::Setup(SetupFault::NoAsk) => "is neither SETUP config nor ENABLE OPTIONS",
+        Refusal::Setup(SetupFault::OtherMoney(_)) => "has money of 32 bits or several currencies",
         Refusal::Setup(SetupFault::Twice) => "names its device again",
         Refusal::Setup(SetupFault::LeftOut) => "names a device that is left out",
-        Refusal::Extended => "can't stand beside --joined or --setup",
+        Refusal::NotExtended => "needs --extended",
     }
 }

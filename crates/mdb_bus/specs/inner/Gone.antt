@@ -6,6 +6,7 @@ use Rattle.mdb_bus.specs.declared.bus.Bus.{Bus}
 use Rattle.mdb_bus.specs.ActLists.{levels_if}
 use Rattle.mdb_bus.specs.Bus.{position_at}
 use Rattle.mdb_bus.specs.Scopes.{profile_of}
+use Rattle.mdb_bus.specs.WideMoney.{known_if}
 use Rattle.mdb_bus.specs.inner.Step.{Step}
 use Rattle.mdb_bus.specs.inner.Steps.{HasAdvanced, asked_after}
 
@@ -16,4 +17,5 @@ pub record HasGone (old : Bus) (next : Step) (row : Event) (new : Bus)
   pub advanced : HasAdvanced (position_at old.place) next (position_at new.place) act
   pub last : new.last ≡ Some row
   pub levels : new.levels ≡ levels_if (profile_of old.scope.begins) act old.levels
+  pub options : new.options ≡ known_if act old.options
   pub asked : new.asked ≡ asked_after old.asked next

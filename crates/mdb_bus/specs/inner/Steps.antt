@@ -29,10 +29,11 @@ use Rattle.mdb_bus.specs.declared.judged.Judged.{Judged}
 use Rattle.mdb_bus.specs.declared.judged.Judged.TheVariants as judged
 use Rattle.mdb_bus.specs.inner.Step.{Step, SomeStep, word_in}
 use Rattle.mdb_bus.specs.inner.Step as step
+use Rattle.mdb_bus.specs.declared.scope.Beginning.{Beginning}
 use Rattle.mdb_bus.specs.declared.scope.Profile.{Profile}
 use Rattle.mdb_bus.specs.declared.scope.Scope.{Scope}
 use Rattle.mdb_bus.specs.Formats.{HasFault, format_for}
-use Rattle.mdb_bus.specs.Scopes.{Asks, HasCommand, needed_by, profile_of}
+use Rattle.mdb_bus.specs.Scopes.{Asks, HasCommand, needed_by}
 use Rattle.mdb_bus.specs.Acts.{IsForeignOpening, IsReply, reply_words}
 use Rattle.mdb_bus.specs.ActLists.{Piece, Whole, AskTail, ReplyTail, RepeatTail, Position, Quiet, InAsk, Asked, InReply, Replied, Returned, InRepeat, InForeign, BlockMayCome, BreakMayCome, Within, IsAskFront, IsRepeatFront, IsReplyFront, NotBefore, ReplyFits, act_in, left_by, position_of}
 use Rattle.mdb_bus.specs.LinkFaults.{LeavesProfile, IsBefore, IsAfter, IsOutside, Situation}
@@ -78,15 +79,15 @@ Answers command from to word (step.ReplyByte byte) =
 Answers command from to word _ = ⊥
 
 -- a word goes on with a reply, or ends it
-abbrev pub GoesOnReplying : Profile → Command → List ℕ → Option Event → Levels → Event → ℕ → Step
+abbrev pub GoesOnReplying : Beginning → Command → List ℕ → Option Event → Levels → Event → ℕ → Step
     → Type 0
-GoesOnReplying profile command bytes from levels to word (step.ReplyByte byte) =
+GoesOnReplying begins command bytes from levels to word (step.ReplyByte byte) =
     (word ≡ byte) × (word < 256) × (length bytes < 35) × Within WORD_GAP_MIN BLOCK_GAP_MAX from to
-GoesOnReplying profile command bytes from levels to word (step.Reply reply) =
+GoesOnReplying begins command bytes from levels to word (step.Reply reply) =
     (word ≡ 256 + sum bytes % 256) × IsReply command reply × (bytes ≡ reply_bytes reply)
-    × ReplyFits profile levels command reply
+    × ReplyFits begins levels command reply
     × Within WORD_GAP_MIN BLOCK_GAP_MAX from to
-GoesOnReplying profile command bytes from levels to word _ = ⊥
+GoesOnReplying begins command bytes from levels to word _ = ⊥
 
 -- a word of the controller answers a reply, or begins a block
 abbrev pub AnswersReply : Scope → Command → Reply → Option Event → Event → ℕ → Step → Type 0
@@ -132,7 +133,7 @@ WordLeads scope (Asked command) from levels to Peripheral word next =
     Answers command from to word next
 WordLeads scope (InReply command bytes) from levels to Controller word next = ⊥
 WordLeads scope (InReply command bytes) from levels to Peripheral word next =
-    GoesOnReplying (profile_of scope.begins) command bytes from levels to word next
+    GoesOnReplying scope.begins command bytes from levels to word next
 WordLeads scope (Replied command reply) from levels to Controller word next =
     AnswersReply scope command reply from to word next
 WordLeads scope (Replied command reply) from levels to Peripheral word next = ⊥
@@ -155,25 +156,26 @@ Leads s (Break at length) (step.Break lasted) =
     (lasted ≡ length) × (BREAK_LENGTH_MIN ≤ length) × BreakMayCome s.last (Break at length)
 Leads s (Break at length) _ = ⊥
 
--- what is made of the data bytes of a reply to a command, read by this profile at these levels
-abbrev pub IsRead : Profile → Command → List ℕ → Levels → Result Reply Rule → Type 0
-IsRead profile command bytes levels (Ok reply) = IsReply command reply
-    × (bytes ≡ reply_bytes reply) × ReplyFits profile levels command reply
-IsRead profile command bytes levels (Err rule.Length) =
-    HasFault (format_for profile levels command) command bytes reading.Length
-IsRead profile command bytes levels (Err rule.Message) =
-    HasFault (format_for profile levels command) command bytes reading.Message
-IsRead profile command bytes levels (Err rule.Answer) =
-    HasFault (format_for profile levels command) command bytes reading.Answer
-IsRead profile command bytes levels (Err rule.Profile) =
-    HasFault (format_for profile levels command) command bytes reading.Profile
-    ⊎ LeavesProfile profile command bytes levels
-IsRead profile command bytes levels (Err _) = ⊥
+-- what is made of the data bytes of a reply to a command, in a recording that begins so, at these
+-- levels
+abbrev pub IsRead : Beginning → Command → List ℕ → Levels → Result Reply Rule → Type 0
+IsRead begins command bytes levels (Ok reply) = IsReply command reply
+    × (bytes ≡ reply_bytes reply) × ReplyFits begins levels command reply
+IsRead begins command bytes levels (Err rule.Length) =
+    HasFault (format_for begins levels command) command bytes reading.Length
+IsRead begins command bytes levels (Err rule.Message) =
+    HasFault (format_for begins levels command) command bytes reading.Message
+IsRead begins command bytes levels (Err rule.Answer) =
+    HasFault (format_for begins levels command) command bytes reading.Answer
+IsRead begins command bytes levels (Err rule.Profile) =
+    HasFault (format_for begins levels command) command bytes reading.Profile
+    ⊎ LeavesProfile begins command bytes levels
+IsRead begins command bytes levels (Err _) = ⊥
 
 -- the same for the bytes at a position: only inside a reply something can be read
-abbrev pub IsReadAt : Profile → Position → Levels → Result Reply Rule → Type 0
-IsReadAt profile (InReply command bytes) levels result = IsRead profile command bytes levels result
-IsReadAt profile _ levels result = ⊥
+abbrev pub IsReadAt : Beginning → Position → Levels → Result Reply Rule → Type 0
+IsReadAt begins (InReply command bytes) levels result = IsRead begins command bytes levels result
+IsReadAt begins _ levels result = ⊥
 
 -- what is made of a row that ends a reply, once the reply was read
 abbrev pub IsSettled : Situation → Event → Result Reply Rule → Type 0
@@ -184,7 +186,7 @@ IsSettled s row (Err broken) = IsFirstByPlace s row broken
 -- other positions, at which nothing is read.
 abbrev pub IsEnded : Situation → Event → Type 0
 IsEnded s row = (result : Result Reply Rule)
-    → IsReadAt (profile_of s.scope.begins) s.position s.levels result → IsSettled s row result
+    → IsReadAt s.scope.begins s.position s.levels result → IsSettled s row result
 
 -- what is made of a row: where it leads, or the first rule that it breaks
 abbrev pub IsJudged : Situation → Event → Result Judged Rule → Type 0
@@ -386,7 +388,7 @@ pub record HasAdvanced (old : Position) (next : Step) (new : Position)
   pub act : ended ≡ act_after old next
 
 -- what a place makes of a reply that has ended: it takes it, or tells the rule that it breaks
-abbrev pub IsTaken : Profile → Position → Levels → Position → Result Act Rule → Type 0
-IsTaken profile old levels new (Ok act) = (reply : Reply)
-    × IsReadAt profile old levels (Ok reply) × HasAdvanced old (step.Reply reply) new (Some act)
-IsTaken profile old levels new (Err broken) = IsReadAt profile old levels (Err broken)
+abbrev pub IsTaken : Beginning → Position → Levels → Position → Result Act Rule → Type 0
+IsTaken begins old levels new (Ok act) = (reply : Reply)
+    × IsReadAt begins old levels (Ok reply) × HasAdvanced old (step.Reply reply) new (Some act)
+IsTaken begins old levels new (Err broken) = IsReadAt begins old levels (Err broken)

@@ -1,6 +1,6 @@
 -- That acts of other devices change nothing and tell nothing, so that a reader's facts and steps
 -- depend on its own acts alone. This proves laws of the trait `Pair` for the readers.
-use Rattle.std.specs.Prelude.{◌≡◌, ◌↔◌, ℕ, ◌+◌, Bool, true, false, not, ◌&&◌, ◌||◌, List, [], ◌∷◌, map, sum_by, Option, Some, None, option_map, refl, if◌then◌else◌, unwrap_or}
+use Rattle.std.specs.Prelude.{◌≡◌, ◌↔◌, ℕ, ◌+◌, Bool, true, false, ◌&&◌, ◌||◌, List, [], ◌∷◌, map, sum_by, Option, Some, None, option_map, refl, if◌then◌else◌, unwrap_or}
 use Rattle.std.specs.List.{All, list_any}
 use Rattle.std.proofs.Common.{ap, subst, sym, ◌∙◌}
 use Rattle.std.proofs.Math.Nat.{zero-add}
@@ -13,7 +13,8 @@ use Rattle.mdb_msgs.specs.declared.command.ReaderUnit.TheVariants.{First, Second
 use Rattle.mdb_msgs.specs.declared.reply.Reply.{Reply}
 use Rattle.mdb_msgs.specs.declared.reply.reader.ReaderMsg.{ReaderMsg}
 use Rattle.mdb_msgs.specs.declared.setups.ReaderConfig.{ReaderConfig}
-use Rattle.mdb_msgs.specs.Setups.{config_known}
+use Rattle.mdb_msgs.specs.declared.setups.ReaderSetup.{ReaderSetup}
+use Rattle.mdb_msgs.specs.Setups.{config_known, reader_known}
 use Rattle.mdb_bus.specs.declared.act.Act.{Act}
 use Rattle.mdb_bus.specs.declared.act.Act.TheVariants as acts
 use Rattle.mdb_bus.specs.declared.scope.Beginning.{Beginning}
@@ -40,7 +41,7 @@ use Rattle.mdb_cashless.specs.inner.PlainReader.{as_plain}
 use Rattle.mdb_machine.specs.shared.StepWays as step_ways
 use Rattle.mdb_machine.specs.shared.StepWays.{IsOwnOf}
 use Rattle.mdb_cashless.specs.Reader.{ReaderStep, StepKnowing, asks_sale, is_approval, is_unpriced, machine, power_on, unvalued, unvalued_by}
-use Rattle.mdb_cashless.specs.ReaderFacts.{Facts, KnownFacts, asked_by, asks_for_always_idle, config_by, effect_of, effect_of_own, extended_of, extended_since, is_below_3, is_switched_on, known_of, level_asked_by, level_of, level_told_by, messages_by, own_of, own_transaction, parts_by, refusal_by, request_told, taken_told}
+use Rattle.mdb_cashless.specs.ReaderFacts.{Facts, KnownFacts, asked_by, asks_for_always_idle, config_by, effect_of, effect_of_own, extended_of, extended_since, known_of, level_asked_by, level_of, level_told_by, messages_by, own_of, own_transaction, parts_by, powered_known, refusal_by, request_told, switched, taken_told}
 use Rattle.mdb_cashless.specs.ReaderMessages.{amount_in, begin_session, config_in, last_said, level_in, messages_of, part_of, refuses}
 use Rattle.mdb_cashless.specs.ReaderValues.{extended_after, extended_taking, extended_with, known_with}
 use Rattle.mdb_cashless.specs.Transactions.{is_request}
@@ -181,31 +182,27 @@ since_more facts refused (Some one) None (Some level) = refl
 since_more facts refused (Some one) None None = refl
 
 taking_more : (facts : ExtendedFacts) (powers : Bool) (taken : Option ReaderCommand)
-    (requested : Option Bool)
-    → extended_taking powers taken
-    (Some (record facts { requested = unwrap_or requested false }))
+    (requested first : Option Bool)
+    → extended_taking powers taken (Some (record facts { requested = or_else requested first }))
     ≡ Some (record facts {
-      switched_on = if powers then false
-          else (asks_for_always_idle taken && not (is_below_3 facts.asked facts.told))
-          || facts.switched_on;
-      requested = unwrap_or (or_else (if powers then Some false
+      switched_on = if powers then Some false
+          else if asks_for_always_idle taken
+          then switched facts.joined facts.asked facts.told facts.switched_on
+          else facts.switched_on;
+      requested = or_else (or_else (if powers then Some false
           else option_map (λ transaction. is_request (Some transaction)) (own_transaction taken))
-          requested) false;
+          requested) first;
     })
-taking_more facts true taken requested = refl
-taking_more facts false None requested = refl
-taking_more facts false (Some command) requested =
+taking_more facts true taken requested first = refl
+taking_more facts false None requested first = refl
+taking_more facts false (Some command) requested first =
     ap (λ r. Some (record facts {
-      switched_on = (asks_for_always_idle (Some command)
-          && not (is_below_3 facts.asked facts.told)) || facts.switched_on;
+      switched_on = if asks_for_always_idle (Some command)
+          then switched facts.joined facts.asked facts.told facts.switched_on
+          else facts.switched_on;
       requested = r;
-    })) (last_first (option_map (λ transaction. is_request (Some transaction))
-    (own_transaction (Some command))))
-  where
-    last_first : (first : Option Bool)
-        → unwrap_or first (unwrap_or requested false) ≡ unwrap_or (or_else first requested) false
-    last_first None = refl
-    last_first (Some one) = refl
+    })) (first_of_three (option_map (λ transaction. is_request (Some transaction))
+    (own_transaction (Some command))) requested first)
 
 extended_more : (begins : Beginning) (unit : ReaderUnit) (act : Act) (so_far : List Act)
     → extended_with unit act (extended_of begins unit so_far)
@@ -218,18 +215,29 @@ extended_more begins unit act so_far = by begins
     powers : Bool
     powers = powers_on (effect_of unit) act
 
-    since : (joined : Bool) → extended_with unit act (Some (extended_since joined unit so_far))
-        ≡ Some (extended_since joined unit (act ∷ so_far))
-    since joined =
-        let facts = extended_since joined unit so_far in
-        ap (extended_after (level_asked_by unit act) (level_told_by unit act)
-        (refusal_by unit act))
-        (taking_more facts powers taken (last_told (request_told unit) so_far))
+    asked : Option ℕ
+    asked = level_asked_by unit act
+
+    told : Option ℕ
+    told = level_told_by unit act
+
+    since : (joined : Bool) (known : ReaderSetup)
+        → extended_with unit act (Some (extended_since joined known unit so_far))
+        ≡ Some (extended_since joined known unit (act ∷ so_far))
+    since joined known =
+        let facts = extended_since joined known unit so_far in
+        let after = extended_since joined known unit (act ∷ so_far) in
+        ap (extended_after asked told (refusal_by unit act))
+        (taking_more facts powers taken (last_told (request_told unit) so_far)
+        (if joined then None else Some false))
         ∙ since_more (record facts {
-          switched_on = is_switched_on unit (act ∷ so_far);
-          requested = unwrap_or (last_told (request_told unit) (act ∷ so_far)) false;
-        }) (last_told (refusal_by unit) so_far) (refusal_by unit act) (level_asked_by unit act)
-        (level_told_by unit act)
+          switched_on = after.switched_on;
+          requested = after.requested;
+        }) (last_told (refusal_by unit) so_far) (refusal_by unit act) asked told
+        ∙ ap (λ a. Some (record after { asked = a; told = or_else told facts.told }))
+        (first_of_three asked (last_told (level_asked_by unit) so_far) known.asked)
+        ∙ ap (λ t. Some (record after { told = t }))
+        (first_of_three told (last_told (level_told_by unit) so_far) known.told)
 
     none_taken : (powers : Bool) (taken : Option ReaderCommand)
         → extended_taking powers taken None ≡ None
@@ -243,14 +251,13 @@ extended_more begins unit act so_far = by begins
     none_after asked told refused = refl
 
     none : extended_with unit act None ≡ None
-    none = ap (extended_after (level_asked_by unit act) (level_told_by unit act)
-        (refusal_by unit act)) (none_taken powers taken)
-        ∙ none_after (level_asked_by unit act) (level_told_by unit act) (refusal_by unit act)
+    none = ap (extended_after asked told (refusal_by unit act)) (none_taken powers taken)
+        ∙ none_after asked told (refusal_by unit act)
 
     by : (begins : Beginning) → extended_with unit act (extended_of begins unit so_far)
         ≡ extended_of begins unit (act ∷ so_far)
-    by (PowerOn Extended) = since false
-    by (Joined setups Extended) = since true
+    by (PowerOn Extended) = since false powered_known
+    by (Joined setups Extended) = since true (reader_known setups unit)
     by (PowerOn Base) = none
     by (Joined setups Base) = none
 

@@ -1,13 +1,13 @@
 //! What counts of the acts so far for a reader by the extended profile alone.
 
-ghost use Rattle.std.specs.Prelude.{◌≡◌, Option, [], None, Some, false, true};
-ghost use Rattle.mdb_msgs.specs.declared.command.ReaderUnit.{ReaderUnit};
+ghost use Rattle.std.specs.Prelude.{◌≡◌, ◌&&◌, Option, [], None, Some, false, true};
 ghost use Rattle.mdb_cashless.specs.ReaderFacts as spec;
-ghost use Rattle.mdb_cashless.specs.ReaderValues.{extended_after, extended_taking};
+ghost use Rattle.mdb_cashless.specs.ReaderValues as values;
+ghost use Rattle.mdb_cashless.specs.ReaderValues.{extended_after, extended_taking, is_known, may_be_so};
 
 use super::transaction::{is_request, transaction_of};
 use mdb_bus::{Beginning, Profile};
-use mdb_msgs::ReaderCommand;
+use mdb_msgs::{ReaderCommand, ReaderSetup, ReaderUnit};
 
 /// What counts of the acts so far for a reader by the extended profile alone (this profile).
 #[derive(Clone, Copy)]
@@ -20,30 +20,50 @@ pub struct ExtendedFacts {
     pub(crate) told: Option<u8>,
     /// Whether the reader refused the last transaction command.
     pub(crate) refused: bool,
-    /// Whether always idle is switched on.
-    pub(crate) switched_on: bool,
+    /// Whether always idle is switched on, if it is known.
+    pub(crate) switched_on: Option<bool>,
     /// Whether the last transaction that the reader took is a VEND REQUEST, where a session that
-    /// begins leaves that transaction the last one.
-    pub(crate) requested: bool,
+    /// begins leaves that transaction the last one, if it is known.
+    pub(crate) requested: Option<bool>,
 }
 
 /// What counts after no act, where a recording begins so; nothing by the base profile.
-pub(crate) fn start(begins: &Beginning) -> Option<ExtendedFacts>
-    ensures { (unit : ReaderUnit) → result ≡ spec.extended_of begins.now unit [] }
+pub(crate) fn start(begins: &Beginning, unit: ReaderUnit) -> Option<ExtendedFacts>
+    ensures { result ≡ spec.extended_of begins.now unit [] }
 {
-    let joined = match begins {
-        Beginning::PowerOn(Profile::Extended) => false,
-        Beginning::Joined(_, Profile::Extended) => true,
-        _ => return None,
-    };
-    Some(ExtendedFacts {
-        joined,
-        asked: None,
-        told: None,
-        refused: joined,
-        switched_on: false,
-        requested: false,
-    })
+    match begins {
+        Beginning::PowerOn(Profile::Extended) => Some(ExtendedFacts {
+            joined: false,
+            asked: None,
+            told: None,
+            refused: false,
+            switched_on: Some(false),
+            requested: Some(false),
+        }),
+        Beginning::Joined(setups, Profile::Extended) => {
+            let known = setups.reader(unit);
+            Some(ExtendedFacts {
+                joined: true,
+                asked: known.asked,
+                told: known.told,
+                refused: true,
+                switched_on: first_switch(known),
+                requested: None,
+            })
+        }
+        _ => None,
+    }
+}
+
+/// Whether always idle is switched on as a recording begins, if that is known. That it is on counts
+/// beside both levels alone.
+fn first_switch(known: ReaderSetup) -> Option<bool>
+    ensures { result ≡ spec.first_switch known }
+{
+    match known.always_idle {
+        Some(true) if known.asked.is_none() || known.told.is_none() => None,
+        told => told,
+    }
 }
 
 /// Whether the controller was refused, where that counts.
@@ -60,25 +80,49 @@ pub(crate) fn is_refused(extended: Option<ExtendedFacts>) -> bool
     }
 }
 
-/// Whether always idle is on.
+/// Whether always idle is on, or may be.
 pub(crate) fn is_always_idle(extended: Option<ExtendedFacts>) -> bool
-    ensures { result ≡ spec.is_always_idle extended }
+    ensures { result ≡ may_be_so (spec.known_idle extended) }
 {
     match extended {
         None => false,
-        Some(facts) => {
-            facts.switched_on && !is_below_3(facts.asked, facts.told) && !facts.joined
-        }
+        Some(facts) => { facts.switched_on.unwrap_or(true) && !is_below_3(facts.asked, facts.told) }
     }
 }
 
-/// Whether it is on, and the last transaction that the reader took is a VEND REQUEST.
+/// Whether it is on, and the last transaction that the reader took is a VEND REQUEST, or whether
+/// that may be.
 pub(crate) fn is_requested(extended: Option<ExtendedFacts>) -> bool
-    ensures { result ≡ spec.is_requested extended }
+    ensures { result ≡ (may_be_so (spec.known_requested extended)
+        && may_be_so (spec.known_idle extended)) }
 {
     match extended {
         None => false,
-        Some(facts) => facts.requested && is_always_idle(extended),
+        Some(facts) => facts.requested.unwrap_or(true) && is_always_idle(extended),
+    }
+}
+
+/// Whether it is known if always idle is on.
+pub(crate) fn knows_idle(extended: Option<ExtendedFacts>) -> bool
+    ensures { result ≡ is_known (spec.known_idle extended) }
+{
+    match extended {
+        None => true,
+        Some(facts) => facts.switched_on.is_some() || is_below_3(facts.asked, facts.told),
+    }
+}
+
+/// What counts where always idle is switched on, or isn't.
+pub(crate) fn idling(extended: Option<ExtendedFacts>, on: bool) -> Option<ExtendedFacts>
+    ensures value { result ≡ values.idling on extended }
+    ensures known { is_known (spec.known_idle result) ≡ true }
+{
+    match extended {
+        None => None,
+        Some(facts) => Some(ExtendedFacts {
+            switched_on: Some(on),
+            ..facts
+        }),
     }
 }
 
@@ -148,14 +192,29 @@ pub(crate) fn with_taken(
     match extended {
         None => None,
         Some(facts) => Some(ExtendedFacts {
-            switched_on: asks_for_always_idle(command) && !is_below_3(facts.asked, facts.told)
-                || facts.switched_on,
+            switched_on: if asks_for_always_idle(command) {
+                switched(facts)
+            } else {
+                facts.switched_on
+            },
             requested: match transaction_of(command) {
                 None => facts.requested,
-                own => is_request(own),
+                own => Some(is_request(own)),
             },
             ..facts
         }),
+    }
+}
+
+/// What a command that asks for always idle makes of its switch.
+fn switched(facts: ExtendedFacts) -> Option<bool>
+    ensures { result ≡ spec.switched facts.joined facts.asked facts.told facts.switched_on }
+{
+    match (facts.asked, facts.told) {
+        (Some(_), Some(_)) if is_below_3(facts.asked, facts.told) => facts.switched_on,
+        (Some(_), Some(_)) => Some(true),
+        _ if facts.joined && !facts.switched_on.unwrap_or(false) => None,
+        _ => Some(true),
     }
 }
 
@@ -177,8 +236,8 @@ pub(crate) fn powered_on(extended: Option<ExtendedFacts>) -> Option<ExtendedFact
     match extended {
         None => None,
         Some(facts) => Some(ExtendedFacts {
-            switched_on: false,
-            requested: false,
+            switched_on: Some(false),
+            requested: Some(false),
             ..facts
         }),
     }

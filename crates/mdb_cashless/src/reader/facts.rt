@@ -59,7 +59,7 @@ impl ReaderFacts {
         ensures extended { result.extended ≡ extended_of begins.now unit [] }
         ensures past { past_in result.past ≡ first_past begins.now }
     {
-        let extended = start(begins);
+        let extended = start(begins, unit);
         match begins {
             Beginning::PowerOn(_) => ReaderFacts {
                 config: None,

@@ -6,27 +6,26 @@ use Rattle.mdb_msgs.specs.declared.setups.Setups.{Setups}
 use Rattle.mdb_bus.specs.declared.act.Act.{Act}
 use Rattle.mdb_bus.specs.declared.levels.Levels.{Levels}
 use Rattle.mdb_bus.specs.declared.scope.Beginning.{Beginning}
-use Rattle.mdb_bus.specs.declared.scope.Profile.TheVariants.{Base}
 use Rattle.mdb_bus.specs.declared.scope.Scope.{Scope}
 use Rattle.mdb_bus.specs.Acts.{NamesAReply}
 use Rattle.mdb_bus.specs.ActLists.{ArePieces, IsActList, Piece, Whole, acts_of}
 use Rattle.mdb_bus.specs.LeavingOut.{with_foreign}
 use Rattle.mdb_bus.specs.Loss.{Loss, LossFits}
-use Rattle.mdb_bus.specs.Scopes.{profile_of}
 use Rattle.mdb_follow.specs.Arrivals.{EachArrives}
 use Rattle.mdb_follow.specs.Runs.{AllSums, IsWay, States}
 use Rattle.mdb_late_start.specs.Cuts.{SplitsAt}
 use Rattle.mdb_late_start.specs.MidSession.{MayJoinLate}
 use Rattle.mdb_late_start.specs.Told.{AreToldBy, told_later}
+use Rattle.mdb_late_start.specs.inner.Splits.{MayBeLinkedAlone, Splits}
 
 -- what the crates below say of runs, and this one of cuts and of each device
 pub record EndLaws : Type 0 where
-  pub cut : (scope : Scope) (setups : Setups) (front end : List Event) (pieces : List Piece)
-      → profile_of scope.begins ≡ Base → IsActList scope pieces (front ++ end)
-      → SplitsAt scope setups front end pieces
+  pub splits_rows : (scope : Scope) (setups : Setups) (front end : List Event)
+      (pieces : List Piece) → MayBeLinkedAlone scope setups front end
+      → IsActList scope pieces (front ++ end) → Splits scope setups front end pieces
   pub told : (scope : Scope) (setups : Setups) (levels : Levels) (front end : List Event)
-      (pieces : List Piece) → profile_of scope.begins ≡ Base
-      → IsActList scope pieces (front ++ end) → (cut : SplitsAt scope setups front end pieces)
+      (pieces : List Piece) → IsActList scope pieces (front ++ end)
+      → (cut : SplitsAt scope setups front end pieces)
       → AreToldBy scope cut.before levels
       → IsActList (told_later setups levels scope) (cut.later ++ with_foreign cut.words []) end
   pub one : (scope : Scope) (rows : List Event) (one other : List Piece)

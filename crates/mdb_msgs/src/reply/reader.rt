@@ -310,6 +310,13 @@ impl ReaderList {
         self.text() == text
     }
 
+    /// Whether it is the same list as another.
+    pub fn is(&self, other: &ReaderList) -> bool
+        ensures { IsTrue result ↔ self.now ≡ other.now }
+    {
+        self.has(other.messages().as_slice(), &other.id(), other.text())
+    }
+
     /// The same list again.
     pub fn copy(&self) -> Self
         ensures { result ≡ self.now }

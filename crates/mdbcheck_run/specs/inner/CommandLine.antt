@@ -9,14 +9,15 @@ use Rattle.command_words.specs.Manual.{AskForManual, manual_text}
 use Rattle.command_words.specs.Named.{name_in, used_in, values_in}
 use Rattle.command_words.specs.declared.named.Named.{Named}
 use Rattle.mdb_bus.specs.Scopes.{from_power_on}
-use Rattle.mdbcheck_run.specs.Program.{AskForGoal, AskToCheck, AskToShow, NamesCheck, NamesExplain}
+use Rattle.mdbcheck_run.specs.Program.{AskForGoal, AskFromPowerOn, AskToCheck, AskToShow}
+use Rattle.mdbcheck_run.specs.Program.{NamesCheck, NamesExplain}
 use Rattle.mdbcheck_run.specs.Program.{NamesManual, NamesReplay, NamesShow, NamesSurvey}
 use Rattle.mdbcheck_run.specs.Program.{check_command, survey_command}
 use Rattle.mdbcheck_run.specs.Program.{explain_command, form_of, manual_command, replay_command}
 use Rattle.mdbcheck_run.specs.Program.{show_command}
 use Rattle.mdbcheck_run.specs.Program.{mdbcheck_manual}
 use Rattle.mdbcheck_run.specs.declared.refusal.Refusal.{Refusal}
-use Rattle.mdbcheck_run.specs.declared.refusal.Refusal.TheVariants.{Words, Setup, Extended}
+use Rattle.mdbcheck_run.specs.declared.refusal.Refusal.TheVariants.{Words, Setup, NotExtended}
 use Rattle.mdbcheck_run.specs.declared.command_line.Task.{Task}
 use Rattle.mdbcheck_run.specs.declared.command_line.Task.TheVariants.{Check, Show, Explain}
 use Rattle.mdbcheck_run.specs.declared.command_line.Task.TheVariants.{Manual, Replay, Survey}
@@ -46,9 +47,9 @@ FindTask found (Show scope form) = (name_in found ≡ show_command.name)
     × (form ≡ form_of (used_in found (codes "json")))
 FindTask found (Explain goal profile without) = (name_in found ≡ explain_command.name)
     × AskForGoal (values_in found) goal
-    × AskToShow (values_in found) (used_in found) (from_power_on profile without)
+    × AskFromPowerOn (values_in found) (used_in found) (from_power_on profile without)
 FindTask found (Replay profile without form) = (name_in found ≡ replay_command.name)
-    × AskToShow (values_in found) (used_in found) (from_power_on profile without)
+    × AskFromPowerOn (values_in found) (used_in found) (from_power_on profile without)
     × (form ≡ form_of (used_in found (codes "json")))
 FindTask found (Manual part) = (name_in found ≡ manual_command.name)
     × AskForManual mdbcheck_manual (values_in found (codes "COMMAND"))
@@ -70,14 +71,14 @@ AsksFor words (Manual part) =
 abbrev pub IsOwnRefusal : Refusal → Type 0
 IsOwnRefusal (Words kind) = (kind ≡ OutOfMemory) ⊎ (kind ≡ InvalidValue)
 IsOwnRefusal (Setup fault) = ⊤
-IsOwnRefusal Extended = ⊤
+IsOwnRefusal NotExtended = ⊤
 
 -- a refusal that may come with these faults of `clap`
 abbrev pub IsRefusalBy : Kinds → Refusal → Type 0
 IsRefusalBy kinds (Words kind) =
     (kind ≡ OutOfMemory) ⊎ IsAmong kind (or_else kinds (InvalidValue ∷ []))
 IsRefusalBy kinds (Setup fault) = kinds ≡ []
-IsRefusalBy kinds Extended = kinds ≡ []
+IsRefusalBy kinds NotExtended = kinds ≡ []
 
 -- A task is only there where `clap` has no fault. Else the fault is `clap`'s, or, where that has
 -- none, that a value isn't one of its option; or there is no memory.

@@ -7,5 +7,5 @@ pub returns-in_default-clause-refused : goal.returns-in_default-clause-refused
 returns-in_default-clause-refused c = λ scope is.
     let known = is.joined c.if-options-eq0.false in
     c.in_default.ensures.refused known.0 (subst
-    (λ (left_out : DeviceSet). AreSetups left_out c.args.options.now.setups known.0)
-    (sym c.left_out-without.ensures) known.3)
+    (λ (left_out : DeviceSet). AreSetups left_out c.args.options.now known.0)
+    (sym c.left_out-without.ensures) known.2)

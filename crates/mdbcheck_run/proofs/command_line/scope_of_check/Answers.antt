@@ -1,9 +1,10 @@
-use Rattle.std.proofs.Common.{ap, codes, map, refl, rules, sym, true, false, ◌∙◌, ◌≡◌}
+use Rattle.std.proofs.Common.{ap, codes, map, refl, rules, subst, sym, true, false, ◌∙◌, ◌≡◌}
 use Rattle.clap.proofs.TakesLemmas.{passed_up}
 use Rattle.command_words.specs.Named.{used_in, values_in}
 use Rattle.mdb_bus.specs.declared.scope.Scope.{Scope}
-use Rattle.mdb_bus.specs.Scopes.{from_power_on}
-use Rattle.mdbcheck_run.specs.Program.{AreDevices, AskToCheck}
+use Rattle.mdb_bus.specs.Scopes.{from_power_on, joined_by}
+use Rattle.mdb_msgs.specs.Setups.{nothing_known}
+use Rattle.mdbcheck_run.specs.Program.{AreDevices, AreSetups, AskToCheck}
 use Rattle.mdbcheck_run.specs.inner.CommandLine.{IsOwnRefusal}
 use Rattle.mdbcheck_run.specs.inner.SetupReading.{no_memory}
 use Rattle.mdbcheck_run.proofs.SetupValues.{none_left, some_left}
@@ -25,7 +26,10 @@ returns-in_err-setups-clause-refused c =
     c.from_residual-in_err-setups.ensures.1
     (λ scope asks. let told = joined_told values used c.unwrap_or-texts.result.now
     c.in_ok-without.without are devices scope joined asks in
-    c.in_err-setups.ensures.refused told.0 told.1)
+    c.in_err-setups.ensures.refused told.0
+    (subst (λ profile. AreSetups profile c.in_ok-without.without nothing_known
+    (map (λ v. v.now) c.unwrap_or-texts.result.now) told.0) (sym c.profile_asked-profile.ensures)
+    told.1))
 
 pub returns-in_err-setups-clause-own : goal.returns-in_err-setups-clause-own
 returns-in_err-setups-clause-own c =
@@ -36,15 +40,19 @@ pub returns-in_ok-setups-clause-asked : goal.returns-in_ok-setups-clause-asked
 returns-in_ok-setups-clause-asked c =
     let values = values_in c.args.found.now in
     let used = used_in c.args.found.now in
+    let without = c.in_ok-without.without in
     let are : map (λ v. v.now) c.unwrap_or-texts.result.now ≡ values (codes "setup") =
     ap (λ b. map (λ v. v.now) b.now) c.unwrap_or-texts.ensures ∙ mapped_or c.values.result _ refl
     ∙ c.values.ensures in
-    let devices : AreDevices (values (codes "without")) c.in_ok-without.without = search rules in
+    let devices : AreDevices (values (codes "without")) without = search rules in
     let joined : used (codes "joined") ≡ true = sym c.is_used.ensures ∙ c.if-is_used.true in
-    joined_asked values used c.unwrap_or-texts.result.now c.in_ok-without.without are devices
-    c.in_ok-setups.setups c.joined.result joined
-    (sym c.is_used-then-is_used.ensures ∙ c.if-is_used-2.false)
-    c.in_ok-setups.ensures.told c.joined.ensures
+    joined_asked values used c.unwrap_or-texts.result.now without are devices
+    c.in_ok-setups.setups c.joined_by.result joined
+    (subst (λ profile. AreSetups profile without nothing_known
+    (map (λ v. v.now) c.unwrap_or-texts.result.now) c.in_ok-setups.setups)
+    c.profile_asked-profile.ensures c.in_ok-setups.ensures.told)
+    (c.joined_by.ensures
+    ∙ ap (λ p. joined_by p c.in_ok-setups.setups without) c.profile_asked-profile.ensures)
 
 pub returns-then-is_empty-clause-asked : goal.returns-then-is_empty-clause-asked
 returns-then-is_empty-clause-asked c =
@@ -59,24 +67,10 @@ returns-then-is_empty-clause-asked c =
     c.from_power_on.result joined
     (none_left c.unwrap_or-texts.result.now c.is_empty.result c.is_empty.ensures c.if-is_empty.true)
     (c.from_power_on.ensures
-    ∙ ap (λ p. from_power_on p c.in_ok-without.without) c.profile_asked.ensures)
+    ∙ ap (λ p. from_power_on p c.in_ok-without.without) c.profile_asked-profile.ensures)
 
-pub returns-then-is_used-3-clause-refused : goal.returns-then-is_used-3-clause-refused
-returns-then-is_used-3-clause-refused c scope asks =
-    let values = values_in c.args.found.now in
-    let used = used_in c.args.found.now in
-    let are : map (λ v. v.now) c.unwrap_or-texts.result.now ≡ values (codes "setup") =
-    ap (λ b. map (λ v. v.now) b.now) c.unwrap_or-texts.ensures ∙ mapped_or c.values.result _ refl
-    ∙ c.values.ensures in
-    let devices : AreDevices (values (codes "without")) c.in_ok-without.without = search rules in
-    let joined : used (codes "joined") ≡ false = sym c.is_used.ensures ∙ c.if-is_used.false in
-    absurd (some_left c.unwrap_or-texts.result.now c.is_empty.result c.is_empty.ensures
-    c.if-is_empty.false
-    (not_joined values used c.unwrap_or-texts.result.now c.in_ok-without.without are devices scope
-    joined asks))
-
-pub returns-else-is_used-3-clause-refused : goal.returns-else-is_used-3-clause-refused
-returns-else-is_used-3-clause-refused c scope asks =
+pub returns-else-is_empty-clause-refused : goal.returns-else-is_empty-clause-refused
+returns-else-is_empty-clause-refused c scope asks =
     let values = values_in c.args.found.now in
     let used = used_in c.args.found.now in
     let are : map (λ v. v.now) c.unwrap_or-texts.result.now ≡ values (codes "setup") =

@@ -4,10 +4,10 @@ use Rattle.mdbcheck_run.specs.declared.command_line.Task.{Task}
 use Rattle.mdbcheck_run.specs.inner.CommandLine.{FindTask}
 use Rattle.mdbcheck_run.specs.inner.SetupReading.{no_memory}
 use Rattle.mdbcheck_run.proofs.CommandLine.{check_found, check_not_explain, check_not_replay}
-use Rattle.mdbcheck_run.proofs.CommandLine.{check_not_show, explain_found, explain_not_manual}
-use Rattle.mdbcheck_run.proofs.CommandLine.{manual_found, others_found, replay_not_manual}
-use Rattle.mdbcheck_run.proofs.CommandLine.{show_not_manual, survey_found, survey_not_explain}
-use Rattle.mdbcheck_run.proofs.CommandLine.{survey_not_replay, survey_not_show}
+use Rattle.mdbcheck_run.proofs.CommandLine.{explain_found, explain_not_manual, manual_found}
+use Rattle.mdbcheck_run.proofs.CommandLine.{others_found, replay_not_manual, show_found}
+use Rattle.mdbcheck_run.proofs.CommandLine.{show_not_explain, show_not_replay, survey_found}
+use Rattle.mdbcheck_run.proofs.CommandLine.{survey_not_explain, survey_not_replay}
 use Rattle.mdbcheck_run.proofs.command_line.task_in.Goals as goal
 
 pub returns-in_err-scope_of_check-in-check-clause-refused :
@@ -39,8 +39,7 @@ returns-in_err-scope_of_show-in-show-clause-refused c =
     (λ refusal. (task : Task) → FindTask c.args.found.now task → refusal ≡ no_memory)
     c.from_residual-in_err-scope_of_show-in-show.ensures.1
     (λ task asks.
-    let found = others_found c.args.found.now (codes "show") (sym c.command.ensures ∙ c.in-show.is)
-    check_not_show survey_not_show show_not_manual task asks in
+    let found = show_found c.args.found.now (sym c.command.ensures ∙ c.in-show.is) task asks in
     c.in_err-scope_of_show-in-show.ensures.refused found.0 found.1)
 
 pub returns-in_err-goal-in-explain-clause-refused :
@@ -65,7 +64,7 @@ returns-in_err-profile-in-explain-clause-refused c =
     (λ task asks.
     let found = others_found c.args.found.now (codes "explain")
     (sym c.command.ensures ∙ c.in-explain.is) check_not_explain survey_not_explain
-    explain_not_manual task asks in
+    show_not_explain explain_not_manual task asks in
     c.in_err-profile-in-explain.ensures.refused found.0 found.1)
 
 pub returns-in_err-profile-in-replay-clause-refused :
@@ -77,8 +76,8 @@ returns-in_err-profile-in-replay-clause-refused c =
     c.from_residual-in_err-profile-in-replay.ensures.1
     (λ task asks.
     let found = others_found c.args.found.now (codes "replay")
-    (sym c.command.ensures ∙ c.in-replay.is) check_not_replay survey_not_replay replay_not_manual
-    task asks in
+    (sym c.command.ensures ∙ c.in-replay.is) check_not_replay survey_not_replay show_not_replay
+    replay_not_manual task asks in
     c.in_err-profile-in-replay.ensures.refused found.0 found.1)
 
 pub returns-in_err-part_asked-in-manual-clause-refused :

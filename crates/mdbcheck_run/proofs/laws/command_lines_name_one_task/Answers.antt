@@ -5,14 +5,19 @@ use Rattle.mdbcheck_run.proofs.CommandLine.{one_survey, survey_only}
 use Rattle.mdbcheck_run.proofs.laws.command_lines_name_one_task.Goals as goal
 
 pub returns-clause-check : goal.returns-clause-check
-returns-clause-check c = one_check c.words_name_one_command.ensures c.answer_tells_one_setup.ensures
+returns-clause-check c =
+    one_check c.words_name_one_command.ensures c.answer_tells_one_setup.ensures
+    c.block_has_one_command.ensures
 
 pub returns-clause-survey : goal.returns-clause-survey
 returns-clause-survey c =
     one_survey c.words_name_one_command.ensures c.answer_tells_one_setup.ensures
+    c.block_has_one_command.ensures
 
 pub returns-clause-show : goal.returns-clause-show
-returns-clause-show c = one_show c.words_name_one_command.ensures
+returns-clause-show c =
+    one_show c.words_name_one_command.ensures c.answer_tells_one_setup.ensures
+    c.block_has_one_command.ensures
 
 pub returns-clause-explain : goal.returns-clause-explain
 returns-clause-explain c = one_explain c.words_name_one_command.ensures

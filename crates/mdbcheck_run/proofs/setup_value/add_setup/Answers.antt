@@ -1,80 +1,56 @@
-use Rattle.std.proofs.Common.{ap, subst, sym, true, false, ◌∙◌, ◌≡◌}
 use Rattle.clap.proofs.TakesLemmas.{passed_up}
-use Rattle.mdb_blocks.specs.Block.{IsBlock}
-use Rattle.mdb_msgs.specs.DeviceSets.{has}
-use Rattle.mdb_msgs.specs.SetupData.{IsSetupOf}
+use Rattle.std.proofs.Common.{subst, sym, ◌≡◌, ℕ, List}
+use Rattle.std.proofs.lemmas.Result.{IfErr-weaker, on_ok_weaker}
 use Rattle.mdb_msgs.specs.declared.setups.Setups.{Setups}
 use Rattle.mdbcheck_run.specs.Program.{AddsSetup}
-use Rattle.mdbcheck_run.specs.inner.SetupReading.{no_memory}
-use Rattle.mdbcheck_run.proofs.KnownSetups.{adds_followed, adds_new, adds_setup}
+use Rattle.mdbcheck_run.specs.inner.SetupReading.{IsBlockAdded, no_memory}
+use Rattle.mdbcheck_run.proofs.KnownSetups.{adds_block, adds_level, block_added}
+use Rattle.mdbcheck_run.proofs.KnownSetups.{block_of_adds, gives_block, level_new}
 use Rattle.mdbcheck_run.proofs.setup_value.add_setup.Goals as goal
 
-pub returns-in_err-device-clause-refused : goal.returns-in_err-device-clause-refused
-returns-in_err-device-clause-refused c =
-    passed_up c.from_residual.result c.in_err-device.field-0.0
-    (λ refusal. (after : Setups) → AddsSetup c.args.left_out c.args.setups.now c.args.text.now after
+pub returns-in-Some-clause-added : goal.returns-in-Some-clause-added
+returns-in-Some-clause-added c =
+    on_ok_weaker c.add_level.result
+    (adds_level c.args.profile c.args.left_out c.args.setups.now c.args.text.now c.in-Some.unit
+    c.in-Some.level c.add_level.new.setups c.in-Some.ensures.some.0 c.in-Some.ensures.some.1)
+    c.add_level.ensures.added
+
+pub returns-in-Some-clause-refused : goal.returns-in-Some-clause-refused
+returns-in-Some-clause-refused c =
+    IfErr-weaker c.add_level.result _ _
+    (λ refusal none after adds. absurd (none (level_new c.args.profile c.args.left_out
+    c.args.setups.now c.args.text.now c.in-Some.unit c.in-Some.level after c.in-Some.ensures.some.1
+    adds))) c.add_level.ensures.refused
+
+pub returns-in_err-device-in-None-clause-refused : goal.returns-in_err-device-in-None-clause-refused
+returns-in_err-device-in-None-clause-refused c =
+    passed_up c.from_residual.result c.in_err-device-in-None.field-0.0
+    (λ refusal. (after : Setups)
+    → AddsSetup c.args.profile c.args.left_out c.args.setups.now c.args.text.now after
     → refusal ≡ no_memory) c.from_residual.ensures.1
-    (λ after adds. c.in_err-device.ensures.only adds.device adds.bytes adds.is.block adds.given)
+    (λ after adds. let it = gives_block c.args.profile c.args.left_out c.args.setups.now
+    c.args.text.now c.in-None.ensures.none after adds in
+    c.in_err-device-in-None.ensures.only it.device it.bytes
+    (block_of_adds c.args.profile c.args.left_out c.args.setups.now c.args.text.now after it)
+    it.given)
 
-pub returns-then-has-clause-refused : goal.returns-then-has-clause-refused
-returns-then-has-clause-refused c after adds =
-    let bad : true ≡ false =
-    sym c.if-has.true ∙ c.has.ensures
-    ∙ adds_followed c.args.left_out c.args.setups.now c.args.text.now c.in_ok-device.device
-    c.in_ok-device.bytes.items c.in_ok-device.ensures.only after adds in
-    absurd (cc bad)
+pub returns-in_ok-device-in-None-clause-added : goal.returns-in_ok-device-in-None-clause-added
+returns-in_ok-device-in-None-clause-added c =
+    let Added : List ℕ → Type 0 = λ bytes. IsBlockAdded c.args.profile c.args.left_out
+    c.args.setups.now c.in_ok-device-in-None.device bytes c.add_block.new.setups in
+    on_ok_weaker c.add_block.result
+    (λ added. adds_block c.args.profile c.args.left_out c.args.setups.now c.args.text.now
+    c.in_ok-device-in-None.device c.in_ok-device-in-None.bytes.items c.add_block.new.setups
+    c.in_ok-device-in-None.ensures.found (subst Added c.as_slice.ensures.value added))
+    c.add_block.ensures.added
 
-pub returns-then-has-2-clause-refused : goal.returns-then-has-2-clause-refused
-returns-then-has-2-clause-refused c after adds =
-    let bad : true ≡ false =
-    sym c.if-has-2.true ∙ c.has-2.ensures
-    ∙ ap (λ known. has known c.in_ok-device.device) c.known_devices.ensures
-    ∙ adds_new c.args.left_out c.args.setups.now c.args.text.now c.in_ok-device.device
-    c.in_ok-device.bytes.items c.in_ok-device.ensures.only after adds in
-    absurd (cc bad)
-
-pub returns-in-Err-BadSum-clause-refused : goal.returns-in-Err-BadSum-clause-refused
-returns-in-Err-BadSum-clause-refused c after adds =
-    let setup =
-    adds_setup c.args.left_out c.args.setups.now c.args.text.now c.in_ok-device.device
-    c.in_ok-device.bytes.items c.in_ok-device.ensures.only after adds in
-    let bad : false ≡ true =
-    c.in-Err-BadSum.ensures.exactly.1 (subst IsBlock (sym c.as_slice.ensures.value) setup.block) in
-    absurd (cc bad)
-
-pub returns-in-Err : goal.returns-in-Err
-returns-in-Err c = record {
-  added = tt;
-  refused = λ after adds.
-      let setup =
-      adds_setup c.args.left_out c.args.setups.now c.args.text.now c.in_ok-device.device
-      c.in_ok-device.bytes.items c.in_ok-device.ensures.only after adds in
-      let bad : false ≡ true =
-      c.in-Err.ensures.exactly.1 (subst IsBlock (sym c.as_slice.ensures.value) setup.block) in
-      absurd (cc bad);
-  own = tt;
-}
-
-pub returns-then-learn-clause-added : goal.returns-then-learn-clause-added
-returns-then-learn-clause-added c = record {
-  device = c.in_ok-device.device;
-  bytes = c.in_ok-device.bytes.items;
-  given = c.in_ok-device.ensures.found;
-  followed = sym c.has.ensures ∙ c.if-has.false;
-  new =
-      sym (c.has-2.ensures ∙ ap (λ known. has known c.in_ok-device.device) c.known_devices.ensures)
-      ∙ c.if-has-2.false;
-  is = subst (λ bytes. IsSetupOf c.in_ok-device.device bytes c.args.setups.now c.learn.new.self)
-      (c.in-Ok.ensures.block ∙ c.as_slice.ensures.value) (c.learn.ensures.learnt c.if-learn.true);
-}
-
-pub returns-clause-refused : goal.returns-clause-refused
-returns-clause-refused c after adds =
-    let setup =
-    adds_setup c.args.left_out c.args.setups.now c.args.text.now c.in_ok-device.device
-    c.in_ok-device.bytes.items c.in_ok-device.ensures.only after adds in
-    let bad : false ≡ true =
-    sym c.if-learn.false ∙ c.learn.ensures.only after
-    (subst (λ bytes. IsSetupOf c.in_ok-device.device bytes c.args.setups.now after)
-    (sym (c.in-Ok.ensures.block ∙ c.as_slice.ensures.value)) setup) in
-    absurd (cc bad)
+pub returns-in_ok-device-in-None-clause-refused : goal.returns-in_ok-device-in-None-clause-refused
+returns-in_ok-device-in-None-clause-refused c =
+    IfErr-weaker c.add_block.result _ _
+    (λ refusal none after adds.
+    let Added : List ℕ → Type 0 = λ bytes. IsBlockAdded c.args.profile c.args.left_out
+    c.args.setups.now c.in_ok-device-in-None.device bytes after in
+    absurd (none after (subst Added (sym c.as_slice.ensures.value)
+    (block_added c.args.profile c.args.left_out c.args.setups.now c.args.text.now
+    c.in-None.ensures.none c.in_ok-device-in-None.device c.in_ok-device-in-None.bytes.items
+    c.in_ok-device-in-None.ensures.only after adds)))) c.add_block.ensures.refused

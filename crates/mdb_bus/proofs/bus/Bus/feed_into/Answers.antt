@@ -49,6 +49,4 @@ returns-in-Err-clause-impossible c pieces stands has =
     c.fault.ensures.rule
     c.fault.ensures.blame in
     c.rows_that_break_a_rule_end_the_act_list.ensures c.args.self.now.scope pieces c.args.event
-    c.fault.result.rule
-    stands.in_order
-    faulty.rule.breaks has
+    faulty.first stands.in_order faulty.rule.breaks has
