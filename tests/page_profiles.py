@@ -68,6 +68,12 @@ def shown_for(run, data, words):
 READERS = {"cashless": 0x10, "cashless-2": 0x60}
 
 
+def answer_at(level):
+    """A reader's answer to SETUP config with this level, as `--setup` has it."""
+    block = bytes([1, level, 0, 0x40, 1, 2, 5, 0])
+    return bytes([*block, sum(block) & 255]).hex(" ").upper()
+
+
 def asked_at(data, row):
     """The reader to which the last command up to a row is; None if it is to none."""
     lines = [it.split(",") for it in data.decode("latin-1").splitlines() if it.strip()][:row]
@@ -92,7 +98,9 @@ def missing(run, data, words):
         return came[0] == 0 or ended(came)[0] > row or ended(came) == (row, False)
 
     known, base = {field for _, device, field, _ in told_in(words) if device == reader}, READERS[reader]
-    if not {"level", "config"} & known and any(helps(f"level {level}") for level in (1, 2, 3)):
+    # (a level goes with neither the controller's SETUP nor another level: with that SETUP the reader's answer tells its own)
+    tell = None if "level" in known else "level {}".format if "config" not in known else answer_at if "setup" not in known else None
+    if tell and any(helps(tell(level)) for level in (1, 2, 3)):
         return reader, "level"
     options = bytes([base + 7, 4, 0, 0, 0, 0, (base + 11) & 255]).hex(" ").upper()
     return (reader, "options") if "options" not in known and helps(options) else None
