@@ -432,7 +432,7 @@ class Act(NamedTuple):
 
 
 class Told:
-    """What is known of a machine that was running (*With the setup data*, *What you can tell of a reader*)."""
+    """What is known of a machine that was running (*With the setup data*, *What you can give for a reader*)."""
 
     def __init__(self, extended: bool):
         #: Who is named in the line `setup`.
