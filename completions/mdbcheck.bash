@@ -44,8 +44,7 @@ _mdbcheck() {
         case $command in
             '') words='check survey show explain replay manual' ;;
             manual) [ $goals -gt 0 ] || words='check survey show explain replay manual' ;;
-            check | show) words='--joined --extended --json --setup --without' ;;
-            survey) words='--joined --json --setup --without' ;;
+            check | survey | show) words='--joined --extended --json --setup --without' ;;
             replay) words='--extended --json --without' ;;
             explain)
                 case $goals in

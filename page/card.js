@@ -245,7 +245,7 @@ function showNo(it) {
       none || isLate || !it.late ? null :
           isExchanged            ? lateAside(it) :
                                    lateNotes(it),
-      rulingWords(it), isLate || isFile ? null : h("p", {class: "soft"}, RECORDER), surveyOffer(it), nameWords(it));
+      rulingWords(it), isLate || isFile ? null : h("p", {class: "soft"}, RECORDER), surveyOffer(), nameWords(it));
 }
 
 // When the row began that breaks a rule.
@@ -305,7 +305,7 @@ function showUnfollowed(it) {
       h("p", {class: "soft", id: "ruling"},
         `From row ${row} on, by the rule Profile. ${it.row > 1 ? "The rows before it fit the protocol. " : ""}`,
         unjudgedWords(it)),
-      surveyOffer(it), nameWords(it));
+      surveyOffer(), nameWords(it));
 }
 
 function leaveOut(it, which = unfollowedDevice(it)) {

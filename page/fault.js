@@ -6,7 +6,7 @@ const FAULT_TITLES = {
   none: "Where the reading ended",
 };
 const FAULT_VERDICTS = {
-  limit: "not followed from here on",
+  limit: "this row isn't followed",
   unjudged: "this row isn't judged",
   no: "this row breaks the rule",
   none: "this line is no row",

@@ -50,9 +50,12 @@ const GLITCHES = [
   "How much must the recorder have got wrong? One bit is likely. A whole report that it missed isn't.",
   "Does it come again? One Sum in a day is a glitch. If one rule and one sender come again and again, look at that line or device.",
 ];
+// The same by the extended profile.
+const GLITCH_OF_READERS =
+    "What may a fault hide? After a feature level, options or a reset that it hides, an innocent reader can be blamed.";
 
 function surveySection(it) {
-  const {survey: made} = it, many = manyWords(it);
+  const {survey: made} = it, many = manyWords(it), more = isExtended(it.way) ? [GLITCH_OF_READERS] : [];
   queueMicrotask(() => drawFaults(it));
   return section(
       "All faults", "survey", h("p", {id: "survey-lead"}, surveyLead(made)), ...surveyEnd(made),
@@ -61,7 +64,7 @@ function surveySection(it) {
       h("div", {class: "scroll"},
         h("table", {role: "table", class: "stacked faults", "aria-label": "All faults"},
           h("thead", {role: "rowgroup"}, headRow(FAULT_HEADS)), h("tbody", {id: "survey-rows", role: "rowgroup"}))),
-      ...part("Recorder or device?", GLITCHES.map((words) => "• " + words)));
+      ...part("Recorder or device?", [...GLITCHES, ...more].map((words) => "• " + words)));
 }
 
 function unlistedFaults({all, listed: some}) {
@@ -141,12 +144,28 @@ function faultCsv({faults}) {
       "\r\n";
 }
 
+// The options that list the acts up to a fault: as of a machine that was running already, at the levels that are known.
+function optionsAbout(it, fault) {
+  const {bytes} = wayBefore(it, fault), {setups, without} = layout.options;
+  bytes.fill(0, setups);
+  for (const device of isExtended(it.way) ? [3, 4] : []) {
+    const {controller, reader} = levelsKnown({...it, row: fault.row}, device), place = readerPlace(device);
+    if (bytes[without + device - 1]) continue;
+    const ask = [device === 3 ? 0x11 : 0x61, 0, controller, 0, 0, 0],
+          answer = [READER_CONFIG, reader, 0, 0, 1, 0, 5, 0];
+    if (controller !== null) putBlock(bytes, place + layout.reader.config, sealed(ask));
+    if (reader !== null) putBlock(bytes, setupPlace(device), sealed(answer));
+  }
+  return bytes;
+}
+
 // The rows about a fault and the acts up to it, as the worker tells them.
 async function aboutFault(it, fault) {
-  const from = fault.number > 1 ? it.survey.faults[fault.number - 2].offset + 1 : 0;
-  const {lines, acts, count} = await readyChecker().ask({about: {row: fault.row, offset: fault.offset, from}});
+  const {row, offset, number: n} = fault, from = n > 1 ? it.survey.faults[n - 2].offset + 1 : 0;
+  const about = {row, offset, from, options: optionsAbout(it, fault)};
+  const {lines, acts, count} = await readyChecker().ask({about});
   const list = new Acts(acts, count);
-  noteSetups(list, setupsAt(it, fault.row), -1, noNews());
+  noteSetups(list, setupsAt(it, row), -1, noNews());
   return {lines, list};
 }
 
@@ -188,7 +207,7 @@ function asAnswer(whole, fault) {
     list: about.list,
     found: noNews(),
     here: null,
-    way: {bytes: [1]},
+    way: wayBefore(whole, fault),
     hole: -1,
     isApart: true
   };

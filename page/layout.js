@@ -48,6 +48,16 @@ const FAULT_NUMBERS = 6;
 // who is left out after it (a bit for each device).
 const START_NUMBERS = 4;
 
+// Where the options have a device's answer to SETUP, and what is known of a reader.
+const setupPlace = (device) => layout.options.setups + layout.setup.size * (device - 1);
+const readerPlace = (device) => layout.options.readers + layout.reader.size * (device - 3);
+
+// Puts a block into the options.
+function putBlock(options, place, block) {
+  options[place + layout.setup.count] = block.length;
+  options.set(block, place + layout.setup.bytes);
+}
+
 // The places of the fields of a structure of so many bytes.
 function placesOf(fields, size) {
   const places = {size}, widest = Math.max(...Object.values(fields).map(([wide]) => wide));

@@ -343,7 +343,7 @@ function unfollowedDevice(it) {
 function unfollowed(it) {
   const d = unfollowedDevice(it), name = the(DEVICE_NAMES[d] || "device"), block = blockOf(rowsNear(it), it.row);
   const rows = block.length ? rowsAt(block[0].row, it.row) : rowsAt(it.row), bytes = bytesOf(block);
-  const level = d > 2 && it.report.blame !== "controller" ? greatestLevel(bytes) : 0;
+  const level = d > 2 && it.report.blame !== "controller" && !isExtended(it.way) ? greatestLevel(bytes) : 0;
   if (level > 1) return levelWords(it, d, level, rows);
   const isCommand = it.report.blame === "controller", enabled = isCommand ? optionsBeyond(bytes) : "",
         what = isCommand ? commandNamed(bytes) : messageNamed(d, bytes, isExtended(it.way));

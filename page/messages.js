@@ -9,6 +9,12 @@ const READING = {
 const READER_LENGTHS = [1, 8, 99, 3, 1, 3, 1, 1, 1, 30, 2, 1];
 const READER_CONFIG = 1;
 
+// A block of these bytes: the sum stands at its end.
+const sealed = (bytes) => [...bytes, bytes.reduce((sum, byte) => sum + byte & 255)];
+
+// Whether a command to a reader tells it the controller's level (SETUP config).
+const isConfigAsk = ([first, second]) => (first & 7) === 1 && second === 0;
+
 // The length of the message with a first byte, where so many bytes are left from it on.
 function readerLength(first, left, reading) {
   if (first === 9 && reading !== READING.BASE && left >= 34) return 34;

@@ -57,20 +57,13 @@ function askIn(field, device) {
 // SETUP and ENABLE OPTIONS have so many bytes, with their sum.
 const ASK_LENGTH = 7;
 const toReader = (first) => DEVICES[READERS_BY_BLOCK[first >> 3]];
-const isConfigAsk = ([first, second]) => (first & 7) === 1 && second === 0;
 const isOptionsAsk = ([first, second]) => (first & 7) === 7 && second === ENABLE_OPTIONS;
 // The option bits of money of 32 bits and several currencies, and that of always idle.
 const OTHER_MONEY_BITS = 6, ALWAYS_IDLE_BIT = 0x20;
 
-// Puts a block into the module's options.
-function putBlock(bytes, place, block) {
-  bytes[place + layout.setup.count] = block.length;
-  bytes.set(block, place + layout.setup.bytes);
-}
-
 // Takes what the fields say of a reader's level and options, with the program's words.
-function takeReader(bytes, device, place, tell) {
-  const level = Number(by("level-" + device).value), {reader} = layout;
+function takeReader(bytes, i, tell) {
+  const device = DEVICES[i], place = readerPlace(i), level = Number(by("level-" + device).value), {reader} = layout;
   const config = askIn("config", device), enabled = askIn("options", device);
   if (level && config) throw new SetupFault("config", device, BOTH_LEVELS);
   if (enabled && enabled[OPTIONS_END - 1] & OTHER_MONEY_BITS) throw new SetupFault("options", device, OTHER_MONEY);
@@ -106,11 +99,11 @@ function optionsAs(joined, isWide = false) {
     if (!joined || left) return;
     const setup = bytesIn("setup", device);
     if (setup) {
-      putBlock(bytes, layout.options.setups + layout.setup.size * i, setup);
+      putBlock(bytes, setupPlace(i + 1), setup);
       tell(setup.map(hex).join(" "));
       given[i + 1] = readSetup(i + 1, Uint8Array.from(setup));
     }
-    if (isWide && i > 1) takeReader(bytes, device, layout.options.readers + layout.reader.size * (i - 2), tell);
+    if (isWide && i > 1) takeReader(bytes, i + 1, tell);
   });
   return {bytes, words, given};
 }

@@ -1,7 +1,8 @@
 // After a survey the acts and the news of the whole recording: in the worker, in one pass. After a row that breaks a
-// rule of the link the list begins anew, as that of a machine that was running already, with the set-ups that were told
-// before. A row that breaks a rule of a device stands in an act, and the list goes on over it.
-const SETUP_TOLD = 21;
+// rule of the link the list begins anew, as that of a machine that was running already, with the set-ups and levels
+// that were told before. A row that breaks a rule of a device stands in an act, and the list goes on over it.
+// The kinds of an entry that tells a set-up, and of an act that is a command.
+const SETUP_TOLD = 21, COMMAND = 0;
 // So many bytes of news are gathered before the page gets them.
 const NEWS_BYTES = 1 << 20;
 
@@ -77,11 +78,23 @@ function bytesAt(text, place, rows) {
   return bytes;
 }
 
-// An answer that tells a set-up, as the options have it: of a reader its last config message counts.
+// An answer that tells a set-up, as the options have it: of a reader its last config message counts. (The news don't
+// say in which reading it has one.)
 function setupBlock(device, bytes) {
   if (device < 3) return bytes;
-  const config = readerMessages(bytes).filter(([kind]) => kind === READER_CONFIG).at(-1);
-  return [...config, config.reduce((sum, byte) => sum + byte & 255)];
+  const isConfig = ({0: kind, length}) => kind === READER_CONFIG && length === 8;
+  const config = Object.values(READING).map((it) => readerMessages(bytes, it).findLast(isConfig)).find(Boolean);
+  return sealed(config);
+}
+
+// The controller's last SETUP to a reader among acts; undefined if there is none.
+function lastSetup(acts, reader) {
+  const {size: wide, kind, device, count, bytes} = layout.act;
+  for (let i = acts.length - wide; i >= 0; i -= wide) {
+    if (acts[i + kind] !== COMMAND || acts[i + device] !== reader) continue;
+    const said = acts.subarray(i + bytes, i + bytes + acts[i + count]);
+    if (isConfigAsk(said)) return said;
+  }
 }
 
 // All acts and news of the recording, part by part.
@@ -105,7 +118,8 @@ class Relisting {
   // Keeps what was listed last.
   keep(part) {
     const {acts: all, news: allNews, first, room, before, from, to} = part, told = new Map();
-    this.kept.add(addRows(new Uint8Array(listedActs(all, first, room)), layout.act, before), all);
+    const acts = new Uint8Array(listedActs(all, first, room));
+    this.kept.add(addRows(acts, layout.act, before), all);
     for (let got = 0; got < allNews; got += at.roomNews) {
       if (got) list(0, got, at.roomNews, from, to);
       const count = Math.min(at.roomNews, allNews - got);
@@ -114,6 +128,7 @@ class Relisting {
       this.addNews(addRows(bytes, layout.news, before));
     }
     this.learn(told, from);
+    if (this.options[layout.options.extended]) this.learnLevels(acts, told);
   }
   addNews(bytes) {
     this.news.parts.push(bytes);
@@ -139,16 +154,27 @@ class Relisting {
       place = placeAfter(this.text, place, rows.first - row);
       row = rows.first;
       const block = setupBlock(device, bytesAt(this.text, place, rows.last - rows.first + 1));
-      this.options.set([block.length, ...block], layout.options.setups + (device - 1) * layout.setup.size);
+      putBlock(this.options, setupPlace(device), block);
+    }
+  }
+  // Takes note of the level that the controller told each reader. A level that was given counts for both sides, until
+  // the reader tells its own. (Which options are enabled changes no act.)
+  learnLevels(acts, told) {
+    for (const device of [3, 4]) {
+      const {level, config} = layout.reader, place = readerPlace(device), block = lastSetup(acts, device);
+      if (!block || this.options[place + level] && !told.has(device)) continue;
+      this.options[place + level] = 0;
+      putBlock(this.options, place + config, block);
     }
   }
   // How the rows after a fault are taken.
   goOn(isLeftOut) {
     this.options[layout.options.joined] = 1;
-    for (let d = 0; d < 4; d++) {
-      const setup = layout.options.setups + d * layout.setup.size, isOut = isLeftOut >> d & 1;
-      this.options[layout.options.without + d] = isOut;
+    for (let d = 1; d < 5; d++) {
+      const isOut = isLeftOut >> d - 1 & 1, setup = setupPlace(d), reader = readerPlace(d);
+      this.options[layout.options.without + d - 1] = isOut;
       if (isOut) this.options.fill(0, setup, setup + layout.setup.size);
+      if (isOut && d > 2) this.options.fill(0, reader, reader + layout.reader.size);
     }
   }
 }

@@ -210,7 +210,7 @@ async function answerNow(isNow, isPlain) {
 // Checks the file that is given, or the last one again if none is, and shows the answer: with `isPlain` that by the
 // base profile. After a button the card has the focus.
 async function run(given, isButton = !given, isPlain = false) {
-  if (!given && !file) return null;
+  if (!given && !file) return;
   const mine = ++newest, isNow = () => mine === newest, begin = performance.now();
   if (given || isWorking) endChecker();
   surveying = null;
@@ -223,7 +223,7 @@ async function run(given, isButton = !given, isPlain = false) {
   if (isButton) by("work").focus();
   try {
     const told = await answerNow(isNow, isPlain);
-    if (!told) return null;
+    if (!told) return;
     working(false);
     state = {...told, isKept: Boolean(given && told.isKept)};
     show(state);
@@ -233,10 +233,8 @@ async function run(given, isButton = !given, isPlain = false) {
     settle(isButton, state.isOpen);
     showSum(state);
     if (state.isOpen) addCloser(state);
-    return state;
   } catch (fault) {
     if (isNow()) failed(fault, isButton);
-    return null;
   }
 }
 

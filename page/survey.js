@@ -135,19 +135,12 @@ function sumAgain(it) {
   showSum(it);
 }
 
-// No survey follows the extended profile: the answer by the base profile comes first.
-async function surveyPlain() {
-  const it = await run(null, true, true);
-  if (it?.answer === ANSWERS.NO) survey();
-}
-
 // What the card offers after a no, and what it says when that was done.
-function surveyOffer(it) {
-  const words = "Go on: survey the whole recording", isWide = isExtended(it.way);
+function surveyOffer() {
+  const words = "Go on: survey the whole recording";
   return h(
       "p", {id: "survey-offer"},
-      h("button", {type: "button", id: "survey-go", class: "noprint", onclick: isWide ? surveyPlain : survey}, words),
-      " ", isWide ? h("span", {class: "soft noprint"}, "A survey doesn't follow the extended profile. ") : null,
+      h("button", {type: "button", id: "survey-go", class: "noprint", onclick: survey}, words), " ",
       h("span", {id: "survey-told"}));
 }
 

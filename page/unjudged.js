@@ -7,13 +7,13 @@ const READERS_BY_BLOCK = {
 // Blocks with amounts, which may have four bytes each at a higher level: SETUP and VEND.
 const WITH_AMOUNTS = [1, 3];
 
-// The byte with which the last block of the controller begins, up to the row. A block and its answer have at most 72
-// words. Where more lie between, it is that of the last command that is listed.
+// The byte with which the last block of the controller begins, up to the row; of a survey, after the fault before it. A
+// block and its answer have at most 72 words. Where more lie between, it is that of the last command that is listed.
 function lastBegun(it) {
-  const begun = rowsNear(it).filter((r) => r.row <= it.row && r.line === "M" && r.word > 255).at(-1);
+  const {faultBefore = 0, list: acts} = it, isNear = (row) => row > faultBefore && row <= it.row;
+  const begun = rowsNear(it).filter((r) => isNear(r.row) && r.line === "M" && r.word > 255).at(-1);
   if (begun) return begun.word & 255;
-  const acts = it.list;
-  for (let i = actAtRow(it, it.row); i >= 0; i--)
+  for (let i = actAtRow(it, it.row); i >= 0 && acts.first(i) > faultBefore; i--)
     if (acts.kind(i) === ASK && acts.first(i) <= it.row) return acts.byte(i, 0);
   return 0;
 }
@@ -25,7 +25,7 @@ function blockAt({bytes}, place) {
 }
 
 // What an earlier recording says that a reader answered to SETUP.
-const answerGiven = (way, device) => blockAt(way, layout.options.setups + layout.setup.size * (device - 1));
+const answerGiven = (way, device) => blockAt(way, setupPlace(device));
 
 // What the rows before one report of the level of a reader: what the controller reported to it last (Y2 of SETUP
 // config), and what the reader did (Z2 of an answer that begins with a config message), or an earlier recording says.
@@ -74,7 +74,7 @@ const levelIn = (messages) => messages.filter(([kind]) => kind === READER_CONFIG
 
 // The levels of the controller and of a reader that were given.
 function levelsGiven(way, device) {
-  const {reader} = layout, place = layout.options.readers + reader.size * (device - 3);
+  const {reader} = layout, place = readerPlace(device);
   const level = way.bytes[place + reader.level] || null, config = blockAt(way, place + reader.config);
   return {controller: level ?? config[2] ?? null, reader: level ?? levelIn(readerMessages(answerGiven(way, device)))};
 }
@@ -132,21 +132,29 @@ function takeUnjudged(it) {
   it.unjudged = it.unknown?.device ?? reader;
 }
 
-// What is asked of a later fault of a survey: before its stretch nothing is known, but for what the acts before it
-// show.
-function asJoined(whole, {number: n, row, rule, blame, about}) {
+// How the stretch before a fault is taken: as of a machine that was running already, without who is left out in it.
+function wayBefore(whole, {number: n}) {
   const bytes = whole.way.bytes.slice(), stretch = whole.survey.stretches.find((it) => it.number === n);
   const left = stretch ? leftOutIn(stretch) : 0;
   bytes[layout.options.joined] = 1;
   for (let d = 0; d < 4; d++) bytes[layout.options.without + d] |= left >> d & 1;
-  const known = {answer: ANSWERS.NO, row, report: {rule, blame}, lines: about.lines, way: {bytes}};
-  return {...whole, ...known, unknown: null, tried: null};
+  return {bytes};
+}
+
+// What is asked of a later fault of a survey: before its stretch nothing is known, but for what the acts before it
+// show.
+function asJoined(whole, fault) {
+  const {row, rule, blame, about: {lines}} = fault, way = wayBefore(whole, fault);
+  const faultBefore = whole.survey.faults[fault.number - 2].row;
+  const it = {...whole, answer: ANSWERS.NO, row, faultBefore, report: {rule, blame}, lines, way, tried: null};
+  return {...it, unknown: unknownOf(it)};
 }
 
 // The number of the reader, if a fault of a survey isn't judged; 0 if it is.
 function unjudgedFault(whole, fault) {
   if (fault.number === 1) return whole.unjudged;
-  return whole.gaps ? unjudgedReader(asJoined(whole, fault)) : 0;
+  const it = asJoined(whole, fault);
+  return it.unknown?.device ?? unjudgedReader(it);
 }
 
 // The card ----
@@ -203,7 +211,7 @@ function unknownFacts(it) {
                                  " can't be read, unless its amounts have four bytes. From level 3 on they may."),
       ...levelFacts(levels, device)
     ];
-  const setup = it.list.setupAt(device, it.list.count);
+  const setup = it.list.setupAt(device, actAtRow(it, row));
   const [low, high] = readings.map((it) => readerMessages(bytes, it).map((m) => readerWords(m, setup)).join("; "));
   return [
     fact(
@@ -216,7 +224,8 @@ function unknownFacts(it) {
 // Whether all messages of an answer are whole and followed in a reading.
 function isRead(bytes, reading) {
   const messages = readerMessages(bytes, reading), last = messages.at(-1);
-  return !isBeyond(bytes, reading) && (last[0] === 2 || last.length >= readerLength(last[0], last.length, reading));
+  const least = last[0] === 2 ? 2 : readerLength(last[0], last.length, reading);
+  return !isBeyond(bytes, reading) && last.length >= least;
 }
 
 function unjudgedSteps(it, device, what) {
@@ -258,5 +267,5 @@ function showUnjudged(it, device) {
       canChoose(it) ? levelButtons(device) : null,
       h("p", {class: "noprint"}, h("button", {type: "button", onclick: openSetups}, "Give an earlier recording")),
       leaveOut(it, device), h("p", {class: "soft", id: "ruling"}, `${ruling} ${before}`, unjudgedWords(it)),
-      surveyOffer(it), nameWords(it));
+      surveyOffer(), nameWords(it));
 }

@@ -278,12 +278,11 @@ function isTaken(options, from) {
 
 // The device of which the options have a block that tells nothing of it, and the block's field; null if there is none.
 function badSetup(options) {
-  for (let d = 0; d < 4; d++)
-    if (!isTaken(options, layout.options.setups + layout.setup.size * d)) return {device: d + 1, field: "setup"};
-  for (let r = 0; r < 2; r++)
+  for (let d = 1; d < 5; d++)
+    if (!isTaken(options, setupPlace(d))) return {device: d, field: "setup"};
+  for (let d = 3; d < 5; d++)
     for (const field of ["config", "options"])
-      if (!isTaken(options, layout.options.readers + layout.reader.size * r + layout.reader[field]))
-        return {device: r + 3, field};
+      if (!isTaken(options, readerPlace(d) + layout.reader[field])) return {device: d, field};
   return null;
 }
 
@@ -424,13 +423,12 @@ function commandBefore(text, offset, from) {
   return found;
 }
 
-// The acts of the rows up to a fault and of its own row, with the recording's numbers of rows. They are read as of a
-// machine that was running already, from a command on.
-function actsAbout({row, offset, from}) {
+// The acts of the rows up to a fault and of its own row, with the recording's numbers of rows. They are read from a
+// command on, as the options say.
+function actsAbout({row, offset, from, options}) {
   const text = new Uint8Array(call.memory.buffer, at.text, size), first = commandBefore(text, offset, from);
-  const options = new Uint8Array(layout.options.size), after = rowAfter(text, offset);
+  const after = rowAfter(text, offset);
   if (first.place < 0) return {acts: new ArrayBuffer(0), count: 0};
-  options[layout.options.joined] = 1;
   setOptions(options);
   const count = list(at.room, 0, 0, first.place, after < 0 ? size : after).acts, {act} = layout;
   const acts = new Uint8Array(call.memory.buffer, at.acts, count * act.size).slice().buffer, view = new DataView(acts);

@@ -158,12 +158,13 @@ class Case(Rows):
 
     def no(self):
         """The line that `survey` has of a no of `check`, of its row, rule and blame; None where the case
-        is none, or has --extended, which `survey` doesn't have."""
-        if self.status != 1 or self.words[0] != "check" or "--extended" in self.words:
+        is none."""
+        if self.status != 1 or self.words[0] != "check":
             return None
         out = self.output()
         if "--json" in self.words:
-            return '{"fault":' + out.partition(',"verdict":')[0] + '},"version":1}'
+            members, _, version = out.rstrip("\n").partition(',"verdict":"no"')
+            return '{"fault":' + members + "}" + version
         return "fault " + " ".join(line.partition(" ")[2] for line in out.splitlines()[1:])
 
 

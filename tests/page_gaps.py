@@ -1,10 +1,11 @@
 """What tests/page_survey.py wants of the lists after a survey, in words of `mdbcheck show`.
 
 A part of a recording begins with row 1, or after a row that breaks a rule of the link, and ends
-before the next one. `show` is asked for the acts of each part by itself. In a part that begins after
-such a row, the words before the first command or break belong to nothing that it shows: they are
-foreign. Where `show` stops at a row that the survey takes, the part ends with the last row before it
-that breaks a rule of a device, and the next one begins after that.
+before the next one. `show` is asked for the acts of each part by itself. By the base profile it takes
+a part that begins after such a row from its first command or break on: the words before are foreign.
+By the extended one it is told the levels of the parts before. Where `show` stops at a row that the
+survey takes, the part ends with the last row before it that breaks a rule of a device, and the next
+one begins after that.
 """
 
 import bisect
@@ -13,7 +14,9 @@ import json
 import re
 import subprocess
 
-from page_news import LISTS, Walk, setups_of
+from cases import readers_in
+from page_news import LISTS, Walk, known_in, setups_of
+from reader_formats import Formats
 
 DEVICE_RULES = ("Changer", "Bill", "Cashless")
 #: What the page has: its acts, its entries, and the gaps that it marks.
@@ -31,13 +34,12 @@ class Shown:
     def __init__(self, program):
         self.program, self.known = program, {}
 
-    def lines(self, rows, left_out):
+    def lines(self, rows, words):
         begin = int(rows[0].split(",")[0])
         split = [row.split(",") for row in rows]
         text = "".join(f"{int(at) - begin},{line},{value}\n" for at, line, value in split) if min(int(it[0]) for it in split) >= begin else "".join(f"{row}\n" for row in rows)
-        key = text, tuple(left_out)
+        key = text, tuple(words)
         if key not in self.known:
-            words = [word for device in left_out for word in ("--without", device)]
             ran = subprocess.run([self.program, "show", *words], input=text.encode(), capture_output=True)
             self.known[key] = ran.stdout.decode().splitlines()
         return self.known[key]
@@ -47,15 +49,15 @@ class Part(collections.namedtuple("Part", "lines halt")):
     """The lines of `show` of a part, with rows of the recording; and the row at which it stopped, or 0."""
 
 
-def part_of(shown, rows, first, last, is_joined, left_out):
+def part_of(shown, rows, first, last, is_joined, words):
     """The lines of the rows from `first` to `last`, numbers from 1."""
     lines, at = [], first
-    while is_joined and at <= last and not is_begin(rows[at - 1]):
+    while is_joined and "--extended" not in words and at <= last and not is_begin(rows[at - 1]):
         lines.append(f"{at}-{at} foreign")
         at += 1
     if at > last:
         return Part(lines, 0)
-    for line in shown.lines(rows[at - 1:last], left_out):
+    for line in shown.lines(rows[at - 1:last], words):
         place, _, rest = line.partition(" ")
         if place == "fault":
             return Part(lines, int(rest.split(" ")[0]) + at - 1)
@@ -72,31 +74,65 @@ def left_out_in(made, number, words):
     return [words[i + 1] for i, word in enumerate(words) if word == "--without"]
 
 
+class Levels(Formats):
+    """The levels that `show` is told, by the readers' names."""
+
+    def take(self, lines):
+        for line in lines:
+            kind, *words = line.split(" ")[1:]
+            if kind in ("ask", "reply") and words[0].startswith("cashless"):
+                (self.ask if kind == "ask" else self.reply)(words[0], [int(it, 16) for it in words[1:-1]])
+
+    def words(self, is_joined, left_out):
+        """The words of `show` for what comes then."""
+        words = [word for device in left_out for word in ("--without", device)]
+        if not self.is_extended:
+            return words
+        blocks = [(name, [0x11 + 0x50 * (name != "cashless"), 0, level, 0, 0, 0]) for name, level in self.told.items()]
+        blocks += [(name, [1, level, 0, 0, 1, 0, 5, 0]) for name, level in self.own.items()]
+        for name, block in blocks:
+            if is_joined and name not in left_out:
+                words += ["--setup", f"{name} {bytes([*block, sum(block) % 256]).hex(' ').upper()}"]
+        return ["--extended"] + ["--joined"] * is_joined + words
+
+
 def parts(shown, made, words, most):
     """The lines of each part of a recording, up to its last fault if it has more than `most`."""
     faults, is_joined, first, number = made.faults[:most], "--joined" in words, 1, 0
+    levels = Levels("--extended" in words, readers_in(words))
     end = made.rows if len(made.faults) <= most else faults[-1][0]
     while first <= end:
-        left_out = left_out_in(made, number + 1, words)
+        taken = levels.words(is_joined, left_out_in(made, number + 1, words))
         link = next((k for k in range(number, len(faults)) if faults[k][1] not in DEVICE_RULES), None)
         last = end if link is None else faults[link][0] - 1
-        part = part_of(shown, made.lines, first, last, is_joined, left_out)
+        part = part_of(shown, made.lines, first, last, is_joined, taken)
         cut = len(faults) if link is None else link + 1
         if part.halt:
             cut = max(k for k, fault in enumerate(faults) if fault[0] < part.halt) + 1
             last = faults[cut - 1][0]
-            part = part_of(shown, made.lines, first, last, is_joined, left_out)
+            part = part_of(shown, made.lines, first, last, is_joined, taken)
         yield part.lines
+        levels.take(part.lines)
         if link is None and not part.halt and last == end:
             return
         first, number, is_joined = faults[cut - 1][0] + 1, cut, True
 
 
+def words_before(shown, made, words, most, number, row):
+    """The words of `show` for the rows before a fault, with the levels that all acts before a row tell."""
+    levels = Levels("--extended" in words, readers_in(words))
+    for lines in parts(shown, made, words, most):
+        levels.take(line for line in lines if int(line.split(" ")[0].split("-")[1]) < row)
+    return levels.words(True, left_out_in(made, number, words))
+
+
 def entries_of(lists, words):
     """The entries of all parts: set-ups that were told stay known."""
     found, setups = {name: [] for name in LISTS}, dict(setups_of(list(words)))
+    formats = Formats("--extended" in words, known_in(words))
     for lines in lists:
         walk = Walk(setups)
+        walk.formats = formats
         for line in lines:
             walk.line(line)
         setups = walk.setups

@@ -58,12 +58,8 @@ async function judged(bytes, options) {
   return {said, state: {found, list: acts && new of.Acts(acts, said.listed)}};
 }
 
-// A survey of the recording that was judged last, so many faults at a time. None has the extended profile, or what is for it
-// alone.
-function surveyed(way, most) {
-  const options = way.slice();
-  options[worker.layout.options.extended] = 0;
-  options.fill(0, worker.layout.options.readers);
+// A survey of the recording that was judged last, so many faults at a time.
+function surveyed(options, most) {
   const spots = worker.surveyPlaces(), {layout: {fault, lines}} = worker, room = Math.min(most, spots.room), faults = [];
   let end, text = "";
   worker.grow(spots.end);

@@ -93,17 +93,18 @@ def missing(run, data, words):
     if reader not in READERS:
         return None
 
-    def helps(value):
-        came = run(data, "check", *words, "--setup", f"{reader} {value}")
+    def helps(*values):
+        came = run(data, "check", *words, *(word for value in values for word in ("--setup", f"{reader} {value}")))
         return came[0] == 0 or ended(came)[0] > row or ended(came) == (row, False)
 
     known, base = {field for _, device, field, _ in told_in(words) if device == reader}, READERS[reader]
     # (a level goes with neither the controller's SETUP nor another level: with that SETUP the reader's answer tells its own)
     tell = None if "level" in known else "level {}".format if "config" not in known else answer_at if "setup" not in known else None
-    if tell and any(helps(tell(level)) for level in (1, 2, 3)):
+    options = [bytes([base + 7, 4, 0, 0, 0, idle, base + 11 + idle & 255]).hex(" ").upper() for idle in (0, 0x20)]
+    options = [[it] for it in options if "options" not in known]
+    if tell and any(helps(tell(level), *more) for level in (1, 2, 3) for more in ([], *options)):
         return reader, "level"
-    options = bytes([base + 7, 4, 0, 0, 0, 0, (base + 11) & 255]).hex(" ").upper()
-    return (reader, "options") if "options" not in known and helps(options) else None
+    return (reader, "options") if any(helps(*it) for it in options) else None
 
 
 def read(page):
@@ -143,8 +144,8 @@ def try_wide(page, want, name, base, wide):
     want(came["text"] == wide and came["note"].strip() == HEAD and came["button"] is None, f"{name} with the switch: {came['note']!r}")
 
 
-def try_survey(page, want, name, survey):
-    """A survey is by the base profile, whichever answer is shown."""
+def try_survey(page, want, name, run):
+    """A survey is by the profile of the answer that is shown."""
     rows = (TOP / "examples" / f"{name}.csv").read_text().splitlines()
     bad = rows[-1].split(",")[0] + ",S,1FE"
     path = page.work / "wide-no.csv"
@@ -152,14 +153,12 @@ def try_survey(page, want, name, survey):
     page.take(path, [])
     came = read(page)
     want(came["isWide"] and came["text"].startswith("verdict no"), f"{name}, with a no: {came['text']!r}")
-    press(page, "by('survey-go').click()")
-    for _ in range(500):
-        told = json.loads(page.browser.value("JSON.stringify([state?.survey?.whole ?? null, by('survey-command')?.textContent ?? null])"))
-        if told[0] is not None:
-            break
-        time.sleep(0.02)
-    want(told == [survey(path.read_bytes()), "mdbcheck survey < FILE"], f"{name}: the survey is {told}")
-    want(not read(page)["isWide"], "the survey stands with the answer by the extended profile")
+    for words, note in ((["--extended"], HEAD), ([], "Without the extended profile")):
+        came = press(page, "by('survey-go').click()")
+        told = json.loads(page.browser.value("JSON.stringify([state.survey.whole, by('survey-command').textContent])"))
+        want(told == [run(path.read_bytes(), "survey", *words)[1], " ".join(["mdbcheck survey", *words, "< FILE"])], f"{name}: the survey is {told}")
+        want(came["isWide"] == bool(words) and came["note"].startswith(note), f"{name}: the survey stands with {came['note']!r}")
+        press(page, "by('other-profile').click()")
 
 
 def try_neither(page, want):
@@ -296,7 +295,7 @@ def try_profiles(page, want, run):
     examples = sorted((TOP / "examples").glob("*.check-extended"))
     for path in examples:
         try_wide(page, want, path.stem, path.with_suffix(".check").read_text(), path.read_text())
-    try_survey(page, want, examples[0].stem, lambda data: run(data, "survey")[1])
+    try_survey(page, want, examples[0].stem, run)
     try_neither(page, want)
     try_options(page, want)
     try_once(page, want)

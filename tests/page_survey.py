@@ -4,8 +4,10 @@
 
 After a no, the page's button surveys
 
-- each recording of examples/ that has a no, from power-on and joined;
-- so many damaged recordings (200 if not said), those of tests/surveyed, with their options;
+- each recording of examples/ that has a no, from power-on and joined, and by the extended profile;
+- each worked case that is a survey by the extended profile;
+- so many damaged recordings (200 if not said), those of tests/surveyed, with their options, one in two by
+  the extended profile;
 - a bad row in the middle, faults alone, 10,000 faults, more faults than the page lists, times in
   milliseconds, and exchanged lines;
 - in Chromium a day of eight hours with eight flipped bits (tests/make_day.py), whose sales have to
@@ -21,7 +23,6 @@ width of a telephone. tests/page runs this, too. Ends with status 1 at the first
 
 import json
 import pathlib
-import random
 import re
 import subprocess
 import sys
@@ -31,11 +32,13 @@ import time
 sys.dont_write_bytecode = True
 
 from browser import Browser  # noqa: E402
+from cases import SETUP, all_cases, is_way_of_page  # noqa: E402
 from firefox import Firefox  # noqa: E402
 import make_day  # noqa: E402
 import page_gaps  # noqa: E402
+import page_profiles  # noqa: E402
 from page_news import FOUND  # noqa: E402
-from programs import MDBCHECK, load  # noqa: E402
+from programs import MDBCHECK, Runs, load  # noqa: E402
 from unjudged import unjudged  # noqa: E402
 
 TOP = pathlib.Path(__file__).resolve().parent.parent
@@ -45,7 +48,7 @@ want, Wrong, amount = page_test.want, page_test.Wrong, page_test.amount
 SENDERS = page_test.NAMES
 # The most faults that the page lists, and so many it shows at a time.
 MOST, AT_A_TIME = 20_000, 200
-SHOWN = page_gaps.Shown(MDBCHECK)
+SHOWN, RUN = page_gaps.Shown(MDBCHECK), Runs(MDBCHECK).run
 
 # What a reader finds of a survey. Tables are read page by page.
 READ = """(() => {
@@ -329,7 +332,7 @@ def wrong_sums(count):
 def try_examples(page):
     counts = [0, 0, 0]
     for path in sorted(EXAMPLES.glob("*.csv")):
-        for words in ([], ["--joined"], ["--without", "cashless"]):
+        for words in ([], ["--joined"], ["--without", "cashless"], ["--extended"], ["--joined", "--extended"]):
             try:
                 made = compare(page, path, words, path.name)
             except Wrong as wrong:
@@ -339,23 +342,36 @@ def try_examples(page):
     print("surveys of {} examples: {} faults and {} stretches, as the program prints them".format(*counts))
 
 
+def try_cases(page):
+    """The worked cases of surveys by the extended profile."""
+    count = 0
+    for case in all_cases():
+        if case.words[0] != "survey" or "--extended" not in case.words or not is_way_of_page(case.words[1:]):
+            continue
+        try:
+            made = compare(page, case.input().encode("latin-1"), case.words[1:], "case.csv")
+            want(made.text == case.output(), f"the program prints {made.text!r}")
+            for number in range(1, len(made.faults) + 1):
+                try_story(page, made, number)
+        except Wrong as wrong:
+            raise Wrong(f"{case.name}: {wrong}") from None
+        count += 1
+    print(f"{count} worked cases of surveys by the extended profile")
+
+
 def generated(number, seed):
-    """Damaged recordings with their options, those of tests/surveyed."""
-    surveyed = load("surveyed")
+    """Damaged recordings with their options, those that tests/surveyed compares: by either profile in turn."""
+    surveyed, made = load("surveyed"), []
     surveyed.CASES = surveyed.without.recorded()
+    surveyed.compared = lambda _, lines, options: made.append(("".join(lines).encode(), options)) or {}
     for index in range(number):
-        dice = random.Random(f"page survey {seed} {index}")
-        taken = surveyed.played(dice) if index % 2 else surveyed.levelled(dice) if index % 4 else surveyed.talked(seed, index)
-        taken, is_from_start = surveyed.part_of(dice, taken)
-        options, words = surveyed.options_for(dice, taken.setups, is_from_start), []
-        if options.is_joined:
-            words.append("--joined")
-        for device in page_test.DEVICES:
-            if device in options.left_out:
-                words += ["--without", device]
-            elif device in options.setups:
-                words += ["--setup", f"{device} {options.setups[device]}"]
-        yield "".join(surveyed.damaged(dice, taken)).encode(), words
+        surveyed.surveyed((f"page {seed}", index, 1))
+        data, options = made.pop()
+        words = ["--joined"] * options.is_joined + ["--extended"] * options.is_extended
+        bare = (" ".join(SETUP.fullmatch(it).groups()) for it in options.values())
+        for word, values in (("--without", options.left_out), ("--setup", bare)):
+            words += [it for value in values for it in (word, value)]
+        yield data, words
 
 
 def try_generated(page, number, seed):
@@ -381,18 +397,37 @@ STORY = """(() => { const it = document.querySelector('#survey-rows [data-number
     [...it.querySelectorAll("tr.mark")].map((one) => [...one.children].map((c) => c.textContent)).at(-1)]; })()"""
 
 
+def unjudged_in(made, number):
+    """Whether a fault isn't judged. By the extended profile the stretch is told levels. By the base one all acts before it
+    show them, and none goes on after a gap; the fault is in a command of its stretch."""
+    row, rule, blame = made.faults[number - 1]
+    before = made.faults[number - 2][0] if number > 1 else 0
+    if "--extended" not in made.words:
+        gaps = {at for at, broken, _ in made.faults[: number - 1] if broken not in page_gaps.DEVICE_RULES}
+        rows = ["0,B,0" if at in gaps else line for at, line in enumerate(made.lines, 1)]
+        is_asked = any(",M,1" in line for line in made.lines[before:row])
+        return is_asked and unjudged(text_of(rows), [*made.words, *["--joined"] * (number > 1)], row, rule, blame)
+    words = page_gaps.words_before(SHOWN, made, made.words, MOST, number, before) if before else made.words
+    return rule == "Profile" and page_profiles.missing(RUN, text_of(made.lines[before:row]), words)
+
+
 def try_story(page, made, number):
     """What is said of a fault of the table: sentences with rows of its stretch, and its row of the file."""
     row, rule, blame = made.faults[number - 1]
-    before = made.faults[number - 2][0] if number > 1 else 0
-    reader = unjudged(text_of(made.lines), [*made.words, *["--joined"] * (number > 1)], row, rule, blame)
+    before, reader = made.faults[number - 2][0] if number > 1 else 0, unjudged_in(made, number)
     page.browser.value(f"(() => {{ document.querySelector('#survey-rows [data-number=\"{number}\"] button').click(); return 1; }})()")
     page.until(f"document.querySelector('#survey-rows [data-number=\"{number}\"]').nextSibling?.classList.contains('about')")
     told, marked = page.value(STORY % number)
-    said = "this row isn't judged" if reader else {"Profile": "not followed from here on"}.get(rule, "this row breaks the rule")
-    want(bool(reader) == any("At feature level 1" in words for words, _ in told), f"row {row} of {reader}: {told}")
-    want(marked is not None and plain(marked[0]) == str(row) and marked[1].startswith(made.lines[row - 1][:20]) and marked[2] == said, f"the rows about row {row}: {marked}")
+    said = "this row isn't judged" if reader else {"Profile": "this row isn't followed"}.get(rule, "this row breaks the rule")
+    want("--extended" in made.words or bool(reader) == any("At feature level 1" in words for words, _ in told), f"row {row} of {reader}: {told}")
+    # (an answer with 0D or 0E may be followed at no level, and still break `Answer` at one)
+    is_either = rule == "Profile" and any(re.search(",S,.0[DE]", line) for line in made.lines[max(0, row - 36):row])
+    want(marked is not None and plain(marked[0]) == str(row) and marked[1].startswith(made.lines[row - 1][:20]), f"the rows about row {row}: {marked}")
+    want(marked[2] == said or is_either, f"row {row}: {marked}, wanted {said}")
     want(all(words.strip() and not re.search("undefined|null|NaN", words) for words, _ in told), f"row {row}: {told}")
+    came = page.value(f"(({{list}}) => Array.from({{length: list.count}}, (_, i) => list.line(i)))(state.survey.faults[{number - 1}].about)")
+    wanted = acts_about(made, row, before, page_gaps.words_before(SHOWN, made, made.words, MOST, number, row))
+    want(came == wanted, f"what was said up to row {row}: {page_gaps.first_difference(came, wanted)}")
     rows = [it for _, links in told for it in links]
     most = row + (36 if rule == "Profile" else 0)
     want(all(before < first <= last <= most for first, last in rows), f"row {row}, of which the stretch begins after {before}: {told}")
@@ -556,7 +591,9 @@ def try_about(page):
                 document.activeElement.getAttribute("aria-expanded")]; })()""" % number)
         want(marked and marked[0][:3] == [str(row), made.lines[row - 1], "this row breaks the rule"], f"the rows about row {row}: {marked}")
         before = made.faults[number - 2][0] if number > 1 else 0
-        want(acts_about(made, row, before) == acts, f"what was said up to row {row}: {acts}")
+        wanted = [line.split(" ") for line in acts_about(made, row, before, [])][-8:]
+        wanted = [["–".join(dict.fromkeys(rows.split("-"))), " ".join(words)] for rows, _, _, *words in wanted]
+        want(wanted == acts, f"what was said up to row {row}: {acts}")
         want(isOpen == "true", "the button doesn't say that it is open")
     # A row of a sentence leads to its act, also after a fault, and back. The row of a gap leads to the gap.
     page.browser.value("(() => { const it = document.querySelector('.about li a[data-row=\"138\"]'); it.focus(); it.click(); return 1; })()")
@@ -576,18 +613,10 @@ def try_about(page):
     print("the rows about each fault, and what was said up to it, as `show` has it")
 
 
-def acts_about(made, row, before):
-    """The last acts before a row and with it, as `mdbcheck show` has them of the rows from a command on."""
-    place = next(it for it in range(max(before + 1, row - 2000), row) if made.lines[it - 1].split(",")[1:] and made.lines[it - 1].split(",")[1] == "M" and made.lines[it - 1].split(",")[2][0] == "1")
-    ran = subprocess.run([MDBCHECK, "show"], input=text_of(made.lines[place - 1:row]), capture_output=True)
-    found = []
-    for line in ran.stdout.decode().splitlines():
-        words = line.split(" ")
-        if words[0] == "fault":
-            continue
-        first, last = (int(it) + place - 1 for it in words[0].split("-"))
-        found.append([str(first) if first == last else f"{first}–{last}", " ".join(words[3:])])
-    return found[-8:]
+def acts_about(made, row, before, words):
+    """The acts before a row and with it, as `mdbcheck show` has them of the rows from a command on."""
+    place = next((it for it in range(max(before + 1, row - 2000), row) if re.search(",M,1", made.lines[it - 1])), row)
+    return page_gaps.part_of(SHOWN, made.lines, place, row, False, words).lines if place < row else []
 
 
 def try_links(page):
@@ -742,6 +771,7 @@ def try_seen(page):
 def try_all(browser, work, number, seed):
     page = Page(work, browser)
     try_examples(page)
+    try_cases(page)
     try_ends(page)
     try_unjudged(page)
     try_about(page)

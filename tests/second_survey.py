@@ -1,7 +1,8 @@
 #!/usr/bin/env python3
 """A second `mdbcheck survey`: the recording is cut by hand.
 
-    second_survey.py [survey] [--joined] [--setup 'DEVICE BYTES'].. [--without DEVICE].. [--json]
+    second_survey.py [survey] [--joined [--setup 'DEVICE ..']..] [--extended] [--without DEVICE]..
+        [--json]
 
 It reads a transcript, and does what a technician does who has `check` and `show` alone, `head`,
 `tail` and a pencil:
@@ -15,7 +16,12 @@ It reads a transcript, and does what a technician does who has `check` and `show
 One thing can't be told to `check`: the level that the controller told a reader before the fault. So
 this reader finds by itself where that level, and the one that the reader tells, are both 2 or more.
 
-It shares nothing with `survey` but what `check` and `show` of tests/programs.py's program say.
+By the extended profile it asks no program: tests/second_replay.py follows each stretch, and reads
+what is said in it. What a later stretch is told is as docs/bench/extended-profile.md, *A survey*,
+has it. It is taken as if `--setup` told it.
+
+This reader shares nothing with `survey` but what `check` and `show` of tests/programs.py's program
+say. By the extended profile it shares only the words about a row that isn't one.
 
     survey(text, options, run) -> (status, out, err)
 
@@ -24,6 +30,8 @@ wrong, and more rows than the program takes, are nothing for this reader.
 """
 
 import argparse
+import collections
+import functools
 import json
 import re
 import sys
@@ -31,6 +39,7 @@ from typing import Callable, Iterator, NamedTuple, Optional
 
 sys.dont_write_bytecode = True
 
+import second_replay as replay  # noqa: E402
 from programs import MDBCHECK, Runs  # noqa: E402
 from second_replay import records  # noqa: E402
 
@@ -63,7 +72,13 @@ LENGTHS = {0: 1, 1: 8, 3: 3, 4: 1, 5: 3, 6: 1, 7: 1, 8: 1, 9: 30, 10: 2, 11: 1}
 CONFIG = 1
 PLACES_IN_CONFIG = 5
 
-VERSION = 1
+#: By the extended profile: how ENABLE OPTIONS begins at each reader, how many rows it has, and the
+#: bit of always idle in its last byte. The message by which a reader doesn't accept a command.
+OPTIONS_ASKS = {"cashless": (0x117, 0x004), "cashless-2": (0x167, 0x004)}
+OPTIONS_ROWS = 7
+ALWAYS_IDLE = 0x20
+IS_TOLD_OF_READER = re.compile(r"cashless(-2)? (level|[16][17])")
+OUT_OF_SEQUENCE = 0x0B
 
 Run = Callable[..., "tuple[int, str, str]"]
 
@@ -75,11 +90,17 @@ class Options(NamedTuple):
     setups: dict = {}  # by device, the bytes as text
     left_out: tuple = ()
     is_json: bool = False
+    is_extended: bool = False
+    told: tuple = ()  # what else `--setup` tells of readers, by the extended profile
+
+    def values(self) -> "list[str]":
+        """Those of `--setup`."""
+        return [*(f"{device} {text}" for device, text in self.setups.items()), *self.told]
 
     def words(self) -> "list[str]":
-        words = ["--joined"] * self.is_joined
-        for device, text in self.setups.items():
-            words += ["--setup", f"{device} {text}"]
+        words = ["--joined"] * self.is_joined + ["--extended"] * self.is_extended
+        for value in self.values():
+            words += ["--setup", value]
         for device in self.left_out:
             words += ["--without", device]
         return words + ["--json"] * self.is_json
@@ -247,26 +268,38 @@ def level_2(acts: "list[Act]", told: "dict[str, int]") -> Optional[Fault]:
 class Survey:
     """A recording that is cut, from its first row on."""
 
+    version = 1
+
     def __init__(self, lines: "list[bytes]", options: Options, run: Run):
         self.lines, self.run = lines, run
-        self.known = Known(options)
         self.parts: "list[Stretch | Fault]" = []
         self.refused: Optional[str] = None  # the line about a row that isn't one
-        self.by_told_levels = 0  # faults that `check` can't find in the rows of their stretch
-        now, first = options._replace(is_json=True), 1
+        #: How often `check` can't find a fault in the rows of its stretch, and what is told.
+        self.came = collections.Counter()
+        self.begins(options)
+        first = 1
         while first <= len(lines) and self.refused is None:
-            fault = self.takes(first, now)
+            fault = self.takes(first)
             if fault is None:
                 break
             self.parts.append(fault)
-            self.known.blames(fault)
-            now, first = self.known.options(), fault.row + 1
+            self.goes_on(first, fault)
+            first = fault.row + 1
+
+    def begins(self, options: Options):
+        self.known, self.now = Known(options), options._replace(is_json=True)
+
+    def goes_on(self, first: int, fault: Fault):
+        """A stretch ended with a fault: how is the next one checked?"""
+        self.known.blames(fault)
+        self.now = self.known.options()
 
     def check(self, first: int, last: int, options: Options):
         return self.run(b"".join(self.lines[first - 1:last]), "check", *options.words())
 
-    def takes(self, first: int, options: Options) -> Optional[Fault]:
+    def takes(self, first: int) -> Optional[Fault]:
         """The stretch that begins with a row; and its fault, if it has one."""
+        options = self.now
         answer = self.check(first, len(self.lines), options)
         last, fault, refused = self.first_no(first, answer)
         left_out, told = options.left_out, self.known.unanswered
@@ -278,7 +311,7 @@ class Survey:
             earlier = level_2(acts, told)
             if earlier:
                 last, fault, refused = earlier.row - 1, earlier, None
-                self.by_told_levels += 1
+                self.came["by a level told before"] += 1
         self.refused = refused
         if first <= last:
             if last < len(self.lines):
@@ -317,6 +350,10 @@ class Survey:
             # a reader that it left out later. Its decimal places are known then, too.
             if told["setup"] and told["without"]:
                 told["decimals"] = bytes.fromhex(self.known.setups[device])[PLACES_IN_CONFIG]
+        self.stands(first, last, report)
+
+    def stands(self, first: int, last: int, report: dict):
+        """A stretch, with its report."""
         number = 1 + sum(isinstance(part, Fault) for part in self.parts)
         self.parts.append(Stretch(number, first, last, report))
 
@@ -350,6 +387,233 @@ def added(reports: "list[dict]") -> dict:
     }
     counts = {name: sum(report[name] for report in reports) for name in ("silences", "unvalued")}
     return {"accounts": accounts, **counts}
+
+
+# --------------------------------------------------------------------------------------------------
+# The survey by the extended profile
+# --------------------------------------------------------------------------------------------------
+
+
+class ReaderKnown:
+    """What is known of a reader, after the acts so far."""
+
+    def __init__(self, is_joined: bool):
+        self.sent: Optional[int] = None  # the last level of the controller, and of the reader
+        self.own: Optional[int] = None
+        #: The switch of always idle; None where it isn't known.
+        self.is_on: Optional[bool] = None if is_joined else False
+        #: Whether it took an ENABLE OPTIONS since the last break or RESET, or one is told.
+        self.has_options = False
+
+    def level(self) -> Optional[int]:
+        return None if self.sent is None or self.own is None else min(self.sent, self.own)
+
+    def is_reset(self):
+        """By a break, or by a RESET that it took."""
+        self.is_on, self.has_options = False, False
+
+    def takes_options(self, has_bit: bool, is_joined: bool):
+        """An ENABLE OPTIONS that it took, with always idle or without."""
+        level, self.has_options = self.level(), True
+        if has_bit and (level is None and not is_joined or level is not None and level >= 3):
+            self.is_on = True
+        elif has_bit and level is None and self.is_on is False:
+            self.is_on = None
+
+    def is_told(self, has_bit: bool):
+        """Options before a stretch: always idle without both levels leaves the switch unknown."""
+        self.has_options = True
+        self.is_on = None if has_bit and self.level() is None else has_bit
+
+    def crosses_a_fault(self):
+        """The next stretch is told options with the switch. One that isn't known is told as on, unless
+        both levels are known: beside these it would count."""
+        if self.has_options and (self.is_on is not None or self.level() is None):
+            self.is_told(self.is_on is not False)
+        else:
+            self.is_on, self.has_options = None, False
+
+    def is_known(self) -> bool:
+        return self.sent is not None or self.own is not None or self.has_options
+
+    def told(self) -> "Iterator[str]":
+        """What the next stretch is told, by its name."""
+        if self.sent is not None or self.own is not None:
+            yield "told both levels" if self.level() is not None else "told one level"
+        if self.has_options:
+            yield f"told always idle {'off' if self.is_on is False else 'on'}"
+
+
+class ExtendedKnown:
+    """What the next stretch is told, and who is left out in it."""
+
+    def __init__(self, options: Options):
+        self.is_joined, self.left_out = options.is_joined, set(options.left_out)
+        self.setups: "dict[str, bytes]" = {}  # an answer to SETUP; of a reader its config message
+        self.readers = {name: ReaderKnown(options.is_joined) for name in CONFIG_ASKS}
+        if options.is_joined:
+            told = replay.read_setups(options.values(), self.left_out, True)
+            self.setups.update(told.setup)
+            for name, reader in self.readers.items():
+                reader.sent, reader.own = told.sent_levels.get(name), told.told_levels.get(name)
+                if name in told.options:
+                    reader.is_told(bool(told.options[name] & ALWAYS_IDLE))
+
+    def named(self) -> "list[str]":
+        """Who stands in the line `setup`."""
+        known = {name for name, reader in self.readers.items() if reader.is_known()}
+        return [device for device in DEVICES if device in known or device in self.setups]
+
+    def told(self) -> "Optional[replay.Told]":
+        """The same in the words of the second replay, but the switches."""
+        if not self.is_joined:
+            return None
+        told = replay.Told(True)
+        told.setup = dict(self.setups)
+        for name, reader in self.readers.items():
+            if reader.sent is not None:
+                told.sent_levels[name] = reader.sent
+            if reader.own is not None:
+                told.told_levels[name] = reader.own
+            if reader.has_options:
+                told.options[name] = 0
+        return told
+
+    def runs(self) -> replay.Runs:
+        """All runs of the next stretch, at its begin."""
+        runs = replay.Runs(self.left_out, True, None, self.told())
+        for name, reader in self.readers.items():
+            for state in runs.devices[name]:
+                state.switch = replay.UNKNOWN if reader.is_on is None else reader.is_on
+        return runs
+
+    def acts(self, rows: "list[tuple]") -> "Iterator[tuple[int, replay.Act]]":
+        """The acts of the next stretch, each with the number of its last row, from 0."""
+        link = replay.Link(self.left_out, True, self.told())
+        for number, row in enumerate(rows):
+            act = link.take(*row)
+            if act is not None:
+                yield number, act
+
+    def learn(self, act: replay.Act):
+        """What a whole act of the stretch tells."""
+        if act.kind == "break":
+            for reader in self.readers.values():
+                reader.is_reset()
+        elif act.command.device in self.readers:
+            self.learn_of_reader(act, self.readers[act.command.device])
+        elif act.kind == "reply" and act.command.name == "SETUP":
+            self.setups[act.command.device] = act.content
+
+    def learn_of_reader(self, act: replay.Act, reader: ReaderKnown):
+        name, messages = act.command.name, act.messages
+        if act.kind == "ask" and name == "SETUP config":
+            reader.sent = act.asked[2]
+        is_accepted = all(message[0] != OUT_OF_SEQUENCE for message in messages)
+        if act.kind == "ack" or act.kind == "reply" and is_accepted:
+            if name == "RESET":
+                reader.is_reset()
+            elif name == "ENABLE OPTIONS":
+                reader.takes_options(bool(act.asked[-1] & ALWAYS_IDLE), self.is_joined)
+        for message in messages:
+            if message[0] == CONFIG:
+                self.setups[act.command.device], reader.own = message, message[1]
+
+    def crosses(self, asked_for_more: Optional[str]):
+        """A fault: the next stretch is joined. A reader that was asked for more is left out."""
+        self.is_joined = True
+        for reader in self.readers.values():
+            reader.crosses_a_fault()
+        if asked_for_more:
+            self.left_out.add(asked_for_more)
+
+
+class ExtendedSurvey(Survey):
+    """A recording that is cut by the extended profile."""
+
+    version = 2
+
+    def begins(self, options: Options):
+        self.known = ExtendedKnown(options)
+        self.rows: "list[tuple]" = []  # those that were read so far
+
+    def row(self, number: int) -> tuple:
+        """A row: time, line and value."""
+        if number > len(self.rows):
+            (fields,) = records(self.lines[number - 1])
+            self.rows.append(replay.read_row(fields, number))
+        return self.rows[number - 1]
+
+    def takes(self, first: int) -> Optional[Fault]:
+        runs = self.known.runs()
+        last, fault, silences = self.follows(runs, first)
+        if first <= last:
+            self.stands(first, last, self.report_of(runs, last - first + 1, silences))
+        for _, act in list(self.known.acts(self.rows[first - 1:last])):
+            self.known.learn(act)
+        return fault
+
+    def follows(self, runs: replay.Runs, first: int) -> "tuple[int, Optional[Fault], dict]":
+        """The last row of a stretch, its fault, if it has one, and its silences.
+
+        The fault's row may have counted one more.
+        """
+        silences, counted = dict.fromkeys(DEVICES, 0), runs.silences
+        for number in range(first, len(self.lines) + 1):
+            try:
+                runs.take_row(*self.row(number))
+            except replay.Broken as broken:
+                return number - 1, Fault(number, broken.rule, broken.blame), silences
+            except replay.NoAnswer:
+                _, _, err = self.run(self.lines[number - 1], "check")
+                self.refused = re.sub(r"(?<=^mdbcheck: row )1(?=: )", str(number), err)
+                return number - 1, None, silences
+            silences = {device: counted[device].number for device in DEVICES}
+        return len(self.lines), None, silences
+
+    def report_of(self, runs: replay.Runs, rows: int, silences: dict) -> dict:
+        """The report of a stretch, as `check --json` writes it."""
+        devices = {
+            device: {
+                "accounts": {},
+                "decimals": runs.devices[device][0].decimals(),
+                "silences": silences[device],
+                "unvalued": runs.devices[device][0].unvalued,
+                "setup": device in self.known.named(),
+                "without": device in self.known.left_out,
+            }
+            for device in DEVICES
+        }
+        for account, device in ACCOUNTS.items():
+            name = account.removesuffix("-2").replace("-", "_")
+            sums = {getattr(state, name) for state in runs.devices[device]}
+            joined = functools.reduce(replay.Sum.joined, sums)
+            devices[device]["accounts"][account] = sides_of(joined)
+        head = {"verdict": "yes", "rows": rows, "joined": self.known.is_joined}
+        return {**head, "extended": True, "devices": devices, "version": self.version}
+
+    def goes_on(self, first: int, fault: Fault):
+        self.known.crosses(asked_for_more(self.rows, first, fault))
+        for name in self.known.readers.keys() - self.known.left_out:
+            self.came.update(self.known.readers[name].told())
+
+
+def asked_for_more(rows: "list[tuple]", first: int, fault: Fault) -> Optional[str]:
+    """The reader to which a fault is an ENABLE OPTIONS with options that aren't followed. The block
+    stands in the stretch, which begins with row `first`."""
+    begin = fault.row - OPTIONS_ROWS + 1
+    if fault.rule != "Profile" or begin < first:
+        return None
+    words = [(line, value) for _, line, value in rows[begin - 1:fault.row]]
+    for reader, heads in OPTIONS_ASKS.items():
+        if words[:2] == [(b"M", head) for head in heads] and all(line == b"M" for line, _ in words):
+            return reader
+    return None
+
+
+def sides_of(account: replay.Sum) -> dict:
+    """The ranges of an account."""
+    return {side: {"least": least, "greatest": most} for side, (least, most) in zip(SIDES, account)}
 
 
 # --------------------------------------------------------------------------------------------------
@@ -434,7 +698,7 @@ def json_of(survey: Survey) -> str:
             objects.append({**place, "report": part.report})
     if not survey.refused:
         objects.append({"total": json_total(survey), "faults": json_faults(survey.faults())})
-    return "".join(json_line({**each, "version": VERSION}) for each in objects)
+    return "".join(json_line({**each, "version": survey.version}) for each in objects)
 
 
 def json_total(survey: Survey) -> Optional[dict]:
@@ -459,9 +723,14 @@ def json_line(value: dict) -> str:
 # --------------------------------------------------------------------------------------------------
 
 
+def survey_of(text: bytes, options: Options, run: Run) -> Survey:
+    """The survey of a text, by its profile."""
+    return (ExtendedSurvey if options.is_extended else Survey)(lines_of(text), options, run)
+
+
 def survey(text: bytes, options: Options, run: Run) -> "tuple[int, str, str]":
     """Status, standard output and standard error of `survey` on a text."""
-    return Survey(lines_of(text), options, run).answer(options.is_json)
+    return survey_of(text, options, run).answer(options.is_json)
 
 
 def options_of(words: "list[str]") -> Options:
@@ -469,12 +738,15 @@ def options_of(words: "list[str]") -> Options:
     parser = argparse.ArgumentParser(usage=__doc__)
     parser.add_argument("command", nargs="?", choices=["survey"])
     parser.add_argument("--joined", action="store_true")
+    parser.add_argument("--extended", action="store_true")
     parser.add_argument("--setup", action="append", default=[])
     parser.add_argument("--without", action="append", default=[], choices=DEVICES)
     parser.add_argument("--json", action="store_true")
     read = parser.parse_args(words)
-    setups = dict(value.split(" ", 1) for value in read.setup)
-    return Options(read.joined, setups, tuple(dict.fromkeys(read.without)), read.json)
+    told = tuple(value for value in read.setup if IS_TOLD_OF_READER.search(value))
+    setups = dict(value.split(" ", 1) for value in read.setup if value not in told)
+    left_out = tuple(dict.fromkeys(read.without))
+    return Options(read.joined, setups, left_out, read.json, read.extended, told)
 
 
 def main() -> int:

@@ -292,11 +292,9 @@ impl<'a> Case<'a> {
         Ok(())
     }
 
-    /// Whether the case is a no of `check` with options that `survey` has too.
+    /// Whether the case is a no of `check`.
     fn is_no(&self) -> bool {
-        self.status == "1"
-            && first_word(self.words) == "check"
-            && !has_word(self.words, "--extended")
+        self.status == "1" && first_word(self.words) == "check"
     }
 
     /// Surveys the rows of a no of `check`, and answers whether the first fault is that no.

@@ -26,8 +26,8 @@ fn fault_line(alloc: Global, no: &str) -> io::Result<String> {
     let mut line = String::new(alloc);
     if let Some((row, rule, blame)) = parts_of(no) {
         write!(line, "{FAULT}{row} {rule} {blame}")?;
-    } else if let Some((members, _)) = no.split_once(",\"verdict\":\"no\"") {
-        write!(line, "{JSON_FAULT}{members}}},\"version\":1}}")?;
+    } else if let Some((members, version)) = no.split_once(",\"verdict\":\"no\"") {
+        write!(line, "{JSON_FAULT}{members}}}{}", version.trim_end())?;
     }
     Ok(line)
 }

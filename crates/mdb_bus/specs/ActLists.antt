@@ -155,6 +155,11 @@ abbrev pub position_of : Scope → List Piece → Position
 position_of scope [] = first_position scope.begins
 position_of scope (piece ∷ pieces) = left_by piece
 
+-- the bytes so far of the block of the controller that is open there; none where none is
+abbrev pub open_block : Position → List ℕ
+open_block (InAsk bytes) = bytes
+open_block position = []
+
 -- the gap from the row before, if there is one, is at least, at most so long; it counts from a
 -- word's start and a break's end
 abbrev pub NotBefore : ℕ → Option Event → Event → Type 0

@@ -38,7 +38,7 @@ pub struct Bus {
 impl Bus {
     ghost use Rattle.mdb_msgs.specs.Commands.{device_of};
     ghost use Rattle.mdb_bus.specs.ActLists.{HasActList, Piece, events_of, levels_after};
-    ghost use Rattle.mdb_bus.specs.Bus.{GoesOn, StandsFor, ended_act, position_at, scope_of};
+    ghost use Rattle.mdb_bus.specs.Bus.{GoesOn, StandsFor, ended_act, open_block_of, position_at, scope_of};
     ghost use Rattle.mdb_bus.specs.LinkFaults.{IsLinkFault, blame_of};
     ghost use Rattle.mdb_bus.specs.inner.Gone.{HasGone};
     ghost use Rattle.mdb_bus.specs.inner.Step as step;
@@ -83,6 +83,17 @@ impl Bus {
             levels: scope.levels_before(),
             options: KnownOptions::before(&scope.begins),
             asked: None,
+        }
+    }
+
+    /// The bytes so far of the block of the controller in which the rows end; none where they end
+    /// in no such block.
+    pub fn open_block(&self) -> &[u8]
+        ensures { result.now ≡ open_block_of self.now }
+    {
+        match self.place.phase {
+            Phase::InAsk => self.place.bytes.as_slice(),
+            _ => &[],
         }
     }
 

@@ -15,6 +15,7 @@ use Rattle.mdb_bus.specs.declared.act.Act.{Act}
 use Rattle.mdb_bus.specs.declared.bus.Bus.{Bus}
 use Rattle.mdb_bus.specs.declared.fault.LinkFault.{LinkFault}
 use Rattle.mdb_bus.specs.declared.fault.Rule.{Rule}
+use Rattle.mdb_bus.specs.declared.fault.Rule.TheVariants as rules
 use Rattle.mdb_bus.specs.ActLists.{ArePieces, HasActList, IsActList, Piece, Whole, AskTail, ReplyTail}
 use Rattle.mdb_bus.specs.ActLists.{RepeatTail, act_in, acts_of, events_of, piece_events, with_act}
 use Rattle.mdb_bus.specs.Bus as link
@@ -49,7 +50,7 @@ use Rattle.mdb_follow.specs.declared.account.Account.{Account}
 use Rattle.mdb_follow.specs.Runs.{AllSums, IsReached, Run, States}
 use Rattle.mdb_follow.specs.Arrivals.{Arrives, EachArrives}
 use Rattle.mdb_follow.specs.Machines.{machine_of}
-use Rattle.mdb_follow.specs.Offences.{NoStep}
+use Rattle.mdb_follow.specs.Offences.{NoStep, rule_of}
 use Rattle.mdb_follow.specs.Sides.{AreSides}
 use Rattle.mdb_follow.specs.Silences.{asks_of}
 use Rattle.mdb_follow.specs.inner.SideSteps.{AreStanding, SidesStay}
@@ -218,6 +219,11 @@ asks-as : (one other : Scope) (device : Device) (silence : Silence) (pieces : Li
 asks-as one other device silence pieces same =
     subst (λ (s : Scope). StandsForAsks silence (asks_of s.begins device pieces)) (sym same)
 
+no-device-is-beyond : {T : Type 0} (device : Device) → rule_of device ≡ rules.Profile → T
+no-device-is-beyond devices.Changer is = absurd (cc is)
+no-device-is-beyond devices.Bill is = absurd (cc is)
+no-device-is-beyond (devices.Reader unit) is = absurd (cc is)
+
 -- sides of a follower that stands for events stand for acts
 standing-for : {follower : Follower} {events : List Event} → StandsFor follower events
     → AreStanding follower.sides
@@ -226,6 +232,12 @@ standing-for {follower} on = record {
   acts = acts_of on.pieces;
   stand = on.sides;
 }
+
+-- A rule of a device isn't that of what isn't followed.
+pub none-beyond : {T : Type 0} (old : Follower) (act : Act) (new : Follower) (offence : Offence)
+    → HasStopped old act new offence → offence.rule ≡ rules.Profile → T
+none-beyond old act new offence has beyond =
+    no-device-is-beyond has.none.0 (sym has.none.1.rule ∙ beyond)
 
 -- A follower that has stopped has accepted still what it stood for.
 pub accepted-still : (old new : Follower) (events : List Event) → StandsFor old events

@@ -1,9 +1,10 @@
 -- What a follower does by a row that it is fed: it takes the row, or refuses it.
 use Rattle.std.specs.Prelude.{◌≡◌, ◌+◌, List, ◌++◌, length, Some}
 use Rattle.mdb_words.specs.declared.event.Event.{Event}
+use Rattle.mdb_bus.specs.declared.fault.Rule.TheVariants as rules
 use Rattle.mdb_follow.specs.declared.follower.Follower.{Follower}
 use Rattle.mdb_follow.specs.declared.offence.Offence.{Offence}
-use Rattle.mdb_follow.specs.Follower.{HasAccepted, StandsFor, offence_of, rows_of, scope_of}
+use Rattle.mdb_follow.specs.Follower.{HasAccepted, StandsFor, offence_of, open_block_of, rows_of, scope_of}
 use Rattle.mdb_follow.specs.Offences.{IsOffence}
 use Rattle.mdb_follow.specs.Runs.{IsReached}
 use Rattle.mdb_follow.specs.Sales.{SalesFollowApprovals}
@@ -28,3 +29,5 @@ pub record HasRefused (old new : Follower) (row : Event) (met : Offence) : Type 
   pub noted : offence_of new ≡ Some met
   pub numbered : met.row ≡ rows_of new + 1
   pub uncounted : rows_of new ≡ rows_of old
+  -- the block that a row breaks which isn't followed
+  pub block : met.rule ≡ rules.Profile → open_block_of new ≡ open_block_of old

@@ -27,6 +27,10 @@ offence_of follower = follower.offence
 abbrev pub act_of : Follower → Act
 act_of follower = follower.act
 
+-- the bytes so far of the block of the controller that is open on its bus
+abbrev pub open_block_of : Follower → List ℕ
+open_block_of follower = bus.open_block_of follower.bus
+
 -- A follower stands for events: its bus does, each of its sides stands for their acts, and its
 -- silences are those of their asks.
 pub record StandsFor (follower : Follower) (events : List Event) : Type 0 where

@@ -48,7 +48,7 @@ impl Follower {
     ghost use Rattle.mdb_bus.specs.Scopes.{all_joined, power_on};
     ghost use Rattle.mdb_follow.specs.Feeding.{HasRefused, HasTakenRows};
     ghost use Rattle.mdb_follow.specs.Follower.{HasAccepted, StandsFor};
-    ghost use Rattle.mdb_follow.specs.Follower.{act_of, offence_of, rows_of, scope_of};
+    ghost use Rattle.mdb_follow.specs.Follower.{act_of, offence_of, open_block_of, rows_of, scope_of};
     ghost use Rattle.mdb_follow.specs.inner.FollowerSteps.{HasFollowedAct, HasStopped};
     ghost use Rattle.mdb_follow.specs.Offences.{HasOffence};
     ghost use Rattle.mdb_follow.specs.Report.{IsReport};
@@ -161,6 +161,15 @@ impl Follower {
         ensures numbered { IfSome result (λ offence. offence.row ≡ rows_of self.now + 1) }
     {
         self.offence
+    }
+
+    /// The bytes so far of the block of the controller in which the rows end; none where they end
+    /// in no such block. After an offence with the rule `Profile` the rows are those before it.
+    pub fn open_block(&self) -> &[u8]
+        ensures { result.now ≡ open_block_of self.now }
+    {
+        let Follower { bus, .. } = self;
+        bus.open_block()
     }
 
     /// Accepts rows up to the first impossible one.

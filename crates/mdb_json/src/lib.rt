@@ -13,4 +13,4 @@ mod outcome;
 
 pub use account::accounts_of;
 pub use line::line_of;
-pub use outcome::{VERSION, json_of, report_value};
+pub use outcome::{VERSION, json_of, report_value, version_by};

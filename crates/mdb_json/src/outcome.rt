@@ -90,7 +90,7 @@ fn extended_value(alloc: Global, scope: &Scope, report: &Report) -> Result<Value
 }
 
 /// The version of the form by a profile.
-fn version_by(profile: Profile) -> u64
+pub fn version_by(profile: Profile) -> u64
     ensures { result ≡ version_of profile }
 {
     match profile {

@@ -41,7 +41,7 @@ enum Stop {
 /// - 2: a line is no row;
 /// - 3: there are more rows than a recording may have, the rows of faults counted;
 /// - 4: a line has a quote, or a CR that doesn't end it;
-/// - 5: the options aren't valid, or ask for the extended profile, which no survey follows;
+/// - 5: the options aren't valid;
 /// - 6: the text of the answer, or of a fault with its stretch, has no room in `answer`.
 ///
 /// With 0 and 1 `answer` has the lines of the last stretch, if that has a row, and of the whole.
@@ -67,19 +67,14 @@ pub extern "C" fn mdb_page_survey(
 ) -> u32
     ensures surveyed { result ≢ 5 → result ≢ 6 → (scope : Scope) × IsTakenSo options.now scope
         × IsSurveyed scope text.now skip faults.new lines.new told.new answer.new result }
-    ensures refused { result ≡ 5 → options.now.extended ≡ 0
-        → (scope : Scope) → IsTakenSo options.now scope → ⊥ }
-    ensures taken { result ≢ 5 → (options.now.extended ≡ 0)
-        × ((scope : Scope) × IsTakenSo options.now scope) }
+    ensures refused { result ≡ 5 → (scope : Scope) → IsTakenSo options.now scope → ⊥ }
+    ensures taken { result ≢ 5 → (scope : Scope) × IsTakenSo options.now scope }
     ensures none { result ≡ 5 → (told.new.acts ≡ 0) × (told.new.news ≡ 0) }
 {
     told.acts = 0;
     told.news = 0;
     lines.count = 0;
     answer.count = 0;
-    if options.extended != 0 {
-        return BAD_OPTIONS;
-    }
     let Some(scope) = taken_so(options) else {
         return BAD_OPTIONS;
     };

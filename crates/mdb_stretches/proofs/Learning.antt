@@ -22,6 +22,7 @@ use Rattle.mdb_bus.specs.declared.scope.Beginning.{Beginning}
 use Rattle.mdb_bus.specs.declared.scope.Beginning.TheVariants.{PowerOn, Joined}
 use Rattle.mdb_bus.specs.declared.scope.Profile.{Profile}
 use Rattle.mdb_bus.specs.ActLists.{Piece, Whole, acts_of, levels_by, levels_of, levels_told}
+use Rattle.mdb_bus.specs.Scopes.{profile_of}
 use Rattle.mdb_cash.specs.BillFacts as bill
 use Rattle.mdb_cash.specs.ChangerFacts as changer
 use Rattle.mdb_machine.specs.Keeper.{setup_by}
@@ -39,7 +40,7 @@ answer_leaves_levels : (device : Device) (known : Option Setups) (told : Told)
 answer_leaves_levels device None told = refl
 answer_leaves_levels device (Some setups) told = refl
 
-levels_step : (profile : Profile) (act : Act) (told : Told)
+pub levels_step : (profile : Profile) (act : Act) (told : Told)
     → (learnt_by profile act told).levels ≡ levels_by profile act told.levels
 levels_step profile (acts.Ask command) told = refl
 levels_step profile (acts.Reply command reply) told =
@@ -47,13 +48,14 @@ levels_step profile (acts.Reply command reply) told =
     (record told { levels = levels_told profile command reply told.levels })
 levels_step profile act told = refl
 
-pub levels_later : (profile : Profile) (told : Told) (pieces : List Piece)
-    → (told_after profile told (acts_of pieces)).levels ≡ levels_of profile told.levels pieces
-levels_later profile told [] = refl
-levels_later profile told (Whole act events ∷ pieces) =
-    levels_step profile act (told_after profile told (acts_of pieces))
-    ∙ ap (levels_by profile act) (levels_later profile told pieces)
-levels_later profile told (piece ∷ pieces) = levels_later profile told pieces
+pub levels_later : (begins : Beginning) (told : Told) (pieces : List Piece)
+    → (told_after begins told (acts_of pieces)).levels
+    ≡ levels_of (profile_of begins) told.levels pieces
+levels_later begins told [] = refl
+levels_later begins told (Whole act events ∷ pieces) =
+    levels_step (profile_of begins) act (told_after begins told (acts_of pieces))
+    ∙ ap (levels_by (profile_of begins) act) (levels_later begins told pieces)
+levels_later begins told (piece ∷ pieces) = levels_later begins told pieces
 
 -- what is told last
 or_else_both : {X : Type 0} (one other last : Option X)
@@ -62,16 +64,16 @@ or_else_both (Some x) other last = refl
 or_else_both None other last = refl
 
 -- what is known of a device, where an act tells it or leaves it
-known_last : {X : Type 0} (of : Setups → Option X) (tells : Act → Option X) (profile : Profile)
-    → ((act : Act) (told : Told) → of (learnt_by profile act told).setups
+known_last : {X : Type 0} (of : Setups → Option X) (tells : Act → Option X) (begins : Beginning)
+    → ((act : Act) (told : Told) → of (learnt_by (profile_of begins) act told).setups
     ≡ or_else (tells act) (of told.setups))
-    → (begins : Beginning) (told : Told) → of told.setups ≡ known_before of begins
-    → (acts : List Act) → of (told_after profile told acts).setups
+    → (told : Told) → of told.setups ≡ known_before of begins
+    → (acts : List Act) → of (told_after begins told acts).setups
     ≡ or_else (last_told tells acts) (known_before of begins)
-known_last of tells profile step begins told is [] = is
-known_last of tells profile step begins told is (act ∷ acts) =
-    step act (told_after profile told acts)
-    ∙ ap (or_else (tells act)) (known_last of tells profile step begins told is acts)
+known_last of tells begins step told is [] = is
+known_last of tells begins step told is (act ∷ acts) =
+    step act (told_after begins told acts)
+    ∙ ap (or_else (tells act)) (known_last of tells begins step told is acts)
     ∙ or_else_both (tells act) (last_told tells acts) (known_before of begins)
 
 -- what is known before
@@ -193,26 +195,27 @@ second_step profile (acts.Reply (commands.Reader First command) reply) told = re
 second_step profile (acts.Reply (commands.Reader Second command) reply) told = refl
 second_step profile act told = refl
 
-config_known_of : (begins : Beginning) (profile : Profile) (told : Told) (acts : List Act)
-    (unit : ReaderUnit) → told.setups ≡ setups_of begins
-    → config_known (told_after profile told acts).setups unit
+config_known_of : (begins : Beginning) (told : Told) (acts : List Act) (unit : ReaderUnit)
+    → told.setups ≡ setups_of begins
+    → config_known (told_after begins told acts).setups unit
     ≡ (reader.known_of begins unit acts).config
-config_known_of begins profile told acts First is =
-    known_last (λ setups. config_known setups First) (reader.config_by First) profile
-    (first_step profile) begins told
+config_known_of begins told acts First is =
+    known_last (λ setups. config_known setups First) (reader.config_by First) begins
+    (first_step (profile_of begins)) told
     (known_first (λ setups. config_known setups First) refl begins told is) acts
-config_known_of begins profile told acts Second is =
-    known_last (λ setups. config_known setups Second) (reader.config_by Second) profile
-    (second_step profile) begins told
+config_known_of begins told acts Second is =
+    known_last (λ setups. config_known setups Second) (reader.config_by Second) begins
+    (second_step (profile_of begins)) told
     (known_first (λ setups. config_known setups Second) refl begins told is) acts
 
-pub setups_after : (begins : Beginning) (profile : Profile) (told : Told) (acts : List Act)
-    → told.setups ≡ setups_of begins → AreKnown begins (told_after profile told acts).setups acts
-setups_after begins profile told acts is = record {
-  changer = known_last (λ setups. setups.changer) (setup_by changer.tables) profile
-      (changer_step profile) begins told
+pub setups_after : (begins : Beginning) (told : Told) (acts : List Act)
+    → told.setups ≡ setups_of begins → AreKnown begins (told_after begins told acts).setups acts
+setups_after begins told acts is = record {
+  changer = known_last (λ setups. setups.changer) (setup_by changer.tables) begins
+      (changer_step (profile_of begins)) told
       (known_first (λ setups. setups.changer) refl begins told is) acts;
-  bill = known_last (λ setups. setups.bill) (setup_by bill.tables) profile (bill_step profile)
-      begins told (known_first (λ setups. setups.bill) refl begins told is) acts;
-  reader = λ unit. config_known_of begins profile told acts unit is;
+  bill = known_last (λ setups. setups.bill) (setup_by bill.tables) begins
+      (bill_step (profile_of begins)) told
+      (known_first (λ setups. setups.bill) refl begins told is) acts;
+  reader = λ unit. config_known_of begins told acts unit is;
 }

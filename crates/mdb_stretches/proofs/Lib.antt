@@ -1,3 +1,4 @@
+mod Asked
 mod Feeding
 mod Leading
 mod Learning
@@ -5,5 +6,6 @@ mod OneSurvey
 mod Parts
 mod Standing
 mod Sums
+mod Switches
 mod Unanswered
 mod Within

@@ -5,7 +5,7 @@ use Rattle.std.proofs.lemmas.List.{take_more}
 use Rattle.std.specs.Prelude.{IfNone, IfSome}
 use Rattle.mdb_words.specs.declared.event.Event.{Event}
 use Rattle.mdb_bus.specs.declared.scope.Scope.{Scope}
-use Rattle.mdb_bus.specs.ActLists.{acts_of}
+use Rattle.mdb_bus.specs.ActLists.{Piece, acts_of, open_block, position_of}
 use Rattle.mdb_follow.specs.declared.offence.Offence.{Offence}
 use Rattle.mdb_follow.specs.declared.report.Report.{Report}
 use Rattle.mdb_follow.specs.Offences.{HasOffence, IsOffence}
@@ -17,6 +17,8 @@ use Rattle.mdb_stretches.specs.Stretches.{EndsBy, IsSurvey, LeadFrom, StretchSta
 use Rattle.mdb_stretches.specs.declared.surveyor.Surveyor.{Surveyor}
 use Rattle.mdb_stretches.specs.Surveyor.{StandsFor, rows_of}
 use Rattle.mdb_stretches.specs.Stretches.{first_fault, first_place, place_after, stretch_at}
+use Rattle.mdb_stretches.specs.OtherMoney.{WhoIsAskedBefore}
+use Rattle.mdb_stretches.proofs.Asked.{one_asked}
 use Rattle.mdb_stretches.proofs.Standing.{OneActList}
 
 -- any first rows of reached ones are reached
@@ -131,10 +133,17 @@ ended_alike laws from before row it also place at p q =
     let stretch : it.stretch ≡ also.stretch =
     p.stretch.begins ∙ ap (stretch_at from) report ∙ sym q.stretch.begins in
     let fault : it.fault ≡ also.fault = p.row_is ∙ ap (fault_at from) offence ∙ sym q.row_is in
+    let Open : List Piece → List ℕ = λ ps. open_block (position_of from.scope ps) in
+    let asked : p.asked ≡ q.asked =
+    one_asked q.offence.rule (Open q.pieces) p.asked q.asked
+    (subst (λ (o : Offence). WhoIsAskedBefore o.rule (Open q.pieces) p.asked) offence
+    (subst (λ ps. WhoIsAskedBefore p.offence.rule (Open ps) p.asked) pieces p.asked_is))
+    q.asked_is in
     let made : Stretch → Offence → Ended = λ s f. record { stretch = s; fault = f } in (
       ap (λ s. made s it.fault) stretch ∙ ap (λ f. made also.stretch f) fault,
-      p.on ∙ ap (λ ps. place_after from (length before) (acts_of ps) p.offence) pieces
-          ∙ ap (place_after from (length before) (acts_of q.pieces)) offence ∙ sym q.on,
+      p.on ∙ ap (λ ps. place_after from (length before) (acts_of ps) p.offence p.asked) pieces
+          ∙ ap (λ o. place_after from (length before) (acts_of q.pieces) o p.asked) offence
+          ∙ ap (place_after from (length before) (acts_of q.pieces) q.offence) asked ∙ sym q.on,
     )
 
 ends_alike : RunLaws

@@ -1,5 +1,5 @@
 -- The parts of a survey.
-use Rattle.std.proofs.Common.{arith, refl, ap, sym, subst, ◌∙◌, ◌≡◌, ◌+◌, ◌⊎◌, inl, inr, suc, Bool, true, false, if◌then◌else◌, List, [], ◌∷◌, ◌++◌, Some, All, Any, length, append_assoc}
+use Rattle.std.proofs.Common.{arith, refl, ap, sym, subst, ◌∙◌, ◌≡◌, ◌+◌, ◌⊎◌, inl, inr, suc, Bool, true, false, if◌then◌else◌, ℕ, List, [], ◌∷◌, ◌++◌, Option, None, Some, All, Any, length, append_assoc}
 use Rattle.std.proofs.lemmas.Bool.{false_from_ne_true, true≢false}
 use Rattle.std.proofs.lemmas.List.Elements.{All-cons, All-nil}
 use Rattle.mdb_words.specs.declared.event.Event.{Event}
@@ -13,8 +13,10 @@ use Rattle.mdb_bus.specs.declared.fault.Blame.{Blame}
 use Rattle.mdb_bus.specs.declared.fault.Blame.TheVariants as blames
 use Rattle.mdb_bus.specs.declared.fault.Rule.{Rule}
 use Rattle.mdb_bus.specs.declared.fault.Rule.TheVariants as rules
+use Rattle.mdb_bus.specs.declared.scope.Profile.{Profile}
+use Rattle.mdb_bus.specs.declared.scope.Profile.TheVariants.{Base, Extended}
 use Rattle.mdb_bus.specs.declared.scope.Scope.{Scope}
-use Rattle.mdb_bus.specs.ActLists.{acts_of}
+use Rattle.mdb_bus.specs.ActLists.{Piece, acts_of, open_block, position_of}
 use Rattle.mdb_bus.specs.LinkFaults.{blame_on}
 use Rattle.mdb_bus.specs.Scopes.{IsFollowed, IsLeftOut, profile_of}
 use Rattle.mdb_follow.specs.declared.offence.Offence.{Offence}
@@ -23,9 +25,11 @@ use Rattle.mdb_follow.specs.Offences.{IsOffence}
 use Rattle.mdb_stretches.specs.declared.stretch.Ended.{Ended}
 use Rattle.mdb_stretches.specs.declared.stretch.Stretch.{Stretch}
 use Rattle.mdb_stretches.specs.declared.told.Told.{Told}
-use Rattle.mdb_stretches.specs.Parts.{EndBefore, IsReaderBeyond}
-use Rattle.mdb_stretches.specs.Stretches.{IsCutAt, IsSurvey, LeadFrom, StretchStart, first_place, left_out_by, left_out_for}
+use Rattle.mdb_stretches.specs.OtherMoney.{OtherMoneyIsAsked}
+use Rattle.mdb_stretches.specs.Parts.{EndBefore, EndInBlock, IsReaderAsked, IsReaderBeyond}
+use Rattle.mdb_stretches.specs.Stretches.{IsCutAt, IsSurvey, LeadFrom, StretchStart, first_place, left_out_asked, left_out_by, left_out_by_profile, left_out_for}
 use Rattle.mdb_stretches.specs.Told.{is_told_below_2, told_after}
+use Rattle.mdb_stretches.proofs.Asked.{asked_beyond, ends_so}
 use Rattle.mdb_stretches.proofs.Leading.{lead_faults, lead_rows}
 
 -- a cut after the last fault
@@ -157,6 +161,19 @@ for_stays : (broken : Rule) (told : Told) (blamed : Blame) (without : DeviceSet)
 for_stays rules.Profile told blamed without device is = by_stays told blamed without device is
 for_stays broken told blamed without device is = is
 
+asked_stays : (asked : Option ReaderUnit) (without : DeviceSet) (device : Device)
+    → has without device ≡ true → has (left_out_asked asked without) device ≡ true
+asked_stays (Some unit) without device is = with_stays without (Reader unit) device is
+asked_stays None without device is = is
+
+profile_stays : (profile : Profile) (told : Told) (offence : Offence) (asked : Option ReaderUnit)
+    (without : DeviceSet) (device : Device) → has without device ≡ true
+    → has (left_out_by_profile profile told offence asked without) device ≡ true
+profile_stays Base told offence asked without device is =
+    for_stays offence.rule told offence.blame without device is
+profile_stays Extended told offence asked without device is =
+    asked_stays asked without device is
+
 pub stays_left_out : (start : StretchStart) (rows : List Event) (ended : List Ended)
     (running : List Event) (place : StretchStart) (device : Device)
     → LeadFrom start rows ended running place → IsLeftOut start.scope device
@@ -165,9 +182,9 @@ stays_left_out start rows [] running place device lead is =
     subst (λ (p : StretchStart). IsLeftOut p.scope device) (sym lead.1) is
 stays_left_out start rows (it ∷ earlier) running place device goes is =
     subst (λ (p : StretchStart). IsLeftOut p.scope device) (sym goes.ends.on)
-    (for_stays goes.ends.offence.rule
-    (told_after (profile_of goes.from.scope.begins) goes.from.told (acts_of goes.ends.pieces))
-    goes.ends.offence.blame goes.from.scope.without device
+    (profile_stays (profile_of goes.from.scope.begins)
+    (told_after goes.from.scope.begins goes.from.told (acts_of goes.ends.pieces))
+    goes.ends.offence goes.ends.asked goes.from.scope.without device
     (stays_left_out start goes.front earlier goes.before goes.from device goes.lead is))
 
 pub last_stays : (scope : Scope) (rows : List Event) (ended : List Ended) (last : Stretch)
@@ -336,19 +353,37 @@ beyond_later it earlier device beyond = record {
   fault = any_later _ it earlier beyond.fault;
 }
 
+-- the profile stays what it is
+lead_profile : (start : StretchStart) (rows : List Event) (ended : List Ended)
+    (running : List Event) (place : StretchStart) → LeadFrom start rows ended running place
+    → profile_of place.scope.begins ≡ profile_of start.scope.begins
+lead_profile start rows [] running place lead =
+    ap (λ (p : StretchStart). profile_of p.scope.begins) lead.1
+lead_profile start rows (it ∷ earlier) running place goes =
+    ap (λ (p : StretchStart). profile_of p.scope.begins) goes.ends.on
+    ∙ lead_profile start goes.front earlier goes.before goes.from goes.lead
+
 left_out_why : (start : StretchStart) (rows : List Event) (ended : List Ended)
     (running : List Event) (place : StretchStart) (device : Device)
+    → profile_of start.scope.begins ≡ Base
     → LeadFrom start rows ended running place → IsLeftOut place.scope device
     → IsLeftOut start.scope device ⊎ IsReaderBeyond ended device
-left_out_why start rows [] running place device lead out =
+left_out_why start rows [] running place device base lead out =
     inl (subst (λ (p : StretchStart). IsLeftOut p.scope device) lead.1 out)
-left_out_why start rows (it ∷ earlier) running place device goes out =
-    elim (for_came goes.ends.offence.rule
-    (told_after (profile_of goes.from.scope.begins) goes.from.told (acts_of goes.ends.pieces))
-    goes.ends.offence.blame goes.from.scope.without device
-    (subst (λ (p : StretchStart). IsLeftOut p.scope device) goes.ends.on out)) [
+left_out_why start rows (it ∷ earlier) running place device base goes out =
+    let told : Told =
+    told_after goes.from.scope.begins goes.from.told (acts_of goes.ends.pieces) in
+    let here : profile_of goes.from.scope.begins ≡ Base =
+    lead_profile start goes.front earlier goes.before goes.from goes.lead ∙ base in
+    let by : has (left_out_by_profile Base told goes.ends.offence goes.ends.asked
+    goes.from.scope.without) device ≡ true =
+    subst (λ p. has (left_out_by_profile p told goes.ends.offence goes.ends.asked
+    goes.from.scope.without) device ≡ true) here
+    (subst (λ (p : StretchStart). IsLeftOut p.scope device) goes.ends.on out) in
+    elim (for_came goes.ends.offence.rule told goes.ends.offence.blame goes.from.scope.without
+    device by) [
       | inl before ↦ elim (left_out_why start goes.front earlier goes.before goes.from device
-          goes.lead before) [
+          base goes.lead before) [
             | inl first ↦ inl first
             | inr beyond ↦ inr (beyond_later it earlier device beyond)
           ]
@@ -363,8 +398,155 @@ left_out_why start rows (it ∷ earlier) running place device goes out =
     ]
 
 pub last_why : (scope : Scope) (rows : List Event) (ended : List Ended) (last : Stretch)
-    (device : Device) → IsSurvey scope rows ended last → IsLeftOut last.scope device
-    → IsLeftOut scope device ⊎ IsReaderBeyond ended device
-last_why scope rows ended last device survey out =
-    left_out_why (first_place scope) rows ended survey.running survey.place device survey.lead
+    (device : Device) → profile_of scope.begins ≡ Base → IsSurvey scope rows ended last
+    → IsLeftOut last.scope device → IsLeftOut scope device ⊎ IsReaderBeyond ended device
+last_why scope rows ended last device base survey out =
+    left_out_why (first_place scope) rows ended survey.running survey.place device base survey.lead
     (subst (λ (s : Stretch). IsLeftOut s.scope device) survey.is.begins out)
+
+-- ---- by the extended profile
+
+-- a reader that is asked so
+abbrev IsAsked : Option ReaderUnit → Device → Type 0
+IsAsked asked device = (unit : ReaderUnit) × (device ≡ Reader unit) × (asked ≡ Some unit)
+
+asked_came : (asked : Option ReaderUnit) (without : DeviceSet) (device : Device)
+    → has (left_out_asked asked without) device ≡ true
+    → (has without device ≡ true) ⊎ IsAsked asked device
+asked_came (Some unit) without device out =
+    elim (with_came without unit device out) [
+      | inl before ↦ inl before
+      | inr same ↦ inr (unit, same, refl)
+    ]
+asked_came None without device out = inl out
+
+-- rows before these change nothing
+ends_after : (bytes : List ℕ) (before rows front : List Event) → front ≡ before ++ rows
+    → EndInBlock bytes rows → EndInBlock bytes front
+ends_after bytes before rows front parts ends = record {
+  before = before ++ ends.before;
+  words = ends.words;
+  parts = parts ∙ ap (λ l. before ++ l) ends.parts
+      ∙ sym (append_assoc before ends.before ends.words);
+  said = ends.said;
+}
+
+-- rows end in those of the stretch that runs
+lead_end : (start : StretchStart) (rows : List Event) (ended : List Ended)
+    (running : List Event) (place : StretchStart) → LeadFrom start rows ended running place
+    → (front : List Event) × (rows ≡ front ++ running)
+lead_end start rows [] running place lead = ([], lead.0)
+lead_end start rows (it ∷ earlier) running place goes = (
+  goes.front ++ goes.row ∷ [],
+  goes.parts ∙ sym (append_assoc goes.front (goes.row ∷ []) running),
+)
+
+-- rows of which the first begins there
+record IsAskedFrom (start : StretchStart) (rows : List Event) (ended : List Ended)
+    (device : Device) : Type 0 where
+  unit : ReaderUnit
+  is : device ≡ Reader unit
+  front : List Event
+  row : Event
+  rest : List Event
+  parts : rows ≡ front ++ row ∷ rest
+  bytes : List ℕ
+  ends : EndInBlock bytes front
+  asks : OtherMoneyIsAsked bytes unit
+  number : ℕ
+  number_is : number ≡ start.rows + (length front + 1)
+  fault : Any (λ it. (it.fault.rule ≡ rules.Profile) × (it.fault.row ≡ number)) ended
+
+asked_later : (start : StretchStart) (front rows : List Event) (row : Event) (rest : List Event)
+    (it : Ended) (earlier : List Ended) (device : Device) → rows ≡ front ++ row ∷ rest
+    → IsAskedFrom start front earlier device → IsAskedFrom start rows (it ∷ earlier) device
+asked_later start front rows row rest it earlier device parts by = record {
+  unit = by.unit;
+  is = by.is;
+  front = by.front;
+  row = by.row;
+  rest = by.rest ++ row ∷ rest;
+  parts = parts ∙ ap (λ l. l ++ row ∷ rest) by.parts
+      ∙ append_assoc by.front (by.row ∷ by.rest) (row ∷ rest);
+  bytes = by.bytes;
+  ends = by.ends;
+  asks = by.asks;
+  number = by.number;
+  number_is = by.number_is;
+  fault = any_later _ it earlier by.fault;
+}
+
+asked_why : (start : StretchStart) (rows : List Event) (ended : List Ended)
+    (running : List Event) (place : StretchStart) (device : Device)
+    → profile_of start.scope.begins ≡ Extended
+    → LeadFrom start rows ended running place → IsLeftOut place.scope device
+    → IsLeftOut start.scope device ⊎ IsAskedFrom start rows ended device
+asked_why start rows [] running place device extended lead out =
+    inl (subst (λ (p : StretchStart). IsLeftOut p.scope device) lead.1 out)
+asked_why start rows (it ∷ earlier) running place device extended goes out =
+    let told : Told =
+    told_after goes.from.scope.begins goes.from.told (acts_of goes.ends.pieces) in
+    let here : profile_of goes.from.scope.begins ≡ Extended =
+    lead_profile start goes.front earlier goes.before goes.from goes.lead ∙ extended in
+    let by : has (left_out_by_profile Extended told goes.ends.offence goes.ends.asked
+    goes.from.scope.without) device ≡ true =
+    subst (λ p. has (left_out_by_profile p told goes.ends.offence goes.ends.asked
+    goes.from.scope.without) device ≡ true) here
+    (subst (λ (p : StretchStart). IsLeftOut p.scope device) goes.ends.on out) in
+    elim (asked_came goes.ends.asked goes.from.scope.without device by) [
+      | inl before ↦ elim (asked_why start goes.front earlier goes.before goes.from device
+          extended goes.lead before) [
+            | inl first ↦ inl first
+            | inr asked ↦ inr (asked_later start goes.front rows goes.row running it earlier
+                device goes.parts asked)
+          ]
+      | inr asked ↦ (let end = lead_end start goes.front earlier goes.before goes.from goes.lead in
+          let number : it.fault.row ≡ goes.from.rows + goes.ends.offence.row =
+          ap (λ (o : Offence). o.row) goes.ends.row_is in
+          let counted : start.rows + length goes.front ≡ goes.from.rows + length goes.before =
+          lead_rows start goes.front earlier goes.before goes.from goes.lead in
+          let pieces : List Piece = goes.ends.pieces in
+          let bytes : List ℕ = open_block (position_of goes.from.scope pieces) in
+          let beyond = asked_beyond goes.ends.offence.rule bytes goes.ends.asked asked.0 asked.2
+          goes.ends.asked_is in
+          inr (record {
+            unit = asked.0;
+            is = asked.1;
+            front = goes.front;
+            row = goes.row;
+            rest = running;
+            parts = goes.parts;
+            bytes = bytes;
+            ends = ends_after bytes end.0 goes.before goes.front end.1
+                (ends_so goes.from.scope pieces goes.before asked.0 goes.ends.act_list beyond.1);
+            asks = beyond.1;
+            number = it.fault.row;
+            number_is = omega (arith, number, counted, goes.ends.is.number);
+            fault = any_first _ it earlier (
+              ap (λ (o : Offence). o.rule) goes.ends.row_is ∙ beyond.0,
+              refl,
+            );
+          }))
+    ]
+
+pub last_asked : (scope : Scope) (rows : List Event) (ended : List Ended) (last : Stretch)
+    (device : Device) → profile_of scope.begins ≡ Extended → IsSurvey scope rows ended last
+    → IsLeftOut last.scope device → IsLeftOut scope device ⊎ IsReaderAsked rows ended device
+last_asked scope rows ended last device extended survey out =
+    elim (asked_why (first_place scope) rows ended survey.running survey.place device extended
+    survey.lead (subst (λ (s : Stretch). IsLeftOut s.scope device) survey.is.begins out)) [
+      | inl first ↦ inl first
+      | inr by ↦ inr (record {
+        unit = by.unit;
+        is = by.is;
+        front = by.front;
+        row = by.row;
+        rest = by.rest;
+        parts = by.parts;
+        bytes = by.bytes;
+        ends = by.ends;
+        asks = by.asks;
+        fault = subst (λ n. Any (λ it. (it.fault.rule ≡ rules.Profile) × (it.fault.row ≡ n)) ended)
+            (by.number_is ∙ omega (arith)) by.fault;
+      })
+    ]

@@ -3,12 +3,16 @@ use Rattle.std.proofs.Common.{arith, refl, ap, sym, subst, ◌∙◌, ◌≡◌,
 use Rattle.std.proofs.lemmas.List.{length-map}
 use Rattle.std.specs.Prelude.{IsSomeAnd}
 use Rattle.mdb_words.specs.declared.event.Event.{Event}
+use Rattle.mdb_msgs.specs.declared.command.ReaderUnit.{ReaderUnit}
 use Rattle.mdb_msgs.specs.declared.device_set.DeviceSet.{DeviceSet}
 use Rattle.mdb_bus.specs.declared.act.Act.{Act}
-use Rattle.mdb_bus.specs.declared.scope.Scope.{Scope}
+use Rattle.mdb_bus.specs.declared.scope.Beginning.{Beginning}
 use Rattle.mdb_bus.specs.declared.scope.Profile.{Profile}
-use Rattle.mdb_bus.specs.ActLists.{IsActList, Piece, acts_of, with_act}
+use Rattle.mdb_bus.specs.declared.scope.Profile.TheVariants.{Base, Extended}
+use Rattle.mdb_bus.specs.declared.scope.Scope.{Scope}
+use Rattle.mdb_bus.specs.ActLists.{IsActList, Piece, acts_of, open_block, position_of, with_act}
 use Rattle.mdb_bus.specs.Scopes.{profile_of}
+use Rattle.mdb_follow.specs.declared.follower.Follower.{Follower}
 use Rattle.mdb_follow.specs.declared.offence.Offence.{Offence}
 use Rattle.mdb_follow.specs.declared.report.Report.{Report}
 use Rattle.mdb_follow.specs.EndedActs.{IsEndedAct}
@@ -23,12 +27,14 @@ use Rattle.mdb_stretches.specs.declared.summary.Summary.{Summary}
 use Rattle.mdb_stretches.specs.declared.surveyor.Surveyor.{Surveyor}
 use Rattle.mdb_stretches.specs.declared.told.Told.{Told}
 use Rattle.mdb_stretches.specs.declared.totals.Totals.{Totals}
+use Rattle.mdb_stretches.specs.OtherMoney.{WhoIsAskedBefore}
 use Rattle.mdb_stretches.specs.Counts.{counts_of_ended, counts_of_faults}
-use Rattle.mdb_stretches.specs.Stretches.{IsSurvey, LeadFrom, StretchStart, first_place, place_after, scope_after, stretch_at}
+use Rattle.mdb_stretches.specs.Stretches.{IsSurvey, LeadFrom, StretchStart, first_place, left_out_by_profile, place_after, scope_after, stretch_at}
 use Rattle.mdb_stretches.specs.Surveyor.{StandsFor}
-use Rattle.mdb_stretches.specs.Told.{learnt_if, told_after}
+use Rattle.mdb_stretches.specs.Told.{told_after, told_if, told_on}
 use Rattle.mdb_stretches.specs.Totals.{with_report}
 use Rattle.mdb_stretches.specs.inner.Halts.{HasHalted}
+use Rattle.mdb_stretches.proofs.Asked.{asked_there}
 use Rattle.mdb_stretches.proofs.Leading.{lead_faults, lead_more, lead_on}
 
 -- a transcript has one act list
@@ -44,16 +50,16 @@ no_acts one scope pieces list =
 
 pub told_nothing : OneActList → (scope : Scope) (told : Told) (pieces : List Piece)
     → IsActList scope pieces []
-    → told ≡ told_after (profile_of scope.begins) told (acts_of pieces)
+    → told ≡ told_after scope.begins told (acts_of pieces)
 told_nothing one scope told pieces list =
-    ap (told_after (profile_of scope.begins) told) (sym (no_acts one scope pieces list))
+    ap (told_after scope.begins told) (sym (no_acts one scope pieces list))
 
 -- what is told with one act more, if there is one
-learnt_more : (profile : Profile) (told : Told) (act : Option Act) (acts : List Act)
-    → learnt_if profile act (told_after profile told acts)
-    ≡ told_after profile told (with_act act acts)
-learnt_more profile told None acts = refl
-learnt_more profile told (Some act) acts = refl
+learnt_more : (begins : Beginning) (told : Told) (act : Option Act) (acts : List Act)
+    → told_if begins act (told_after begins told acts)
+    ≡ told_after begins told (with_act act acts)
+learnt_more begins told None acts = refl
+learnt_more begins told (Some act) acts = refl
 
 -- a row is taken
 pub taken_more : OneActList → (old new : Surveyor) (scope : Scope) (rows : List Event)
@@ -63,7 +69,7 @@ pub taken_more : OneActList → (old new : Surveyor) (scope : Scope) (rows : Lis
     → follow.scope_of new.follower ≡ follow.scope_of old.follower
     → ((events : List Event) → follow.StandsFor old.follower events
     → IsEndedAct (follow.scope_of old.follower) events row act)
-    → new.told ≡ learnt_if (profile_of old.scope.begins) act old.told → new.scope ≡ old.scope
+    → new.told ≡ told_if old.scope.begins act old.told → new.scope ≡ old.scope
     → new.before ≡ old.before
     → new.faults ≡ old.faults → new.totals ≡ old.totals
     → StandsFor new scope (rows ++ row ∷ []) ended
@@ -71,7 +77,7 @@ taken_more one old new scope rows ended row act on follows same_scope ends learn
     totals =
     let it : IsEndedAct on.place.scope on.running row act =
     subst (λ s. IsEndedAct s on.running row act) on.followed_so (ends on.running on.follows) in
-    let profile : Profile = profile_of on.place.scope.begins in
+    let begins : Beginning = on.place.scope.begins in
     record {
       running = on.running ++ row ∷ [];
       place = on.place;
@@ -80,16 +86,28 @@ taken_more one old new scope rows ended row act on follows same_scope ends learn
       followed_so = same_scope ∙ on.followed_so;
       taken_so = so ∙ on.taken_so;
       told = λ pieces list.
-          learnt ∙ ap (λ (s : Scope). learnt_if (profile_of s.begins) act old.told) on.taken_so
-          ∙ ap (learnt_if profile act) (on.told it.before it.shorter)
-          ∙ learnt_more profile on.place.told act (acts_of it.before)
-          ∙ ap (told_after profile on.place.told) (sym it.acts)
-          ∙ ap (λ ps. told_after profile on.place.told (acts_of ps)) (one on.place.scope
+          learnt ∙ ap (λ (s : Scope). told_if s.begins act old.told) on.taken_so
+          ∙ ap (told_if begins act) (on.told it.before it.shorter)
+          ∙ learnt_more begins on.place.told act (acts_of it.before)
+          ∙ ap (told_after begins on.place.told) (sym it.acts)
+          ∙ ap (λ ps. told_after begins on.place.told (acts_of ps)) (one on.place.scope
           (on.running ++ row ∷ []) (it.newest ∷ it.earlier) pieces it.act_list list);
       before = before ∙ on.before;
       faults = faults ∙ on.faults;
       totals = totals ∙ on.totals;
     }
+
+-- the block that is open on a follower's bus is that in which its rows end
+block_on : OneActList → (follower : Follower) (rows : List Event)
+    → follow.StandsFor follower rows → (scope : Scope) → follow.scope_of follower ≡ scope
+    → (pieces : List Piece) → IsActList scope pieces rows
+    → follow.open_block_of follower ≡ open_block (position_of scope pieces)
+block_on one follower rows on scope so pieces list =
+    ap open_block (sym on.on_bus.position)
+    ∙ ap (λ s. open_block (position_of s on.pieces)) so
+    ∙ ap (λ ps. open_block (position_of scope ps)) (one scope rows on.pieces pieces
+    (subst (λ s. IsActList s on.pieces rows) so
+    (record { in_order = on.on_bus.in_order; whole = on.whole })) list)
 
 -- an offence that is noted
 the_offence : (noted : Option Offence) (P : Offence → Type 0) → IsSomeAnd noted P
@@ -98,14 +116,14 @@ the_offence None P met = absurd met
 the_offence (Some offence) P met = (offence, refl, met)
 
 -- a row is met that can't be
-pub halted_by : (old now : Surveyor) (scope : Scope) (rows : List Event) (row : Event)
-    (ended : List Ended) → StandsFor old scope rows ended
+pub halted_by : OneActList → (old now : Surveyor) (scope : Scope) (rows : List Event)
+    (row : Event) (ended : List Ended) → StandsFor old scope rows ended
     → IsSomeAnd (follow.offence_of now.follower) (HasRefused old.follower now.follower row)
     → follow.scope_of now.follower ≡ follow.scope_of old.follower
     → now.told ≡ old.told → now.scope ≡ old.scope → now.before ≡ old.before
     → now.faults ≡ old.faults → now.totals ≡ old.totals
     → HasHalted now scope rows row ended
-halted_by old now scope rows row ended on met same_scope told so before faults totals =
+halted_by one old now scope rows row ended on met same_scope told so before faults totals =
     let it = the_offence (follow.offence_of now.follower) _ met in record {
       offence = it.0;
       noted = it.1;
@@ -119,6 +137,9 @@ halted_by old now scope rows row ended on met same_scope told so before faults t
           subst (λ s. IsOffence s on.running row it.0) on.followed_so
           (it.2.offence on.running on.follows);
       told = λ pieces list. told ∙ on.told pieces list;
+      block = λ beyond pieces list. it.2.block beyond
+          ∙ block_on one old.follower on.running on.follows on.place.scope on.followed_so pieces
+          list;
       before = before ∙ on.before;
       faults = faults ∙ on.faults;
       totals = totals ∙ on.totals;
@@ -144,6 +165,22 @@ running_with surveyor report =
 abbrev fault_by : ℕ → Offence → Offence
 fault_by before offence =
     record { row = before + offence.row; rule = offence.rule; blame = offence.blame }
+
+-- who is left out hangs on the fault's rule and blame alone
+left_moved : (profile : Profile) (told : Told) (offence : Offence) (before : ℕ)
+    (asked : Option ReaderUnit) (without : DeviceSet)
+    → left_out_by_profile profile told (fault_by before offence) asked without
+    ≡ left_out_by_profile profile told offence asked without
+left_moved Base told offence before asked without = refl
+left_moved Extended told offence before asked without = refl
+
+fault_moved : (told : Told) (offence : Offence) (before : ℕ) (asked : Option ReaderUnit)
+    (scope : Scope) → scope_after told (fault_by before offence) asked scope
+    ≡ scope_after told offence asked scope
+fault_moved told offence before asked scope =
+    let Left : DeviceSet → Scope = λ devices.
+    record (scope_after told offence asked scope) { without = devices } in
+    ap Left (left_moved (profile_of scope.begins) told offence before asked scope.without)
 
 same_stretch : (n m f g l k : ℕ) (s t : Scope) (report : Report) → n ≡ m → f ≡ g → l ≡ k → s ≡ t
     → made n f l s report ≡ made m g k t report
@@ -196,30 +233,38 @@ some_one one other same = cc same
 -- the stretch after a fault begins
 pub next_stands : OneActList → (old new : Surveyor) (scope : Scope) (rows : List Event)
     (row : Event) (ended : List Ended) (offence : Offence) (report : Report) (stretch : Stretch)
-    → HasHalted old scope rows row ended → follow.offence_of old.follower ≡ Some offence
+    (asked : Option ReaderUnit) → HasHalted old scope rows row ended
+    → follow.offence_of old.follower ≡ Some offence
     → ((events : List Event) → follow.HasAccepted old.follower events
     → IsReport (follow.scope_of old.follower) events report)
     → stretch ≡ running_with old report → follow.StandsFor new.follower []
-    → follow.scope_of new.follower ≡ scope_after old.told offence old.scope
-    → new.scope ≡ scope_after old.told offence old.scope → new.told ≡ old.told
-    → new.before ≡ old.before + offence.row
+    → WhoIsAskedBefore offence.rule (follow.open_block_of old.follower) asked
+    → follow.scope_of new.follower
+    ≡ scope_after old.told (fault_by old.before offence) asked old.scope
+    → new.scope ≡ scope_after old.told (fault_by old.before offence) asked old.scope
+    → new.told ≡ told_on new.scope.begins old.told → new.before ≡ old.before + offence.row
     → ((faults : List Offence) → old.faults ≡ counts_of_faults faults
     → new.faults ≡ counts_of_faults (fault_by old.before offence ∷ faults))
     → new.totals ≡ with_report old.totals report
     → StandsFor new scope (rows ++ row ∷ [])
     (record { stretch = stretch; fault = fault_by old.before offence } ∷ ended)
-next_stands one old new scope rows row ended offence report stretch on noted reports same begun
-    follows_so so told before faults totals =
+next_stands one old new scope rows row ended offence report stretch asked on noted reports same
+    begun asks follows_so so told before faults totals =
     let pieces : List Piece = on.accepted.pieces in
     let list : IsActList on.place.scope pieces on.running =
     subst (λ s. IsActList s pieces on.running) on.followed_so on.accepted.act_list in
-    let known : old.told
-    ≡ told_after (profile_of on.place.scope.begins) on.place.told (acts_of pieces) =
-    on.told pieces list in
-    let next : StretchStart = place_after on.place (length on.running) (acts_of pieces) offence in
-    let after : scope_after old.told offence old.scope ≡ next.scope =
-    ap (λ (t : Told). scope_after t offence old.scope) known
-    ∙ ap (λ (s : Scope). scope_after next.told offence s) on.taken_so in
+    let so_far : Told = told_after on.place.scope.begins on.place.told (acts_of pieces) in
+    let known : old.told ≡ so_far = on.told pieces list in
+    let next : StretchStart =
+    place_after on.place (length on.running) (acts_of pieces) offence asked in
+    let after : scope_after old.told (fault_by old.before offence) asked old.scope ≡ next.scope =
+    fault_moved old.told offence old.before asked old.scope
+    ∙ ap (λ (t : Told). scope_after t offence asked old.scope) known
+    ∙ ap (λ (s : Scope). scope_after so_far offence asked s) on.taken_so in
+    let begins : new.scope ≡ next.scope = so ∙ after in
+    let begun_so : new.told ≡ next.told =
+    told ∙ ap (λ (s : Scope). told_on s.begins old.told) begins
+    ∙ ap (told_on next.scope.begins) known in
     let met : on.offence ≡ offence = some_one on.offence offence (sym on.noted ∙ noted) in
     let is : IsOffence on.place.scope on.running row offence =
     subst (λ o. IsOffence on.place.scope on.running row o) met on.is in
@@ -241,12 +286,15 @@ next_stands one old new scope rows row ended offence report stretch on noted rep
         row_is = ap (λ n. fault_by n offence) on.before;
         pieces = pieces;
         act_list = list;
+        asked = asked;
+        asked_is = asked_there offence.rule _ _ asked
+            (λ beyond. on.block (ap (λ (o : Offence). o.rule) met ∙ beyond) pieces list) asks;
         on = refl;
       });
       follows = begun;
       followed_so = follows_so ∙ after;
-      taken_so = so ∙ after;
-      told = λ ps none. told ∙ known ∙ told_nothing one next.scope next.told ps none;
+      taken_so = begins;
+      told = λ ps none. begun_so ∙ told_nothing one next.scope next.told ps none;
       before = omega (arith, before, on.before, number);
       faults = faults (map (λ (it : Ended). it.fault) ended) on.faults;
       totals = totals ∙ ap (λ (t : Totals). with_report t report) on.totals;

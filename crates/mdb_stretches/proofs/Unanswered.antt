@@ -14,7 +14,9 @@ use Rattle.mdb_msgs.specs.Reader.{ReaderMessages}
 use Rattle.mdb_msgs.specs.SetupData.{known_with, last_config, with_config}
 use Rattle.mdb_bus.specs.declared.act.Act.{Act}
 use Rattle.mdb_bus.specs.declared.act.Act.TheVariants as acts
+use Rattle.mdb_bus.specs.declared.scope.Beginning.{Beginning}
 use Rattle.mdb_bus.specs.declared.scope.Profile.{Profile}
+use Rattle.mdb_bus.specs.Scopes.{profile_of}
 use Rattle.mdb_stretches.specs.declared.told.Told.{Told}
 use Rattle.mdb_stretches.specs.Told.{learnt_by, level_of, told_after, with_answer}
 use Rattle.mdb_stretches.specs.Unanswered.{HasConfig, IsNeither, IsUnanswered, TellsLevel}
@@ -131,40 +133,40 @@ leaves_by profile unit act told is_neither (tells level it is) = absurd (is_neit
 leaves_by profile unit act told is_neither (answers has is) = absurd (is_neither.1 has)
 leaves_by profile unit act told is_neither (neither so is) = is
 
-leave : (profile : Profile) (unit : ReaderUnit) (told : Told) (done : List Act)
+leave : (begins : Beginning) (unit : ReaderUnit) (told : Told) (done : List Act)
     → All (IsNeither unit) done
-    → kept unit (told_after profile told done) ≡ kept unit told
-leave profile unit told [] since = refl
-leave profile unit told (act ∷ done) since =
-    leaves_by profile unit act (told_after profile told done)
+    → kept unit (told_after begins told done) ≡ kept unit told
+leave begins unit told [] since = refl
+leave begins unit told (act ∷ done) since =
+    leaves_by (profile_of begins) unit act (told_after begins told done)
     (All-head (IsNeither unit) act done since)
-    (does profile unit act (told_after profile told done))
-    ∙ leave profile unit told done (All-tail (IsNeither unit) act done since)
+    (does (profile_of begins) unit act (told_after begins told done))
+    ∙ leave begins unit told done (All-tail (IsNeither unit) act done since)
 
-told_last : (profile : Profile) (unit : ReaderUnit) (level : ℕ) (told : Told)
+told_last : (begins : Beginning) (unit : ReaderUnit) (level : ℕ) (told : Told)
     (later before : List Act) (ask : Act)
     → TellsLevel unit level ask → All (IsNeither unit) later
-    → kept unit (told_after profile told (later ++ ask ∷ before)) ≡ Some level
-told_last profile unit level told [] before ask it since =
-    tells_by profile unit level ask (told_after profile told before) it
-    (does profile unit ask (told_after profile told before))
-told_last profile unit level told (act ∷ later) before ask it since =
-    let so_far : Told = told_after profile told (later ++ ask ∷ before) in
-    leaves_by profile unit act so_far (All-head (IsNeither unit) act later since)
-    (does profile unit act so_far)
-    ∙ told_last profile unit level told later before ask it
+    → kept unit (told_after begins told (later ++ ask ∷ before)) ≡ Some level
+told_last begins unit level told [] before ask it since =
+    tells_by (profile_of begins) unit level ask (told_after begins told before) it
+    (does (profile_of begins) unit ask (told_after begins told before))
+told_last begins unit level told (act ∷ later) before ask it since =
+    let so_far : Told = told_after begins told (later ++ ask ∷ before) in
+    leaves_by (profile_of begins) unit act so_far (All-head (IsNeither unit) act later since)
+    (does (profile_of begins) unit act so_far)
+    ∙ told_last begins unit level told later before ask it
     (All-tail (IsNeither unit) act later since)
 
 -- what is told on, and why
-abbrev Why : Profile → ReaderUnit → ℕ → Told → List Act → Type 0
-Why profile unit level told done =
+abbrev Why : Beginning → ReaderUnit → ℕ → Told → List Act → Type 0
+Why begins unit level told done =
     IsUnanswered unit level done ⊎ (All (IsNeither unit) done × (kept unit told ≡ Some level))
 
-further : (profile : Profile) (unit : ReaderUnit) (level : ℕ) (told : Told) (act : Act)
+further : (begins : Beginning) (unit : ReaderUnit) (level : ℕ) (told : Told) (act : Act)
     (done : List Act)
-    → IsNeither unit act → Why profile unit level told done
-    → Why profile unit level told (act ∷ done)
-further profile unit level told act done is_neither (inl last) = inl (record {
+    → IsNeither unit act → Why begins unit level told done
+    → Why begins unit level told (act ∷ done)
+further begins unit level told act done is_neither (inl last) = inl (record {
   later = act ∷ last.later;
   ask = last.ask;
   before = last.before;
@@ -172,16 +174,16 @@ further profile unit level told act done is_neither (inl last) = inl (record {
   tells = last.tells;
   since = All-cons (IsNeither unit) act last.later is_neither last.since;
 })
-further profile unit level told act done is_neither (inr none) =
+further begins unit level told act done is_neither (inr none) =
     inr (All-cons (IsNeither unit) act done is_neither none.0, none.1)
 
-why_by : (profile : Profile) (unit : ReaderUnit) (level : ℕ) (told : Told) (act : Act)
+why_by : (begins : Beginning) (unit : ReaderUnit) (level : ℕ) (told : Told) (act : Act)
     (done : List Act)
-    → (kept unit (told_after profile told done) ≡ Some level → Why profile unit level told done)
-    → Does profile unit act (told_after profile told done)
-    → kept unit (learnt_by profile act (told_after profile told done)) ≡ Some level
-    → Why profile unit level told (act ∷ done)
-why_by profile unit level told act done why (tells other it is) kept_is =
+    → (kept unit (told_after begins told done) ≡ Some level → Why begins unit level told done)
+    → Does (profile_of begins) unit act (told_after begins told done)
+    → kept unit (learnt_by (profile_of begins) act (told_after begins told done)) ≡ Some level
+    → Why begins unit level told (act ∷ done)
+why_by begins unit level told act done why (tells other it is) kept_is =
     let clash : Some other ≡ Some level = sym is ∙ kept_is in
     let same : other ≡ level = cc clash in
     inl (record {
@@ -192,30 +194,30 @@ why_by profile unit level told act done why (tells other it is) kept_is =
       tells = subst (λ l. TellsLevel unit l act) same it;
       since = All-nil (IsNeither unit);
     })
-why_by profile unit level told act done why (answers has is) kept_is =
+why_by begins unit level told act done why (answers has is) kept_is =
     let clash : None ≡ Some level = sym is ∙ kept_is in
     cc clash
-why_by profile unit level told act done why (neither is_neither is) kept_is =
-    further profile unit level told act done is_neither (why (sym is ∙ kept_is))
+why_by begins unit level told act done why (neither is_neither is) kept_is =
+    further begins unit level told act done is_neither (why (sym is ∙ kept_is))
 
-why_kept : (profile : Profile) (unit : ReaderUnit) (level : ℕ) (told : Told) (done : List Act)
-    → kept unit (told_after profile told done) ≡ Some level → Why profile unit level told done
-why_kept profile unit level told [] is = inr (All-nil (IsNeither unit), is)
-why_kept profile unit level told (act ∷ done) is =
-    why_by profile unit level told act done (why_kept profile unit level told done)
-    (does profile unit act (told_after profile told done)) is
+why_kept : (begins : Beginning) (unit : ReaderUnit) (level : ℕ) (told : Told) (done : List Act)
+    → kept unit (told_after begins told done) ≡ Some level → Why begins unit level told done
+why_kept begins unit level told [] is = inr (All-nil (IsNeither unit), is)
+why_kept begins unit level told (act ∷ done) is =
+    why_by begins unit level told act done (why_kept begins unit level told done)
+    (does (profile_of begins) unit act (told_after begins told done)) is
 
-kept_why : (profile : Profile) (unit : ReaderUnit) (level : ℕ) (told : Told) (done : List Act)
-    → Why profile unit level told done → kept unit (told_after profile told done) ≡ Some level
-kept_why profile unit level told done (inl last) =
-    ap (λ l. kept unit (told_after profile told l)) last.order
-    ∙ told_last profile unit level told last.later last.before last.ask last.tells last.since
-kept_why profile unit level told done (inr none) = leave profile unit told done none.0 ∙ none.1
+kept_why : (begins : Beginning) (unit : ReaderUnit) (level : ℕ) (told : Told) (done : List Act)
+    → Why begins unit level told done → kept unit (told_after begins told done) ≡ Some level
+kept_why begins unit level told done (inl last) =
+    ap (λ l. kept unit (told_after begins told l)) last.order
+    ∙ told_last begins unit level told last.later last.before last.ask last.tells last.since
+kept_why begins unit level told done (inr none) = leave begins unit told done none.0 ∙ none.1
 
-pub unanswered_after : (profile : Profile) (told : Told) (done : List Act) (unit : ReaderUnit)
+pub unanswered_after : (begins : Beginning) (told : Told) (done : List Act) (unit : ReaderUnit)
     (level : ℕ)
-    → (level_of unit (told_after profile told done).unanswered ≡ Some level)
+    → (level_of unit (told_after begins told done).unanswered ≡ Some level)
     ↔ (IsUnanswered unit level done
     ⊎ (All (IsNeither unit) done × (level_of unit told.unanswered ≡ Some level)))
-unanswered_after profile told done unit level =
-    (why_kept profile unit level told done, kept_why profile unit level told done)
+unanswered_after begins told done unit level =
+    (why_kept begins unit level told done, kept_why begins unit level told done)

@@ -1,5 +1,7 @@
 pub mod Counts
 pub mod Learning
+pub mod Options
+pub mod OtherMoney
 pub mod Parts
 pub mod Stretches
 pub mod Summaries

@@ -13,8 +13,10 @@ use Rattle.mdb_bus.specs.declared.fault.Blame.TheVariants as blames
 use Rattle.mdb_bus.specs.declared.fault.Rule.{Rule}
 use Rattle.mdb_bus.specs.declared.fault.Rule.TheVariants as rules
 use Rattle.mdb_bus.specs.declared.scope.Beginning.TheVariants.{Joined}
+use Rattle.mdb_bus.specs.declared.scope.Profile.{Profile}
+use Rattle.mdb_bus.specs.declared.scope.Profile.TheVariants.{Base, Extended}
 use Rattle.mdb_bus.specs.declared.scope.Scope.{Scope}
-use Rattle.mdb_bus.specs.ActLists.{IsActList, Piece, acts_of}
+use Rattle.mdb_bus.specs.ActLists.{IsActList, Piece, acts_of, open_block, position_of}
 use Rattle.mdb_bus.specs.Scopes.{profile_of}
 use Rattle.mdb_follow.specs.declared.offence.Offence.{Offence}
 use Rattle.mdb_follow.specs.declared.report.Report.{Report}
@@ -23,7 +25,8 @@ use Rattle.mdb_follow.specs.Report.{IsReport}
 use Rattle.mdb_stretches.specs.declared.stretch.Ended.{Ended}
 use Rattle.mdb_stretches.specs.declared.stretch.Stretch.{Stretch}
 use Rattle.mdb_stretches.specs.declared.told.Told.{Told}
-use Rattle.mdb_stretches.specs.Told.{is_told_below_2, levels_on, told_after, told_before}
+use Rattle.mdb_stretches.specs.OtherMoney.{WhoIsAskedBefore}
+use Rattle.mdb_stretches.specs.Told.{is_told_below_2, levels_on, setups_on, told_after, told_before, told_on}
 
 -- Where a stretch begins.
 pub record StretchStart : Type 0 where
@@ -60,24 +63,37 @@ left_out_for broken told blamed without = without
 abbrev pub left_out_after : Told → Offence → DeviceSet → DeviceSet
 left_out_after told offence without = left_out_for offence.rule told offence.blame without
 
--- how the rows after a fault are taken, where so much is told up to it, and those before it were
--- taken so: as a recording that begins in mid-session, of which the same is followed
-abbrev pub scope_after : Told → Offence → Scope → Scope
-scope_after told offence scope = record {
-  begins = Joined told.setups (profile_of scope.begins);
-  without = left_out_after told offence scope.without;
+-- by the extended profile: a reader that is asked for what isn't followed
+abbrev pub left_out_asked : Option ReaderUnit → DeviceSet → DeviceSet
+left_out_asked (Some unit) without = with_device without (devices.Reader unit)
+left_out_asked None without = without
+
+-- the devices that are left out after a fault, by a profile
+abbrev pub left_out_by_profile : Profile → Told → Offence → Option ReaderUnit → DeviceSet
+    → DeviceSet
+left_out_by_profile Base told offence asked without = left_out_after told offence without
+left_out_by_profile Extended told offence asked without = left_out_asked asked without
+
+-- How the rows after a fault are taken: as a recording that begins in mid-session, by the same
+-- profile. `told` is what the rows up to it tell, `asked` the reader that they ask for other money,
+-- and `scope` how they were taken.
+abbrev pub scope_after : Told → Offence → Option ReaderUnit → Scope → Scope
+scope_after told offence asked scope = record {
+  begins = Joined (setups_on (profile_of scope.begins) told) (profile_of scope.begins);
+  without = left_out_by_profile (profile_of scope.begins) told offence asked scope.without;
   levels = levels_on (profile_of scope.begins) told;
 }
 
 -- where the next stretch begins, after so many rows with these acts, and a fault
-abbrev pub place_after : StretchStart → ℕ → List Act → Offence → StretchStart
-place_after place rows acts offence =
-    let told : Told = told_after (profile_of place.scope.begins) place.told acts in
+abbrev pub place_after : StretchStart → ℕ → List Act → Offence → Option ReaderUnit → StretchStart
+place_after place rows acts offence asked =
+    let told : Told = told_after place.scope.begins place.told acts in
+    let scope : Scope = scope_after told offence asked place.scope in
     record {
       faults = place.faults + 1;
       rows = place.rows + (rows + 1);
-      scope = scope_after told offence place.scope;
-      told = told;
+      scope = scope;
+      told = told_on scope.begins told;
     }
 
 -- the stretch that begins there, with the report on its rows
@@ -109,7 +125,9 @@ pub record EndsBy (place : StretchStart) (rows : List Event) (row : Event) (ende
   pub row_is : ended.fault ≡ fault_at place offence
   pub pieces : List Piece
   pub act_list : IsActList place.scope pieces rows
-  pub on : next ≡ place_after place (length rows) (acts_of pieces) offence
+  pub asked : Option ReaderUnit
+  pub asked_is : WhoIsAskedBefore offence.rule (open_block (position_of place.scope pieces)) asked
+  pub on : next ≡ place_after place (length rows) (acts_of pieces) offence asked
 
 -- One fault more: the rows up to it lead to a stretch, and it ends that.
 pub record GoesOnAfter (Lead : List Event → List Event → StretchStart → Type 0) (rows : List Event)

@@ -3,7 +3,6 @@ use Rattle.std.specs.Prelude.{◌≡◌, ◌+◌, ℕ, List, [], ◌∷◌, ◌+
 use Rattle.mdb_words.specs.declared.event.Event.{Event}
 use Rattle.mdb_bus.specs.declared.scope.Scope.{Scope}
 use Rattle.mdb_bus.specs.ActLists.{IsActList, Piece, acts_of}
-use Rattle.mdb_bus.specs.Scopes.{profile_of}
 use Rattle.mdb_follow.specs.Follower as follow
 use Rattle.mdb_stretches.specs.declared.stretch.Ended.{Ended}
 use Rattle.mdb_stretches.specs.declared.surveyor.Surveyor.{Surveyor}
@@ -28,7 +27,7 @@ pub record StandsFor (surveyor : Surveyor) (scope : Scope) (rows : List Event)
   pub followed_so : follow.scope_of surveyor.follower ≡ place.scope
   pub taken_so : surveyor.scope ≡ place.scope
   pub told : (pieces : List Piece) → IsActList place.scope pieces running
-      → surveyor.told ≡ told_after (profile_of place.scope.begins) place.told (acts_of pieces)
+      → surveyor.told ≡ told_after place.scope.begins place.told (acts_of pieces)
   pub before : surveyor.before ≡ place.rows
   pub faults : surveyor.faults ≡ counts_of_ended ended
   pub totals : surveyor.totals ≡ totals_of ended

@@ -5,6 +5,7 @@ use Rattle.mdb_msgs.specs.declared.command.Device.{Device}
 use Rattle.mdb_msgs.specs.declared.command.Device.TheVariants as devices
 use Rattle.mdb_msgs.specs.declared.command.ReaderUnit.{ReaderUnit}
 use Rattle.mdb_msgs.specs.declared.command.ReaderUnit.TheVariants.{First, Second}
+use Rattle.mdb_msgs.specs.declared.setups.ReaderSetup.{ReaderSetup}
 use Rattle.mdb_msgs.specs.declared.setups.Setups.{Setups}
 use Rattle.mdb_msgs.specs.Commands.{device_of}
 use Rattle.mdb_msgs.specs.SetupData.{known_with}
@@ -12,13 +13,17 @@ use Rattle.mdb_msgs.specs.Setups.{nothing_known}
 use Rattle.mdb_bus.specs.declared.act.Act.{Act}
 use Rattle.mdb_bus.specs.declared.act.Act.TheVariants as acts
 use Rattle.mdb_bus.specs.declared.levels.Levels.{Levels}
+use Rattle.mdb_bus.specs.declared.levels.ReaderLevels.{ReaderLevels}
 use Rattle.mdb_bus.specs.declared.scope.Beginning.{Beginning}
 use Rattle.mdb_bus.specs.declared.scope.Beginning.TheVariants.{PowerOn, Joined}
 use Rattle.mdb_bus.specs.declared.scope.Profile.{Profile}
 use Rattle.mdb_bus.specs.declared.scope.Profile.TheVariants.{Base, Extended}
 use Rattle.mdb_bus.specs.declared.scope.Scope.{Scope}
 use Rattle.mdb_bus.specs.ActLists.{levels_after, levels_told}
+use Rattle.mdb_bus.specs.Scopes.{levels_before, profile_of}
+use Rattle.mdb_stretches.specs.declared.options.ReaderOptions.{ReaderOptions}
 use Rattle.mdb_stretches.specs.declared.told.Told.{Told}
+use Rattle.mdb_stretches.specs.Options.{idle_told, options_before, options_by}
 
 -- the setup data that are known before a recording that begins so
 abbrev pub setups_of : Beginning → Setups
@@ -29,8 +34,9 @@ setups_of (Joined setups profile) = setups
 abbrev pub told_before : Scope → Told
 told_before scope = record {
   setups = setups_of scope.begins;
-  levels = scope.levels;
+  levels = levels_before scope;
   unanswered = scope.levels;
+  options = options_before scope.begins;
 }
 
 -- a config message of a reader answers what the controller told it of its feature level
@@ -60,21 +66,55 @@ learnt_by profile (acts.Reply command reply) told =
     (record told { levels = levels_told profile command reply told.levels })
 learnt_by profile act told = told
 
+-- the same with what the act tells of the readers' options, in a recording that begins so
+abbrev pub told_by : Beginning → Act → Told → Told
+told_by begins act told = record (learnt_by (profile_of begins) act told) {
+  options = options_by begins act told.levels told.options;
+}
+
 -- what is told after an act, if there is one
-abbrev pub learnt_if : Profile → Option Act → Told → Told
-learnt_if profile None told = told
-learnt_if profile (Some act) told = learnt_by profile act told
+abbrev pub told_if : Beginning → Option Act → Told → Told
+told_if begins None told = told
+told_if begins (Some act) told = told_by begins act told
 
 -- what is told after acts
-abbrev pub told_after : Profile → Told → List Act → Told
-told_after profile told [] = told
-told_after profile told (act ∷ acts) = learnt_by profile act (told_after profile told acts)
+abbrev pub told_after : Beginning → Told → List Act → Told
+told_after begins told [] = told
+told_after begins told (act ∷ acts) = told_by begins act (told_after begins told acts)
+
+-- What a stretch is told of a reader by the extended profile: the last levels, and how always idle
+-- is switched where the reader's options are told.
+abbrev pub setup_on : ReaderSetup → ReaderLevels → ReaderOptions → ReaderSetup
+setup_on known levels options = record {
+  config = known.config;
+  asked = levels.asked;
+  told = levels.told;
+  always_idle = idle_told levels options;
+}
+
+-- the setup data that a stretch is told
+abbrev pub setups_on : Profile → Told → Setups
+setups_on Base told = told.setups
+setups_on Extended told = record told.setups {
+  first_reader = setup_on told.setups.first_reader told.levels.first told.options.first;
+  second_reader = setup_on told.setups.second_reader told.levels.second told.options.second;
+}
+
+-- what is told as a stretch begins so: of setup data and options what it is told
+abbrev pub told_on : Beginning → Told → Told
+told_on begins told =
+    record told { setups = setups_of begins; options = options_before begins }
 
 -- the levels that a stretch is told: by the base profile those of the controller that no config
 -- message has answered, by the extended one the last of either side
 abbrev pub levels_on : Profile → Told → Levels
 levels_on Base told = told.unanswered
 levels_on Extended told = told.levels
+
+-- what is told of a reader's levels
+abbrev pub levels_at : ReaderUnit → Levels → ReaderLevels
+levels_at First levels = levels.first
+levels_at Second levels = levels.second
 
 -- the level that the controller has told a reader
 abbrev pub level_of : ReaderUnit → Levels → Option ℕ

@@ -11,6 +11,7 @@
 
 mod counts;
 pub mod laws;
+mod options;
 mod stretch;
 mod summary;
 mod surveyor;
@@ -18,6 +19,7 @@ mod told;
 mod totals;
 
 pub use counts::FaultCounts;
+pub use options::{Options, ReaderOptions};
 pub use stretch::{Ended, Stretch};
 pub use summary::Summary;
 pub use surveyor::Surveyor;

@@ -9,8 +9,9 @@ ghost use Rattle.mdb_bus.specs.declared.scope.Scope.{Scope};
 ghost use Rattle.mdb_follow.specs.declared.follower.TheConstants.{ROWS_MAX};
 ghost use Rattle.mdb_follow.specs.declared.offence.Offence.{Offence};
 ghost use Rattle.mdb_follow.specs.Follower.{offence_of, rows_of as followed_rows};
+ghost use Rattle.mdb_stretches.specs.OtherMoney.{WhoIsAsked, WhoIsAskedBefore};
 ghost use Rattle.mdb_stretches.specs.Counts.{AreFew};
-ghost use Rattle.mdb_stretches.specs.Stretches.{left_out_after, scope_after, without_reader};
+ghost use Rattle.mdb_stretches.specs.Stretches.{left_out_after, left_out_asked, scope_after, without_reader};
 ghost use Rattle.mdb_stretches.specs.Totals.{AreWithin};
 
 use crate::counts::FaultCounts;
@@ -18,9 +19,9 @@ use crate::stretch::{Ended, Stretch};
 use crate::summary::Summary;
 use crate::told::Told;
 use crate::totals::Totals;
-use mdb_bus::{Beginning, Blame, Rule, Scope, laws as links};
+use mdb_bus::{Beginning, Blame, Profile, Rule, Scope, laws as links};
 use mdb_follow::{Follower, Offence, Report};
-use mdb_msgs::{Device, DeviceSet, ReaderUnit};
+use mdb_msgs::{Command, Device, DeviceSet, ReaderUnit, command_of};
 use mdb_words::Event;
 
 /// Everything that may have happened in the rows of the stretch that runs, and what is known of the
@@ -138,7 +139,7 @@ impl Surveyor {
         match self.follower.feed_ending(event) {
             Some(has_ended) => {
                 self.told
-                    .learn_if(&self.scope, has_ended, self.follower.act());
+                    .learn_if(&self.scope.begins, has_ended, self.follower.act());
                 true
             }
             None => false,
@@ -216,25 +217,70 @@ impl Surveyor {
         self.totals = self.totals.with(&report);
         self.faults.add(&fault);
         self.before = fault.row;
-        self.scope = scope_after(&self.told, &fault, &self.scope);
+        let asked = asked_before(fault.rule, self.follower.open_block());
+        self.scope = scope_after(&self.told, &fault, asked, &self.scope);
+        self.told.begin(&self.scope.begins);
         self.follower = Follower::scoped(&self.scope);
         Ended { stretch, fault }
     }
 }
 
-/// How the rows after a fault are taken, where so much is told up to it, and those before it were
-/// taken so.
-fn scope_after(told: &Told, fault: &Offence, scope: &Scope) -> Scope
-    ensures { result ≡ scope_after told.now fault.now scope.now }
+/// How the rows after a fault are taken, where so much is told up to it, and those before it ask
+/// this reader for what isn't followed, and were taken so.
+fn scope_after(told: &Told, fault: &Offence, asked: Option<ReaderUnit>, scope: &Scope) -> Scope
+    ensures { result ≡ scope_after told.now fault.now asked scope.now }
 {
+    let profile = scope.begins.profile();
     Scope {
-        begins: Beginning::Joined(told.setups.copy(), scope.begins.profile()),
-        without: left_out_after(told, fault, scope.without),
-        levels: told.levels_on(scope.begins.profile()),
+        begins: Beginning::Joined(told.setups_on(profile), profile),
+        without: match profile {
+            Profile::Base => left_out_after(told, fault, scope.without),
+            Profile::Extended => left_out_asked(asked, scope.without),
+        },
+        levels: told.levels_on(profile),
     }
 }
 
-/// The devices that are left out after a fault, where these were left out before it.
+/// The reader that is asked for what isn't followed, where a row with this rule comes after these
+/// bytes of a block.
+fn asked_before(rule: Rule, bytes: &[u8]) -> Option<ReaderUnit>
+    ensures { WhoIsAskedBefore rule bytes.now result }
+{
+    match rule {
+        Rule::Profile => asked_for_other_money(bytes),
+        _ => None,
+    }
+}
+
+/// The reader that these bytes of a block ask for what isn't followed, if they do.
+fn asked_for_other_money(bytes: &[u8]) -> Option<ReaderUnit>
+    ensures { WhoIsAsked bytes.now result }
+{
+    if bytes.is_empty() {
+        return None;
+    }
+    let Ok(command) = command_of(bytes) else {
+        return None;
+    };
+    match command {
+        Command::Reader(unit, _) if command.enables_more() => Some(unit),
+        _ => None,
+    }
+}
+
+/// The devices that are left out after a fault by the extended profile, where this reader is asked
+/// for what isn't followed.
+fn left_out_asked(asked: Option<ReaderUnit>, without: DeviceSet) -> DeviceSet
+    ensures { result ≡ left_out_asked asked without }
+{
+    match asked {
+        Some(unit) => without.with(Device::Reader(unit)),
+        None => without,
+    }
+}
+
+/// The devices that are left out after a fault by the base profile, where these were left out
+/// before it.
 fn left_out_after(told: &Told, fault: &Offence, without: DeviceSet) -> DeviceSet
     ensures { result ≡ left_out_after told.now fault.now without }
 {

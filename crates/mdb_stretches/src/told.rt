@@ -6,11 +6,11 @@ ghost use Rattle.mdb_bus.specs.declared.act.Act.TheVariants.{Ask};
 ghost use Rattle.mdb_bus.specs.Bus.{ended_act};
 ghost use Rattle.mdb_msgs.specs.SetupData.{known_with};
 ghost use Rattle.mdb_bus.specs.declared.scope.Profile.{Profile};
-ghost use Rattle.mdb_bus.specs.Scopes.{profile_of};
-ghost use Rattle.mdb_stretches.specs.Told.{answered, is_told_below_2, learnt_by, learnt_if, levels_on, setups_of, told_before, with_answer};
+ghost use Rattle.mdb_stretches.specs.Told.{answered, is_told_below_2, learnt_by, levels_on, setup_on, setups_of, setups_on, told_before, told_by, told_if, told_on, with_answer};
 
-use mdb_bus::{Act, Beginning, Levels, Profile, Scope};
-use mdb_msgs::{Command, Device, ReaderCommand, ReaderUnit, Reply, Setups};
+use crate::options::{Options, ReaderOptions};
+use mdb_bus::{Act, Beginning, Levels, Profile, ReaderLevels, Scope};
+use mdb_msgs::{Command, Device, ReaderCommand, ReaderSetup, ReaderUnit, Reply, Setups};
 
 /// What the rows so far tell of how the devices are set up, for the next stretch (this profile).
 #[derive(PartialEq, Eq, Debug, Drop)]
@@ -24,6 +24,9 @@ pub struct Told {
     /// The level of the last whole SETUP config ask, where no config message of that reader came
     /// after it.
     pub unanswered: Levels,
+    /// The options of each reader by the stretch that runs. They count by the extended profile
+    /// alone.
+    pub options: Options,
 }
 
 impl Told {
@@ -33,25 +36,34 @@ impl Told {
     {
         Told {
             setups: setups_of(&scope.begins),
-            levels: scope.levels,
+            levels: scope.levels_before(),
             unanswered: scope.levels,
+            options: Options::before(&scope.begins),
         }
     }
 
-    /// Learns what an act tells by the profile of a scope, if it has ended.
+    /// Learns what an act tells in a recording that begins so, if it has ended.
     #[inline(always)]
-    pub(crate) fn learn_if(&mut self, scope: &Scope, has_ended: bool, act: &Act)
-        ensures { self.new
-            ≡ learnt_if (profile_of scope.now.begins) (ended_act has_ended act.now) self.old }
+    pub(crate) fn learn_if(&mut self, begins: &Beginning, has_ended: bool, act: &Act)
+        ensures { self.new ≡ told_if begins.now (ended_act has_ended act.now) self.old }
     {
         if has_ended {
-            self.learn(scope.begins.profile(), act);
+            self.learn(begins, act);
         }
     }
 
-    /// Learns what an act tells, by a profile.
+    /// Learns what an act tells in a recording that begins so.
     #[inline(always)]
-    pub fn learn(&mut self, profile: Profile, act: &Act)
+    pub fn learn(&mut self, begins: &Beginning, act: &Act)
+        ensures { self.new ≡ told_by begins.now act.now self.old }
+    {
+        self.options.note(begins, self.levels, act);
+        self.learn_setups(begins.profile(), act);
+    }
+
+    /// Learns what an act tells of setup data and levels, by a profile.
+    #[inline(always)]
+    fn learn_setups(&mut self, profile: Profile, act: &Act)
         ensures { self.new ≡ learnt_by profile act.now self.old }
     {
         match act {
@@ -95,6 +107,34 @@ impl Told {
         }
     }
 
+    /// The setup data that a stretch is told by a profile.
+    pub(crate) fn setups_on(&self, profile: Profile) -> Setups
+        ensures { result ≡ setups_on profile self.now }
+    {
+        let mut setups = self.setups.copy();
+        if profile == Profile::Extended {
+            setups.first_reader = setup_on(
+                setups.first_reader,
+                self.levels.first,
+                self.options.first,
+            );
+            setups.second_reader = setup_on(
+                setups.second_reader,
+                self.levels.second,
+                self.options.second,
+            );
+        }
+        setups
+    }
+
+    /// Begins a stretch, which is told of setup data and options what its beginning has.
+    pub(crate) fn begin(&mut self, begins: &Beginning)
+        ensures { self.new ≡ told_on begins.now self.old }
+    {
+        self.setups = setups_of(begins);
+        self.options = Options::before(begins);
+    }
+
     /// Whether the controller has told a reader a feature level below 2, and no other since.
     pub fn is_told_below_2(&self, unit: ReaderUnit) -> bool
         ensures { result ≡ is_told_below_2 self.now unit }
@@ -117,6 +157,18 @@ pub fn setups_of(begins: &Beginning) -> Setups
     match begins {
         Beginning::PowerOn(_) => Setups::NONE,
         Beginning::Joined(setups, _) => setups.copy(),
+    }
+}
+
+/// What a stretch is told of a reader by the extended profile, of which this is known.
+fn setup_on(known: ReaderSetup, levels: ReaderLevels, options: ReaderOptions) -> ReaderSetup
+    ensures { result ≡ setup_on known levels options }
+{
+    ReaderSetup {
+        config: known.config,
+        asked: levels.asked,
+        told: levels.told,
+        always_idle: options.idle_told(levels),
     }
 }
 

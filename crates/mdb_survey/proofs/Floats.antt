@@ -3,6 +3,7 @@ use Rattle.std.proofs.Common.{[], ◌∷◌, refl, ◌≡◌, ◌==◌, Bool, tr
 use Rattle.serde_json.specs.Data.{Data, null, object}
 use Rattle.serde_json.specs.Written.{has_float}
 use Rattle.mdb_msgs.specs.declared.command.Device.{Device}
+use Rattle.mdb_bus.specs.declared.scope.Profile.{Profile}
 use Rattle.mdb_follow.specs.declared.report.TheConstants.Report.{DEVICES}
 use Rattle.mdb_json.specs.Reports.{members}
 use Rattle.mdb_json.proofs.Floats.{of_accounts, of_yes}
@@ -31,5 +32,6 @@ of_total summary =
     (object (members ((codes "devices", devices_total summary) ∷ [])))
     (rw (of_devices summary) refl)
 
-pub of_summary : (summary : Summary) → has_float (summary_data summary) ≡ false
-of_summary summary = rw (of_total summary) refl
+pub of_summary : (profile : Profile) (summary : Summary)
+    → has_float (summary_data profile summary) ≡ false
+of_summary profile summary = rw (of_total summary) refl

@@ -3,6 +3,7 @@ use Rattle.std.specs.Prelude.{◌≡◌, ◌+◌, ◌<◌, ◌≤◌, ℕ, List,
 use Rattle.mdb_words.specs.declared.event.Event.{Event}
 use Rattle.mdb_words.specs.declared.row.RowFault.{RowFault}
 use Rattle.mdb_words.specs.Row.{IsRefusal}
+use Rattle.mdb_bus.specs.declared.scope.Profile.{Profile}
 use Rattle.mdb_bus.specs.declared.scope.Scope.{Scope}
 use Rattle.mdb_follow.specs.declared.follower.TheConstants.{ROWS_MAX}
 use Rattle.mdb_stretches.specs.declared.stretch.Ended.{Ended}
@@ -113,7 +114,7 @@ abbrev pub IsCutShort : LineForm → Scope → List (List (List ℕ)) → Option
 IsCutShort form scope records before after =
     (read : ℕ) × answers.IsCutShort (IsSurveying form scope records read) before after
 
--- the lines of a form
-abbrev pub survey_lines_in : Form → LineForm
-survey_lines_in Text = text_lines
-survey_lines_in Json = json_lines
+-- the lines of a form, of a recording that is followed by a profile
+abbrev pub survey_lines_in : Form → Profile → LineForm
+survey_lines_in Text profile = text_lines
+survey_lines_in Json profile = json_lines profile

@@ -5,10 +5,12 @@ use Rattle.serde_json.specs.Written.{compact_text}
 use Rattle.mdb_msgs.specs.declared.command.Device.{Device}
 use Rattle.mdb_msgs.specs.DeviceSets.{has}
 use Rattle.mdb_msgs.specs.Devices.{device_word}
+use Rattle.mdb_bus.specs.declared.scope.Profile.{Profile}
 use Rattle.mdb_bus.specs.FaultWords.{blame_word, rule_word}
+use Rattle.mdb_bus.specs.Scopes.{profile_of}
 use Rattle.mdb_follow.specs.declared.offence.Offence.{Offence}
 use Rattle.mdb_follow.specs.declared.report.TheConstants.Report.{DEVICES}
-use Rattle.mdb_json.specs.Reports.{accounts_data, members, yes_data}
+use Rattle.mdb_json.specs.Reports.{accounts_data, members, version_of, yes_data}
 use Rattle.mdb_stretches.specs.declared.counts.FaultCounts.{FaultCounts}
 use Rattle.mdb_stretches.specs.declared.stretch.Stretch.{Stretch}
 use Rattle.mdb_stretches.specs.Totals.{total_silences, total_unvalued}
@@ -25,7 +27,7 @@ stretch_data stretch =
     ∷ (codes "last", number (unsigned stretch.last))
     ∷ (codes "report", yes_data stretch.scope stretch.report)
     ∷ (codes "stretch", number (unsigned stretch.number))
-    ∷ (codes "version", number (unsigned 1)) ∷ []
+    ∷ (codes "version", number (unsigned (version_of (profile_of stretch.scope.begins)))) ∷ []
     ))
 
 -- a stretch without a row has no line
@@ -42,10 +44,11 @@ offence_data fault =
     ∷ (codes "rule", string (rule_word fault.rule)) ∷ []
     ))
 
-abbrev pub fault_data : Offence → Data
-fault_data fault =
+abbrev pub fault_data : Profile → Offence → Data
+fault_data profile fault =
     object (members (
-    (codes "fault", offence_data fault) ∷ (codes "version", number (unsigned 1)) ∷ []
+    (codes "fault", offence_data fault)
+    ∷ (codes "version", number (unsigned (version_of profile))) ∷ []
     ))
 
 -- what all stretches have of a device: its accounts, how many silences it had, how many of its
@@ -87,18 +90,18 @@ faults_data faults =
     ))
 
 -- the whole: the faults and the totals
-abbrev pub summary_data : Summary → Data
-summary_data summary =
+abbrev pub summary_data : Profile → Summary → Data
+summary_data profile summary =
     object (members (
     (codes "faults", faults_data summary.faults)
     ∷ (codes "total", total_data summary)
-    ∷ (codes "version", number (unsigned 1)) ∷ []
+    ∷ (codes "version", number (unsigned (version_of profile))) ∷ []
     ))
 
--- the lines of `survey` as JSON
-abbrev pub json_lines : LineForm
-json_lines = record {
+-- the lines of `survey` as JSON, by a profile
+abbrev pub json_lines : Profile → LineForm
+json_lines profile = record {
   stretch = stretch_json;
-  fault = λ fault. line (compact_text (fault_data fault));
-  summary = λ summary. line (compact_text (summary_data summary));
+  fault = λ fault. line (compact_text (fault_data profile fault));
+  summary = λ summary. line (compact_text (summary_data profile summary));
 }

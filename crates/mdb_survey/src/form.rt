@@ -1,12 +1,14 @@
 //! The lines in either form, on their way to a writer.
 
 ghost use Rattle.std.specs.Prelude.{◌≡◌, ◌++◌, IfErr, OnOk};
+ghost use Rattle.mdb_bus.specs.Scopes.{profile_of};
 ghost use Rattle.mdb_survey.specs.Survey.{survey_lines_in};
 ghost use Rattle.mdb_survey_text.specs.Lines.{ended_lines};
 ghost use Rattle.mdb_verdict.specs.Telling.{IsNotTaken};
 ghost use Rattle.mdb_writing.specs.Output.{Puts, output};
 
 use super::json_text;
+use mdb_bus::Scope;
 use mdb_follow::Offence;
 use mdb_stretches::{Ended, Stretch, Summary};
 use mdb_survey_text::{write_fault, write_stretch, write_summary};
@@ -19,20 +21,21 @@ use std::io::Write;
 pub(crate) fn add_ended<W: Write>(
     printer: &mut Printer,
     form: Form,
+    scope: &Scope,
     writer: &mut W,
     ended: &Ended,
 ) -> Result<(), RunFault>
     ensures added { OnOk result (Puts (output (W.contents writer.old) printer.old.page)
         (output (W.contents writer.new) printer.new.page)
-        (ended_lines (survey_lines_in form) ended.now)) }
+        (ended_lines (survey_lines_in form (profile_of scope.now.begins)) ended.now)) }
     ensures refused { IfErr result (λ refusal. IsNotTaken refusal
         (output (W.contents writer.old) printer.old.page)
         (output (W.contents writer.new) printer.new.page)
-        (ended_lines (survey_lines_in form) ended.now)) }
+        (ended_lines (survey_lines_in form (profile_of scope.now.begins)) ended.now)) }
 {
     printer.next.clear();
-    push_stretch(&mut printer.next, form, &ended.stretch)?;
-    push_fault(&mut printer.next, form, &ended.fault)?;
+    push_stretch(&mut printer.next, form, scope, &ended.stretch)?;
+    push_fault(&mut printer.next, form, scope, &ended.fault)?;
     printer.add(writer)
 }
 
@@ -40,19 +43,20 @@ pub(crate) fn add_ended<W: Write>(
 pub(crate) fn add_stretch<W: Write>(
     printer: &mut Printer,
     form: Form,
+    scope: &Scope,
     writer: &mut W,
     stretch: &Stretch,
 ) -> Result<(), RunFault>
     ensures added { OnOk result (Puts (output (W.contents writer.old) printer.old.page)
         (output (W.contents writer.new) printer.new.page)
-        ((survey_lines_in form).stretch stretch.now)) }
+        ((survey_lines_in form (profile_of scope.now.begins)).stretch stretch.now)) }
     ensures refused { IfErr result (λ refusal. IsNotTaken refusal
         (output (W.contents writer.old) printer.old.page)
         (output (W.contents writer.new) printer.new.page)
-        ((survey_lines_in form).stretch stretch.now)) }
+        ((survey_lines_in form (profile_of scope.now.begins)).stretch stretch.now)) }
 {
     printer.next.clear();
-    push_stretch(&mut printer.next, form, stretch)?;
+    push_stretch(&mut printer.next, form, scope, stretch)?;
     printer.add(writer)
 }
 
@@ -60,28 +64,36 @@ pub(crate) fn add_stretch<W: Write>(
 pub(crate) fn add_end<W: Write>(
     printer: &mut Printer,
     form: Form,
+    scope: &Scope,
     writer: &mut W,
     last: &Stretch,
     summary: &Summary,
 ) -> Result<(), RunFault>
     ensures added { OnOk result (Puts (output (W.contents writer.old) printer.old.page)
         (output (W.contents writer.new) printer.new.page)
-        ((survey_lines_in form).stretch last.now ++ (survey_lines_in form).summary summary.now)) }
+        ((survey_lines_in form (profile_of scope.now.begins)).stretch last.now
+        ++ (survey_lines_in form (profile_of scope.now.begins)).summary summary.now)) }
     ensures refused { IfErr result (λ refusal. IsNotTaken refusal
         (output (W.contents writer.old) printer.old.page)
         (output (W.contents writer.new) printer.new.page)
-        ((survey_lines_in form).stretch last.now ++ (survey_lines_in form).summary summary.now)) }
+        ((survey_lines_in form (profile_of scope.now.begins)).stretch last.now
+        ++ (survey_lines_in form (profile_of scope.now.begins)).summary summary.now)) }
 {
     printer.next.clear();
-    push_stretch(&mut printer.next, form, last)?;
-    push_summary(&mut printer.next, form, summary)?;
+    push_stretch(&mut printer.next, form, scope, last)?;
+    push_summary(&mut printer.next, form, scope, summary)?;
     printer.add(writer)
 }
 
 /// Appends the lines of a stretch: none where it has no row.
-fn push_stretch(text: &mut Vec<u8>, form: Form, stretch: &Stretch) -> Result<(), AllocError>
-    ensures { OnOk result
-        (text.new.items ≡ text.old.items ++ (survey_lines_in form).stretch stretch.now) }
+fn push_stretch(
+    text: &mut Vec<u8>,
+    form: Form,
+    scope: &Scope,
+    stretch: &Stretch,
+) -> Result<(), AllocError>
+    ensures { OnOk result (text.new.items ≡ text.old.items
+        ++ (survey_lines_in form (profile_of scope.now.begins)).stretch stretch.now) }
 {
     match form {
         Form::Text => write_stretch(text, stretch).map_err(|_| AllocError),
@@ -90,23 +102,33 @@ fn push_stretch(text: &mut Vec<u8>, form: Form, stretch: &Stretch) -> Result<(),
 }
 
 /// Appends the line of a fault.
-fn push_fault(text: &mut Vec<u8>, form: Form, fault: &Offence) -> Result<(), AllocError>
-    ensures { OnOk result
-        (text.new.items ≡ text.old.items ++ (survey_lines_in form).fault fault.now) }
+fn push_fault(
+    text: &mut Vec<u8>,
+    form: Form,
+    scope: &Scope,
+    fault: &Offence,
+) -> Result<(), AllocError>
+    ensures { OnOk result (text.new.items ≡ text.old.items
+        ++ (survey_lines_in form (profile_of scope.now.begins)).fault fault.now) }
 {
     match form {
         Form::Text => write_fault(text, fault).map_err(|_| AllocError),
-        Form::Json => json_text::push_fault(text, fault),
+        Form::Json => json_text::push_fault(text, scope.begins.profile(), fault),
     }
 }
 
 /// Appends the lines of the whole.
-fn push_summary(text: &mut Vec<u8>, form: Form, summary: &Summary) -> Result<(), AllocError>
-    ensures { OnOk result
-        (text.new.items ≡ text.old.items ++ (survey_lines_in form).summary summary.now) }
+fn push_summary(
+    text: &mut Vec<u8>,
+    form: Form,
+    scope: &Scope,
+    summary: &Summary,
+) -> Result<(), AllocError>
+    ensures { OnOk result (text.new.items ≡ text.old.items
+        ++ (survey_lines_in form (profile_of scope.now.begins)).summary summary.now) }
 {
     match form {
         Form::Text => write_summary(text, summary).map_err(|_| AllocError),
-        Form::Json => json_text::push_summary(text, summary),
+        Form::Json => json_text::push_summary(text, scope.begins.profile(), summary),
     }
 }

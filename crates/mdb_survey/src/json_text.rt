@@ -7,8 +7,9 @@ ghost use Rattle.serde_json.specs.Written.{compact_text, has_float};
 ghost use Rattle.mdb_survey.specs.SurveyJson.{device_total, devices_total, fault_data, faults_data, offence_data, stretch_data, stretch_json, summary_data, total_data};
 ghost use Rattle.mdb_text.specs.Text.{line};
 
+use mdb_bus::Profile;
 use mdb_follow::{Offence, Report};
-use mdb_json::{VERSION, accounts_of, report_value};
+use mdb_json::{accounts_of, report_value, version_by};
 use mdb_msgs::Device;
 use mdb_stretches::{FaultCounts, Stretch, Summary};
 use serde_json::{Map, Value, json, put};
@@ -27,21 +28,28 @@ pub(crate) fn push_stretch(text: &mut Vec<u8>, stretch: &Stretch) -> Result<(), 
 }
 
 /// Appends the line of a fault.
-pub(crate) fn push_fault(text: &mut Vec<u8>, fault: &Offence) -> Result<(), AllocError>
+pub(crate) fn push_fault(
+    text: &mut Vec<u8>,
+    profile: Profile,
+    fault: &Offence,
+) -> Result<(), AllocError>
     ensures { OnOk result
-        (text.new.items ≡ text.old.items ++ line (compact_text (fault_data fault.now))) }
+        (text.new.items ≡ text.old.items ++ line (compact_text (fault_data profile fault.now))) }
 {
-    let value = fault_value(*text.allocator(), fault)?;
+    let value = fault_value(*text.allocator(), profile, fault)?;
     push_line(text, &value)
 }
 
 /// Appends the line of the whole.
-#[tactic(auto, using(crate::proofs::Floats::of_summary))]
-pub(crate) fn push_summary(text: &mut Vec<u8>, summary: &Summary) -> Result<(), AllocError>
-    ensures { OnOk result
-        (text.new.items ≡ text.old.items ++ line (compact_text (summary_data summary.now))) }
+pub(crate) fn push_summary(
+    text: &mut Vec<u8>,
+    profile: Profile,
+    summary: &Summary,
+) -> Result<(), AllocError>
+    ensures { OnOk result (text.new.items
+        ≡ text.old.items ++ line (compact_text (summary_data profile summary.now))) }
 {
-    let value = summary_value(*text.allocator(), summary)?;
+    let value = summary_value(*text.allocator(), profile, summary)?;
     push_line(text, &value)
 }
 
@@ -62,7 +70,7 @@ fn stretch_value(alloc: Global, stretch: &Stretch) -> Result<Value, AllocError>
 {
     let report = report_value(alloc, &stretch.scope, &stretch.report)?;
     json!(in alloc; {
-        "version": VERSION,
+        "version": version_by(stretch.scope.begins.profile()),
         "stretch": stretch.number,
         "first": stretch.first,
         "last": stretch.last,
@@ -71,24 +79,24 @@ fn stretch_value(alloc: Global, stretch: &Stretch) -> Result<Value, AllocError>
 }
 
 /// A fault as a value.
-fn fault_value(alloc: Global, fault: &Offence) -> Result<Value, AllocError>
-    ensures { IfOk result (λ value. view value ≡ fault_data fault.now) }
+fn fault_value(alloc: Global, profile: Profile, fault: &Offence) -> Result<Value, AllocError>
+    ensures { IfOk result (λ value. view value ≡ fault_data profile fault.now) }
 {
     let offence = json!(in alloc; {
         "row": fault.row,
         "rule": fault.rule.word(),
         "blame": fault.blame.word()
     })?;
-    json!(in alloc; {"version": VERSION, "fault": offence})
+    json!(in alloc; {"version": version_by(profile), "fault": offence})
 }
 
 /// The whole as a value.
-fn summary_value(alloc: Global, summary: &Summary) -> Result<Value, AllocError>
-    ensures { IfOk result (λ value. view value ≡ summary_data summary.now) }
+fn summary_value(alloc: Global, profile: Profile, summary: &Summary) -> Result<Value, AllocError>
+    ensures { IfOk result (λ value. view value ≡ summary_data profile summary.now) }
 {
     let faults = faults_value(alloc, &summary.faults)?;
     let total = total_value(alloc, summary)?;
-    json!(in alloc; {"version": VERSION, "total": total, "faults": faults})
+    json!(in alloc; {"version": version_by(profile), "total": total, "faults": faults})
 }
 
 /// How many faults there are, as a value.

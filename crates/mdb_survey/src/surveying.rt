@@ -3,6 +3,7 @@
 ghost use Rattle.std.specs.Prelude.{◌≡◌, ◌-◌, List, [], ℕ, IsErr};
 ghost use Rattle.mdb_records.specs.ToCome.{ToCome, found_by};
 ghost use Rattle.mdb_bus.specs.declared.scope.Scope.{Scope};
+ghost use Rattle.mdb_bus.specs.Scopes.{profile_of};
 ghost use Rattle.mdb_survey.specs.Survey.{SurveysIn, survey_lines_in};
 ghost use Rattle.mdb_survey.specs.inner.SurveySteps.{HasSurveyed, PutsSurveying};
 ghost use Rattle.mdb_verdict.specs.Telling.{Reads};
@@ -27,9 +28,10 @@ use std::io::{Read, Write};
 ///
 /// The first stretch is taken as `scope` says. After a fault the next row begins a new stretch. It
 /// is taken as a recording that begins while the machine was running, and is told what the
-/// stretches so far show of how the devices are set up. A reader on which a fault with the rule
-/// [`Rule::Profile`](mdb_bus::Rule::Profile) is blamed is left out from there on, unless the
-/// controller has last reported a feature level below 2 to it.
+/// stretches so far show of how the devices are set up. By the base profile a reader on which a
+/// fault with the rule [`Rule::Profile`](mdb_bus::Rule::Profile) is blamed is left out from there
+/// on, unless the controller has last reported a feature level below 2 to it. By the extended
+/// profile a reader is left out to which such a fault ends an ENABLE OPTIONS.
 ///
 /// The rows are those of `check`.
 ///
@@ -53,7 +55,7 @@ pub fn survey_records<R: Read + Drop, W: Write>(
     writer: &mut W,
 ) -> Result<Summary, RunFault>
     ensures surveys { (all : List (List (List ℕ))) → ToCome R.remaining records.old all
-        → SurveysIn (survey_lines_in form) scope.now all
+        → SurveysIn (survey_lines_in form (profile_of scope.now.begins)) scope.now all
         (found_by records.new - found_by records.old) (W.contents writer.old)
         (W.contents writer.new) result }
     ensures reads { Reads IsErr R.remaining records.old records.new result }
@@ -69,11 +71,14 @@ fn survey_rows<R: Read + Drop, W: Write>(
     surveying: &mut Surveying,
     writer: &mut W,
 ) -> Result<Summary, RunFault>
-    requires { HasSurveyed (survey_lines_in surveying.old.form) surveying.old.scope
-        surveying.old.surveyor (begun (W.contents writer.old))
+    requires { HasSurveyed
+        (survey_lines_in surveying.old.form (profile_of surveying.old.scope.begins))
+        surveying.old.scope surveying.old.surveyor (begun (W.contents writer.old))
         (output (W.contents writer.old) surveying.old.printer.page) [] }
     ensures surveys { (all : List (List (List ℕ))) → ToCome R.remaining records.old all
-        → PutsSurveying (survey_lines_in surveying.old.form) surveying.old.scope all
+        → PutsSurveying
+        (survey_lines_in surveying.old.form (profile_of surveying.old.scope.begins))
+        surveying.old.scope all
         (found_by records.new - found_by records.old) (begun (W.contents writer.old))
         (output (W.contents writer.new) surveying.new.printer.page) result }
     ensures reads { Reads IsErr R.remaining records.old records.new result }
@@ -110,7 +115,8 @@ impl Surveying {
     /// Before the first row.
     fn new(alloc: Global, scope: &Scope, form: Form) -> Surveying
         ensures surveyed { (contents : Option (List ℕ))
-            → HasSurveyed (survey_lines_in form) scope.now result.surveyor (begun contents)
+            → HasSurveyed (survey_lines_in form (profile_of scope.now.begins)) scope.now
+            result.surveyor (begun contents)
             (output contents result.printer.page) [] }
         ensures scope { result.scope ≡ scope.now }
         ensures form { result.form ≡ form }
@@ -125,22 +131,31 @@ impl Surveying {
 
     /// Adds the lines of the stretch that runs, where the reading stops before the end.
     fn stop<W: Write>(&mut self, writer: &mut W) -> Result<(), RunFault>
-        ensures { HasAddedLast (survey_lines_in self.old.form) self.old.surveyor
+        ensures { HasAddedLast (survey_lines_in self.old.form (profile_of self.old.scope.begins))
+            self.old.surveyor
             (output (W.contents writer.old) self.old.printer.page)
             (output (W.contents writer.new) self.new.printer.page) result }
     {
         let stretch = self.surveyor.stretch();
-        add_stretch(&mut self.printer, self.form, writer, &stretch)
+        add_stretch(&mut self.printer, self.form, &self.scope, writer, &stretch)
     }
 
     /// Adds the lines of the last stretch and of the whole, and answers what the survey comes to.
     fn end<W: Write>(&mut self, writer: &mut W) -> Result<Summary, RunFault>
-        ensures { HasAddedEnd (survey_lines_in self.old.form) self.old.surveyor
+        ensures { HasAddedEnd (survey_lines_in self.old.form (profile_of self.old.scope.begins))
+            self.old.surveyor
             (output (W.contents writer.old) self.old.printer.page)
             (output (W.contents writer.new) self.new.printer.page) result }
     {
         let (last, summary) = self.surveyor.ending();
-        add_end(&mut self.printer, self.form, writer, &last, &summary)?;
+        add_end(
+            &mut self.printer,
+            self.form,
+            &self.scope,
+            writer,
+            &last,
+            &summary,
+        )?;
         Ok(summary)
     }
 }
@@ -166,12 +181,14 @@ impl<W: Write> TakeRows<W> for Surveying {
 
     ghost kept = { λ surveying. (surveying.scope, surveying.form) };
 
-    ghost has = { λ surveying before after rows. HasSurveyed (survey_lines_in surveying.form)
+    ghost has = { λ surveying before after rows. HasSurveyed
+        (survey_lines_in surveying.form (profile_of surveying.scope.begins))
         surveying.scope surveying.surveyor (begun (W.contents before))
         (output (W.contents after) surveying.printer.page) rows };
 
     ghost stops = { λ surveying before after earlier rows. HasStopped
-        (survey_lines_in surveying.form) surveying.scope (begun (W.contents before))
+        (survey_lines_in surveying.form (profile_of surveying.scope.begins)) surveying.scope
+        (begun (W.contents before))
         (output (W.contents after) surveying.printer.page) (earlier ++ rows) };
 
     fn rows_taken(&self) -> u64 {
@@ -183,7 +200,13 @@ impl<W: Write> TakeRows<W> for Surveying {
         laws::fronts_of_reached_rows_are_reached();
         let mut rest = rows;
         while let Some((ended, after)) = self.surveyor.feed_all(rest) {
-            if let Err(fault) = add_ended(&mut self.printer, self.form, writer, &ended) {
+            if let Err(fault) = add_ended(
+                &mut self.printer,
+                self.form,
+                &self.scope,
+                writer,
+                &ended,
+            ) {
                 return Some(fault);
             }
             rest = after;

@@ -80,7 +80,7 @@ const REPLAY_HELP: &[u8] =
 < EXPLANATION; all: mdbcheck manual replay\n";
 
 /// What is told of one that asks for the version.
-const VERSION: &[u8] = b"mdbcheck 0.6.0\n";
+const VERSION: &[u8] = b"mdbcheck 0.7.0\n";
 
 /// A recording whose row isn't followed, its report, and what is told of it.
 const REVALUE: &[u8] = b"1000,M,115\n";
@@ -278,8 +278,8 @@ fn runs_have_their_status_and_their_texts(rt: HostRuntime) {
 const CHECK_USAGE: &str =
     "check [--joined] [--extended] [--setup 'DEVICE ..'].. [--without ..].. [--json] < FILE";
 
-const SURVEY_USAGE: &str = "survey [--joined] [--setup 'DEVICE BYTES'].. [--without DEVICE].. \
-[--json] < TRANSCRIPT";
+const SURVEY_USAGE: &str =
+    "survey [--joined] [--extended] [--setup 'DEVICE ..'].. [--without ..].. [--json] < FILE";
 
 const SHOW_USAGE: &str = "show [--extended [--joined [--setup 'DEVICE ..']..]] \
 [--without ..].. [--json] < FILE";

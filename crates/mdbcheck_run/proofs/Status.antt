@@ -30,6 +30,7 @@ use Rattle.mdb_verdict.specs.Verdict.{IsNoYes}
 use Rattle.mdb_verdict.specs.declared.verdict.TheConstants.{BYTES_MAX}
 use Rattle.mdb_writing.specs.Written.{HasTaken}
 use Rattle.mdb_bus.specs.declared.scope.Scope.{Scope}
+use Rattle.mdb_bus.specs.Scopes.{profile_of}
 
 -- Whether a fault is that of the writer.
 pub is_write : (fault : RunFault) → (fault ≡ Write) ⊎ (fault ≢ Write)
@@ -154,7 +155,8 @@ says_shown scope form all before after (Err fault) (inr cut) =
 says_whole : (scope : Scope) (form : Form) (all : List (List (List ℕ)))
     (before after : Option (List ℕ)) (summary : Summary) (text : List ℕ) (none : Bool)
     → (summary.faults.all == 0) ≡ none
-    → IsSurveyedWhole (survey_lines_in form) scope all summary text → Appends before after text
+    → IsSurveyedWhole (survey_lines_in form (profile_of scope.begins)) scope all summary text
+    → Appends before after text
     → SaysSurveyed scope form all before after (if none then 0 else 1)
 says_whole scope form all before after summary text true is whole written =
     record {
@@ -173,7 +175,7 @@ says_whole scope form all before after summary text false is whole written =
 
 pub says_surveyed : (scope : Scope) (form : Form) (all : List (List (List ℕ))) (read : ℕ)
     (before after : Option (List ℕ)) (answer : Result Summary RunFault)
-    → SurveysIn (survey_lines_in form) scope all read before after answer
+    → SurveysIn (survey_lines_in form (profile_of scope.begins)) scope all read before after answer
     → SaysSurveyed scope form all before after (survey_status_of answer)
 says_surveyed scope form all read before after (Ok summary) (inl (text, whole, written)) =
     says_whole scope form all before after summary text (summary.faults.all == 0) refl whole written

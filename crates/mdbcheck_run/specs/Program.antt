@@ -42,7 +42,7 @@ use Rattle.mdb_verdict.specs.declared.verdict.TheConstants.{BYTES_MAX}
 use Rattle.mdb_bus.specs.declared.scope.Profile.{Profile}
 use Rattle.mdb_bus.specs.declared.scope.Profile.TheVariants.{Base, Extended}
 use Rattle.mdb_bus.specs.declared.scope.Scope.{Scope}
-use Rattle.mdb_bus.specs.Scopes.{from_power_on, joined_by}
+use Rattle.mdb_bus.specs.Scopes.{from_power_on, joined_by, profile_of}
 use Rattle.mdb_writing.specs.Written.{HasTaken}
 use Rattle.mdbcheck_run.specs.declared.manual.TheConstants.{ABOUT, CHECK, EXPLAIN, MANUAL, REPLAY, REST, SHOW, SURVEY}
 use Rattle.mdb_text.specs.declared.form.Form.{Form}
@@ -103,14 +103,10 @@ check_command = record {
   further = [];
 }
 
--- `survey` knows the same, but for the profile
+-- `survey` and `show` know the same
 abbrev pub survey_command : Command
-survey_command = record check_command {
-  name = codes "survey";
-  flags = codes "joined" ∷ codes "json" ∷ [];
-}
+survey_command = record check_command { name = codes "survey" }
 
--- `show` knows the same as `check`
 abbrev pub show_command : Command
 show_command = record check_command { name = codes "show" }
 
@@ -335,12 +331,13 @@ pub record SaysAnswered {Fault : Type 0} (IsAnswer : Result Outcome Fault → Ty
 pub record SaysSurveyed (scope : Scope) (form : Form) (records : List (List (List ℕ)))
     (before after : Option (List ℕ)) (status : ℕ) : Type 0 where
   pub faultless : status ≡ 0 → (summary : Summary) × (text : List ℕ)
-      × IsSurveyedWhole (survey_lines_in form) scope records summary text
+      × IsSurveyedWhole (survey_lines_in form (profile_of scope.begins)) scope records summary text
       × (summary.faults.all ≡ 0) × Appends before after text
   pub faulty : status ≡ 1 → (summary : Summary) × (text : List ℕ)
-      × IsSurveyedWhole (survey_lines_in form) scope records summary text
+      × IsSurveyedWhole (survey_lines_in form (profile_of scope.begins)) scope records summary text
       × (0 < summary.faults.all) × Appends before after text
-  pub unanswered : status ≡ 2 → IsCutShort (survey_lines_in form) scope records before after
+  pub unanswered : status ≡ 2
+      → IsCutShort (survey_lines_in form (profile_of scope.begins)) scope records before after
 
 -- The same of `show`. At 2 a front of a text was written that the records are shown with: its lines
 -- up to the fault, or fewer, where the writer failed.

@@ -31,7 +31,7 @@ use mdb_text::Form;
 use std::alloc::Global;
 
 /// The program's version.
-pub(crate) const VERSION: &str = "0.6.0";
+pub(crate) const VERSION: &str = "0.7.0";
 
 /// The option that says that the recording begins in mid-session.
 const JOINED: &str = "joined";
@@ -79,11 +79,11 @@ pub(crate) const PROGRAM: Program<'static> = Program {
         CommandRow {
             name: "survey",
             options: &[SETUP, WITHOUT],
-            flags: &[JOINED, JSON],
+            flags: &[JOINED, EXTENDED, JSON],
             words: &[],
             further: &[],
-            usage: "survey [--joined] [--setup 'DEVICE BYTES'].. [--without DEVICE].. [--json] \
-< TRANSCRIPT",
+            usage: "survey [--joined] [--extended] [--setup 'DEVICE ..'].. [--without ..].. \
+[--json] < FILE",
             manual: manual::SURVEY,
         },
         CommandRow {
@@ -92,7 +92,6 @@ pub(crate) const PROGRAM: Program<'static> = Program {
             flags: &[JOINED, EXTENDED, JSON],
             words: &[],
             further: &[],
-            // (so short for the same reason)
             usage: "show [--extended [--joined [--setup 'DEVICE ..']..]] [--without ..].. \
 [--json] < FILE",
             manual: manual::SHOW,
@@ -103,7 +102,6 @@ pub(crate) const PROGRAM: Program<'static> = Program {
             flags: &[EXTENDED],
             words: &[ACCOUNT, SIDE, BOUND],
             further: &[],
-            // (so short for the same reason)
             usage: "explain ACCOUNT SIDE BOUND [--extended] [--without ..] < FILE",
             manual: manual::EXPLAIN,
         },

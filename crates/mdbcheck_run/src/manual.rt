@@ -77,7 +77,7 @@ CHECK
 /// `survey`.
 pub const SURVEY: &str = "\
 SURVEY
-        mdbcheck survey [--joined] [--setup 'DEVICE BYTES']..
+        mdbcheck survey [--joined] [--extended] [--setup 'DEVICE BYTES']..
             [--without DEVICE].. [--json] < TRANSCRIPT
 
     Goes on after an impossible row. check stops there; survey prints every
@@ -100,12 +100,15 @@ SURVEY
     fault begins a stretch that is taken with --joined. It is told the answers
     to SETUP of the stretches so far: its line \"setup\" names these devices. A
     reader that is blamed for Profile is left out from there on, unless the
-    controller last gave it level 1: the line \"without\" names it.
+    controller last gave it level 1: the line \"without\" names it. With
+    --extended a stretch is also told the readers' levels and options. A
+    reader is left out only where it is asked for money of 32 bits or for
+    several currencies.
 
     Statuses: 0 no fault, 1 one fault or more, 2 no whole survey. If a row
     can't be read, the lines up to it stand, without totals.
 
-    --joined, --setup, --without
+    --joined, --extended, --setup, --without
                      As with check.
     --json           Writes one JSON object for each stretch, for each fault
                      and for the totals, each on one line.

@@ -32,7 +32,7 @@ use mdb_words::{Span, Time};
 use std::alloc::Global;
 
 /// The program's version.
-pub(crate) const VERSION: &str = "0.6.0";
+pub(crate) const VERSION: &str = "0.7.0";
 
 /// The option that tells the unit of the times.
 pub(crate) const UNIT: &str = "unit";

@@ -2,9 +2,9 @@
 -- public clause cites it.
 use Rattle.std.specs.Prelude.{◌≡◌, List, Some}
 use Rattle.mdb_words.specs.declared.event.Event.{Event}
+use Rattle.mdb_bus.specs.declared.fault.Rule.TheVariants as rules
 use Rattle.mdb_bus.specs.declared.scope.Scope.{Scope}
-use Rattle.mdb_bus.specs.ActLists.{IsActList, Piece, acts_of}
-use Rattle.mdb_bus.specs.Scopes.{profile_of}
+use Rattle.mdb_bus.specs.ActLists.{IsActList, Piece, acts_of, open_block, position_of}
 use Rattle.mdb_follow.specs.declared.offence.Offence.{Offence}
 use Rattle.mdb_follow.specs.Follower as follow
 use Rattle.mdb_follow.specs.Offences.{IsOffence}
@@ -28,7 +28,10 @@ pub record HasHalted (surveyor : Surveyor) (scope : Scope) (rows : List Event) (
   pub taken_so : surveyor.scope ≡ place.scope
   pub is : IsOffence place.scope running row offence
   pub told : (pieces : List Piece) → IsActList place.scope pieces running
-      → surveyor.told ≡ told_after (profile_of place.scope.begins) place.told (acts_of pieces)
+      → surveyor.told ≡ told_after place.scope.begins place.told (acts_of pieces)
+  pub block : offence.rule ≡ rules.Profile → (pieces : List Piece)
+      → IsActList place.scope pieces running
+      → follow.open_block_of surveyor.follower ≡ open_block (position_of place.scope pieces)
   pub before : surveyor.before ≡ place.rows
   pub faults : surveyor.faults ≡ counts_of_ended ended
   pub totals : surveyor.totals ≡ totals_of ended

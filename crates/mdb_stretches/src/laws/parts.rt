@@ -6,16 +6,19 @@ ghost use Rattle.mdb_msgs.specs.declared.command.Device.{Device};
 ghost use Rattle.mdb_msgs.specs.declared.command.ReaderUnit.{ReaderUnit};
 ghost use Rattle.mdb_bus.specs.declared.act.Act.{Act};
 ghost use Rattle.mdb_bus.specs.declared.scope.Beginning.{Beginning};
-ghost use Rattle.mdb_bus.specs.declared.scope.Profile.{Profile};
+ghost use Rattle.mdb_bus.specs.declared.scope.Profile.TheVariants.{Base, Extended};
 ghost use Rattle.mdb_bus.specs.declared.scope.Scope.{Scope};
 ghost use Rattle.mdb_bus.specs.ActLists.{Piece, acts_of, levels_of};
 ghost use Rattle.mdb_bus.specs.LinkFaults.{blame_on};
-ghost use Rattle.mdb_bus.specs.Scopes.{IsFollowed, IsLeftOut};
+ghost use Rattle.mdb_bus.specs.Scopes.{IsFollowed, IsLeftOut, profile_of};
+ghost use Rattle.mdb_cashless.specs.declared.reader.extended.ExtendedFacts.{ExtendedFacts};
+ghost use Rattle.mdb_cashless.specs.ReaderFacts.{extended_of};
 ghost use Rattle.mdb_stretches.specs.declared.stretch.Ended.{Ended};
 ghost use Rattle.mdb_stretches.specs.declared.stretch.Stretch.{Stretch};
 ghost use Rattle.mdb_stretches.specs.declared.told.Told.{Told};
-ghost use Rattle.mdb_stretches.specs.Learning.{AreKnown};
-ghost use Rattle.mdb_stretches.specs.Parts.{EndBefore, IsReaderBeyond};
+ghost use Rattle.mdb_stretches.specs.Learning.{AreKnown, AreOptionsTold, IsReaderKnown};
+ghost use Rattle.mdb_stretches.specs.Options.{options_at};
+ghost use Rattle.mdb_stretches.specs.Parts.{EndBefore, IsReaderAsked, IsReaderBeyond};
 ghost use Rattle.mdb_stretches.specs.Stretches.{IsCutAt, IsSurvey, LeadFrom, StretchStart};
 ghost use Rattle.mdb_stretches.specs.Told.{level_of, setups_of, told_after};
 ghost use Rattle.mdb_stretches.specs.Unanswered.{IsNeither, IsUnanswered};
@@ -58,28 +61,43 @@ pub fn rows_are_of_stretches_or_faults()
 {}
 
 /// A device that is left out from the first row is left out at the end. Any other device that is
-/// left out at the end is a reader that a fault with the rule `Profile` is blamed on.
+/// left out at the end is a reader. By the base profile a fault with the rule `Profile` is blamed
+/// on it. By the extended profile such a fault ends an ENABLE OPTIONS to it that asks for what
+/// isn't followed.
 pub fn left_out_are_those_of_the_start_and_readers_beyond_this_profile()
     ensures stays { (scope : Scope) (rows : List Event) (ended : List Ended) (last : Stretch)
         (device : Device) → IsSurvey scope rows ended last → IsLeftOut scope device
         → IsLeftOut last.scope device }
     ensures why { (scope : Scope) (rows : List Event) (ended : List Ended) (last : Stretch)
-        (device : Device) → IsSurvey scope rows ended last → IsLeftOut last.scope device
-        → IsLeftOut scope device ⊎ IsReaderBeyond ended device }
+        (device : Device) → profile_of scope.begins ≡ Base → IsSurvey scope rows ended last
+        → IsLeftOut last.scope device → IsLeftOut scope device ⊎ IsReaderBeyond ended device }
+    ensures asked { (scope : Scope) (rows : List Event) (ended : List Ended) (last : Stretch)
+        (device : Device) → profile_of scope.begins ≡ Extended → IsSurvey scope rows ended last
+        → IsLeftOut last.scope device → IsLeftOut scope device ⊎ IsReaderAsked rows ended device }
 {}
 
 /// What the rows tell for the next stretch is what was said last: `levels` the levels that the bus
 /// reads replies by, and `setups` what the machines of the devices know. By the base profile a
 /// level is told on, as `unanswered`, exactly where no config message of its reader came after it.
+/// By the extended profile a reader's levels, and its always idle in `options`, are those that its
+/// machine knows, and `options` says when its options are told.
 pub fn what_is_told_is_what_was_said_last()
-    ensures levels { (profile : Profile) (told : Told) (pieces : List Piece)
-        → (told_after profile told (acts_of pieces)).levels
-        ≡ levels_of profile told.levels pieces }
-    ensures setups { (begins : Beginning) (profile : Profile) (told : Told) (acts : List Act)
+    ensures levels { (begins : Beginning) (told : Told) (pieces : List Piece)
+        → (told_after begins told (acts_of pieces)).levels
+        ≡ levels_of (profile_of begins) told.levels pieces }
+    ensures setups { (begins : Beginning) (told : Told) (acts : List Act)
         → told.setups ≡ setups_of begins
-        → AreKnown begins (told_after profile told acts).setups acts }
-    ensures unanswered { (profile : Profile) (told : Told) (acts : List Act) (unit : ReaderUnit)
-        (level : ℕ) → (level_of unit (told_after profile told acts).unanswered ≡ Some level)
+        → AreKnown begins (told_after begins told acts).setups acts }
+    ensures unanswered { (begins : Beginning) (told : Told) (acts : List Act) (unit : ReaderUnit)
+        (level : ℕ) → (level_of unit (told_after begins told acts).unanswered ≡ Some level)
         ↔ (IsUnanswered unit level acts
         ⊎ (All (IsNeither unit) acts × (level_of unit told.unanswered ≡ Some level))) }
+    ensures extended { (begins : Beginning) (told : Told) (acts : List Act) (unit : ReaderUnit)
+        (before after : ExtendedFacts) → extended_of begins unit [] ≡ Some before
+        → extended_of begins unit acts ≡ Some after → IsReaderKnown unit told before
+        → IsReaderKnown unit (told_after begins told acts) after }
+    ensures options { (begins : Beginning) (told : Told) (acts : List Act) (unit : ReaderUnit)
+        → profile_of begins ≡ Extended → AreOptionsTold unit acts
+        (options_at unit told.options).told
+        (options_at unit (told_after begins told acts).options).told }
 {}

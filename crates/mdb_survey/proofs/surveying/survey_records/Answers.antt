@@ -1,5 +1,6 @@
 use Rattle.std.proofs.Common.{refl, subst, ℕ, ◌-◌, IsErr}
 use Rattle.mdb_bus.specs.declared.scope.Scope.{Scope}
+use Rattle.mdb_bus.specs.Scopes.{profile_of}
 use Rattle.mdb_records.specs.ToCome.{found_by}
 use Rattle.mdb_text.specs.declared.form.Form.{Form}
 use Rattle.mdb_writing.specs.Output.{begun, output}
@@ -16,12 +17,16 @@ returns-clause-surveys g c all to_come =
     let now =
     output (held c.survey_rows-answer.new.writer)
     c.survey_rows-answer.new.surveying.printer.page in
-    let In : Form → Type 0 = λ form. PutsSurveying (survey_lines_in form) c.args.scope.now all read
+    let In : Form → Type 0 = λ form.
+    PutsSurveying (survey_lines_in form (profile_of c.args.scope.now.begins)) c.args.scope.now all
+    read
     (begun (held c.args.writer.now)) now c.survey_rows-answer.result in
     let Of : Scope → Type 0 = λ scope.
-    PutsSurveying (survey_lines_in c.new-surveying.result.form) scope all read
+    PutsSurveying (survey_lines_in c.new-surveying.result.form (profile_of scope.begins)) scope all
+    read
     (begun (held c.args.writer.now)) now c.survey_rows-answer.result in
-    told (IsSurveying (survey_lines_in c.args.form) c.args.scope.now all read) (λ text is. is)
+    told (IsSurveying (survey_lines_in c.args.form (profile_of c.args.scope.now.begins))
+    c.args.scope.now all read) (λ text is. is)
     (held c.args.writer.now) (held c.finish.new.writer) now c.survey_rows-answer.result
     c.finish.result
     (subst In c.new-surveying.ensures.form

@@ -1,5 +1,6 @@
 use Rattle.std.proofs.Common.{ap, refl, rules, subst, ℕ, ◌-◌, Err, IfErr, IfSome, IsErr, Ok, Option}
 use Rattle.mdb_bus.specs.declared.scope.Scope.{Scope}
+use Rattle.mdb_bus.specs.Scopes.{profile_of}
 use Rattle.mdb_follow.specs.declared.follower.TheConstants.{ROWS_MAX}
 use Rattle.mdb_records.specs.ToCome.{found_by}
 use Rattle.mdb_text.specs.declared.form.Form.{Form}
@@ -23,7 +24,7 @@ returns-in-Ok-None-clause-surveys g c all to_come =
     let read : ℕ = found - start in
     let held = g.W.Write.contents in
     let taker = c.read_rows.new.taker in
-    let form = survey_lines_in taker.form in
+    let form = survey_lines_in taker.form (profile_of taker.scope.begins) in
     let before : Output = begun (held c.args.writer.now) in
     let now : Output = output (held c.read_rows.new.out) taker.printer.page in
     let later : Output = output (held c.end.new.writer) c.end.new.self.printer.page in
@@ -34,7 +35,8 @@ returns-in-Ok-None-clause-surveys g c all to_come =
     HasEnded IsRow IsRefusal (HasSurveyed form taker.scope taker.surveyor before now)
     (Stops form taker.scope before now) ROWS_MAX all (Ok o) in
     let Puts : Scope × Form → Type 0 = λ kept.
-    PutsSurveying (survey_lines_in kept.1) kept.0 all read before later c.end.result in
+    PutsSurveying (survey_lines_in kept.1 (profile_of kept.0.begins)) kept.0 all read
+    before later c.end.result in
     subst Puts c.read_rows.ensures.keeps
     (surveyings.whole law form taker.scope all read taker.surveyor before now later
     (subst Ended c.in-Ok-None.field-0-is (c.in-Ok-None.ensures.ended all to_come)) c.end.result
@@ -47,14 +49,15 @@ returns-in-Ok-Some-clause-surveys g c all to_come =
     let read : ℕ = found - start in
     let held = g.W.Write.contents in
     let taker = c.read_rows.new.taker in
-    let form = survey_lines_in taker.form in
+    let form = survey_lines_in taker.form (profile_of taker.scope.begins) in
     let before : Output = begun (held c.args.writer.now) in
     let now : Output = output (held c.read_rows.new.out) taker.printer.page in
     let Ended : Option RunFault → Type 0 = λ o.
     HasEnded IsRow IsRefusal (HasSurveyed form taker.scope taker.surveyor before now)
     (Stops form taker.scope before now) ROWS_MAX all (Ok o) in
     let Puts : Scope × Form → Type 0 = λ kept.
-    PutsSurveying (survey_lines_in kept.1) kept.0 all read before now (Err c.in-Ok-Some.fault) in
+    PutsSurveying (survey_lines_in kept.1 (profile_of kept.0.begins)) kept.0 all read
+    before now (Err c.in-Ok-Some.fault) in
     subst Puts c.read_rows.ensures.keeps
     (surveyings.lines_untaken form taker.scope all read before now c.in-Ok-Some.fault
     (subst Ended c.in-Ok-Some.field-0-is (c.in-Ok-Some.ensures.ended all to_come)))
@@ -66,12 +69,13 @@ returns-in_ok-stop-in-Err-clause-surveys g c all to_come =
     let read : ℕ = found - start in
     let held = g.W.Write.contents in
     let taker = c.read_rows.new.taker in
-    let form = survey_lines_in taker.form in
+    let form = survey_lines_in taker.form (profile_of taker.scope.begins) in
     let before : Output = begun (held c.args.writer.now) in
     let now : Output = output (held c.read_rows.new.out) taker.printer.page in
     let later : Output = output (held c.stop.new.writer) c.stop.new.self.printer.page in
     let Puts : Scope × Form → Type 0 = λ kept.
-    PutsSurveying (survey_lines_in kept.1) kept.0 all read before later (Err c.in-Err.fault) in
+    PutsSurveying (survey_lines_in kept.1 (profile_of kept.0.begins)) kept.0 all read
+    before later (Err c.in-Err.fault) in
     subst Puts c.read_rows.ensures.keeps
     (surveyings.told_with_last form taker.scope all start found taker.surveyor before now later
     c.in-Err.fault (search rules) (c.in-Err.ensures.ended all to_come) c.in-Err.ensures.counted
@@ -85,7 +89,7 @@ returns-in_err-stop-in-Err-clause-surveys g c all to_come =
     let read : ℕ = found - start in
     let held = g.W.Write.contents in
     let taker = c.read_rows.new.taker in
-    let form = survey_lines_in taker.form in
+    let form = survey_lines_in taker.form (profile_of taker.scope.begins) in
     let before : Output = begun (held c.args.writer.now) in
     let now : Output = output (held c.read_rows.new.out) taker.printer.page in
     let later : Output = output (held c.stop.new.writer) c.stop.new.self.printer.page in
@@ -93,7 +97,8 @@ returns-in_err-stop-in-Err-clause-surveys g c all to_come =
     none_are_reached c.followers_stand_for_reached_rows.ensures
     c.fronts_of_reached_rows_are_reached.ensures in
     let Puts : Scope × Form → Type 0 = λ kept.
-    PutsSurveying (survey_lines_in kept.1) kept.0 all read before later c.from_residual.result in
+    PutsSurveying (survey_lines_in kept.1 (profile_of kept.0.begins)) kept.0 all read
+    before later c.from_residual.result in
     subst Puts c.read_rows.ensures.keeps
     (handed_on (PutsSurveying form taker.scope all read before later) c.in_err-stop-in-Err.field-0.0
     (surveyings.last_refused law form taker.scope all start found taker.surveyor before now later
@@ -108,14 +113,15 @@ returns-else-ne-clause-surveys g c all to_come =
     let read : ℕ = found - start in
     let held = g.W.Write.contents in
     let taker = c.read_rows.new.taker in
-    let form = survey_lines_in taker.form in
+    let form = survey_lines_in taker.form (profile_of taker.scope.begins) in
     let before : Output = begun (held c.args.writer.now) in
     let now : Output = output (held c.read_rows.new.out) taker.printer.page in
     let law =
     none_are_reached c.followers_stand_for_reached_rows.ensures
     c.fronts_of_reached_rows_are_reached.ensures in
     let Puts : Scope × Form → Type 0 = λ kept.
-    PutsSurveying (survey_lines_in kept.1) kept.0 all read before now (Err c.in-Err.fault) in
+    PutsSurveying (survey_lines_in kept.1 (profile_of kept.0.begins)) kept.0 all read
+    before now (Err c.in-Err.fault) in
     subst Puts c.read_rows.ensures.keeps
     (surveyings.out_of_memory law form taker.scope all read taker.surveyor before now c.in-Err.fault
     (search rules) (c.in-Err.ensures.ended all to_come))
@@ -131,7 +137,7 @@ pub returns-in-Ok-Some-clause-reads : goal.returns-in-Ok-Some-clause-reads
 returns-in-Ok-Some-clause-reads g c =
     let held = g.W.Write.contents in
     let taker = c.read_rows.new.taker in
-    let form = survey_lines_in taker.form in
+    let form = survey_lines_in taker.form (profile_of taker.scope.begins) in
     let before : Output = begun (held c.args.writer.now) in
     let now : Output = output (held c.read_rows.new.out) taker.printer.page in
     let Stop : Option RunFault → Type 0 = λ stop.

@@ -1,10 +1,10 @@
-use Rattle.std.proofs.Common.{◌∷◌, [], ◌+◌, ◌*◌, ◌^◌, None, Some, arith, inl, refl, subst, sym, ◌∙◌}
-use Rattle.mdb_bus.specs.Bus.{GoesOn, ended_act}
+use Rattle.std.proofs.Common.{◌∷◌, [], ◌+◌, ◌*◌, ◌^◌, None, Some, ap, arith, inl, refl, subst, sym, ◌∙◌}
+use Rattle.mdb_bus.specs.Bus.{GoesOn, ended_act, open_block_of}
 use Rattle.mdb_follow.specs.EndedActs.{IsEndedAct}
 use Rattle.mdb_follow.specs.Feeding.{HasRefused}
 use Rattle.mdb_follow.specs.Follower.{scope_of}
 use Rattle.mdb_follow.proofs.Within.{sides-within-weaker}
-use Rattle.mdb_follow.proofs.Following.{accepted-still, ended-by, is-some-weaker}
+use Rattle.mdb_follow.proofs.Following.{accepted-still, ended-by, is-some-weaker, none-beyond}
 use Rattle.mdb_follow.proofs.Following.{link-offence, machine-offence, some-at, stands-on}
 use Rattle.mdb_follow.proofs.Following.{stands-still, taken-by}
 use Rattle.mdb_follow.proofs.follower.Follower.take.Goals as goal
@@ -56,6 +56,7 @@ returns-else-follow-clause-refused c =
       noted = has.noted;
       numbered = omega (arith, has.number, has.uncounted);
       uncounted = has.uncounted;
+      block = none-beyond _ c.feed_into.new.act c.follow.new.self offence has;
     })
     c.if-follow.ensures.stopped
 
@@ -91,4 +92,5 @@ returns-in-Err-clause-refused c =
       noted = c.stop.ensures;
       numbered = refl;
       uncounted = refl;
+      block = λ beyond. ap open_block_of c.in-Err.ensures.unchanged;
     })

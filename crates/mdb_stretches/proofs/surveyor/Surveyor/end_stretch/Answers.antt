@@ -1,5 +1,6 @@
 use Rattle.std.proofs.Common.{arith, refl, sym, subst, ◌∙◌, ◌+◌, ◌*◌, ◌^◌}
 use Rattle.mdb_follow.specs.Follower as follow
+use Rattle.mdb_stretches.specs.OtherMoney.{WhoIsAskedBefore}
 use Rattle.mdb_stretches.specs.Totals.{AreWithin}
 use Rattle.mdb_stretches.proofs.Standing.{next_stands}
 use Rattle.mdb_stretches.proofs.Within.{added_within, can_be_added, few_weaker}
@@ -35,8 +36,11 @@ invariant_of-self-3 c = record {
 pub returns-clause-ended : goal.returns-clause-ended
 returns-clause-ended c scope rows row ended on =
     next_stands c.transcripts_have_one_act_list.ensures c.args.self.now _ scope rows row ended
-    c.in-Some.offence c.report_before-report.result c.running-stretch.result on
+    c.in-Some.offence c.report_before-report.result c.running-stretch.result
+    c.asked_before-asked.result on
     (sym c.offence.ensures.met ∙ c.in-Some.is)
     c.report_before-report.ensures.before c.running-stretch.ensures c.scoped.ensures.stands
-    (c.scoped.ensures.scope ∙ c.scope_after-self.ensures) c.scope_after-self.ensures refl refl
-    c.add.ensures.counts c.with-self.ensures
+    (subst (λ bytes. WhoIsAskedBefore c.in-Some.offence.rule bytes c.asked_before-asked.result)
+    c.open_block.ensures c.asked_before-asked.ensures)
+    (c.scoped.ensures.scope ∙ c.scope_after-self.ensures) c.scope_after-self.ensures
+    c.begin.ensures refl c.add.ensures.counts c.with-self.ensures

@@ -1,10 +1,9 @@
 use Rattle.std.proofs.Common.{◌≡◌, arith, refl, ap, ◌∙◌}
 use Rattle.mdb_bus.specs.Bus.{ended_act}
-use Rattle.mdb_bus.specs.Scopes.{profile_of}
 use Rattle.mdb_follow.specs.Feeding.{HasRefused}
 use Rattle.mdb_follow.specs.Follower as follow
 use Rattle.mdb_follow.proofs.Following.{by-some}
-use Rattle.mdb_stretches.specs.Told.{learnt_if}
+use Rattle.mdb_stretches.specs.Told.{told_if}
 use Rattle.mdb_stretches.proofs.Standing.{halted_by, taken_more}
 use Rattle.mdb_stretches.proofs.surveyor.Surveyor.take.Goals as goal
 
@@ -16,13 +15,14 @@ returns-in-Some-clause-taken c scope rows ended on =
     c.in-Some.ensures.taken.stands
     c.feed_ending.ensures.scope c.in-Some.ensures.act
     (c.learn_if.ensures
-    ∙ ap (λ act. learnt_if (profile_of c.args.self.now.scope.begins)
+    ∙ ap (λ act. told_if c.args.self.now.scope.begins
     (ended_act c.in-Some.has_ended act) c.args.self.now.told) c.act.ensures)
     refl refl refl refl
 
 pub returns-in-None-clause-halted : goal.returns-in-None-clause-halted
 returns-in-None-clause-halted c scope rows ended on =
-    halted_by c.args.self.now _ scope rows c.args.event ended on c.in-None.ensures.refused
+    halted_by c.transcripts_have_one_act_list.ensures c.args.self.now _ scope rows c.args.event
+    ended on c.in-None.ensures.refused
     c.feed_ending.ensures.scope refl refl refl refl refl
 
 pub invariant_of-self-in-None : goal.invariant_of-self-in-None

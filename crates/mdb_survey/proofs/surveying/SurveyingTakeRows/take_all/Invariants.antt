@@ -1,5 +1,6 @@
 use Rattle.std.proofs.Common.{◌≡◌, length}
 use Rattle.mdb_bus.specs.declared.scope.Scope.{Scope}
+use Rattle.mdb_bus.specs.Scopes.{profile_of}
 use Rattle.mdb_text.specs.declared.form.Form.{Form}
 use Rattle.mdb_writing.specs.Output.{output}
 use Rattle.mdb_survey.specs.Survey.{survey_lines_in}
@@ -9,7 +10,8 @@ use Rattle.mdb_survey.proofs.surveying.SurveyingTakeRows.take_all.Given as goal
 -- the rows before the rest are taken
 abbrev pub invariant-loop-ended : goal.invariant-loop-ended
 invariant-loop-ended g l = record {
-  goes : Goes (survey_lines_in l.fn.self.form) l.fn.self.scope l.fn.self.surveyor l.self.surveyor
+  goes : Goes (survey_lines_in l.fn.self.form (profile_of l.fn.self.scope.begins))
+      l.fn.self.scope l.fn.self.surveyor l.self.surveyor
       (output (g.W.Write.contents l.fn.writer) l.fn.self.printer.page)
       (output (g.W.Write.contents l.writer) l.self.printer.page) l.rows l.rest;
   kept : ◌≡◌ {A = Scope × Form} (l.self.scope, l.self.form) (l.fn.self.scope, l.fn.self.form);

@@ -1,6 +1,6 @@
 use Rattle.std.proofs.Common.{◌≡◌, subst, sym}
 use Rattle.mdb_stretches.specs.Told.{learnt_by}
-use Rattle.mdb_stretches.proofs.told.Told.learn.Goals as goal
+use Rattle.mdb_stretches.proofs.told.Told.learn_setups.Goals as goal
 
 pub returns-in-Ask-Reader-default-SetupConfig : goal.returns-in-Ask-Reader-default-SetupConfig
 returns-in-Ask-Reader-default-SetupConfig c =
