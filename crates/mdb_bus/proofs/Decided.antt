@@ -6,7 +6,7 @@ use Rattle.mdb_bus.specs.declared.fault.Rule.{Rule}
 use Rattle.mdb_bus.specs.declared.fault.Rule.TheVariants as rule
 use Rattle.mdb_words.specs.declared.event.Event.{Event}
 use Rattle.mdb_bus.specs.LinkFaults.{IsFirstBroken, RowBreaks, Situation, order}
-use Rattle.mdb_bus.specs.inner.RulePlaces.{IsFirstByPlace, place_of}
+use Rattle.mdb_bus.specs.shared.RulePlaces.{IsFirstByPlace, place_of}
 
 -- rules that stand one after the other from a place on
 abbrev StandFrom : ℕ → List Rule → Type 0

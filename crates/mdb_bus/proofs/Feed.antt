@@ -15,20 +15,20 @@ use Rattle.mdb_bus.specs.declared.fault.Rule.{Rule}
 use Rattle.mdb_bus.specs.declared.levels.Levels.{Levels}
 use Rattle.mdb_bus.specs.declared.options.KnownOptions.{KnownOptions}
 use Rattle.mdb_bus.specs.declared.place.Place.{Place}
-use Rattle.mdb_bus.specs.inner.Step.{Step}
-use Rattle.mdb_bus.specs.inner.Step as step
+use Rattle.mdb_bus.specs.shared.Step.{Step}
+use Rattle.mdb_bus.specs.shared.Step as step
 use Rattle.mdb_bus.specs.ActLists.{ArePieces, HasActList, Piece, Position, Quiet, InAsk, Asked, InReply, Replied, Returned, InRepeat, InForeign, IsRepeatFront, acts_of, with_act, events_of, last_of, levels_after, levels_if, levels_of, position_of}
 use Rattle.mdb_bus.specs.WideMoney.{counted_as, first_known, known_by, known_if, known_of, wide_at, wide_of}
 use Rattle.mdb_bus.specs.Bus.{GoesOn, Grown, StandsFor, ended_act, position_at}
 use Rattle.mdb_bus.specs.inner.Gone.{HasGone}
 use Rattle.mdb_bus.specs.LinkFaults.{IsFirstBroken, IsLinkFault, RowBreaks, Situation, blame_of, situation_of}
-use Rattle.mdb_bus.specs.inner.RulePlaces.{IsFirstByPlace}
+use Rattle.mdb_bus.specs.shared.RulePlaces.{IsFirstByPlace}
 use Rattle.mdb_bus.proofs.Decided.{by_place}
-use Rattle.mdb_bus.specs.inner.Steps.{HasAdvanced, IsAt, IsEnded, IsJudged, IsReadAt, IsSound, Leads, WordLeads, act_after, asked_after, pieces_after, position_after}
+use Rattle.mdb_bus.specs.shared.Steps.{HasAdvanced, IsAt, IsEnded, IsJudged, IsReadAt, IsSound, Leads, WordLeads, act_after, asked_after, pieces_after, position_after}
 use Rattle.mdb_bus.specs.declared.judged.Judged.{Judged}
 use Rattle.mdb_bus.specs.declared.judged.Judged.TheVariants as judged
 use Rattle.mdb_msgs.specs.declared.reply.Reply.{Reply}
-use Rattle.mdb_bus.specs.inner.Step.{EachStep}
+use Rattle.mdb_bus.specs.shared.Step.{EachStep}
 use Rattle.mdb_bus.proofs.EachSteps.{leads_of, some_each}
 use Rattle.mdb_bus.proofs.Forward.{forward}
 use Rattle.mdb_bus.proofs.Verdicts.{sealed}

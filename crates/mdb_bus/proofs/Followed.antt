@@ -12,7 +12,7 @@ use Rattle.mdb_bus.specs.Acts.{IsForeignOpening}
 use Rattle.mdb_bus.specs.ActLists.{IsAskFront}
 use Rattle.mdb_bus.specs.Scopes.{Asks, HasCommand, needed_by, needed_in, profile_of}
 use Rattle.mdb_bus.proofs.Masked.{one_need}
-use Rattle.mdb_bus.specs.inner.Steps.{IsCommandFront, IsUnknownExpansion}
+use Rattle.mdb_bus.specs.shared.Steps.{IsCommandFront, IsUnknownExpansion}
 
 -- a law of mdb_msgs: the first byte of a command's block is to its device
 abbrev pub FirstTells : Type 0

@@ -12,13 +12,13 @@ use Rattle.mdb_msgs.specs.declared.reply.Reply.{Reply}
 use Rattle.mdb_msgs.specs.Commands.{IsByte, command_bytes}
 use Rattle.mdb_bus.specs.declared.act.Act.{Act}
 use Rattle.mdb_bus.specs.declared.act.Act.TheVariants as acts
-use Rattle.mdb_bus.specs.inner.Step.{Step}
-use Rattle.mdb_bus.specs.inner.Step as step
+use Rattle.mdb_bus.specs.shared.Step.{Step}
+use Rattle.mdb_bus.specs.shared.Step as step
 use Rattle.mdb_bus.specs.Acts.{Say}
 use Rattle.mdb_bus.specs.ActLists.{Piece, Whole, AskTail, ReplyTail, RepeatTail, Position, Quiet, InAsk, Asked, InReply, Replied, Returned, InRepeat, InForeign, ArePieces, AreSpaced, Within, IsPiece, IsReplyFront, IsSaid, IsTail, MayCome, MayStand, PieceFits, act_in, acts_of, events_of, first_position, last_of, left_open, levels_if, levels_of, piece_events, position_of, with_act}
 use Rattle.mdb_bus.specs.Bus.{Grown}
 use Rattle.mdb_bus.specs.LinkFaults.{asked_device, situation_of}
-use Rattle.mdb_bus.specs.inner.Steps.{Answers, AnswersReply, BeginsRepeat, GoesOnAsking, GoesOnRepeating, GoesOnReplying, Leads, Opens, WordLeads, act_after, asked_after, grown, piece_after, pieces_after, position_after}
+use Rattle.mdb_bus.specs.shared.Steps.{Answers, AnswersReply, BeginsRepeat, GoesOnAsking, GoesOnRepeating, GoesOnReplying, Leads, Opens, WordLeads, act_after, asked_after, grown, piece_after, pieces_after, position_after}
 use Rattle.mdb_bus.proofs.Rows.{begins_block, say_byte, say_sum, say_word, spaced_more}
 use Rattle.mdb_bus.specs.Scopes.{Asks}
 use Rattle.mdb_bus.specs.declared.scope.Beginning.{Beginning}

@@ -19,6 +19,7 @@ use Rattle.mdb_msgs.specs.declared.command.ReaderUnit.TheVariants.{First, Second
 use Rattle.mdb_msgs.specs.declared.device_set.DeviceSet.{DeviceSet}
 use Rattle.mdb_msgs.specs.Commands.{IsByte, command_bytes, device_of}
 use Rattle.mdb_msgs.specs.DeviceSets.{has}
+use Rattle.mdb_msgs.specs.Reader.{last_level}
 use Rattle.mdb_bus.specs.declared.act.Act.TheVariants as acts
 use Rattle.mdb_bus.specs.declared.levels.Levels.{Levels}
 use Rattle.mdb_bus.specs.declared.levels.ReaderLevels.{ReaderLevels}
@@ -33,10 +34,10 @@ use Rattle.mdb_bus.specs.declared.format.Format.{Format}
 use Rattle.mdb_bus.specs.Formats.{IsReadAs, format_at, format_by, levels_for, untold_format}
 use Rattle.mdb_bus.specs.declared.scope.Scope.{Scope}
 use Rattle.mdb_bus.specs.Acts.{IsForeign, Say, reply_words}
-use Rattle.mdb_bus.specs.ActLists.{Piece, Whole, AskTail, ReplyTail, RepeatTail, Position, Quiet, InAsk, Asked, InReply, Replied, Returned, InRepeat, InForeign, ArePieces, AreSpaced, BlockMayCome, ForeignMayCome, IsInProfile, IsLow, IsPiece, IsSaid, MayCome, MayStand, NotBefore, PieceFits, ReplyFits, events_of, first_position, last_of, left_by, last_level, levels_after, levels_of, levels_told, piece_events, position_of}
+use Rattle.mdb_bus.specs.ActLists.{Piece, Whole, AskTail, ReplyTail, RepeatTail, Position, Quiet, InAsk, Asked, InReply, Replied, Returned, InRepeat, InForeign, ArePieces, AreSpaced, BlockMayCome, ForeignMayCome, IsInProfile, IsLow, IsPiece, IsSaid, MayCome, MayStand, NotBefore, PieceFits, ReplyFits, events_of, first_position, last_of, left_by, levels_after, levels_of, levels_told, piece_events, position_of}
 use Rattle.mdb_bus.specs.LeavingOut.{LeavesOutMore, begin_left_out, is_left_out, is_one_left_out, leave_out, position_without, with_foreign}
 use Rattle.mdb_bus.specs.Scopes.{HasCommand, IsFollowed, IsLeftOut, first_levels, levels_before, profile_of}
-use Rattle.mdb_bus.specs.inner.Steps.{IsCommandFront}
+use Rattle.mdb_bus.specs.shared.Steps.{IsCommandFront}
 use Rattle.mdb_msgs.proofs.CommandBytes.{spelled_low}
 use Rattle.mdb_bus.proofs.Followed.{FirstTells, front_followed, plain_front}
 use Rattle.mdb_bus.proofs.LeftOutWords.{AreForeignWords, Becomes, answer_foreign, as_block, as_foreign, as_words, foreign_stays, peripheral_foreign}

@@ -8,7 +8,6 @@ pub mod Followed
 pub mod FormatLaws
 pub mod Forward
 pub mod Verdicts
-pub mod LastLevels
 pub mod LeftOutActs
 pub mod LeftOutOrder
 pub mod LeftOutWords

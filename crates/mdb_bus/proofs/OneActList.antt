@@ -4,12 +4,12 @@ use Rattle.std.proofs.lemmas.List.{append-nil}
 use Rattle.mdb_words.specs.declared.event.Event.{Event}
 use Rattle.mdb_bus.specs.ActLists.{GoesOnFrom, HasActList, IsActList, Piece, acts_of, events_of, piece_events, position_of}
 use Rattle.mdb_bus.specs.LinkFaults.{situation_of}
-use Rattle.mdb_bus.specs.inner.Steps.{Leads, act_after, pieces_after}
+use Rattle.mdb_bus.specs.shared.Steps.{Leads, act_after, pieces_after}
 use Rattle.mdb_bus.proofs.Backward.{backward, piece_some}
 use Rattle.mdb_bus.proofs.Forward.{forward}
 use Rattle.mdb_bus.proofs.Lists.{front_and_last, not_empty}
 use Rattle.mdb_bus.proofs.OneStep.{Readings, one_step}
-use Rattle.mdb_bus.specs.inner.Grammar.{OpenIsAFront}
+use Rattle.mdb_bus.specs.shared.Grammar.{OpenIsAFront}
 use Rattle.mdb_bus.specs.declared.scope.Scope.{Scope}
 
 -- a transcript without rows has the empty act list alone

@@ -11,13 +11,13 @@ use Rattle.mdb_msgs.specs.declared.reply.Reply.{Reply}
 use Rattle.mdb_msgs.specs.Needs.{IsTold}
 use Rattle.mdb_msgs.specs.Replies.{IsReplyTo, reply_bytes}
 use Rattle.mdb_bus.specs.declared.levels.Levels.{Levels}
-use Rattle.mdb_bus.specs.inner.Step.{Step}
-use Rattle.mdb_bus.specs.inner.Step as step
+use Rattle.mdb_bus.specs.shared.Step.{Step}
+use Rattle.mdb_bus.specs.shared.Step as step
 use Rattle.mdb_bus.specs.Acts.{IsForeignOpening, reply_words}
 use Rattle.mdb_bus.specs.ActLists.{Asked, InAsk, InForeign, InRepeat, InReply, IsAskFront, IsRepeatFront, Position, Quiet, Replied, Returned}
 use Rattle.mdb_bus.specs.LinkFaults.{Situation}
-use Rattle.mdb_bus.specs.inner.Steps.{Answers, AnswersReply, BeginsRepeat, GoesOnAsking, GoesOnForeign, GoesOnRepeating, GoesOnReplying, Leads, Opens, WordLeads}
-use Rattle.mdb_bus.specs.inner.Grammar.{Grammar}
+use Rattle.mdb_bus.specs.shared.Steps.{Answers, AnswersReply, BeginsRepeat, GoesOnAsking, GoesOnForeign, GoesOnRepeating, GoesOnReplying, Leads, Opens, WordLeads}
+use Rattle.mdb_bus.specs.shared.Grammar.{Grammar}
 use Rattle.mdb_bus.proofs.Lists.{nothing_after, some_length}
 use Rattle.mdb_bus.specs.declared.format.Format.{Format}
 use Rattle.mdb_bus.specs.Formats.{IsReadAs, format_for}

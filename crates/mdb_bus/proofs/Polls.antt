@@ -6,8 +6,8 @@ use Rattle.mdb_msgs.specs.Commands.{Spells}
 use Rattle.mdb_bus.specs.declared.act.Act.{Act}
 use Rattle.mdb_bus.specs.declared.act.Act.TheVariants as acts
 use Rattle.mdb_bus.specs.ActLists.{Position, InAsk, Asked}
-use Rattle.mdb_bus.specs.inner.Step as step
-use Rattle.mdb_bus.specs.inner.Steps.{HasAdvanced, IsAt}
+use Rattle.mdb_bus.specs.shared.Step as step
+use Rattle.mdb_bus.specs.shared.Steps.{HasAdvanced, IsAt}
 
 -- A block has one command, so an ask of it is that POLL.
 pub asked_poll : (at new : Position) (bytes : List ℕ) (poll : Command) (ended : Option Act)

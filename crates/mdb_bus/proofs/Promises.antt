@@ -13,7 +13,7 @@ use Rattle.mdb_msgs.specs.Replies.{IsIn, IsReplyTo, reply_bytes}
 use Rattle.mdb_bus.specs.declared.scope.Scope.{Scope}
 use Rattle.mdb_bus.specs.Scopes.{Asks, leaves_options, needed_in, profile_of}
 use Rattle.mdb_bus.proofs.Masked.{TwoTell, block_known, front_known, known_need, unmasked}
-use Rattle.mdb_bus.specs.inner.Grammar.{OpenIsAFront}
+use Rattle.mdb_bus.specs.shared.Grammar.{OpenIsAFront}
 use Rattle.mdb_bus.proofs.Followed.{AreFollowed, FirstTells, asks_followed, block_followed, needed_followed, still_followed, was_followed, within}
 
 not_empty : (bytes : List ℕ) → 0 < length bytes → bytes ≢ []

@@ -2,10 +2,10 @@
 use Rattle.std.proofs.Common.{refl, subst, ◌≡◌, List, [], ◌∷◌, ◌++◌}
 use Rattle.mdb_words.specs.declared.event.Event.{Event}
 use Rattle.mdb_bus.specs.declared.fault.Rule.{Rule}
-use Rattle.mdb_bus.specs.inner.Step.{Step}
+use Rattle.mdb_bus.specs.shared.Step.{Step}
 use Rattle.mdb_bus.specs.ActLists.{Piece, ArePieces, HasActList, IsActList, events_of}
 use Rattle.mdb_bus.specs.LinkFaults.{RowBreaks, Situation, situation_of}
-use Rattle.mdb_bus.specs.inner.Steps.{IsSound, Leads}
+use Rattle.mdb_bus.specs.shared.Steps.{IsSound, Leads}
 use Rattle.mdb_bus.proofs.Sound.{is_sound, last_is_long}
 use Rattle.mdb_bus.proofs.Stops.{LastIsLong}
 use Rattle.mdb_bus.specs.declared.scope.Scope.{Scope}

@@ -12,7 +12,7 @@ use Rattle.mdb_bus.specs.declared.act.Act.{Act}
 use Rattle.mdb_bus.specs.declared.act.Act.TheVariants as acts
 use Rattle.mdb_bus.specs.Acts.{IsForeign, IsForeignWord, IsReply, NamesAReply, Say, command_words, reply_words}
 use Rattle.mdb_bus.specs.ActLists.{Piece, Whole, AskTail, ReplyTail, RepeatTail, Position, InRepeat, Replied, Returned, ArePieces, IsSaid, events_of, first_position, last_of, piece_events, position_of}
-use Rattle.mdb_bus.specs.inner.Steps.{IsSound}
+use Rattle.mdb_bus.specs.shared.Steps.{IsSound}
 use Rattle.mdb_bus.proofs.Stops.{LastIsLong}
 use Rattle.mdb_bus.specs.declared.scope.Beginning.{Beginning}
 use Rattle.mdb_bus.specs.declared.scope.Beginning.TheVariants.{PowerOn, Joined}

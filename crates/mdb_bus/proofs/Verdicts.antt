@@ -35,8 +35,8 @@ use Rattle.mdb_bus.specs.declared.phase.Phase.{Phase}
 use Rattle.mdb_bus.specs.declared.phase.Phase.TheVariants as phase
 use Rattle.mdb_bus.specs.Bus.{position_at, position_in}
 use Rattle.mdb_bus.specs.LinkFaults.{IsBefore, IsAfter, OutOfOrder, RowBreaks, Situation, WrongLength}
-use Rattle.mdb_bus.specs.inner.RulePlaces.{IsFirstByPlace, place_of}
-use Rattle.mdb_bus.specs.inner.Steps.{Belongs, IsCommandFront, IsGoingOn, IsJudged, IsOpened, IsRead, IsReplyEnd, IsSettled, IsSound, IsUnknownExpansion, MayAsk}
+use Rattle.mdb_bus.specs.shared.RulePlaces.{IsFirstByPlace, place_of}
+use Rattle.mdb_bus.specs.shared.Steps.{Belongs, IsCommandFront, IsGoingOn, IsJudged, IsOpened, IsRead, IsReplyEnd, IsSettled, IsSound, IsUnknownExpansion, MayAsk}
 use Rattle.mdb_bus.proofs.Needs.{at_least_two, at_most_32, not_left, stays, narrows}
 use Rattle.mdb_bus.specs.declared.scope.Scope.{Scope}
 use Rattle.mdb_bus.specs.ActLists.{IsAskFront}

@@ -17,10 +17,10 @@ use Rattle.mdb_msgs.specs.declared.command.ReaderUnit.TheVariants.{First, Second
 use Rattle.mdb_msgs.specs.declared.reply.Reply.{Reply}
 use Rattle.mdb_msgs.specs.declared.reply.Reply.TheVariants as replies
 use Rattle.mdb_msgs.specs.declared.reply.reader.ReaderMsg.{ReaderMsg}
-use Rattle.mdb_msgs.specs.declared.reply.reader.ReaderMsg.TheVariants.{Config, RevalueApproved, RevalueDenied, RevalueLimit}
+use Rattle.mdb_msgs.specs.declared.reply.reader.ReaderMsg.TheVariants.{RevalueApproved, RevalueDenied, RevalueLimit}
 use Rattle.mdb_msgs.specs.Answers.{MayHaveData}
 use Rattle.mdb_msgs.specs.Commands.{EnablesMore, IsByte}
-use Rattle.mdb_msgs.specs.Reader.{tells_level}
+use Rattle.mdb_msgs.specs.Reader.{last_level, tells_level}
 use Rattle.mdb_bus.specs.declared.act.Act.{Act}
 use Rattle.mdb_bus.specs.declared.act.Act.TheVariants as acts
 use Rattle.mdb_bus.specs.declared.levels.Levels.{Levels}
@@ -155,11 +155,6 @@ abbrev pub position_of : Scope → List Piece → Position
 position_of scope [] = first_position scope.begins
 position_of scope (piece ∷ pieces) = left_by piece
 
--- the bytes so far of the block of the controller that is open there; none where none is
-abbrev pub open_block : Position → List ℕ
-open_block (InAsk bytes) = bytes
-open_block position = []
-
 -- the gap from the row before, if there is one, is at least, at most so long; it counts from a
 -- word's start and a break's end
 abbrev pub NotBefore : ℕ → Option Event → Event → Type 0
@@ -256,15 +251,6 @@ levels_after (commands.Reader First (readers.SetupConfig level columns rows disp
 levels_after (commands.Reader Second (readers.SetupConfig level columns rows display)) levels =
     record levels { second = record levels.second { asked = Some level } }
 levels_after _ levels = levels
-
--- Z2 of a config message, and of the last one among messages
-abbrev pub level_in : ReaderMsg → Option ℕ
-level_in (Config level code scale decimals response options) = Some level
-level_in _ = None
-
-abbrev pub last_level : List ReaderMsg → Option ℕ
-last_level [] = None
-last_level (message ∷ messages) = option_or (last_level messages) (level_in message)
 
 -- what each reader has last told of its feature level (Z2), heard or not, once a reply is whole;
 -- the base profile doesn't ask for it

@@ -10,7 +10,7 @@ use Rattle.mdb_msgs.specs.declared.reply.Reply.{Reply}
 use Rattle.mdb_bus.specs.declared.phase.Phase.{Phase}
 use Rattle.mdb_bus.specs.declared.phase.Phase.TheVariants as phase
 use Rattle.mdb_bus.specs.Acts.{reply_words}
-use Rattle.mdb_bus.specs.ActLists.{Piece, Position, Quiet, InAsk, Asked, InReply, Replied, Returned, InRepeat, InForeign, ArePieces, IsTail, act_in, acts_of, events_of, last_of, levels_of, open_block, piece_events, position_of, with_act}
+use Rattle.mdb_bus.specs.ActLists.{Piece, Position, Quiet, InAsk, Asked, InReply, Replied, Returned, InRepeat, InForeign, ArePieces, IsTail, act_in, acts_of, events_of, last_of, levels_of, piece_events, position_of, with_act}
 use Rattle.mdb_bus.specs.LinkFaults.{asked_device}
 use Rattle.mdb_bus.specs.Scopes.{levels_before, profile_of}
 use Rattle.mdb_bus.specs.WideMoney.{first_known, known_of}
@@ -35,7 +35,12 @@ position_at place = position_in place.phase place.bytes place.command place.last
 abbrev pub scope_of : Bus → Scope
 scope_of bus = bus.scope
 
--- the bytes so far of the block of the controller that is open on a bus
+-- the bytes so far of the block of the controller that is open at a position, and on a bus; none
+-- where none is
+abbrev pub open_block : Position → List ℕ
+open_block (InAsk bytes) = bytes
+open_block position = []
+
 abbrev pub open_block_of : Bus → List ℕ
 open_block_of bus = open_block (position_at bus.place)
 

@@ -11,3 +11,4 @@ pub mod OpenReplies
 pub mod Scopes
 pub mod WideMoney
 pub mod inner
+pub mod shared

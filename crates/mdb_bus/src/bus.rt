@@ -5,7 +5,7 @@ ghost use Rattle.mdb_msgs.specs.declared.reply.Reply.{Reply};
 ghost use Rattle.mdb_bus.specs.declared.fault.Rule.{Rule};
 ghost use Rattle.mdb_bus.specs.Scopes.{all_joined, power_on, profile_of};
 ghost use Rattle.mdb_bus.specs.WideMoney.{counted_as, wide_at};
-ghost use Rattle.mdb_bus.specs.inner.Step.{EachStep};
+ghost use Rattle.mdb_bus.specs.shared.Step.{EachStep};
 
 use super::act::Act;
 use super::begun::Begun;
@@ -41,8 +41,8 @@ impl Bus {
     ghost use Rattle.mdb_bus.specs.Bus.{GoesOn, StandsFor, ended_act, open_block_of, position_at, scope_of};
     ghost use Rattle.mdb_bus.specs.LinkFaults.{IsLinkFault, blame_of};
     ghost use Rattle.mdb_bus.specs.inner.Gone.{HasGone};
-    ghost use Rattle.mdb_bus.specs.inner.Step as step;
-    ghost use Rattle.mdb_bus.specs.inner.Steps.{Belongs, IsAt, IsReadAt};
+    ghost use Rattle.mdb_bus.specs.shared.Step as step;
+    ghost use Rattle.mdb_bus.specs.shared.Steps.{Belongs, IsAt, IsReadAt};
 
     /// The bus before the first row of a recording that begins at power-on or at a break. All
     /// devices are followed.

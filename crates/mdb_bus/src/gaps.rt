@@ -5,7 +5,7 @@ ghost use Rattle.mdb_words.specs.declared.limits.TheConstants as limits;
 ghost use Rattle.mdb_bus.specs.declared.fault.Rule.TheVariants as rules;
 ghost use Rattle.mdb_bus.specs.ActLists as lists;
 ghost use Rattle.mdb_bus.specs.LinkFaults.{IsBefore, IsAfter, OutOfOrder};
-ghost use Rattle.mdb_bus.specs.inner.Steps.{IsUntimely};
+ghost use Rattle.mdb_bus.specs.shared.Steps.{IsUntimely};
 
 use super::fault::Rule;
 use mdb_words::{

@@ -9,7 +9,7 @@ ghost use Rattle.mdb_bus.specs.ActLists as lists;
 ghost use Rattle.mdb_bus.specs.Bus.{position_at};
 ghost use Rattle.mdb_bus.specs.LinkFaults.{OutOfOrder};
 ghost use Rattle.mdb_bus.specs.declared.scope.Scope.{Scope};
-ghost use Rattle.mdb_bus.specs.inner.Steps.{Belongs, IsJudged, IsSound};
+ghost use Rattle.mdb_bus.specs.shared.Steps.{Belongs, IsJudged, IsSound};
 
 mod answering;
 mod asking;

@@ -13,7 +13,7 @@ ghost use Rattle.mdb_bus.specs.ActLists.{ArePieces, GoesOnFrom, HasActList, IsAc
 ghost use Rattle.mdb_bus.specs.OpenReplies.{OpenAgrees, OpenLeavesOut};
 ghost use Rattle.mdb_bus.specs.WideMoney.{all_known, counted_as, first_known, wide_of};
 ghost use Rattle.mdb_bus.specs.Wish.{Wish, HearsFreeAsWished, HearsAsWished, nothing_told};
-ghost use Rattle.mdb_bus.specs.inner.Grammar.{Grammar};
+ghost use Rattle.mdb_bus.specs.shared.Grammar.{Grammar};
 ghost use Rattle.mdb_bus.specs.LeavingOut.{LeavesOutMore, acts_with, breaks_among, device_in, leave_out, position_without};
 ghost use Rattle.mdb_bus.specs.LinkFaults.{IsLinkFault, RowBreaks, blame_on, situation_of};
 ghost use Rattle.mdb_bus.specs.Loss.{Loss, LossFits};

@@ -3,7 +3,7 @@
 ghost use Rattle.std.specs.Prelude.{◌≡◌, ◌↔◌, IsTrue};
 ghost use Rattle.std.specs.List.{list_any};
 ghost use Rattle.std.specs.Option.{option_or};
-ghost use Rattle.mdb_bus.specs.ActLists.{IsLow, is_revalue, last_level, level_in, tells_high, tells_of_revalues};
+ghost use Rattle.mdb_bus.specs.ActLists.{IsLow, is_revalue, tells_high, tells_of_revalues};
 ghost use Rattle.mdb_bus.specs.Formats.{format_at, or_short};
 
 use super::act::Act;
@@ -11,6 +11,7 @@ use super::format::Format;
 use super::scope::{Beginning, Profile};
 use mdb_msgs::{
     Command, ReaderCommand, ReaderList, ReaderMsg, ReaderSetup, ReaderUnit, Reading, Reply, Setups,
+    last_level,
 };
 
 /// What was reported of the feature level of one reader.
@@ -257,25 +258,4 @@ fn is_revalue(message: ReaderMsg) -> bool
         message,
         ReaderMsg::RevalueApproved | ReaderMsg::RevalueDenied | ReaderMsg::RevalueLimit(_)
     )
-}
-
-/// Z2 of the last config message of a reader's reply.
-fn last_level(list: &ReaderList) -> Option<u8>
-    ensures { result ≡ last_level list.now.messages }
-{
-    let mut last = None;
-    for message in list.iter() {
-        last = level_in(message).or(last);
-    }
-    last
-}
-
-/// Z2 of a config message.
-fn level_in(message: ReaderMsg) -> Option<u8>
-    ensures { result ≡ level_in message }
-{
-    match message {
-        ReaderMsg::Config { level, .. } => Some(level),
-        _ => None,
-    }
 }

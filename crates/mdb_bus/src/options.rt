@@ -102,7 +102,7 @@ fn may_be_wide(known: bool, levels: ReaderLevels) -> bool
 }
 
 /// Whether the feature level of controller and reader, the lower of both, is known and below 3.
-fn is_below_3(asked: Option<u8>, told: Option<u8>) -> bool
+pub fn is_below_3(asked: Option<u8>, told: Option<u8>) -> bool
     ensures { result ≡ is_below_3 asked told }
 {
     match (asked, told) {

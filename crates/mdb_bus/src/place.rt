@@ -2,8 +2,8 @@
 
 ghost use Rattle.std.specs.Prelude.{◌≡◌, ◌≢◌, ◌%◌, ℕ, false, true, Some, None, IfOk, IfErr, OnErr, Ok, Err};
 ghost use Rattle.mdb_bus.specs.inner.PlaceBytes.{HasBegun, HasBegun-prop};
-ghost use Rattle.mdb_bus.specs.inner.Step.{word_in};
-ghost use Rattle.mdb_bus.specs.inner.Steps.{IsWord, rule_of as rule_of_lem};
+ghost use Rattle.mdb_bus.specs.shared.Step.{word_in};
+ghost use Rattle.mdb_bus.specs.shared.Steps.{IsWord, rule_of as rule_of_lem};
 
 use super::act::Act;
 use super::begun::Begun;
@@ -41,9 +41,9 @@ impl Place {
     ghost use Rattle.mdb_bus.specs.ActLists as lists;
     ghost use Rattle.mdb_bus.specs.declared.act.Act.TheVariants as acts;
     ghost use Rattle.mdb_bus.specs.Bus.{ended_act, position_at};
-    ghost use Rattle.mdb_bus.specs.inner.Step as step;
-    ghost use Rattle.mdb_bus.specs.inner.Step.{EachStep};
-    ghost use Rattle.mdb_bus.specs.inner.Steps.{Belongs, HasAdvanced, IsAt, IsBreak, IsTaken, MayAsk, MayRepeat, MayReply};
+    ghost use Rattle.mdb_bus.specs.shared.Step as step;
+    ghost use Rattle.mdb_bus.specs.shared.Step.{EachStep};
+    ghost use Rattle.mdb_bus.specs.shared.Steps.{Belongs, HasAdvanced, IsAt, IsBreak, IsTaken, MayAsk, MayRepeat, MayReply};
 
     /// Goes a step, and answers whether it ends an act, which it then puts into `act`. What a reply
     /// that has ended says decides of its step, so `end_reply` goes it.

@@ -5,12 +5,13 @@ use Rattle.mdb_msgs.specs.declared.command.ReaderCommand.TheVariants as reader
 use Rattle.mdb_msgs.specs.declared.command.ReaderUnit.{ReaderUnit}
 use Rattle.mdb_msgs.specs.declared.reply.Reply.{Reply}
 use Rattle.mdb_msgs.specs.declared.reply.reader.ReaderMsg.{ReaderMsg}
+use Rattle.mdb_msgs.specs.Reader.{level_in}
 use Rattle.mdb_bus.specs.declared.act.Act.TheVariants as acts
 use Rattle.mdb_machine.specs.Past.{effect_taken, or_else, resets, tells_out_of_sequence}
 use Rattle.mdb_machine.specs.PastValues.{past_after}
 use Rattle.mdb_cashless.specs.declared.reader.transaction.Transaction.{Transaction}
 use Rattle.mdb_cashless.specs.ReaderFacts.{effect_of, effect_of_own, own_messages, own_of, own_transaction}
-use Rattle.mdb_cashless.specs.ReaderMessages.{amount_in, begin_session, config_in, last_said, level_in, messages_of, part_of}
+use Rattle.mdb_cashless.specs.ReaderMessages.{amount_in, begin_session, config_in, last_said, messages_of, part_of}
 use Rattle.mdb_cashless.specs.ReaderValues.{ToldFacts, extended_after, extended_taking, last_after, taken, told, told_with}
 use Rattle.mdb_cashless.specs.Transactions.{transaction_of}
 use Rattle.mdb_cashless.specs.Units.{own}

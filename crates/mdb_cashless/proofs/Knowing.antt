@@ -6,6 +6,7 @@ use Rattle.mdb_msgs.specs.declared.command.ReaderUnit.{ReaderUnit}
 use Rattle.mdb_msgs.specs.declared.reply.Reply.{Reply}
 use Rattle.mdb_bus.specs.declared.act.Act.{Act}
 use Rattle.mdb_bus.specs.declared.act.Act.TheVariants as acts
+use Rattle.mdb_bus.specs.WideMoney.{is_below_3}
 use Rattle.mdb_machine.specs.declared.choice.Choice.{Choice}
 use Rattle.mdb_machine.specs.declared.gains.Gains.{Gains}
 use Rattle.mdb_machine.specs.Kept.{IsNew, held, kept_of}
@@ -20,7 +21,7 @@ use Rattle.mdb_cashless.specs.declared.reader.state.ReaderState.{ReaderState}
 use Rattle.mdb_cashless.specs.declared.reader.transaction.Transaction.{Transaction}
 use Rattle.mdb_machine.specs.Steps.{ForOwn}
 use Rattle.mdb_cashless.specs.Reader.{AckStep, AskStep, ReaderStep, ReplyStep, StepKnowing, VmcAckStep, before_messages, is_poll, taken}
-use Rattle.mdb_cashless.specs.ReaderFacts.{AllowsFacts, Facts, is_below_3, is_refused, known_idle, known_if, known_requested, own_transaction}
+use Rattle.mdb_cashless.specs.ReaderFacts.{AllowsFacts, Facts, is_refused, known_idle, known_if, known_requested, own_transaction}
 use Rattle.mdb_cashless.specs.ReaderMessages.{parts_of}
 use Rattle.mdb_cashless.specs.declared.reader.extended.ExtendedFacts.{ExtendedFacts}
 use Rattle.mdb_cashless.specs.ReaderValues as values

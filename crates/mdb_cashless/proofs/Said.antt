@@ -4,12 +4,13 @@ use Rattle.std.specs.Option.{option_or}
 use Rattle.std.proofs.lemmas.List.{map-append}
 use Rattle.std.proofs.lemmas.List.Folds.{list_any-append}
 use Rattle.mdb_msgs.specs.declared.reply.reader.ReaderMsg.{ReaderMsg}
+use Rattle.mdb_msgs.specs.Reader.{level_in}
 use Rattle.mdb_machine.specs.declared.kept.Part.{Part}
 use Rattle.mdb_machine.specs.Kept.{IsSummary}
 use Rattle.mdb_machine.specs.Past.{is_out_of_sequence, or_else}
 use Rattle.mdb_cashless.specs.declared.reader.messages.ReaderActivity.{ReaderActivity}
 use Rattle.mdb_cashless.specs.declared.reader.messages.Said.{Said}
-use Rattle.mdb_cashless.specs.ReaderMessages.{amount_in, begins_session, config_in, last_said, level_in, part_of}
+use Rattle.mdb_cashless.specs.ReaderMessages.{amount_in, begins_session, config_in, last_said, part_of}
 use Rattle.mdb_cashless.specs.inner.ReaderSaid.{IsSaid}
 
 -- two words for one thing

@@ -12,6 +12,7 @@ use Rattle.mdb_bus.specs.declared.act.Act.TheVariants as acts
 use Rattle.mdb_bus.specs.declared.scope.Beginning.{Beginning}
 use Rattle.mdb_bus.specs.declared.scope.Beginning.TheVariants.{PowerOn, Joined}
 use Rattle.mdb_bus.specs.declared.scope.Profile.TheVariants.{Extended}
+use Rattle.mdb_bus.specs.WideMoney.{is_below_3}
 use Rattle.mdb_machine.specs.declared.kept.Part.{Part}
 use Rattle.mdb_machine.specs.declared.past.Effect.{Effect}
 use Rattle.mdb_machine.specs.declared.past.Effect.TheVariants as effects
@@ -20,10 +21,11 @@ use Rattle.mdb_machine.specs.Past.{AllowsPast, KnownPast, PastFacts, known_past,
 use Rattle.mdb_msgs.specs.Setups.{config_known, none_known, reader_known}
 use Rattle.mdb_msgs.specs.declared.setups.ReaderConfig.{ReaderConfig}
 use Rattle.mdb_msgs.specs.declared.setups.ReaderSetup.{ReaderSetup}
+use Rattle.mdb_msgs.specs.Reader.{level_in}
 use Rattle.mdb_cashless.specs.declared.reader.extended.ExtendedFacts.{ExtendedFacts}
 use Rattle.mdb_cashless.specs.declared.reader.messages.ReaderActivity.{ReaderActivity}
 use Rattle.mdb_cashless.specs.declared.reader.transaction.Transaction.{Transaction}
-use Rattle.mdb_cashless.specs.ReaderMessages.{amount_in, begin_session, config_in, last_said, level_in, messages_of, part_of, refuses}
+use Rattle.mdb_cashless.specs.ReaderMessages.{amount_in, begin_session, config_in, last_said, messages_of, part_of, refuses}
 use Rattle.mdb_cashless.specs.Transactions.{is_request, transaction_of}
 use Rattle.mdb_cashless.specs.Units.{own}
 
@@ -113,11 +115,6 @@ refusal_by unit (acts.Nak command) =
 refusal_by unit (acts.VmcAck command reply) =
     if list_any refuses (own_messages unit command (messages_of reply)) then Some true else None
 refusal_by unit act = None
-
--- whether the feature level of controller and reader, the lower of both, is known and below 3
-abbrev pub is_below_3 : Option ℕ → Option ℕ → Bool
-is_below_3 (Some asked) (Some told) = ltb asked 3 || ltb told 3
-is_below_3 asked told = false
 
 -- whether a command asks the reader for always idle: ENABLE OPTIONS with that option
 abbrev pub asks_for_always_idle : Option ReaderCommand → Bool

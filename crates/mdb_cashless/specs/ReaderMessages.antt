@@ -45,11 +45,6 @@ abbrev pub amount_in : ReaderMsg → Option ℕ
 amount_in (messages.VendApproved amount) = Some amount
 amount_in message = None
 
--- the feature level that a config message tells
-abbrev pub level_in : ReaderMsg → Option ℕ
-level_in (messages.Config level code scale decimals response options) = Some level
-level_in message = None
-
 -- whether a message is 03, with which a session begins
 abbrev pub begins_session : ReaderMsg → Bool
 begins_session (messages.BeginSession funds) = true

@@ -9,6 +9,7 @@ use Rattle.mdb_msgs.specs.declared.command.ReaderUnit.{ReaderUnit}
 use Rattle.mdb_msgs.specs.declared.reply.Reply.{Reply}
 use Rattle.mdb_msgs.specs.declared.reply.reader.ReaderMsg.{ReaderMsg}
 use Rattle.mdb_msgs.specs.declared.setups.ReaderConfig.{ReaderConfig}
+use Rattle.mdb_msgs.specs.Reader.{level_in}
 use Rattle.mdb_bus.specs.declared.act.Act.{Act}
 use Rattle.mdb_bus.specs.declared.act.Act.TheVariants as acts
 use Rattle.mdb_machine.specs.declared.past.Effect.TheVariants as effects
@@ -22,7 +23,7 @@ use Rattle.mdb_cashless.specs.declared.reader.messages.ReaderActivity.{ReaderAct
 use Rattle.mdb_cashless.specs.declared.reader.transaction.Transaction.{Transaction}
 use Rattle.mdb_cashless.specs.Reader.{drops}
 use Rattle.mdb_cashless.specs.ReaderFacts.{Facts, KnownFacts, amount_by, asked_by, asks_for_always_idle, config_by, effect_of, effect_of_own, ends_transactions, is_refused, known_idle, known_requested, level_asked_by, level_of, level_told_by, own_of, own_transaction, parts_by, refusal_by, switched, taken_told, transaction_taken_by}
-use Rattle.mdb_cashless.specs.ReaderMessages.{amount_in, begin_session, config_in, last_said, level_in, messages_of, part_of, refuses}
+use Rattle.mdb_cashless.specs.ReaderMessages.{amount_in, begin_session, config_in, last_said, messages_of, part_of, refuses}
 use Rattle.mdb_cashless.specs.Transactions.{is_request, transaction_of}
 use Rattle.mdb_cashless.specs.Units.{own}
 

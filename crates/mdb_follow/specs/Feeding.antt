@@ -29,5 +29,6 @@ pub record HasRefused (old new : Follower) (row : Event) (met : Offence) : Type 
   pub noted : offence_of new ≡ Some met
   pub numbered : met.row ≡ rows_of new + 1
   pub uncounted : rows_of new ≡ rows_of old
-  -- the block that a row breaks which isn't followed
+  -- `Profile` is a rule of the link, and a row that breaks one isn't on the bus: the open block
+  -- stays. (A row that breaks a device's rule is.)
   pub block : met.rule ≡ rules.Profile → open_block_of new ≡ open_block_of old

@@ -13,8 +13,8 @@ use Rattle.mdb_msgs.specs.declared.command.ReaderUnit.TheVariants.{First, Second
 use Rattle.mdb_msgs.specs.declared.reply.Reply.{Reply}
 use Rattle.mdb_msgs.specs.declared.reply.Reply.TheVariants as replies
 use Rattle.mdb_msgs.specs.declared.reply.reader.ReaderMsg.{ReaderMsg}
-use Rattle.mdb_msgs.specs.declared.reply.reader.ReaderMsg.TheVariants as messages
 use Rattle.mdb_msgs.specs.declared.setups.Setups.{Setups}
+use Rattle.mdb_msgs.specs.Reader.{last_level, level_in}
 use Rattle.mdb_bus.specs.declared.act.Act.{Act}
 use Rattle.mdb_bus.specs.declared.act.Act.TheVariants as acts
 use Rattle.mdb_bus.specs.declared.levels.Levels.{Levels}
@@ -23,11 +23,11 @@ use Rattle.mdb_bus.specs.declared.scope.Beginning.{Beginning}
 use Rattle.mdb_bus.specs.declared.scope.Beginning.TheVariants.{PowerOn, Joined}
 use Rattle.mdb_bus.specs.declared.scope.Profile.TheVariants.{Base, Extended}
 use Rattle.mdb_bus.specs.declared.scope.Scope.{Scope}
-use Rattle.mdb_bus.specs.ActLists.{Piece, Whole, acts_of, last_level, level_in as link_level_in, levels_after, levels_by, levels_of, levels_told}
+use Rattle.mdb_bus.specs.ActLists.{Piece, Whole, acts_of, levels_after, levels_by, levels_of, levels_told}
 use Rattle.mdb_bus.specs.Scopes.{first_levels, no_levels, profile_of}
 use Rattle.mdb_machine.specs.Past.{last_told, or_else}
 use Rattle.mdb_cashless.specs.ReaderFacts.{level_asked_by, level_of, level_told_by, own_messages}
-use Rattle.mdb_cashless.specs.ReaderMessages.{last_said, level_in, messages_of}
+use Rattle.mdb_cashless.specs.ReaderMessages.{last_said, messages_of}
 use Rattle.mdb_cashless.specs.Units.{own}
 use Rattle.mdb_late_start.specs.Alone.{MayBeReadAlone, TellsLevelsOfFront}
 use Rattle.mdb_late_start.specs.MidSession.{IsNothingOr, TellsLevelsAsKnown}
@@ -81,16 +81,11 @@ or_alike : (a b : Option ℕ) → option_or a b ≡ or_else a b
 or_alike None b = refl
 or_alike (Some level) b = refl
 
-in_alike : (message : ReaderMsg) → link_level_in message ≡ level_in message
-in_alike (messages.Config level code scale decimals response options) = refl
-in_alike message = refl
-
 said_alike : (list : List ReaderMsg) → last_level list ≡ last_said level_in list
 said_alike [] = refl
 said_alike (message ∷ list) =
-    or_alike (last_level list) (link_level_in message)
-    ∙ ap (λ a. or_else a (link_level_in message)) (said_alike list)
-    ∙ ap (or_else (last_said level_in list)) (in_alike message)
+    or_alike (last_level list) (level_in message)
+    ∙ ap (λ a. or_else a (level_in message)) (said_alike list)
 
 told_now : (list : List ReaderMsg) (before : Option ℕ)
     → option_or (last_level list) before ≡ or_else (last_said level_in list) before

@@ -10,6 +10,7 @@ use Rattle.mdb_msgs.specs.declared.command.ReaderUnit.TheVariants.{First, Second
 use Rattle.mdb_msgs.specs.declared.setups.Setups.{Setups}
 use Rattle.mdb_msgs.specs.declared.reply.Reply.{Reply}
 use Rattle.mdb_msgs.specs.declared.reply.Reply.TheVariants as replies
+use Rattle.mdb_msgs.specs.Reader.{last_level}
 use Rattle.mdb_bus.specs.declared.act.Act.{Act}
 use Rattle.mdb_bus.specs.declared.act.Act.TheVariants as acts
 use Rattle.mdb_bus.specs.declared.levels.Levels.{Levels}
@@ -17,7 +18,7 @@ use Rattle.mdb_bus.specs.declared.scope.Beginning.{Beginning}
 use Rattle.mdb_bus.specs.declared.scope.Beginning.TheVariants.{PowerOn, Joined}
 use Rattle.mdb_bus.specs.declared.scope.Profile.{Profile}
 use Rattle.mdb_bus.specs.declared.scope.Profile.TheVariants.{Base, Extended}
-use Rattle.mdb_bus.specs.ActLists.{Piece, Whole, IsLow, PieceFits, ReplyFits, last_level, levels_after, levels_by, levels_of, levels_told}
+use Rattle.mdb_bus.specs.ActLists.{Piece, Whole, IsLow, PieceFits, ReplyFits, levels_after, levels_by, levels_of, levels_told}
 use Rattle.mdb_bus.specs.Formats.{levels_for}
 use Rattle.mdb_bus.specs.LeavingOut.{with_foreign}
 use Rattle.mdb_bus.specs.Scopes.{first_levels, profile_of}

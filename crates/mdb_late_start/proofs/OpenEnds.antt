@@ -28,10 +28,10 @@ use Rattle.mdb_bus.specs.Formats.{IsReadAs, format_at, format_by, or_short}
 use Rattle.mdb_bus.specs.LinkFaults.{situation_of}
 use Rattle.mdb_bus.specs.OpenReplies.{OpenAgrees}
 use Rattle.mdb_bus.specs.Scopes.{levels_before, no_levels, profile_of}
-use Rattle.mdb_bus.specs.inner.Grammar.{OpenIsAFront}
-use Rattle.mdb_bus.specs.inner.Step.{Step}
-use Rattle.mdb_bus.specs.inner.Step as step
-use Rattle.mdb_bus.specs.inner.Steps.{Leads}
+use Rattle.mdb_bus.specs.shared.Grammar.{OpenIsAFront}
+use Rattle.mdb_bus.specs.shared.Step.{Step}
+use Rattle.mdb_bus.specs.shared.Step as step
+use Rattle.mdb_bus.specs.shared.Steps.{Leads}
 use Rattle.mdb_late_start.specs.Cuts.{BeginAnew, joined_with}
 use Rattle.mdb_late_start.specs.MidSession.{IsNothingOr}
 use Rattle.mdb_late_start.specs.Told.{IsLessTold}

@@ -11,11 +11,12 @@ use Rattle.mdb_bus.specs.declared.scope.Beginning.{Beginning}
 use Rattle.mdb_bus.specs.declared.scope.Beginning.TheVariants.{PowerOn, Joined}
 use Rattle.mdb_bus.specs.declared.scope.Profile.TheVariants.{Base, Extended}
 use Rattle.mdb_bus.specs.Scopes.{profile_of}
+use Rattle.mdb_bus.specs.WideMoney.{is_below_3}
 use Rattle.mdb_machine.specs.Known.{Allows, AllowsKept, Known, Is, Unknown}
 use Rattle.mdb_machine.specs.Past.{last_told, or_else, powers_on, taken_by}
 use Rattle.mdb_machine.specs.PastValues.{known_more}
 use Rattle.mdb_cashless.specs.declared.reader.extended.ExtendedFacts.{ExtendedFacts}
-use Rattle.mdb_cashless.specs.ReaderFacts.{KnownFacts, amount_by, asks_for_always_idle, config_by, effect_of, extended_of, extended_since, first_switch, is_below_3, is_refused, known_idle, known_if, known_of, known_requested, level_asked, level_asked_by, level_told, level_told_by, may_be_high, off_alone, own_of, powered_known, refusal_by, request_told, switch, switched}
+use Rattle.mdb_cashless.specs.ReaderFacts.{KnownFacts, amount_by, asks_for_always_idle, config_by, effect_of, extended_of, extended_since, first_switch, is_refused, known_idle, known_if, known_of, known_requested, level_asked, level_asked_by, level_told, level_told_by, may_be_high, off_alone, own_of, powered_known, refusal_by, request_told, switch, switched}
 use Rattle.mdb_cashless.specs.ReaderValues.{known_with}
 use Rattle.mdb_cashless.specs.shared.ReaderWays.{goes_on}
 use Rattle.mdb_late_start.specs.MidSession.{HasTold, IsNothingOr, IsToldAsKnown, TellsLevelsAsKnown}

@@ -12,6 +12,7 @@ use Rattle.mdb_bus.specs.declared.act.Act.{Act}
 use Rattle.mdb_bus.specs.declared.scope.Beginning.TheVariants.{PowerOn}
 use Rattle.mdb_bus.specs.declared.scope.Profile.{Profile}
 use Rattle.mdb_bus.specs.declared.scope.Profile.TheVariants.{Base, Extended}
+use Rattle.mdb_bus.specs.WideMoney.{is_below_3}
 use Rattle.mdb_machine.specs.declared.choice.Choice.{Choice}
 use Rattle.mdb_machine.specs.declared.gains.Gains.{Gains}
 use Rattle.mdb_machine.specs.Known.{Is}
@@ -89,7 +90,7 @@ off Extended unit acts none =
     ap (λ on. if below then Is false else reader.known_if on) none ∙ by below
   where
     below : Bool
-    below = reader.is_below_3 (reader.level_asked reader.powered_known unit acts)
+    below = is_below_3 (reader.level_asked reader.powered_known unit acts)
         (reader.level_told reader.powered_known unit acts)
 
     by : (below : Bool) → (if below then Is false else Is false) ≡ Is false

@@ -11,7 +11,8 @@ use Rattle.mdb_msgs.specs.declared.setups.ReaderConfig.{ReaderConfig}
 use Rattle.mdb_msgs.specs.declared.setups.Setups.{Setups}
 use Rattle.mdb_msgs.specs.declared.reading.Reading.TheVariants.{Base}
 use Rattle.mdb_msgs.specs.Replies.{IsIn, SpellsReply}
-use Rattle.mdb_msgs.specs.SetupData.{IsSetup, IsSetupOf, config_in, known_with, last_config, last_level, level_in, leveled, or_else}
+use Rattle.mdb_msgs.specs.Reader.{last_level, level_in}
+use Rattle.mdb_msgs.specs.SetupData.{IsSetup, IsSetupOf, config_in, known_with, last_config, leveled, or_else}
 use Rattle.mdb_msgs.specs.inner.SetupAsked.{setup_of}
 use Rattle.mdb_msgs.proofs.OneReply.{one_reply}
 

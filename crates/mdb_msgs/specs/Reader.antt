@@ -1,6 +1,7 @@
 -- The messages of a reader's answer, byte by byte (MDB/ICP 4.3, cashless device).
-use Rattle.std.specs.Prelude.{◌≡◌, ◌≢◌, ℕ, ◌<◌, ◌≤◌, ◌⊎◌, if◌then◌else◌, Bool, true, false, nat_le, List, [], ◌∷◌, ◌++◌, length, drop, replicate}
+use Rattle.std.specs.Prelude.{◌≡◌, ◌≢◌, ℕ, ◌<◌, ◌≤◌, ◌⊎◌, if◌then◌else◌, Bool, true, false, nat_le, List, [], ◌∷◌, ◌++◌, Option, Some, None, length, drop, replicate}
 use Rattle.std.specs.List.{flat_map, list_any}
+use Rattle.std.specs.Option.{option_or}
 use Rattle.mdb_msgs.specs.declared.fault.MsgFault.{MsgFault}
 use Rattle.mdb_msgs.specs.declared.fault.MsgFault.TheVariants.{Length, Message, Profile, Answer}
 use Rattle.mdb_msgs.specs.declared.reading.Reading.{Reading}
@@ -94,6 +95,15 @@ reading_of messages = own_reading (list_any has_long messages) (list_any has_opt
 abbrev pub tells_level : ℕ → ReaderMsg → Bool
 tells_level least (Config level code scale decimals response options) = nat_le least level
 tells_level least _ = false
+
+-- the feature level that a config message tells (Z2), and the last one that messages tell
+abbrev pub level_in : ReaderMsg → Option ℕ
+level_in (Config level code scale decimals response options) = Some level
+level_in _ = None
+
+abbrev pub last_level : List ReaderMsg → Option ℕ
+last_level [] = None
+last_level (message ∷ messages) = option_or (last_level messages) (level_in message)
 
 -- the text of a message, where the list's identification and display text are these
 abbrev pub text_of : List ℕ → List ℕ → ReaderMsg → List ℕ

@@ -22,6 +22,7 @@ use Rattle.mdb_msgs.specs.declared.setups.ReaderSetup.{ReaderSetup}
 use Rattle.mdb_msgs.specs.declared.setups.Setups.{Setups}
 use Rattle.mdb_msgs.specs.declared.reading.Reading.TheVariants.{Base}
 use Rattle.mdb_msgs.specs.Commands.{EnablesMore, Spells, ask_for_always_idle, device_of}
+use Rattle.mdb_msgs.specs.Reader.{last_level}
 use Rattle.mdb_msgs.specs.Replies.{IsIn, SpellsReply}
 use Rattle.mdb_msgs.specs.Setups.{reader_known, with_reader}
 
@@ -63,16 +64,6 @@ known_with known Bill (reply.BillSetup table) = Some (record known { bill = Some
 known_with known (Reader unit) (reply.Reader list) =
     option_map (with_config known unit) (last_config list.messages)
 known_with known device answer = None
-
--- the feature level that a config message tells (Z2)
-abbrev pub level_in : ReaderMsg → Option ℕ
-level_in (message.Config level code scale decimals response options) = Some level
-level_in other = None
-
--- and the last one of an answer
-abbrev pub last_level : List ReaderMsg → Option ℕ
-last_level [] = None
-last_level (first ∷ messages) = option_or (last_level messages) (level_in first)
 
 -- what is known of a reader with the level that these messages tell: a level that is known goes
 -- before it

@@ -39,4 +39,5 @@ pub use reply::changer::ChangerMsg;
 pub use reply::reader::{ReaderIter, ReaderList, ReaderMsg};
 pub use reply::setup::{BillSetup, ChangerSetup, Stacker, TubeStatus};
 pub use reply::{Reply, read_reply, reply_of, write_reply};
+pub use setup_data::last_level;
 pub use setups::{ReaderConfig, ReaderSetup, Setups};

@@ -3,6 +3,7 @@
 
 ghost use Rattle.std.specs.Prelude.{◌≡◌, None, Some, true, false};
 ghost use Rattle.mdb_msgs.specs.SetupData.{IsSetupOf};
+ghost use Rattle.mdb_msgs.specs.Reader.{last_level, level_in};
 ghost use Rattle.mdb_msgs.specs.SetupData as spec;
 ghost use Rattle.mdb_msgs.specs.declared.setups.Setups.{Setups};
 ghost use Rattle.mdb_msgs.specs.Commands.{ask_for_always_idle};
@@ -71,7 +72,7 @@ impl Setups {
     {
         if let (Device::Reader(unit), Reply::Reader(list)) = (device, reply) {
             let mut reader = self.reader(unit);
-            reader.told = reader.told.or(level_of(list));
+            reader.told = reader.told.or(last_level(list));
             self.set_reader(unit, reader);
         }
     }
@@ -162,9 +163,10 @@ fn config_of(list: &ReaderList) -> Option<ReaderConfig>
     last
 }
 
-/// The feature level of the last config message of a reader's answer.
-fn level_of(list: &ReaderList) -> Option<u8>
-    ensures { result ≡ spec.last_level list.now.messages }
+/// The feature level of the last config message of a reader's answer (Z2; MDB/ICP 4.3, cashless
+/// device).
+pub fn last_level(list: &ReaderList) -> Option<u8>
+    ensures { result ≡ last_level list.now.messages }
 {
     let mut last = None;
     for message in list.iter() {
@@ -175,7 +177,7 @@ fn level_of(list: &ReaderList) -> Option<u8>
 
 /// The feature level that a config message reports (Z2).
 fn level_in(message: ReaderMsg) -> Option<u8>
-    ensures { result ≡ spec.level_in message }
+    ensures { result ≡ level_in message }
 {
     match message {
         ReaderMsg::Config { level, .. } => Some(level),

@@ -17,7 +17,8 @@ use Rattle.mdb_bus.specs.declared.scope.Beginning.{Beginning}
 use Rattle.mdb_bus.specs.declared.scope.Beginning.TheVariants.{PowerOn, Joined}
 use Rattle.mdb_bus.specs.declared.scope.Scope.{Scope}
 use Rattle.mdb_bus.specs.Acts.{Say}
-use Rattle.mdb_bus.specs.ActLists.{IsActList, Piece, Whole, AskTail, ReplyTail, RepeatTail, open_block, events_of, first_position, left_open, position_of}
+use Rattle.mdb_bus.specs.ActLists.{IsActList, Piece, Whole, AskTail, ReplyTail, RepeatTail, events_of, first_position, left_open, position_of}
+use Rattle.mdb_bus.specs.Bus.{open_block}
 use Rattle.mdb_stretches.specs.OtherMoney.{OtherMoneyIsAsked, WhoIsAsked, WhoIsAskedBefore}
 use Rattle.mdb_stretches.specs.Parts.{EndInBlock}
 

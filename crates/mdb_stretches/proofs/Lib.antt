@@ -1,5 +1,6 @@
 mod Asked
 mod Feeding
+mod Handed
 mod Leading
 mod Learning
 mod OneSurvey

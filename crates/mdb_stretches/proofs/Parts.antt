@@ -16,7 +16,8 @@ use Rattle.mdb_bus.specs.declared.fault.Rule.TheVariants as rules
 use Rattle.mdb_bus.specs.declared.scope.Profile.{Profile}
 use Rattle.mdb_bus.specs.declared.scope.Profile.TheVariants.{Base, Extended}
 use Rattle.mdb_bus.specs.declared.scope.Scope.{Scope}
-use Rattle.mdb_bus.specs.ActLists.{Piece, acts_of, open_block, position_of}
+use Rattle.mdb_bus.specs.ActLists.{Piece, acts_of, position_of}
+use Rattle.mdb_bus.specs.Bus.{open_block}
 use Rattle.mdb_bus.specs.LinkFaults.{blame_on}
 use Rattle.mdb_bus.specs.Scopes.{IsFollowed, IsLeftOut, profile_of}
 use Rattle.mdb_follow.specs.declared.offence.Offence.{Offence}

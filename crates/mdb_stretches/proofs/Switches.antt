@@ -8,9 +8,9 @@ use Rattle.mdb_msgs.specs.declared.command.ReaderCommand.TheVariants as readers
 use Rattle.mdb_msgs.specs.declared.command.ReaderUnit.{ReaderUnit}
 use Rattle.mdb_msgs.specs.declared.command.ReaderUnit.TheVariants.{First, Second}
 use Rattle.mdb_msgs.specs.declared.reply.reader.ReaderMsg.{ReaderMsg}
-use Rattle.mdb_msgs.specs.declared.reply.reader.ReaderMsg.TheVariants as messages
 use Rattle.mdb_msgs.specs.declared.reply.Reply.TheVariants as replies
 use Rattle.mdb_msgs.specs.declared.setups.ReaderSetup.{ReaderSetup}
+use Rattle.mdb_msgs.specs.Reader.{last_level, level_in}
 use Rattle.mdb_msgs.specs.Setups.{reader_known}
 use Rattle.mdb_bus.specs.declared.act.Act.{Act}
 use Rattle.mdb_bus.specs.declared.act.Act.TheVariants as acts
@@ -19,13 +19,12 @@ use Rattle.mdb_bus.specs.declared.levels.ReaderLevels.{ReaderLevels}
 use Rattle.mdb_bus.specs.declared.scope.Beginning.{Beginning}
 use Rattle.mdb_bus.specs.declared.scope.Beginning.TheVariants.{PowerOn, Joined}
 use Rattle.mdb_bus.specs.declared.scope.Profile.TheVariants.{Base, Extended}
-use Rattle.mdb_bus.specs.ActLists as bus
-use Rattle.mdb_bus.specs.ActLists.{last_level, levels_by}
+use Rattle.mdb_bus.specs.ActLists.{levels_by}
 use Rattle.mdb_bus.specs.Scopes.{profile_of}
 use Rattle.mdb_machine.specs.Past.{effect_taken, last_told, or_else, powers_on, resets, taken_by}
 use Rattle.mdb_cashless.specs.declared.reader.extended.ExtendedFacts.{ExtendedFacts}
 use Rattle.mdb_cashless.specs.ReaderFacts.{asks_for_always_idle, effect_of, extended_of, extended_since, level_asked, level_asked_by, level_told, level_told_by, own_of, powered_known, switched}
-use Rattle.mdb_cashless.specs.ReaderMessages.{last_said, level_in}
+use Rattle.mdb_cashless.specs.ReaderMessages.{last_said}
 use Rattle.mdb_cashless.specs.Units.{own}
 use Rattle.mdb_stretches.specs.declared.options.Options.{Options}
 use Rattle.mdb_stretches.specs.declared.options.ReaderOptions.{ReaderOptions}
@@ -37,10 +36,6 @@ use Rattle.mdb_stretches.proofs.Learning.{levels_step}
 
 -- ---- levels
 
-same_level : (message : ReaderMsg) → bus.level_in message ≡ level_in message
-same_level (messages.Config level code scale decimals response options) = refl
-same_level message = refl
-
 same_else : (one other : Option ℕ) → option_or one other ≡ or_else one other
 same_else (Some level) other = refl
 same_else None other = refl
@@ -48,8 +43,7 @@ same_else None other = refl
 same_last : (list : List ReaderMsg) → last_level list ≡ last_said level_in list
 same_last [] = refl
 same_last (message ∷ list) =
-    same_else (last_level list) (bus.level_in message)
-    ∙ ap (λ l. or_else (last_level list) l) (same_level message)
+    same_else (last_level list) (level_in message)
     ∙ ap (λ l. or_else l (level_in message)) (same_last list)
 
 asked_step : (unit : ReaderUnit) (act : Act) (levels : Levels)

@@ -1,6 +1,6 @@
 -- How what is told of the devices fits what their machines know of them (this profile). Lists of
 -- acts stand newest first.
-use Rattle.std.specs.Prelude.{◌≡◌, Bool, true, false, List, Option, Some, None, if◌then◌else◌}
+use Rattle.std.specs.Prelude.{◌≡◌, ◌⊎◌, ◌&&◌, Bool, true, false, List, Option, Some, None, is_some, if◌then◌else◌}
 use Rattle.mdb_msgs.specs.declared.command.ReaderCommand.{ReaderCommand}
 use Rattle.mdb_msgs.specs.declared.command.ReaderCommand.TheVariants as readers
 use Rattle.mdb_msgs.specs.declared.command.ReaderUnit.{ReaderUnit}
@@ -30,6 +30,17 @@ pub record IsReaderKnown (unit : ReaderUnit) (learnt : Told) (facts : ExtendedFa
   pub asked : (levels_at unit learnt.levels).asked ≡ facts.asked
   pub told : (levels_at unit learnt.levels).told ≡ facts.told
   pub always_idle : (options_at unit learnt.options).always_idle ≡ facts.switched_on
+
+-- What the machine of a reader knows as a stretch begins, where it knew so much at the end of the
+-- stretch before: the same levels, and of always idle the same or nothing. Where the reader's
+-- options weren't told, nothing. Where they were, and both levels are known, the same.
+pub record IsHandedOn (options_told : Bool) (left begun : ExtendedFacts) : Type 0 where
+  pub asked : begun.asked ≡ left.asked
+  pub told : begun.told ≡ left.told
+  pub always_idle : (begun.switched_on ≡ None) ⊎ (begun.switched_on ≡ left.switched_on)
+  pub untold : options_told ≡ false → begun.switched_on ≡ None
+  pub same : options_told ≡ true → (is_some left.asked && is_some left.told) ≡ true
+      → begun.switched_on ≡ left.switched_on
 
 -- What an act tells of whether a reader's options are told: a break, or a RESET that the reader
 -- takes, that they aren't; an ENABLE OPTIONS that it takes, that they are.

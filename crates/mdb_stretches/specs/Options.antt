@@ -36,8 +36,8 @@ options_before (Joined setups profile) = record {
 }
 
 -- What a command that the reader takes makes of them, where these levels were told before: RESET
--- switches all options off. ENABLE OPTIONS tells them, and switches always idle on if it asks for
--- it.
+-- switches all options off. ENABLE OPTIONS tells them, and where it asks for always idle, that is
+-- switched as `switched` says.
 abbrev pub options_taking : Bool → Option ReaderCommand → ReaderLevels → ReaderOptions
     → ReaderOptions
 options_taking joined (Some readers.Reset) levels options = powered_on
@@ -68,8 +68,9 @@ options_by (PowerOn Extended) act levels options = options_after false act level
 options_by (Joined setups Extended) act levels options = options_after true act levels options
 options_by begins act levels options = options
 
--- how always idle is switched; where that isn't known, on at levels of which one isn't: beside
--- these, `first_switch` takes it for not known
+-- What is told of how always idle is switched. `None` would tell that the options aren't known. So
+-- a switch that isn't known is told as on where a level isn't known: beside such levels
+-- `first_switch` takes that for not known. Where both are known nothing is told.
 abbrev pub switch_told : ReaderLevels → Option Bool → Option Bool
 switch_told levels (Some is_on) = Some is_on
 switch_told levels None = if is_some levels.asked && is_some levels.told then None else Some true

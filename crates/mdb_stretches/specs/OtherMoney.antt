@@ -20,8 +20,9 @@ abbrev pub WhoIsAsked : List ℕ → Option ReaderUnit → Type 0
 WhoIsAsked bytes (Some unit) = OtherMoneyIsAsked bytes unit
 WhoIsAsked bytes None = (unit : ReaderUnit) → OtherMoneyIsAsked bytes unit → ⊥
 
--- The reader that is asked where a row comes after these bytes that breaks this rule. A wrong sum
--- breaks `Sum`, so with `Profile` the row ends such a command. By any other rule nobody is asked.
+-- The reader that is asked where a row breaks this rule after these bytes. By `Profile` the row is
+-- the sum: a wrong sum of ENABLE OPTIONS breaks `Sum`, also where money may be of 32 bits. By any
+-- other rule nobody is asked.
 abbrev pub WhoIsAskedBefore : Rule → List ℕ → Option ReaderUnit → Type 0
 WhoIsAskedBefore rules.Profile bytes asked = WhoIsAsked bytes asked
 WhoIsAskedBefore broken bytes asked = asked ≡ None

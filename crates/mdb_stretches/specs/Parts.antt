@@ -37,8 +37,8 @@ pub record EndInBlock (bytes : List ℕ) (rows : List Event) : Type 0 where
   pub parts : rows ≡ before ++ words
   pub said : Say Controller (words_on Controller bytes) words
 
--- a reader that rows ask for what isn't followed, up to the row of one of these faults, which has
--- the rule `Profile`
+-- a reader: rows end in all but the sum of an ENABLE OPTIONS that asks it for other money, and the
+-- next row is one of these faults, with the rule `Profile`
 pub record IsReaderAsked (rows : List Event) (ended : List Ended) (device : Device)
     : Type 0 where
   pub unit : ReaderUnit

@@ -16,7 +16,8 @@ use Rattle.mdb_bus.specs.declared.scope.Beginning.TheVariants.{Joined}
 use Rattle.mdb_bus.specs.declared.scope.Profile.{Profile}
 use Rattle.mdb_bus.specs.declared.scope.Profile.TheVariants.{Base, Extended}
 use Rattle.mdb_bus.specs.declared.scope.Scope.{Scope}
-use Rattle.mdb_bus.specs.ActLists.{IsActList, Piece, acts_of, open_block, position_of}
+use Rattle.mdb_bus.specs.ActLists.{IsActList, Piece, acts_of, position_of}
+use Rattle.mdb_bus.specs.Bus.{open_block}
 use Rattle.mdb_bus.specs.Scopes.{profile_of}
 use Rattle.mdb_follow.specs.declared.offence.Offence.{Offence}
 use Rattle.mdb_follow.specs.declared.report.Report.{Report}
@@ -63,7 +64,7 @@ left_out_for broken told blamed without = without
 abbrev pub left_out_after : Told → Offence → DeviceSet → DeviceSet
 left_out_after told offence without = left_out_for offence.rule told offence.blame without
 
--- by the extended profile: a reader that is asked for what isn't followed
+-- by the extended profile: a reader that is asked for other money
 abbrev pub left_out_asked : Option ReaderUnit → DeviceSet → DeviceSet
 left_out_asked (Some unit) without = with_device without (devices.Reader unit)
 left_out_asked None without = without
@@ -125,6 +126,7 @@ pub record EndsBy (place : StretchStart) (rows : List Event) (row : Event) (ende
   pub row_is : ended.fault ≡ fault_at place offence
   pub pieces : List Piece
   pub act_list : IsActList place.scope pieces rows
+  -- the reader that the block before the row asks for other money, if the row breaks `Profile`
   pub asked : Option ReaderUnit
   pub asked_is : WhoIsAskedBefore offence.rule (open_block (position_of place.scope pieces)) asked
   pub on : next ≡ place_after place (length rows) (acts_of pieces) offence asked

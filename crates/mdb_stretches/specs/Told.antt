@@ -105,8 +105,9 @@ abbrev pub told_on : Beginning → Told → Told
 told_on begins told =
     record told { setups = setups_of begins; options = options_before begins }
 
--- the levels that a stretch is told: by the base profile those of the controller that no config
--- message has answered, by the extended one the last of either side
+-- the levels that a stretch is told beside its setup data: by the base profile those of the
+-- controller that no config message has answered; by the extended one the setup data have them, and
+-- these aren't read
 abbrev pub levels_on : Profile → Told → Levels
 levels_on Base told = told.unanswered
 levels_on Extended told = told.levels

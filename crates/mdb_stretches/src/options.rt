@@ -1,9 +1,10 @@
 //! What the rows of a stretch tell of the readers' options.
 
-ghost use Rattle.std.specs.Prelude.{◌≡◌, Some};
+ghost use Rattle.std.specs.Prelude.{◌≡◌, Some, false};
 ghost use Rattle.mdb_msgs.specs.declared.command.ReaderUnit.TheVariants.{First, Second};
 ghost use Rattle.mdb_cashless.specs.ReaderFacts as reader;
 ghost use Rattle.mdb_cashless.specs.Units.{own};
+ghost use Rattle.mdb_stretches.specs.inner.OptionsLeft.{LeavesOptions, settles_any};
 ghost use Rattle.mdb_stretches.specs.Options.{given_by, idle_told, options_after, options_before, options_by, options_taking};
 
 use mdb_bus::{Act, Beginning, Levels, Profile, ReaderLevels};
@@ -14,8 +15,8 @@ use mdb_msgs::{Command, ReaderCommand, ReaderSetup, ReaderUnit};
 /// cashless device; this profile).
 #[derive(Clone, Copy, PartialEq, Eq, Debug)]
 pub struct ReaderOptions {
-    /// Whether the reader took an ENABLE OPTIONS since the last break or accepted RESET, or one is
-    /// known from before the stretch.
+    /// Whether the reader took an ENABLE OPTIONS since the last break or accepted RESET, or, where
+    /// neither came in the stretch, one is known from before it.
     pub told: bool,
     /// Whether always idle is switched on, if it is known.
     pub always_idle: Option<bool>,
@@ -72,7 +73,8 @@ impl ReaderOptions {
         }
     }
 
-    /// What the next stretch is told of always idle, beside these levels.
+    /// What the next stretch is told of always idle, beside these levels. A switch that isn't known
+    /// is told as on, if a level isn't known: beside such levels that isn't known either.
     pub(crate) fn idle_told(self, levels: ReaderLevels) -> Option<bool>
         ensures { result ≡ idle_told levels self }
     {
@@ -114,20 +116,29 @@ impl Options {
     }
 
     /// Notes what an act tells, where these levels were reported before it.
-    // By the base profile it tells nothing, which is seen without a call.
+    // Nearly all acts tell nothing, which is seen without a call.
     #[inline(always)]
     pub(crate) fn note(&mut self, begins: &Beginning, levels: Levels, act: &Act)
         ensures { self.new ≡ options_by begins.now act.now levels self.old }
     {
+        if tells_of_options(act) {
+            *self = self.by(begins, levels, act);
+        }
+    }
+
+    /// Those after an act, in a recording that begins so.
+    #[inline(never)]
+    fn by(self, begins: &Beginning, levels: Levels, act: &Act) -> Options
+        ensures { result ≡ options_by begins.now act.now levels self }
+    {
         match begins {
-            Beginning::PowerOn(Profile::Extended) => *self = self.after(false, levels, act),
-            Beginning::Joined(_, Profile::Extended) => *self = self.after(true, levels, act),
-            _ => {}
+            Beginning::PowerOn(Profile::Extended) => self.after(false, levels, act),
+            Beginning::Joined(_, Profile::Extended) => self.after(true, levels, act),
+            _ => self,
         }
     }
 
     /// Those after an act.
-    #[inline(never)]
     fn after(self, joined: bool, levels: Levels, act: &Act) -> Options
         ensures { result ≡ options_after joined act.now levels self }
     {
@@ -160,4 +171,29 @@ impl Options {
             _ => self,
         }
     }
+}
+
+/// Whether an act may tell of a reader's options: it is a break, or an answer to RESET or to ENABLE
+/// OPTIONS.
+#[inline(always)]
+fn tells_of_options(act: &Act) -> bool
+    ensures { result ≡ false → LeavesOptions act.now }
+{
+    match act {
+        Act::Break(_) => true,
+        Act::Ack(command) => settles_options(command),
+        Act::Reply(command, _) => settles_options(command),
+        _ => false,
+    }
+}
+
+/// Whether a command settles the options of the reader that accepts it.
+#[inline(always)]
+fn settles_options(command: &Command) -> bool
+    ensures { result ≡ settles_any command.now }
+{
+    matches!(
+        command,
+        Command::Reader(_, ReaderCommand::Reset | ReaderCommand::EnableOptions(_))
+    )
 }

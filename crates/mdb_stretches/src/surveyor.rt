@@ -225,8 +225,8 @@ impl Surveyor {
     }
 }
 
-/// How the rows after a fault are taken, where so much is told up to it, and those before it ask
-/// this reader for what isn't followed, and were taken so.
+/// How the rows after a fault are taken, by what is told up to it, the reader that is asked for
+/// other money, and how the rows before it were taken.
 fn scope_after(told: &Told, fault: &Offence, asked: Option<ReaderUnit>, scope: &Scope) -> Scope
     ensures { result ≡ scope_after told.now fault.now asked scope.now }
 {
@@ -241,8 +241,8 @@ fn scope_after(told: &Told, fault: &Offence, asked: Option<ReaderUnit>, scope: &
     }
 }
 
-/// The reader that is asked for what isn't followed, where a row with this rule comes after these
-/// bytes of a block.
+/// The reader that is asked for other money, where a row with this rule comes after these bytes of
+/// a block.
 fn asked_before(rule: Rule, bytes: &[u8]) -> Option<ReaderUnit>
     ensures { WhoIsAskedBefore rule bytes.now result }
 {
@@ -252,7 +252,7 @@ fn asked_before(rule: Rule, bytes: &[u8]) -> Option<ReaderUnit>
     }
 }
 
-/// The reader that these bytes of a block ask for what isn't followed, if they do.
+/// The reader that these bytes of a block ask for other money, if they do.
 fn asked_for_other_money(bytes: &[u8]) -> Option<ReaderUnit>
     ensures { WhoIsAsked bytes.now result }
 {
@@ -269,7 +269,7 @@ fn asked_for_other_money(bytes: &[u8]) -> Option<ReaderUnit>
 }
 
 /// The devices that are left out after a fault by the extended profile, where this reader is asked
-/// for what isn't followed.
+/// for other money.
 fn left_out_asked(asked: Option<ReaderUnit>, without: DeviceSet) -> DeviceSet
     ensures { result ≡ left_out_asked asked without }
 {

@@ -7,8 +7,8 @@ use Rattle.mdb_bus.specs.ActLists.{levels_if}
 use Rattle.mdb_bus.specs.Bus.{position_at}
 use Rattle.mdb_bus.specs.Scopes.{profile_of}
 use Rattle.mdb_bus.specs.WideMoney.{known_if}
-use Rattle.mdb_bus.specs.inner.Step.{Step}
-use Rattle.mdb_bus.specs.inner.Steps.{HasAdvanced, asked_after}
+use Rattle.mdb_bus.specs.shared.Step.{Step}
+use Rattle.mdb_bus.specs.shared.Steps.{HasAdvanced, asked_after}
 
 -- A bus has gone a step by a row.
 pub record HasGone (old : Bus) (next : Step) (row : Event) (new : Bus)

@@ -14,7 +14,7 @@ ghost use Rattle.mdb_bus.specs.Scopes.{leaves_options, profile_of};
 ghost use Rattle.mdb_bus.specs.declared.phase.Phase.{Phase};
 ghost use Rattle.mdb_bus.specs.ActLists as lists;
 ghost use Rattle.mdb_bus.specs.LinkFaults.{OutOfOrder};
-ghost use Rattle.mdb_bus.specs.inner.Steps.{Belongs, IsGoingOn, IsJudged, IsOpened};
+ghost use Rattle.mdb_bus.specs.shared.Steps.{Belongs, IsGoingOn, IsJudged, IsOpened};
 
 use crate::begun::Begun;
 use crate::fault::Rule;

@@ -8,7 +8,7 @@ ghost use Rattle.mdb_bus.specs.declared.scope.Scope.{Scope};
 ghost use Rattle.mdb_bus.specs.Acts.{reply_words};
 ghost use Rattle.mdb_bus.specs.ActLists as lists;
 ghost use Rattle.mdb_bus.specs.LinkFaults.{OutOfOrder};
-ghost use Rattle.mdb_bus.specs.inner.Steps.{Belongs, IsJudged};
+ghost use Rattle.mdb_bus.specs.shared.Steps.{Belongs, IsJudged};
 
 use crate::fault::Rule;
 use crate::gaps::{in_answer_time, in_block_time, word_row};

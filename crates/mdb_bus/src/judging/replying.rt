@@ -8,7 +8,7 @@ ghost use Rattle.mdb_bus.specs.declared.levels.Levels.{Levels};
 ghost use Rattle.mdb_bus.specs.declared.scope.Scope.{Scope};
 ghost use Rattle.mdb_bus.specs.ActLists as lists;
 ghost use Rattle.mdb_bus.specs.LinkFaults.{OutOfOrder};
-ghost use Rattle.mdb_bus.specs.inner.Steps.{Belongs, IsJudged, IsReplyEnd};
+ghost use Rattle.mdb_bus.specs.shared.Steps.{Belongs, IsJudged, IsReplyEnd};
 
 use crate::begun::Begun;
 use crate::fault::Rule;

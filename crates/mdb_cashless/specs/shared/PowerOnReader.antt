@@ -8,9 +8,10 @@ use Rattle.mdb_bus.specs.declared.act.Act.{Act}
 use Rattle.mdb_bus.specs.declared.scope.Beginning.TheVariants.{PowerOn}
 use Rattle.mdb_bus.specs.declared.scope.Profile.{Profile}
 use Rattle.mdb_bus.specs.declared.scope.Profile.TheVariants.{Base, Extended}
+use Rattle.mdb_bus.specs.WideMoney.{is_below_3}
 use Rattle.mdb_machine.specs.Known.{Allows, Is, Known, Unknown}
 use Rattle.mdb_machine.specs.Past.{last_told, or_else, powers_on, taken_by}
-use Rattle.mdb_cashless.specs.ReaderFacts.{asks_for_always_idle, effect_of, extended_of, is_below_3, known_idle, known_if, known_requested, level_asked, level_told, own_of, powered_known, request_told, switch, switched}
+use Rattle.mdb_cashless.specs.ReaderFacts.{asks_for_always_idle, effect_of, extended_of, known_idle, known_if, known_requested, level_asked, level_told, own_of, powered_known, request_told, switch, switched}
 use Rattle.mdb_cashless.specs.ReaderValues.{is_known}
 
 -- what is told is known

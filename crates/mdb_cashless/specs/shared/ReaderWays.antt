@@ -15,6 +15,7 @@ use Rattle.mdb_msgs.specs.declared.reply.reader.ReaderMsg.{ReaderMsg}
 use Rattle.mdb_msgs.specs.declared.setups.ReaderConfig.{ReaderConfig}
 use Rattle.mdb_msgs.specs.declared.setups.ReaderSetup.{ReaderSetup}
 use Rattle.mdb_msgs.specs.Setups.{config_known, reader_known}
+use Rattle.mdb_msgs.specs.Reader.{level_in}
 use Rattle.mdb_bus.specs.declared.act.Act.{Act}
 use Rattle.mdb_bus.specs.declared.act.Act.TheVariants as acts
 use Rattle.mdb_bus.specs.declared.scope.Beginning.{Beginning}
@@ -42,7 +43,7 @@ use Rattle.mdb_machine.specs.shared.StepWays as step_ways
 use Rattle.mdb_machine.specs.shared.StepWays.{IsOwnOf}
 use Rattle.mdb_cashless.specs.Reader.{ReaderStep, StepKnowing, asks_sale, is_approval, is_unpriced, machine, power_on, unvalued, unvalued_by}
 use Rattle.mdb_cashless.specs.ReaderFacts.{Facts, KnownFacts, asked_by, asks_for_always_idle, config_by, effect_of, effect_of_own, extended_of, extended_since, known_of, level_asked_by, level_of, level_told_by, messages_by, own_of, own_transaction, parts_by, powered_known, refusal_by, request_told, switched, taken_told}
-use Rattle.mdb_cashless.specs.ReaderMessages.{amount_in, begin_session, config_in, last_said, level_in, messages_of, part_of, refuses}
+use Rattle.mdb_cashless.specs.ReaderMessages.{amount_in, begin_session, config_in, last_said, messages_of, part_of, refuses}
 use Rattle.mdb_cashless.specs.ReaderValues.{extended_after, extended_taking, extended_with, known_with}
 use Rattle.mdb_cashless.specs.Transactions.{is_request}
 use Rattle.mdb_cashless.specs.Units.{own}

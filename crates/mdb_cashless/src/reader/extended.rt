@@ -6,7 +6,7 @@ ghost use Rattle.mdb_cashless.specs.ReaderValues as values;
 ghost use Rattle.mdb_cashless.specs.ReaderValues.{extended_after, extended_taking, is_known, may_be_so};
 
 use super::transaction::{is_request, transaction_of};
-use mdb_bus::{Beginning, Profile};
+use mdb_bus::{Beginning, Profile, is_below_3};
 use mdb_msgs::{ReaderCommand, ReaderSetup, ReaderUnit};
 
 /// What counts of the acts so far for a reader by the extended profile alone (this profile).
@@ -123,16 +123,6 @@ pub(crate) fn idling(extended: Option<ExtendedFacts>, on: bool) -> Option<Extend
             switched_on: Some(on),
             ..facts
         }),
-    }
-}
-
-/// Whether the lower of two levels is known and below 3.
-fn is_below_3(asked: Option<u8>, told: Option<u8>) -> bool
-    ensures { result ≡ spec.is_below_3 asked told }
-{
-    match (asked, told) {
-        (Some(asked), Some(told)) => asked < 3 || told < 3,
-        _ => false,
     }
 }
 

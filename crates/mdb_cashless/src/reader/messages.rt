@@ -3,6 +3,7 @@
 ghost use Rattle.std.specs.Prelude.{◌≡◌, ◌≤◌, length};
 ghost use Rattle.std.specs.List.{list_any};
 ghost use Rattle.std.specs.Option.{is_some};
+ghost use Rattle.mdb_msgs.specs.Reader.{level_in};
 ghost use Rattle.mdb_machine.specs.Kept.{IsSummary, is_reset, kept_by};
 ghost use Rattle.mdb_cashless.specs.ReaderMessages as spec;
 
@@ -167,7 +168,7 @@ impl Said {
         ensures amount { self.new.amount ≡ or_else (spec.amount_in message) self.old.amount }
         ensures begins { self.new.begins ≡ (spec.begins_session message || self.old.begins) }
         ensures refused { self.new.refused ≡ (is_out_of_sequence message || self.old.refused) }
-        ensures level { self.new.level ≡ or_else (spec.level_in message) self.old.level }
+        ensures level { self.new.level ≡ or_else (level_in message) self.old.level }
     {
         self.summary.add(part_of(message));
         match message {

@@ -4,7 +4,8 @@ use Rattle.std.specs.Prelude.{◌≡◌, List, Some}
 use Rattle.mdb_words.specs.declared.event.Event.{Event}
 use Rattle.mdb_bus.specs.declared.fault.Rule.TheVariants as rules
 use Rattle.mdb_bus.specs.declared.scope.Scope.{Scope}
-use Rattle.mdb_bus.specs.ActLists.{IsActList, Piece, acts_of, open_block, position_of}
+use Rattle.mdb_bus.specs.ActLists.{IsActList, Piece, acts_of, position_of}
+use Rattle.mdb_bus.specs.Bus.{open_block}
 use Rattle.mdb_follow.specs.declared.offence.Offence.{Offence}
 use Rattle.mdb_follow.specs.Follower as follow
 use Rattle.mdb_follow.specs.Offences.{IsOffence}

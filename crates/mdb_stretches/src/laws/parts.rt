@@ -1,6 +1,6 @@
 //! Laws of the parts of a survey: of its faults, and of the stretches between them.
 
-ghost use Rattle.std.specs.Prelude.{◌≡◌, ◌+◌, ◌++◌, ◌⊎◌, ◌↔◌, ℕ, List, [], All, Some, length};
+ghost use Rattle.std.specs.Prelude.{◌≡◌, ◌+◌, ◌++◌, ◌⊎◌, ◌↔◌, ℕ, List, [], All, Option, Some, length};
 ghost use Rattle.mdb_words.specs.declared.event.Event.{Event};
 ghost use Rattle.mdb_msgs.specs.declared.command.Device.{Device};
 ghost use Rattle.mdb_msgs.specs.declared.command.ReaderUnit.{ReaderUnit};
@@ -16,11 +16,12 @@ ghost use Rattle.mdb_cashless.specs.ReaderFacts.{extended_of};
 ghost use Rattle.mdb_stretches.specs.declared.stretch.Ended.{Ended};
 ghost use Rattle.mdb_stretches.specs.declared.stretch.Stretch.{Stretch};
 ghost use Rattle.mdb_stretches.specs.declared.told.Told.{Told};
-ghost use Rattle.mdb_stretches.specs.Learning.{AreKnown, AreOptionsTold, IsReaderKnown};
+ghost use Rattle.mdb_follow.specs.declared.offence.Offence.{Offence};
+ghost use Rattle.mdb_stretches.specs.Learning.{AreKnown, AreOptionsTold, IsHandedOn, IsReaderKnown};
 ghost use Rattle.mdb_stretches.specs.Options.{options_at};
 ghost use Rattle.mdb_stretches.specs.Parts.{EndBefore, IsReaderAsked, IsReaderBeyond};
-ghost use Rattle.mdb_stretches.specs.Stretches.{IsCutAt, IsSurvey, LeadFrom, StretchStart};
-ghost use Rattle.mdb_stretches.specs.Told.{level_of, setups_of, told_after};
+ghost use Rattle.mdb_stretches.specs.Stretches.{IsCutAt, IsSurvey, LeadFrom, StretchStart, scope_after};
+ghost use Rattle.mdb_stretches.specs.Told.{level_of, setups_of, told_after, told_on};
 ghost use Rattle.mdb_stretches.specs.Unanswered.{IsNeither, IsUnanswered};
 
 use mdb_follow::laws;
@@ -80,7 +81,8 @@ pub fn left_out_are_those_of_the_start_and_readers_beyond_this_profile()
 /// reads replies by, and `setups` what the machines of the devices know. By the base profile a
 /// level is told on, as `unanswered`, exactly where no config message of its reader came after it.
 /// By the extended profile a reader's levels, and its always idle in `options`, are those that its
-/// machine knows, and `options` says when its options are told.
+/// machine knows. `options` says when its options are told, and `handed_on` that the next stretch
+/// begins with the same levels, and of always idle with the same or nothing.
 pub fn what_is_told_is_what_was_said_last()
     ensures levels { (begins : Beginning) (told : Told) (pieces : List Piece)
         → (told_after begins told (acts_of pieces)).levels
@@ -100,4 +102,10 @@ pub fn what_is_told_is_what_was_said_last()
         → profile_of begins ≡ Extended → AreOptionsTold unit acts
         (options_at unit told.options).told
         (options_at unit (told_after begins told acts).options).told }
+    ensures handed_on { (told : Told) (fault : Offence) (asked : Option ReaderUnit) (scope : Scope)
+        (unit : ReaderUnit) (left begun : ExtendedFacts) → profile_of scope.begins ≡ Extended
+        → IsReaderKnown unit told left
+        → extended_of (scope_after told fault asked scope).begins unit [] ≡ Some begun
+        → IsHandedOn (options_at unit told.options).told left begun
+        × IsReaderKnown unit (told_on (scope_after told fault asked scope).begins told) begun }
 {}

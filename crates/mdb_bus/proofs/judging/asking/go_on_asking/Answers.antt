@@ -1,7 +1,7 @@
 use Rattle.std.proofs.Common.{rules, refl, subst, ◌<◌}
 use Rattle.mdb_bus.specs.declared.scope.Profile.{Profile}
 use Rattle.mdb_bus.specs.declared.scope.Profile.TheVariants.{Extended}
-use Rattle.mdb_bus.specs.inner.Steps.{IsGoingOn}
+use Rattle.mdb_bus.specs.shared.Steps.{IsGoingOn}
 use Rattle.mdb_bus.specs.Scopes.{profile_of}
 use Rattle.mdb_bus.proofs.Masked.{AreKnown}
 use Rattle.mdb_bus.proofs.Verdicts.{asking_belongs, going_on, some_bytes}

@@ -27,8 +27,8 @@ use Rattle.mdb_bus.specs.declared.phase.Phase.{Phase}
 use Rattle.mdb_bus.specs.declared.phase.Phase.TheVariants as phase
 use Rattle.mdb_bus.specs.declared.judged.Judged.{Judged}
 use Rattle.mdb_bus.specs.declared.judged.Judged.TheVariants as judged
-use Rattle.mdb_bus.specs.inner.Step.{Step, SomeStep, word_in}
-use Rattle.mdb_bus.specs.inner.Step as step
+use Rattle.mdb_bus.specs.shared.Step.{Step, SomeStep, word_in}
+use Rattle.mdb_bus.specs.shared.Step as step
 use Rattle.mdb_bus.specs.declared.scope.Beginning.{Beginning}
 use Rattle.mdb_bus.specs.declared.scope.Profile.{Profile}
 use Rattle.mdb_bus.specs.declared.scope.Scope.{Scope}
@@ -37,7 +37,7 @@ use Rattle.mdb_bus.specs.Scopes.{Asks, HasCommand, needed_by}
 use Rattle.mdb_bus.specs.Acts.{IsForeignOpening, IsReply, reply_words}
 use Rattle.mdb_bus.specs.ActLists.{Piece, Whole, AskTail, ReplyTail, RepeatTail, Position, Quiet, InAsk, Asked, InReply, Replied, Returned, InRepeat, InForeign, BlockMayCome, BreakMayCome, Within, IsAskFront, IsRepeatFront, IsReplyFront, NotBefore, ReplyFits, act_in, left_by, position_of}
 use Rattle.mdb_bus.specs.LinkFaults.{LeavesProfile, IsBefore, IsAfter, IsOutside, Situation}
-use Rattle.mdb_bus.specs.inner.RulePlaces.{IsFirstByPlace}
+use Rattle.mdb_bus.specs.shared.RulePlaces.{IsFirstByPlace}
 
 -- the rule of time that a row breaks which doesn't come in time: it is early, or it is late by this
 -- rule

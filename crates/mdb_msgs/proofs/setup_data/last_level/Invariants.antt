@@ -1,6 +1,6 @@
 use Rattle.std.proofs.Common.{◌≡◌, ◌++◌}
-use Rattle.mdb_msgs.specs.SetupData.{last_level}
-use Rattle.mdb_msgs.proofs.setup_data.level_of.Given as goal
+use Rattle.mdb_msgs.specs.Reader.{last_level}
+use Rattle.mdb_msgs.proofs.setup_data.last_level.Given as goal
 
 -- what the messages so far say
 abbrev pub invariant-loop-message : goal.invariant-loop-message

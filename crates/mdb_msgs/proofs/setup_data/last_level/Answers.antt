@@ -1,7 +1,7 @@
 use Rattle.std.proofs.Common.{[], ◌∷◌, ◌++◌, ◌∙◌, ap, ap₂, append_assoc, sym}
 use Rattle.std.specs.Option.{option_or}
-use Rattle.mdb_bus.proofs.LastLevels.{last_more}
-use Rattle.mdb_bus.proofs.levels.last_level.Goals as goal
+use Rattle.mdb_msgs.proofs.SetupData.{last_level_more}
+use Rattle.mdb_msgs.proofs.setup_data.last_level.Goals as goal
 
 pub loop-message-preserved : goal.loop-message-preserved
 loop-message-preserved c =
@@ -15,5 +15,5 @@ loop-message-preserved c =
           ∙ sym (append_assoc before (c.in-Some.message ∷ []) c.next.new.self));
       said =
           c.or-last.ensures ∙ ap₂ option_or c.level_in.ensures c.loop-message.invariant.said
-          ∙ sym (last_more before c.in-Some.message);
+          ∙ sym (last_level_more before c.in-Some.message);
     }

@@ -1,0 +1,4 @@
+pub mod Grammar
+pub mod RulePlaces
+pub mod Step
+pub mod Steps
