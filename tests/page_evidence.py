@@ -28,9 +28,9 @@ sys.dont_write_bytecode = True
 
 from browser import Browser  # noqa: E402
 from firefox import Firefox  # noqa: E402
+from programs import PAGE  # noqa: E402
 
 TOP = pathlib.Path(__file__).resolve().parent.parent
-PAGE = TOP / "out" / "mdbcheck.html"
 EXAMPLES = TOP / "examples"
 # Elements that have no end.
 VOID = {"meta", "br", "hr", "img", "input", "link"}

@@ -1,7 +1,7 @@
 #!/usr/bin/env python3
 """tests/page_open_money.py [--firefox] [GENERATED [SEED]]: whether the card lists open money, in the colours that go with it.
 
-Gives the page in out/mdbcheck.html recordings of small scenes. What happened in each, and so what the card has to list, is
+Gives the page recordings of small scenes. What happened in each, and so what the card has to list, is
 written beside it: the money, a phrase of the sentence, what is to be done, and whether anything is left to do. So many
 generated recordings (30), those of tests/open-money, follow. Of each recording the entries that the page has of its
 module's acts are those of tests/second_open_money.py, and the rows that a sentence names are those of its entry. Ends with

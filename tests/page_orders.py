@@ -31,10 +31,9 @@ sys.dont_write_bytecode = True
 from browser import Browser  # noqa: E402
 from firefox import Firefox  # noqa: E402
 from page_profiles import base_of, shown_for  # noqa: E402
-from programs import MDBCHECK as PROGRAM  # noqa: E402
+from programs import MDBCHECK as PROGRAM, PAGE  # noqa: E402
 
 TOP = pathlib.Path(__file__).resolve().parent.parent
-PAGE = TOP / "out" / "mdbcheck.html"
 EXAMPLES = TOP / "examples"
 # A file that has gone by the time that it is read.
 GONE = "gone.csv"

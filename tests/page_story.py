@@ -1,7 +1,7 @@
 #!/usr/bin/env python3
 """tests/page_story.py [--firefox] [SHARE]: whether the story on the page's card is that of the recording.
 
-Gives the page in out/mdbcheck.html each recording of examples/ and one in SHARE (2 if not said) of the worked cases that
+Gives the page each recording of examples/ and one in SHARE (2 if not said) of the worked cases that
 are a `check`. The story's sentences are compared with what `mdbcheck show` and `mdbcheck check` print, read a second time
 here:
 
