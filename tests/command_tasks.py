@@ -133,6 +133,9 @@ RUNNING = rows_of([
     "> 62", "< 05 00 0C", "A", "> 63 02 00 05", "a",
 ])
 LEVELS = [rows_of(levels_of(device)) for device in ("cashless", "cashless-2")]
+#: A reader denies a sale, and the controller reports it as sold: a no that isn't judged where the level isn't known.
+DENIED = [rows_of([reader(device)(3, "00 00 0A 00 05"), "a", reader(device)(2), "< 06", "A",
+                   reader(device)(3, "02 00 05"), "a"]) for device in ("cashless", "cashless-2")]
 #: An acknowledgement of the controller that was lost.
 LOST = (TOP / "examples" / "coin-told-twice.csv").read_text()
 EXPLANATION = "35,L,-\n" + LOST
@@ -221,7 +224,8 @@ class Checks:
             return [EXPLANATION, RECYCLER, *left_out]
         if "--joined" in options:
             is_told_of_second = any(value.startswith("cashless-2") for value in options.get("--setup", ()))
-            return [RUNNING, *([LEVELS[is_told_of_second]] if "--extended" in options else []), *left_out]
+            levels = LEVELS if "--extended" in options else DENIED if task.command == "check" else []
+            return [RUNNING, *levels[is_told_of_second:][:1], *left_out]
         return [MONEY, RECYCLER, *left_out]
 
     def wanted(self, task, text):
