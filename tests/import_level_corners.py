@@ -329,9 +329,8 @@ HEADERS = [
 T = "t,M,S\n0,1,1\n"
 RECORDS = [
     *(("", f"{T}{one}\n", "", f"record 3: {FIELDS}{shown(one)}{cause}") for one, cause in (
-        ("1,1", ""), ("1", ""), ("1,1,1,x", COMMA), ("0,5,1,1", COMMA), ("0,5,1,1,1", COMMA), ("x,5,1,1", ""), ("0,x,1,1", ""),
-        ("0,,1,1", ""), ("0.5,1,1,1", ""), ("1;1;1", SEMICOLONS), ("1\t1\t1", TABS), ("0,5,1,1;", SEMICOLONS), ("", None))
-      if cause is not None),
+        ("1,1", ""), ("1", ""), ("0,5x,1,1", ""), ("0x,5,1,1", ""), (" 0 , 5 ,1,1", COMMA), ("1,1,1,x", COMMA), ("0,5,1,1", COMMA), ("0,5,1,1,1", COMMA), ("x,5,1,1", ""), ("0,x,1,1", ""),
+        ("0,,1,1", ""), ("0.5,1,1,1", ""), ("1;1;1", SEMICOLONS), ("1\t1\t1", TABS), ("0,5,1,1;", SEMICOLONS))),
     *(("", f"{T}{one},1,1\n", "", f"record 3: {TIME}{shown(f'{one},1,1')}{cause}") for one, cause in (
         ("", ""), ("x", ""), ("-1", ""), ("+1", ""), ("1.2E-05", ""), (".5", ""), ("5.", ""), ("1.2.3", ""), ("0:01", ""),
         ("1234567890123456", ""), ("1.1234567890123456", ""), ("1 2", ""), ("1;5", SEMICOLONS), ("1\t", TABS), ("1;\t", SEMICOLONS))),
@@ -344,6 +343,8 @@ RECORDS = [
         ("", "000000000000001"))),
     *(("", f"{T}1,{one},1\n", "", f"record 3 at 1000000 on line M: {LEVEL}{shown(f'1,{one},1')}") for one in (
         "", "2", "01", "1.0", "-1", "x", "1;", "true", "\xb9")),
+    ("", "t,M,S,x,y\n0,5,1,1\n", "", f"record 2: {FIELDS}{shown('0,5,1,1')}{COMMA}"),
+    ("", "t,M,S,x,y\n0,5,1\n", "", f"record 2: {FIELDS}{shown('0,5,1')}"),
     ("", T + "1,1,x\n", "", f'record 3 at 1000000 on line S: {LEVEL}; found "1,1,x"'),
     ("", T + "1,x,x\n", "", f'record 3 at 1000000 on line M: {LEVEL}; found "1,x,x"'),
     ("", T + "0.0000005,x,1\n", "", f'record 3 at 1 on line M: {LEVEL}; found "0.0000005,x,1"'),

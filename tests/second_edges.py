@@ -86,13 +86,13 @@ def columns_named(header, name, letters):
     return [at for at, field in enumerate(header) if at > 0 and field in names]
 
 
-def cause_of(why, record, width, names):
+def cause_of(why, record, names):
     """The likely cause of what is wrong with a record by itself, or nothing."""
     text, fields = b",".join(record), [trimmed(field) for field in record]
     for mark, called in ((b";", "semicolons"), (b"\t", "tabs")):
         if mark in text:
             return f"; are its fields parted by {called}, and not by commas?"
-    if why == FEWER and len(fields) > width and fields[0].isdigit() and fields[1].isdigit():
+    if why == FEWER and len(fields) > 3 and fields[0].isdigit() and fields[1].isdigit():
         return "; is there a decimal comma that doesn't stand in quotes?"
     if why == NO_COLUMN:
         for name in (name.encode() for name in names if name is not None):
@@ -212,7 +212,7 @@ class Table:
         self.width, self.columns = len(fields), {"M": sent[0], "S": answered[0]}
 
     def refuse(self, number, record, why):
-        raise Refused(number, why, found=found(record) + cause_of(why, record, self.width, self.names))
+        raise Refused(number, why, found=found(record) + cause_of(why, record, self.names))
 
     def record(self, number, record):
         fields = [trimmed(field) for field in record]
