@@ -69,11 +69,42 @@ def part_words(rng, times, share):
     return words
 
 
+# How many rows an export has, and how often; and the share of those with thousands.
+LENGTHS = [(4, 1), (4, 3), (5, 10), (4, 40), (2, 300)]
+BIG = 1 / 250
+
+
+def repeated(rows, number):
+    """So many rows: the recording again and again."""
+    whole = []
+    while len(whole) < number:
+        shift = whole[-1][0] + 10**6 if whole else 0
+        whole += [(time + shift, *rest) for time, *rest in rows]
+    return whole[:number]
+
+
+def ties(rng, rows, share):
+    """The rows, of which some answers have the time of what they answer; then both lines speak at once."""
+    return [(rows[at - 1][0], *row[1:]) if at and (rows[at - 1][1], row[1]) == ("M", "S") and rng.random() < share
+            else row for at, row in enumerate(rows)]
+
+
+def padded(rng, text, blank):
+    """The text with so many blanks in front that it lies across the end of a block of a read."""
+    if rng.random() >= 0.02 or len(text) < 2 or not blank:
+        return text
+    block = rng.choice([8192, 65536, 65536])
+    return blank * ((block - rng.randrange(1, min(len(text), 400))) // len(blank)) + text
+
+
 def part_of(rng, recordings, shortest):
     """Some rows of a recording, perhaps with a break more, of this length or longer."""
     rows = rng.choice(recordings)
-    begin = rng.choice([0, rng.randrange(len(rows))])
-    rows = rows[begin : begin + rng.choice([1, 3, 10, 40, 300])]
+    if rng.random() < BIG:
+        rows = repeated(rows, rng.choice([1000, 2000, 4000]))
+    else:
+        begin = rng.choice([0, rng.randrange(len(rows))])
+        rows = rows[begin : begin + choose(rng, *LENGTHS)]
     if rng.random() < 0.25:
         at = rng.randint(0, len(rows))
         length = rng.choice([shortest, 100_000, 999_999_999, rng.randint(shortest, 10**6)])

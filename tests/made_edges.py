@@ -1,8 +1,8 @@
 """Makes tables of edges by docs/bench/edges.md, and others that are nearly so."""
 
 import scenes
-from export_parts import (FLAGS, Export, around, choose, damage_bytes, damage_lines, disturbed, part_of, part_words,
-                          wanted_of, wrong_words)
+from export_parts import (FLAGS, Export, around, choose, damage_bytes, damage_lines, disturbed, padded, part_of,
+                          part_words, ties, wanted_of, wrong_words)
 
 # In microseconds from where a line falls: middles of bits that decimals can tell exactly.
 MIDDLES = [156.25, 468.75, 781.25, 1093.75]
@@ -70,6 +70,7 @@ def edges_export(rng, recordings):
     rows = part_of(rng, recordings, 100_000)
     lead = rng.choice([2000, 5000, rng.randrange(2000, 10**6), rng.randrange(2000, 10**9)])
     rows = [(time - rows[0][0] + lead, line, value) for time, line, value in rows]
+    rows = ties(rng, rows, rng.choice([0, 0, 0.2]))
     unit = choose(rng, (5, "s"), (1, "ms"), (1, "us"), (1, "ns"))
     places = rng.choice([6, 7, 9, 9, 9, 12, 15])
     digits = {"s": 0, "ms": 3, "us": 6, "ns": 9}[unit]
@@ -130,7 +131,7 @@ def edges_export(rng, recordings):
         words += ["--peripheral", peripheral]
     if unit != "s" or rng.random() < 0.1:
         words += ["--unit", unit]
-    words += part_words(rng, [time for time, _, _ in rows], 0.1)
+    words += part_words(rng, [time for time, _, _ in rows], 0.2)
     for _ in range(in_edges, damage):
         what = rng.random()
         if what < 0.4:
@@ -149,7 +150,7 @@ def edges_export(rng, recordings):
         text = text.rstrip("\r\n")
     encoding, mark = choose(rng, (6, ("utf-8", b"")), (1, ("utf-8", b"\xef\xbb\xbf")),
                             (1, ("utf-16-le", b"\xff\xfe")), (1, ("utf-16-be", b"\xfe\xff")))
-    text = mark + text.encode(encoding)
+    text = mark + padded(rng, text.encode(encoding), rng.choice("\n\r").encode(encoding))
     if damage and in_edges < damage and rng.random() < 0.4:
         text = damage_bytes(rng, text, TABLE_BYTES)
     truth = scene.truth("--skip-damaged" in words)

@@ -2,7 +2,7 @@
 
 import re
 
-from export_parts import Export, around, choose, damage_bytes, damage_lines, part_of, wrong_words
+from export_parts import Export, around, choose, damage_bytes, damage_lines, padded, part_of, wrong_words
 
 UNITS = {"s": 10**6, "ms": 10**3, "us": 1, "ns": None}  # in microseconds
 NAMES = [
@@ -196,10 +196,10 @@ def rows_export(rng, recordings):
         words += ["--controller", controller]
     if peripheral is not None:
         words += ["--peripheral", peripheral]
-    if rng.random() < 0.15:
+    if rng.random() < 0.2:
         first = max(0, rng.choice(rows)[0] + rng.choice([-1, 0, 1]))
         words += ["--from", str(first)]
-    if rng.random() < 0.15:
+    if rng.random() < 0.2:
         last = max(0, rng.choice(rows)[0] + rng.choice([-1, 0, 1]))
         words += ["--until", str(last)]
     wanted = [
@@ -232,7 +232,7 @@ def rows_export(rng, recordings):
     )
     if encoding == "latin-1" and not ((controller or "") + (peripheral or "")).isascii():
         encoding = "utf-8"
-    text = mark + text.encode(encoding)
+    text = mark + padded(rng, text.encode(encoding), rng.choice("\n\r").encode(encoding))
     for _ in range(damage - in_lines):
         text = damage_bytes(rng, text, BYTES)
     if nearly or no_header:

@@ -1,8 +1,8 @@
 """Makes tables of an asynchronous serial analyser by docs/bench/saleae.md, and others that are nearly so."""
 
 import scenes
-from export_parts import (Export, choose, damage_bytes, damage_lines, maybe_skip, options_of, part_of, part_words,
-                          wanted_of, wrong_words)
+from export_parts import (Export, choose, damage_bytes, damage_lines, maybe_skip, options_of, padded, part_of,
+                          part_words, wanted_of, wrong_words)
 
 ANALYSERS = [
     ("MDB master", "MDB slave"),
@@ -142,7 +142,7 @@ def saleae_export(rng, recordings):
     has_break = any(line == "B" for _, line, _ in rows)
     if has_break and rng.random() < 0.97 or rng.random() < 0.2:
         words += ["--break", str(length)]
-    words += part_words(rng, [time for time, _, _ in rows], 0.15)
+    words += part_words(rng, [time for time, _, _ in rows], 0.2)
 
     damage = choose(rng, (3, 1), (2, 2), (1, 3)) if rng.random() < 0.55 else 0
     in_lines = sum(rng.random() < 0.6 for _ in range(damage))
@@ -169,7 +169,7 @@ def saleae_export(rng, recordings):
         (1, ("utf-16-le", b"\xff\xfe")),
         (1, ("utf-16-be", b"\xfe\xff")),
     )
-    text = mark + text.encode(encoding)
+    text = mark + padded(rng, text.encode(encoding), rng.choice("\n\r").encode(encoding))
     for _ in range(damage - in_lines):
         text = damage_bytes(rng, text, b'0123456789ABCDEFabcdefxXMmSstruegnid.,"\r\n -', b"0123456789")
     return Export(text, words, **{"rows": None} if damage else wanted)

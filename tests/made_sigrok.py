@@ -4,7 +4,7 @@ import re
 
 import scenes
 from export_parts import (Export, choose, damage_bytes, damage_lines, disturbed, maybe_skip, part_of, part_words,
-                          wanted_of)
+                          ties, wanted_of)
 
 OTHER_RECORDS = [
     "",
@@ -69,9 +69,7 @@ def sigrok_export(rng, recordings, traces=None):
         maybe_skip(rng, words, 0.3)
     else:
         rows = part_of(rng, recordings, 1200)
-        for at in range(1, len(rows)):
-            if rows[at - 1][1] == "M" and rows[at][1] == "S" and rng.random() < 0.02:
-                rows[at] = (rows[at - 1][0], *rows[at][1:])  # both speak at one time
+        rows = ties(rng, rows, 0.02)
         shift = rng.choice([0, 0, -rows[0][0], rng.randrange(10**12)])
         rows = [(time + shift, line, value) for time, line, value in rows]
         scene = scenes.Scene(rng, rows, rng.choice([1_000_000, 4_000_000, 24_000_000]))
@@ -80,7 +78,7 @@ def sigrok_export(rng, recordings, traces=None):
         if rng.random() < 0.1:  # the capture ends earlier
             del pairs[rng.randint(1, len(pairs)) :]
             truth = None
-        words += part_words(rng, [time for time, _, _ in rows], 0.15)
+        words += part_words(rng, [time for time, _, _ in rows], 0.2)
 
     damage = choose(rng, (3, 1), (2, 2), (1, 3)) if rng.random() < 0.6 else 0
     in_pairs = sum(rng.random() < 0.6 for _ in range(damage))
@@ -93,6 +91,10 @@ def sigrok_export(rng, recordings, traces=None):
         damage_lines(rng, lines, sigrok_field_emptied, OTHER_RECORDS)
     if rng.random() < 0.2:
         lines = [re.sub('"ts": ', lambda ts: ts[0] + "0" * rng.randint(0, 16), one) for one in lines]
+    if rng.random() < 0.02:  # the end of a block of a read lies in the text
+        at = rng.randrange(len(lines))
+        zeros = "0" * (rng.choice([8192, 65536]) - sum(map(len, lines[:at])) % 8192)
+        lines[at] = lines[at].replace('"ts": ', f'"ts": {zeros}')
     ends = rng.choice([["\n"], ["\n"], ["\r\n"], ["\n", "\r\n"]])
     text = "".join(line + rng.choice(ends) for line in lines)
     if rng.random() < 0.2:

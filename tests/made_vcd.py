@@ -1,6 +1,7 @@
 """Makes value change dumps by docs/bench/vcd.md, and others that are nearly so."""
 
-from export_parts import FLAGS, Export, choose, damage_bytes, damage_lines, part_of, part_words, wanted_of, wrong_words
+from export_parts import (FLAGS, Export, choose, damage_bytes, damage_lines, padded, part_of, part_words, ties,
+                          wanted_of, wrong_words)
 from made_edges import damage_changes, scene_of
 
 TIMESCALES = {6: ("1", "us"), 7: ("100", "ns"), 8: ("10", "ns"), 9: ("1", "ns"), 10: ("100", "ps"),
@@ -30,6 +31,7 @@ def vcd_export(rng, recordings):
     rows = part_of(rng, recordings, 100_000)
     lead = rng.choice([2000, 5000, rng.randrange(2000, 10**6), rng.randrange(2000, 10**9)])
     rows = [(time - rows[0][0] + lead, line, value) for time, line, value in rows]
+    rows = ties(rng, rows, rng.choice([0, 0, 0.2]))
     places, words = rng.choice(list(TIMESCALES)), ["vcd"]
     scene = scene_of(rng, rows, places, words)
     changes = scene.changes()
@@ -41,7 +43,7 @@ def vcd_export(rng, recordings):
 
     invert = rng.random() < 0.2
     header, codes, others, options = vcd_header(rng, TIMESCALES[places])
-    words += options + part_words(rng, [time for time, _, _ in rows], 0.1)
+    words += options + part_words(rng, [time for time, _, _ in rows], 0.2)
     body = vcd_body(rng, changes, codes, others, invert)
     for _ in range(in_edges, damage):
         what = rng.random()
@@ -68,7 +70,7 @@ def vcd_export(rng, recordings):
         text += line + (" " if blanks and rng.random() < 0.1 else rng.choice(ends))
     if rng.random() < 0.2:
         text = text.rstrip("\r\n")
-    text = text.encode()
+    text = padded(rng, text.encode(), rng.choice([b" ", b"\n", b"\t", b"\r\n"]))
     if damage > in_edges and rng.random() < 0.4:
         text = damage_bytes(rng, text, DUMP_BYTES)
     truth = scene.truth("--skip-damaged" in words)
