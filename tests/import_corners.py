@@ -192,6 +192,41 @@ ROWS = [
 ]
 
 
+def utf_16(text, order="le", more=b""):
+    """A text in UTF-16 with its mark, and bytes after it."""
+    return f"\ufeff{text}".encode(f"utf-16-{order}") + more
+
+
+ENCODED = [
+    (US, b"\xef\xbb\xbf1,M,108\n", "1,M,108", ONLY_M),
+    (US, b"\xef\xbb\xbf\xef\xbb\xbf1,M,108\n", "", f'record 1: {TIME}; found "\\xEF\\xBB\\xBF1,M,108"'),
+    (US, b"\xef\xbb1,M,108\n", "", f'record 1: {TIME}; found "\\xEF\\xBB1,M,108"'),
+    (US, b"1,M,108\n\xef\xbb\xbf2,S,100\n", "1,M,108", f'record 2 after 1: {TIME}; found "\\xEF\\xBB\\xBF2,S,100"'),
+    (US, b"\xff\xfe", "", NO_WORD), (US, b"\xfe\xff", "", NO_WORD), (US, b"\xef\xbb\xbf", "", NO_WORD),
+    (US, "1,M,108\n".encode("utf-16-le"), "", f'record 1: {TIME}; found "1\\x00,\\x00M\\x00,\\x001\\x000\\x008\\x00"'),
+    *((US, utf_16("1;M;108\r\n2;S;100", order), "1,M,108 2,S,100", "") for order in ("le", "be")),
+    *((f"{US} --controller \u2192 --peripheral \U0001fa99", utf_16("1,\u2192,108\n2,\U0001fa99,100", order),
+       "1,M,108 2,S,100", "") for order in ("le", "be")),
+    *((US, utf_16("1,M,108\n2,S,100", order, b"\n"), "1,M,108",
+       f'record 2 at 2: {WORD}; found "2,S,100\\xEF\\xBF\\xBD"; go on with --from 3') for order in ("le", "be")),
+    *((US, utf_16("1,M,", order, half), "", f'record 1 at 1: {WORD}; found "1,M,\\xED\\xA0\\xBD"; go on with --from 2')
+      for order, half in (("le", b"\x3d\xd8"), ("be", b"\xd8\x3d"))),
+    (US, utf_16("1,M,", "le", b"\x00\xdc"), "", f'record 1 at 1: {WORD}; found "1,M,\\xED\\xB0\\x80"; go on with --from 2'),
+    (US, utf_16("1,M,", "be", b"\xd8\x3d\xd8\x3d\xdc\x00"), "",
+     f'record 1 at 1: {WORD}; found "1,M,\\xED\\xA0\\xBD\\xF0\\x9F\\x90\\x80"; go on with --from 2'),
+    (US, utf_16("1,M,\U0001fa99\u0394\xe9"), "",
+     f'record 1 at 1: {WORD}; found "1,M,\\xF0\\x9F\\xAA\\x99\\xCE\\x94\\xC3\\xA9"; go on with --from 2'),
+]
+MANY = "".join(f"{time},M,108\n" for time in range(70_000))
+LONG_ONES = [
+    (f"{US} --from 69999", f"{MANY}x\n", "69999,M,108", f'record 70001 after 69999: {THREE}; found "x"'),
+    (f"{US} --from 69999", MANY, "69999,M,108", f"{PART.format(69_999, 0)}\n{ONLY_M}"),
+    (f"{US} --until 0", MANY, "0,M,108", f"{PART.format(0, 69_999)}\n{ONLY_M}"),
+    (f"{US} --from 5", "0\n" * 300 + "5,M,108\n", "5,M,108", f"{PASSED.format(300)}\n{ONLY_M}"),
+    (f"{US} --until 5", "5,M,108\n" + "6\n" * 300, "5,M,108", f"{PASSED.format(300)}\n{ONLY_M}"),
+]
+
+
 def rows():
     """Those of rows."""
     for unit, time, wanted in TIMES:
@@ -211,8 +246,7 @@ def rows():
             told if wanted is None else NO_WORD)
     yield "rows", "0:0:1;B;0,1\n", "1000000,B,100000", NO_WORD
     yield "rows --unit ms", "0:0:1;B;0,1\n", "1000000,B,100", NO_WORD
-    for words, text, rows, told in ROWS:
-        yield words, text, rows, told
+    yield from ROWS + ENCODED + LONG_ONES
 
 
 # ---------------------------------------------------------------------------------- saleae
@@ -342,6 +376,9 @@ TABLES = [
     ("--skip-damaged", T + "".join(f"S,{at},0x055,framing\n" for at in (6, 5, 4, 3, 2, 1)), "",
      "left out 6 damaged words, the first at 1000000 on S, 2000000 on S, 3000000 on S, 4000000 on S, 5000000 on S"
      f"{SURVEY}\n{NO_WORD}"),
+    ("--skip-damaged", T + "".join(f"S,{at},0x055,framing\n" for at in range(300, 0, -1)), "",
+     "left out 300 damaged words, the first at 1000000 on S, 2000000 on S, 3000000 on S, 4000000 on S, 5000000 on S"
+     f"{SURVEY}\n{NO_WORD}"),
     ("--skip-damaged --until 1", T + "S,9,0x155,framing\nM,2,0x8,\n", "",
      f"{PART.format(0, 1)}\nleft out 1 damaged word, at 9000000 on S{SURVEY}\n{ONLY_M}\n{NO_MODE}"),
     ("--skip-damaged", T + "S,9,0x200,framing\n", "", f'record 2 at 9000000: {MOST}; found "S,9,0x200,framing"'),
@@ -389,6 +426,6 @@ def writes(rows, told):
 def cases():
     """All of them: the words, the text, and what is to be said of it: a function as that of writes()."""
     for words, text, written, told in rows():
-        yield words.split(), text.encode(), writes(written, told)
+        yield words.split(), text if isinstance(text, bytes) else text.encode(), writes(written, told)
     for words, text, written, told in tables():
         yield ["saleae", *words.split()], text.encode(), writes(written, told)

@@ -174,6 +174,8 @@ TRACES = [
     ("", "RX F 500/TX F 500", "", f"passed over 2 pulses shorter than half a bit; the first at 500 on M\n{NO_WORD}"),
     ("", "RX F 500/RX S 500", "", f"record 3 at 500 on S: {LATE}"),
     ("", "RX F 0/RX S 1/RX 100 105", "1,S,100", f"{PULSE.format('0 on S')}\n{ONLY_S}"),
+    ("", "/".join(f"RX F {at}000" for at in range(1, 301)), "",
+     f"passed over 300 pulses shorter than half a bit; the first at 1000 on S\n{NO_WORD}"),
     ("--from 1001 --until 3000", "TX F 5/" + M + S + "TX S 5000/TX 008 5104", "3000,S,100",
      f"{PART.format(1, 1)}\n{PULSE.format('5 on M')}"),
     ("--from 9000", M + ZERO + "TX B 5000 205000", "", f"{PART.format(2, 0)}\n{ONLY_M}"),
@@ -238,6 +240,8 @@ LEVELS = [
     ("", "0:11 1000:10 1052:11 1052.083333:10 1060:11", "1000,S,1FF", ONLY_S),
     ("", "0:11 1000:10 1052:11 1052.083334:10 1112:11", "1052,S,1FF", f"{PULSE.format('1000 on S')}\n{ONLY_S}"),
     ("", "0:11 1000.5:10 1001:11", "", f"{PULSE.format('1001 on S')}\n{NO_WORD}"),
+    ("", "0:11 " + " ".join(f"{at}000:10 {at}030:11" for at in range(1, 301)), "",
+     f"passed over 300 pulses shorter than half a bit; the first at 1000 on S\n{NO_WORD}"),
     # Breaks.
     ("", "0:11 1000:01 100999.499999:11", "", f"?3 1000 M {FRAMING}"),
     ("", "0:11 1000:01 100999.5:11", "1000,B,100000", NO_WORD),
@@ -443,6 +447,13 @@ def dumps():
         yield "", f"$timescale {form} $end {CODES}$enddefinitions $end\n", "", f"line 1: {SCALE}"
     for words, body, rows, told in BODIES:
         yield words, BODY + body, rows, told
+    deep = "".join(f"$scope module s{number} $end " for number in range(40))
+    path = ".".join(f"s{number}" for number in range(40))
+    header = f"$timescale 1 us $end {CODES}{deep}$var wire 1 ? M $end {'$upscope $end ' * 40}$enddefinitions $end\n"
+    yield f"--controller {path}.M", f'{header}1? 1! 1" #1000 0? #1060 1?', "1000,M,1FF", ONLY_M
+    yield "", header, "", ("line 2: wanted one variable of each line: several are called so; give a path")
+    yield f"--controller {path}", header, "", (
+        "line 2: wanted one variable of each line: as --controller and --peripheral say, or M and S")
 
 
 def levels():

@@ -236,7 +236,8 @@ def rows_export(rng, recordings):
     for _ in range(damage - in_lines):
         text = damage_bytes(rng, text, BYTES)
     if nearly or no_header:
-        return Export(text, words, None, refused=1)
+        # (in a part its own time may be outside)
+        return Export(text, words, None, refused=1 if first is last is None else None)
     return Export(text, words, None if damage else wanted)
 
 
