@@ -61,22 +61,28 @@ ZERO = "TX S 5000/TX 000 5104/TX F 6042/"
 DEVICE_ZERO = "RX S 5000/RX 000 5104/RX F 6042/"
 B1, E1 = record("B", "1", "TX", "Start bit"), record("E", "1", "TX", "Start bit")
 TEXTS = [
-    ("", "", "", FIRST), ("", "\n", "", FIRST), ("", ' {"traceEvents": [\n', "", FIRST), ("", "\ufeff" + HEAD, "", FIRST),
-    ("", '{"traceEvents":[\n', "", FIRST), ("", HEAD, "", f"record 1: {CUT}"), ("", HEAD.strip(), "", f"record 1: {CUT}"),
+    ("", "", "", FIRST), ("", "\n", "", FIRST), ("", ' {"traceEvents": [\n', "", FIRST),
+    ("", "\ufeff" + HEAD, "", FIRST),
+    ("", '{"traceEvents":[\n', "", FIRST), ("", HEAD, "", f"record 1: {CUT}"),
+    ("", HEAD.strip(), "", f"record 1: {CUT}"),
     ("", HEAD + "]}\n", "", f"record 1: {RECORD}"), ("", HEAD + "\n]}\n", "", f"record 1: {RECORD}"),
     ("", f"{HEAD}{B1}{TAIL}", "", f"record 2: {LAST}"), ("", f"{HEAD}{B1}\n{E1}{TAIL}", "", f"record 2: {LAST}"),
     ("", f"{HEAD}{B1},\n{E1}\n", "", f"record 3: {CUT}"), ("", f"{HEAD}{B1},\n{E1},\n", "", f"record 3: {CUT}"),
-    ("", f"{HEAD}{B1},\n{E1},{TAIL}", "", f"record 3: {RECORD}"), ("", f"{HEAD}{B1},\n{E1}\n]\n", "", f"record 3: {LAST}"),
-    ("", f"{HEAD}{B1},\n{E1}{TAIL}\n", "", f"record 3: {AFTER}"), ("", f"{HEAD}{B1},\n{E1}{TAIL}]}}", "", f"record 3: {AFTER}"),
+    ("", f"{HEAD}{B1},\n{E1},{TAIL}", "", f"record 3: {RECORD}"),
+    ("", f"{HEAD}{B1},\n{E1}\n]\n", "", f"record 3: {LAST}"),
+    ("", f"{HEAD}{B1},\n{E1}{TAIL}\n", "", f"record 3: {AFTER}"),
+    ("", f"{HEAD}{B1},\n{E1}{TAIL}]}}", "", f"record 3: {AFTER}"),
     ("", f"{HEAD}{B1},\n{E1}\n]}}", "", NO_WORD), ("", f"{HEAD}{B1},\n{E1}{TAIL}".replace("\n", "\r\n"), "", NO_WORD),
-    ("", f"{HEAD}{B1},\r\n{E1}\n]}}\r\n", "", NO_WORD), ("", f"{HEAD}{B1},\r\r\n{E1}{TAIL}", "", f"record 1: {RECORD}"),
+    ("", f"{HEAD}{B1},\r\n{E1}\n]}}\r\n", "", NO_WORD), ("", f"{HEAD}{B1},\r\r\n{E1}{TAIL}", "",
+     f"record 1: {RECORD}"),
     ("", f"{HEAD}{E1},\n{E1}{TAIL}", "", f"record 1 at 1: {NO_BEGIN}"),
     ("", f"{HEAD}{B1},\n{E1},\n{E1},\n{E1}{TAIL}", "", f"record 3 at 1: {NO_BEGIN}"),
     ("", f"{HEAD}{B1},\n{B1}{TAIL}", "", f"record 1 at 1: {NO_END}"),
     ("", f"{HEAD}{B1},\n{record('E', '1', 'RX', 'Start bit')}{TAIL}", "", f"record 1 at 1: {NO_END}"),
     ("", f"{HEAD}{B1},\n{record('E', '1', 'TX', '000')}{TAIL}", "", f"record 1 at 1: {NO_END}"),
     *(("", f"{HEAD}{B1.replace(old, new)},\n{E1}{TAIL}", "", f"record 1: {RECORD}") for old, new in (
-        ("uart-1", "uart-2"), ("1.000000", "1.00000"), ("1.000000", "1.0000000"), ("1.000000", "1"), ("1.000000", ".000000"),
+        ("uart-1", "uart-2"), ("1.000000", "1.00000"), ("1.000000", "1.0000000"), ("1.000000", "1"),
+        ("1.000000", ".000000"),
         ("1.000000", "-1.000000"), ("1.000000", "1,000000"), ('"B"', '"b"'), ('"B"', '"X"'), (', "pid"', ',"pid"'),
         ("}", "} "), ("{", " {"), ("Start bit", 'Start "bit'), ("}", ""))),
     ("", f"{HEAD}{B1}, \n{E1}{TAIL}", "", f"record 1: {RECORD}"),
@@ -101,7 +107,8 @@ TRACES = [
     ("", M + "TX S 5000.500000/RX S 7/TX S 6000", "", f"record 5 at 5001 on M: {TWO_STARTS}"),
     ("", M + "TX 001 2200", "", f"record 5 at 2200 on M: {NO_START}"),
     ("", "RX 001 2200", "", f"record 1 at 2200 on S: {NO_START}"),
-    ("", "TX S 1000/TX 200 1104", "", "record 3 at 1104 on M: wanted a word of at most 1FF: decode with nine data bits"),
+    ("", "TX S 1000/TX 200 1104", "",
+     "record 3 at 1104 on M: wanted a word of at most 1FF: decode with nine data bits"),
     ("", "TX S 1000/TX FFFF 1104", "", f"record 3 at 1104 on M: {THREE_DIGITS}"),
     ("", "TX S 1000/TX F 1104", "", f"record 3 at 1104 on M: {NO_STOP}"),
     ("", "RX S 1000/RX 0F 1104", "", f"record 3 at 1104 on S: {THREE_DIGITS}"),
@@ -128,10 +135,12 @@ TRACES = [
     ("", M + S + "RX F 4067.708333", "", f"record 9 at 4068 on S: {NO_STOP}"),
     ("--skip-damaged", M + S + "RX F 4067.708333", "1000,M,108", damaged("3000 on S") + f"\n{ONLY_M}"),
     ("", ZERO + "TX F 6067.708334", "", f"record 5 at 6042 on M: {NO_STOP}"),
-    ("--skip-damaged", ZERO + "TX F 6067.708334", "", f"{PULSE.format('6068 on M')}\n{damaged('5000 on M')}\n{NO_WORD}"),
+    ("--skip-damaged", ZERO + "TX F 6067.708334", "",
+     f"{PULSE.format('6068 on M')}\n{damaged('5000 on M')}\n{NO_WORD}"),
     ("--skip-damaged", ZERO + "TX F 6067.708333", "", f"record 5 at 6042 on M: {NO_STOP}"),
     ("", ZERO + "TX B 5000 5000", "5000,B,0", NO_WORD),
-    ("", ZERO + "TX B 5000 4999.999999", "", "record 7 at 5000 on M: wanted the end of the break after its beginning"),
+    ("", ZERO + "TX B 5000 4999.999999", "",
+     "record 7 at 5000 on M: wanted the end of the break after its beginning"),
     ("", ZERO + "TX B 5000.500000 105000.400000", "5001,B,100000", NO_WORD),
     ("", ZERO + "TX B 5000 1000004999.499999", "5000,B,999999999", NO_WORD),
     ("", ZERO + "TX B 5000 1000004999.500000", "", f"record 7 at 5000 on M: {LONG_BREAK}"),
@@ -143,7 +152,8 @@ TRACES = [
     ("--skip-damaged", ZERO.replace("000 ", "001 ") + "TX B 5000 205000", "", f"{damaged('5000 on M')}\n{NO_WORD}"),
     ("", DEVICE_ZERO + "RX B 5000 205000", "", f"record 7 at 5000 on S: {ON_S}"),
     ("", DEVICE_ZERO + "RX B 5000 4000", "", f"record 7 at 5000 on S: {ON_S}"),
-    ("--skip-damaged", DEVICE_ZERO + "RX B 5000 4000", "", "record 7 at 5000 on S: wanted the end of the break after its beginning"),
+    ("--skip-damaged", DEVICE_ZERO + "RX B 5000 4000", "",
+     "record 7 at 5000 on S: wanted the end of the break after its beginning"),
     ("--skip-damaged", DEVICE_ZERO + "RX B 5000 205000", "", f"{damaged('5000 on S')}\n{NO_WORD}"),
     ("--swap", DEVICE_ZERO + "RX B 5000 205000", "5000,B,200000", NO_WORD),
     ("", M + "TX B 5000 205000", "", f"record 5 at 5000 on M: {NO_ZERO}"),
@@ -253,7 +263,8 @@ LEVELS = [
     ("", "0:11 1000:10 100999.499999:11", "", f"?3 1000 S {FRAMING}"),
     ("", "0:11 1000:10 100999.5:11", "", f"?3 1000 S {DEVICE}"),
     ("", "0:11 1000:10 2000001000:11", "", f"?3 1000 S {DEVICE}"),
-    ("--skip-damaged", "0:11 1000:10 201000:11 300000:10 300060:11", "300000,S,1FF", f"{damaged('1000 on S')}\n{ONLY_S}"),
+    ("--skip-damaged", "0:11 1000:10 201000:11 300000:10 300060:11", "300000,S,1FF",
+     f"{damaged('1000 on S')}\n{ONLY_S}"),
     ("", "0:11 1000:01 201000:11 201000.000001:01 201060:11", "1000,B,200000 201000,M,1FF", ONLY_M),
     ("", "0:11 1000:00 1060:01 201000:11", "1000,B,200000 1000,S,1FF", ONLY_S),
     # Where a fault is seen: which comes first, and of which line.
@@ -270,12 +281,20 @@ LEVELS = [
     ("--skip-damaged", "0:11 1000:10 9000:00 9060:10", "9000,M,1FF", f"{damaged('1000 on S')}\n{ONLY_M}"),
     ("--skip-damaged", "0:11 1000:01 1060:11 1500:01", "", f"{damaged('1000 on M')}\n{NO_WORD}"),
     ("", "0:11 1000:01 1060:11 1500:01 1600:11", "1000,M,1EF", ONLY_M),
+    ("", "0:11 1000:01 1160:11 1170:01 201000:11", "", f"?5 1000 M {FRAMING}"),
+    ("--skip-damaged", "0:11 1000:01 1160:11 1170:01 201000:11", "", f"{damaged('1000 on M')}\n{NO_WORD}"),
+    ("", "0:11 1000:01 3000:00 3060:01 5000:11", "", f"?5 1000 M {FRAMING}"),
+    ("", "0:11 1000:01 1200:11 1300:01 3000:00 3060:01 5000:11", "", f"?5 1000 M {FRAMING}"),
+    ("", "0:11 1000:01 1000.1:00 1200:01 1300:00 3000:01 3060:01 50000:11", "", f"?6 1000 S {FRAMING}"),
     # A damaged word ends where the line is high after its stop bit.
     ("--skip-damaged", "0:11 1000:01 2200:11 2201:01 2261:11", "2201,M,1FF", f"{damaged('1000 on M')}\n{ONLY_M}"),
-    ("--skip-damaged", "0:11 1000:01 2000:11 2050:01 2200:11 2300:01 2360:11", "2300,M,1FF", f"{damaged('1000 on M')}\n{ONLY_M}"),
+    ("--skip-damaged", "0:11 1000:01 2000:11 2050:01 2200:11 2300:01 2360:11", "2300,M,1FF",
+     f"{damaged('1000 on M')}\n{ONLY_M}"),
     # Parts.
-    ("--from 1001 --until 3000", "0:11 1000:01 1060:11 3000:10 3060:11 5000:01 5060:11", "3000,S,1FF", PART.format(1, 1)),
-    ("--from 9000", "0:11 1000:10 1030:11 3000:10 3060:11", "", f"{PART.format(1, 0)}\n{PULSE.format('1000 on S')}\n{ONLY_S}"),
+    ("--from 1001 --until 3000", "0:11 1000:01 1060:11 3000:10 3060:11 5000:01 5060:11", "3000,S,1FF", PART.format(1,
+     1)),
+    ("--from 9000", "0:11 1000:10 1030:11 3000:10 3060:11", "",
+     f"{PART.format(1, 0)}\n{PULSE.format('1000 on S')}\n{ONLY_S}"),
     ("--from 9000", "0:11 1000:10 2200:11", "", f"?3 1000 S {FRAMING}"),
     ("--from 1001", "0:11 1000.5:10 1060:11", "1001,S,1FF", ONLY_S),
 ]
@@ -312,7 +331,8 @@ def placed(told, wave, form):
 
 HEADERS = [
     ("", "", "", f"record 1: {NO_HEADER}"), ("", "\n\r\n", "", f"record 1: {NO_HEADER}"),
-    *(("", f"{header}\n", "", f"record 1: {NO_HEADER}{shown(header)}") for header in ("0,M,S", "0.5,M,S", "12345,M,S", "0")),
+    *(("", f"{header}\n", "", f"record 1: {NO_HEADER}{shown(header)}") for header in ("0,M,S", "0.5,M,S", "12345,M,S",
+     "0")),
     ("", '"0,5",M,S\n', "", f'record 1: {NO_HEADER}; found "0,5,M,S"'),
     *(("", f"{header}\n", "", f"record 1: {NO_COLUMN}{shown(header)}") for header in (
         "t,M,M,S", "t,M,m,S", "t,M,S,s", "M,S", "t,M", "t,S", "x", "-1,M", "1e3,A,B", "0x,m", "1234567890123456,M")),
@@ -333,13 +353,17 @@ HEADERS = [
 T = "t,M,S\n0,1,1\n"
 RECORDS = [
     *(("", f"{T}{one}\n", "", f"record 3: {FIELDS}{shown(one)}{cause}") for one, cause in (
-        ("1,1", ""), ("1", ""), ("0,5x,1,1", ""), ("0x,5,1,1", ""), (" 0 , 5 ,1,1", COMMA), ("1,1,1,x", COMMA), ("0,5,1,1", COMMA), ("0,5,1,1,1", COMMA), ("x,5,1,1", ""), ("0,x,1,1", ""),
+        ("1,1", ""), ("1", ""), ("0,5x,1,1", ""), ("0x,5,1,1", ""), (" 0 , 5 ,1,1", COMMA), ("1,1,1,x", COMMA),
+        ("0,5,1,1", COMMA), ("0,5,1,1,1", COMMA), ("x,5,1,1", ""), ("0,x,1,1", ""),
         ("0,,1,1", ""), ("0.5,1,1,1", ""), ("1;1;1", SEMICOLONS), ("1\t1\t1", TABS), ("0,5,1,1;", SEMICOLONS))),
     *(("", f"{T}{one},1,1\n", "", f"record 3: {TIME}{shown(f'{one},1,1')}{cause}") for one, cause in (
-        ("", ""), ("x", ""), ("-1", ""), ("+1", ""), ("1.2E-05", ""), (".5", ""), ("5.", ""), ("1.2.3", ""), ("0:01", ""),
-        ("1234567890123456", ""), ("1.1234567890123456", ""), ("1 2", ""), ("1;5", SEMICOLONS), ("1\t", TABS), ("1;\t", SEMICOLONS))),
+        ("", ""), ("x", ""), ("-1", ""), ("+1", ""), ("1.2E-05", ""), (".5", ""), ("5.", ""), ("1.2.3", ""),
+        ("0:01", ""),
+        ("1234567890123456", ""), ("1.1234567890123456", ""), ("1 2", ""), ("1;5", SEMICOLONS), ("1\t", TABS),
+        ("1;\t", SEMICOLONS))),
     *((words, f"{T}{one},1,1\n", "", f"record 3: {LONG}{shown(f'{one},1,1')}") for words, one in (
-        ("", "999999999.9999995"), ("", "1000000000"), ("--unit ms", "999999999999.9995"), ("--unit us", "999999999999999.5"),
+        ("", "999999999.9999995"), ("", "1000000000"), ("--unit ms", "999999999999.9995"),
+        ("--unit us", "999999999999999.5"),
         ("", "999999999999999.999999999999999"))),
     *((words, f"{T}{one},1,1\n", "", NO_WORD) for words, one in (
         ("", "999999999.9999994"), ("--unit ms", "999999999999.9994"), ("--unit us", "999999999999999.4"),
@@ -355,10 +379,12 @@ RECORDS = [
     ("", T + ' 1 ," ""1"" ", 1\n', "", NO_WORD),
     ("", T + "0,1,1\n", "", f'record 3 at 0: {SAME_RECORD}; found "0,1,1"'),
     ("", "t,M,S\n5,1,1\n5.0,1,1\n", "", f'record 3 at 5000000: {SAME_RECORD}; found "5.0,1,1"'),
-    ("", "t,M,S\n5,1,1\n4.999999999999999,1,1\n", "", f'record 3 at 5000000: {EARLY_RECORD}; found "4.999999999999999,1,1"'),
+    ("", "t,M,S\n5,1,1\n4.999999999999999,1,1\n", "",
+     f'record 3 at 5000000: {EARLY_RECORD}; found "4.999999999999999,1,1"'),
     ("", "t,M,S\n5,1,1\n5.000000000000001,1,1\n", "", NO_WORD),
     # Which of several things is reported.
-    ("", T + "x,x\n", "", f'record 3: {FIELDS}; found "x,x"'), ("", T + "x,x,x\n", "", f'record 3: {TIME}; found "x,x,x"'),
+    ("", T + "x,x\n", "", f'record 3: {FIELDS}; found "x,x"'),
+    ("", T + "x,x,x\n", "", f'record 3: {TIME}; found "x,x,x"'),
     ("", T + "9999999999,x,x\n", "", f'record 3: {LONG}; found "9999999999,x,x"'),
     ("", T + "0,x,x\n", "", f'record 3 at 0 on line M: {LEVEL}; found "0,x,x"'),
     ("", T + "0.001,0,1\n0.1,1,1\n0.1,1,1\n", "", f"record 4 at 1000 on line M: {FRAMING}"),
@@ -367,6 +393,12 @@ RECORDS = [
     ("", T + "0.001,0,1\n0.0011,1,1\n0.0012,0,1\n0.01,0,1\nx,1,1\n", "", f"record 6 at 1000 on line M: {FRAMING}"),
     ("", "S,t,x,M\n0,1,,1\n".replace("S,t", "t,S"), "", NO_WORD),
     ("", 't,x,M,y,S\n0,"a,b",1,"c\nd",1\n0.001,,0,,1\n0.00106,;,1,\t,1\n', "1000,M,1FF", ONLY_M),
+    ("--unit us", "t,M,S\n" + "".join(f"{time},1,1\n" for time in range(70_000)) + "x,1,1\n", "",
+     f'record 70002: {TIME}; found "x,1,1"'),
+    ("",
+     "t,S," + ",".join(f"x{place}" for place in range(60)) + ",M\n0,1," + "1," * 60 + "1\n0.001,1," + ",".join("x" * 60)
+     + ",0\n0.00106,1," + '"",' * 60 + "1\n", "1000,M,1FF", ONLY_M),
+    ("", 't,M,S\n0,1,1\n0.001,0,1\n0.00106,1,"1', "1000,M,1FF", ONLY_M),
     ("--unit ns", "t,M,S\n0,1,1\n1000499,0,1\n1060000,1,1\n", "1000,M,1FF", ONLY_M),
     ("--unit ns", "t,M,S\n0,1,1\n1000500,0,1\n1060000,1,1\n", "1001,M,1FF", ONLY_M),
     ("--unit ms", "t,M,S\n0,1,1\n1.0005,0,1\n1.06,1,1\n", "1001,M,1FF", ONLY_M),
@@ -397,24 +429,37 @@ BODIES = [
     ("", '0! 1" #900 1! #1000 0! #1060 1!', "1000,M,1FF", ONLY_M),
     ("", '1! #1000 0! #1060 1!', "1000,M,1FF", ONLY_M),
     ("--invert", '0! 0" #1000 1! #1060 0!', "1000,M,1FF", ONLY_M),
-    ("", '$dumpvars 1! 1" $end $comment #1 0! $dumpoff $end #1000 $dumpall 0! $dumpon $end #1060 1! $dumpoff $end $end', "1000,M,1FF",
+    ("",
+     '$dumpvars 1! 1" $end $comment #1 0! $dumpoff $end #1000 $dumpall 0! $dumpon $end #1060 1! $dumpoff $end $end',
+     "1000,M,1FF",
      ONLY_M),
     ("", '1! 1" r1.5 ? s! ? S0! R R1 r bxz ? b01 ?? b ? 0? x1 z0 10 #1000 0! #1060 1!', "1000,M,1FF", ONLY_M),
     ("", '1! 1" #1000 0!\n#1060', "", f"line 5 at 1000 on line M: {CUT_LINE}"),
     *(("", f'1! 1"\n#7 {token} #8', "", f"line 4: {why}") for token, why in (
-        ("1", TOKEN), ("0", TOKEN), ("x", TOKEN), ("z", TOKEN), ("2!", TOKEN), ("y!", TOKEN), ("-", TOKEN), ("$var", TOKEN),
-        ("$enddefinitions", TOKEN), ("$dumpports", TOKEN), ("$timescale", TOKEN), ("$", TOKEN), ("$END", TOKEN), ("!", TOKEN),
-        ("#", DIGITS), ("#1.5", DIGITS), ("#-1", DIGITS), ("#+1", DIGITS), ("#1e3", DIGITS), ("##1", DIGITS), ("#1#", DIGITS),
+        ("1", TOKEN), ("0", TOKEN), ("x", TOKEN), ("z", TOKEN), ("2!", TOKEN), ("y!", TOKEN), ("-", TOKEN),
+        ("$var", TOKEN),
+        ("$enddefinitions", TOKEN), ("$dumpports", TOKEN), ("$timescale", TOKEN), ("$", TOKEN), ("$END", TOKEN),
+        ("!", TOKEN),
+        ("#", DIGITS), ("#1.5", DIGITS), ("#-1", DIGITS), ("#+1", DIGITS), ("#1e3", DIGITS), ("##1", DIGITS),
+        ("#1#", DIGITS),
         ("#a", DIGITS), ("#999999999999999999999", LONG), ("#1000000000000000", LONG))),
-    *(("", f'1! 1"\n#7 {token}', "", f"line 5: {CUT_DUMP}") for token in ("b1", "B", "r1", "R", "s", "Sx", "$comment", "$comment !")),
+    *(("", f'1! 1"\n#7 {token}', "", f"line 5: {CUT_DUMP}") for token in ("b1", "B", "r1", "R", "s", "Sx", "$comment",
+     "$comment !")),
     *(("", f'1! 1"\n#7\n{token}', "", f"line 5 at 7 on line M: {why}") for token, why in (
-        ("x!", LOST), ("X!", LOST), ("z!", LOST), ("Z!", LOST), ("bx !", LOST), ("BZ !", LOST), ("b !", NO_LEVEL), ("b00 !", NO_LEVEL),
-        ("b01 !", NO_LEVEL), ("b2 !", NO_LEVEL), ("bxx !", NO_LEVEL), ("r1 !", NO_LEVEL), ("R0 !", NO_LEVEL), ("s1 !", NO_LEVEL),
+        ("x!", LOST), ("X!", LOST), ("z!", LOST), ("Z!", LOST), ("bx !", LOST), ("BZ !", LOST), ("b !", NO_LEVEL),
+        ("b00 !", NO_LEVEL),
+        ("b01 !", NO_LEVEL), ("b2 !", NO_LEVEL), ("bxx !", NO_LEVEL), ("r1 !", NO_LEVEL), ("R0 !", NO_LEVEL),
+        ("s1 !", NO_LEVEL),
         ("S !", NO_LEVEL), ("b- !", NO_LEVEL))),
-    ("", '1! 1"\n#7 bx\n"', "", f"line 5 at 7 on line S: {LOST}"), ("", 'r1\n"', "", f"line 4 at 0 on line S: {NO_LEVEL}"),
-    ("", '1! 1"\n#7\n#6', "", f"line 5 at 6: {LATE_TIME}"), ("", '1! 1"\n#7\n#7\n#06', "", f"line 6 at 6: {LATE_TIME}"),
-    ("", '1! 1" #999999999999999', "", NO_WORD), ("", "", "", NO_WORD), ("", "$end", "", NO_WORD), ("", "#5", "", NO_WORD),
-    ("", '1! 1"\x0b', "", NO_WORD), ("", '1! 1" \x0b', "", f"line 3: {TOKEN}"), ("", '1!\t1"\r#1000\r0!\r\n#1060 1!', "1000,M,1FF", ONLY_M),
+    ("", '1! 1"\n#7 bx\n"', "", f"line 5 at 7 on line S: {LOST}"),
+    ("", 'r1\n"', "", f"line 4 at 0 on line S: {NO_LEVEL}"),
+    ("", '1! 1"\n#7\n#6', "", f"line 5 at 6: {LATE_TIME}"), ("", '1! 1"\n#7\n#7\n#06', "",
+     f"line 6 at 6: {LATE_TIME}"),
+    ("", '1! 1" #999999999999999', "", NO_WORD), ("", "", "", NO_WORD), ("", "$end", "", NO_WORD),
+    ("", "#5", "", NO_WORD),
+    ("", '1! 1"\x0b', "", NO_WORD), ("", '1! 1" \x0b', "", f"line 3: {TOKEN}"),
+    ("", '1!\t1"\r#1000\r0!\r\n#1060 1!', "1000,M,1FF", ONLY_M),
+    ("", '1! 1"\r\r\n#x', "", f"line 4: {DIGITS}"), ("", "\n" * 70_000 + "#x", "", f"line 70003: {DIGITS}"),
     # A fault in the levels is seen at the next later time, and what a token shows by itself comes first.
     ("", '1! 1" #1000 0!\n#5000\n1!\n#5000\n#5001', "", f"line 7 at 1000 on line M: {FRAMING}"),
     ("", '1! 1" #1000 0!\n#5000\n1!\nx!', "", f"line 6 at 5000 on line M: {LOST}"),
@@ -443,7 +488,8 @@ def dumps():
                 yield "", f'{header}#0 1! 1" #{most}', "", NO_WORD
                 line = header.count("\n") + 1
                 yield "", f'{header}#0 1! 1" #{most + 1}', "", f"line {line}: {LONG}"
-    for form in ("1", "us", "2us", "0 us", "1000us", "1 US", "1 Us", "1us us", "1 1 us", "01us", "1.0us", "1 u s", "us 1", "1 min", ""):
+    for form in ("1", "us", "2us", "0 us", "1000us", "1 US", "1 Us", "1us us", "1 1 us", "01us", "1.0us", "1 u s",
+    "us 1", "1 min", ""):
         yield "", f"$timescale {form} $end {CODES}$enddefinitions $end\n", "", f"line 1: {SCALE}"
     for words, body, rows, told in BODIES:
         yield words, BODY + body, rows, told
@@ -465,7 +511,8 @@ def levels():
 
 def cases():
     """All of them: the words, the text, and what is to be said of it: a function as that of writes()."""
-    for words, text, rows, told in [*TEXTS, *((words, trace(pairs), rows, told) for words, pairs, rows, told in TRACES)]:
+    for words, text, rows, told in [*TEXTS, *((words, trace(pairs), rows, told) for words, pairs, rows,
+    told in TRACES)]:
         yield ["sigrok", *words.split()], text.encode(), writes(rows, told)
     for words, text, rows, told in HEADERS + RECORDS:
         yield ["edges", *words.split()], text.encode(), writes(rows, told)
