@@ -343,6 +343,7 @@ HEADERS = [
     ("--controller A", "t,a,S\n", "", f"record 1: {NO_COLUMN}{shown('t,a,S')}{LETTERS}"),
     ("--controller A", "a,x,S\n", "", f"record 1: {NO_COLUMN}{shown('a,x,S')}"),
     ("--controller A", "t,A,x\n", "", f"record 1: {NO_COLUMN}{shown('t,A,x')}"),
+    ("--peripheral A", "t,M,S\n", "", f"record 1: {NO_COLUMN}{shown('t,M,S')}"),
     ("--peripheral A", "t,a,M\n", "", f"record 1: {NO_COLUMN}{shown('t,a,M')}{LETTERS}"),
     ("--controller A", "t,A,a,x\n", "", f"record 1: {NO_COLUMN}{shown('t,A,a,x')}"),
     ("--controller A", "t,a;S\n", "", f"record 1: {NO_COLUMN}{shown('t,a;S')}{SEMICOLONS}"),
@@ -491,6 +492,12 @@ def dumps():
     for form in ("1", "us", "2us", "0 us", "1000us", "1 US", "1 Us", "1us us", "1 1 us", "01us", "1.0us", "1 u s",
     "us 1", "1 min", ""):
         yield "", f"$timescale {form} $end {CODES}$enddefinitions $end\n", "", f"line 1: {SCALE}"
+    for option in ("--controller", "--peripheral"):
+        yield f"{option} TX", BODY, "", (
+            "line 2: wanted one variable of each line: as --controller and --peripheral say, or M and S")
+    yield "--controller TX", (  # M is another variable then, of any size
+        '$timescale 1 us $end $var wire 8 x M $end $var wire 1 ! TX $end $var wire 1 " S $end $enddefinitions $end'
+        '\n1! 1" bxz1 x #1000 0! #1060 1!'), "1000,M,1FF", ONLY_M
     for words, body, rows, told in BODIES:
         yield words, BODY + body, rows, told
     deep = "".join(f"$scope module s{number} $end " for number in range(40))
