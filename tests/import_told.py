@@ -2,6 +2,9 @@
 import_cases.py have pulses and damaged words; these have what is refused, and what is remarked.
 """
 
+from import_corners import HEADER, NO_MODE, THREE
+from import_corners import SKIP as HINT
+from import_corners import TIME as NO_TIME
 from made_sigrok import pair
 from second_rows import REFUSED
 
@@ -27,12 +30,7 @@ EDGES_TOLD = [
 
 
 # Exports of rows, and all that is told of them on standard error.
-NO_TIME = "wanted a time: up to 15 digits, perhaps with decimals, or HH:MM:SS"
-NO_MODE = "no word has its mode bit set: was it recorded with 8 bits and not 9?"
-THREE = "wanted three fields: TIME, LINE and VALUE"
-HEADER = "the first record is taken for a header"
 BOTH = b"1,M,108\n2,S,0\n"
-HINT = "; --skip-damaged leaves out what is damaged"
 DAMAGED_TABLE = (b"name,start_time,data,error\nM,0.001,0x108,\nS,0.002,0x055,framing\nS,0.003,0x100,\n"
                  b"M,0.004,0x000,framing\nS,1,0x000,framing\nM,0.0001,0x001,framing\n")
 US = "rows --unit us"
@@ -208,7 +206,7 @@ VARIABLE = "wanted a type, a size, a code and a name of the variable"
 SCOPE = "wanted a type and a name of the scope"
 NO_COMMAND = "wanted a command of the header, up to $enddefinitions $end"
 NO_TOKEN = "wanted a time, a change of a value, or a command of the dump"
-NO_TIME = "wanted a time: digits after #"
+NO_DIGITS = "wanted a time: digits after #"
 CUT_DUMP = "wanted more of the dump: it is cut"
 NO_LEVEL = "wanted a level, 0 or 1, and the value is none"
 LOST_LEVEL = "wanted a level, 0 or 1, after the first one, and it is x or z"
@@ -245,8 +243,8 @@ DUMPS_TOLD = [
     ("--controller D[0]", {3: "$var wire 1 ! D [0] $end"}, None),
     ("--controller D", {3: "$var wire 1 ! D [0] $end"}, "line 6: " + NO_VARIABLE),
     ("--peripheral TX", {3: "$var wire 1 ! M $end", 4: '$var wire 1 " TX $end'}, None),
-    ("", {9: "#1000x"}, "line 9: " + NO_TIME),
-    ("", {9: "#"}, "line 9: " + NO_TIME),
+    ("", {9: "#1000x"}, "line 9: " + NO_DIGITS),
+    ("", {9: "#"}, "line 9: " + NO_DIGITS),
     ("", {10: "0 !"}, "line 10: " + NO_TOKEN),
     ("", {10: "2!"}, "line 10: " + NO_TOKEN),
     ("", {10: "$dumpports"}, "line 10: " + NO_TOKEN),
