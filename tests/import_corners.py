@@ -98,6 +98,8 @@ ROWS = [
     (US, '"""1""","M ",108\n', "1,M,108", ONLY_M),
     (US, '1," M "x,108\n', "", f'record 1 at 1: {LINE}; found "1, M x,108"; go on with --from 2'),
     (US, '1,M,1"08\n', "", f'record 1 at 1: {WORD}; found "1,M,1\\"08"; go on with --from 2'),
+    (US, '1,"M""x",108\n', "", f'record 1 at 1: {LINE}; found "1,M\\"x,108"; go on with --from 2'),
+    (US, '1,"M"",x",108\n', "", f'record 1 at 1: {THREE}; found "1,M\\",x,108"; go on with --from 2'),
     (US, "1,M,108,\n", "", f'record 1 at 1: {THREE}; found "1,M,108,"; go on with --from 2'),
     (US, "1,M\n", "", f'record 1 at 1: {THREE}; found "1,M"; go on with --from 2'),
     (US, "1,M,108\xa0\n", "", f'record 1 at 1: {WORD}; found "1,M,108\\xC2\\xA0"; go on with --from 2'),

@@ -179,6 +179,8 @@ TRACES = [
     ("", M + "TX S 1000", "", f"record 5 at 1000 on M: {LATE}"),
     ("", M + "TX S 1000.499999", "", f"record 5 at 1000 on M: {LATE}"),
     ("", M + "TX S 1000.500000/TX 001 1105", "1000,M,108 1001,M,001", ONLY_M),
+    ("", M + "TX S 3000/TX 001 3104/TX S 3000", "", f"record 9 at 3000 on M: {LATE}"),
+    ("", M + "TX S 3000/TX 001 3104/TX S 2000", "", f"record 9 at 2000 on M: {LATE}"),
     ("", "RX F 500/RX F 500", "", f"record 3 at 500 on S: {LATE}"),
     ("", "RX F 500/RX F 499", "", f"record 3 at 499 on S: {LATE}"),
     ("", "RX F 500/TX F 500", "", f"passed over 2 pulses shorter than half a bit; the first at 500 on M\n{NO_WORD}"),
@@ -399,6 +401,7 @@ RECORDS = [
     ("",
      "t,S," + ",".join(f"x{place}" for place in range(60)) + ",M\n0,1," + "1," * 60 + "1\n0.001,1," + ",".join("x" * 60)
      + ",0\n0.00106,1," + '"",' * 60 + "1\n", "1000,M,1FF", ONLY_M),
+    ("", 't,x,M,S\n0,"a"",b",1,1\n0.001,"""",0,1\n0.00106,"a""",1,1\n', "1000,M,1FF", ONLY_M),
     ("", 't,M,S\n0,1,1\n0.001,0,1\n0.00106,1,"1', "1000,M,1FF", ONLY_M),
     ("--unit ns", "t,M,S\n0,1,1\n1000499,0,1\n1060000,1,1\n", "1000,M,1FF", ONLY_M),
     ("--unit ns", "t,M,S\n0,1,1\n1000500,0,1\n1060000,1,1\n", "1001,M,1FF", ONLY_M),
