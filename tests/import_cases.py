@@ -9,7 +9,6 @@ a line that falls for good. Both lines have a word before that, 108 and 100.
 
 import random
 import re
-import subprocess
 
 import scenes
 from second_rows import REFUSED
@@ -129,28 +128,33 @@ def trace(changes):
 FORMS = {"edges": table, "vcd": dump, "sigrok": trace}
 
 
-def cases():
-    """All of them: a name, the words, the text, and what has to be written and told; None is a refusal."""
-    for name, wave, plain, skipped, *of_trace in CASES:
+def gives(wanted):
+    """Whether a whole answer has the rows of BASE and these, and these lines; or a refusal for None: a function
+    that says what is wrong, or None."""
+    def wrong(came):
+        rows, told = came.out.decode(), came.err.decode()
+        if wanted is None:
+            is_so = (came.status, rows, told.count("\n")) == (2, f"{REFUSED}\n", 1)
+            return None if is_so else f"status {came.status}, {rows!r}, {told!r}"
+        lines = "".join(f"{row}\n" for row in BASE_ROWS + wanted[0].split())
+        wanted_told = "".join(f"mdbimport: {line}\n" for line in wanted[1])
+        if (came.status, rows, told) == (0, lines, wanted_told):
+            return None
+        return f"status {came.status}, {rows!r} and {told!r}, and not {lines!r} and {wanted_told!r}"
+    return wrong
+
+
+def waves():
+    """All of them: the words, the text, and the rows and lines that it has to give; None is a refusal."""
+    for _, wave, plain, skipped, *of_trace in CASES:
         for form, text in FORMS.items():
             text = text(changes_of(BASE + wave)).encode()
             without = of_trace[0] if form == "sigrok" and of_trace else plain
             for words, wanted in (([form], without), ([form, "--skip-damaged"], skipped)):
-                yield f"{form}: {name}", words, text, plain if wanted == SAME else wanted
+                yield words, text, plain if wanted == SAME else wanted
 
 
-def wrong(program):
-    """What is wrong with what a program says of them, or None."""
-    for name, words, text, wanted in cases():
-        ran = subprocess.run([str(program), *words], input=text, capture_output=True)
-        rows, told = ran.stdout.decode(), ran.stderr.decode()
-        if wanted is None:
-            if ran.returncode != 2 or rows != f"{REFUSED}\n" or told.count("\n") != 1:
-                return f"{name}: {words}: status {ran.returncode}, {rows!r}, {told!r}"
-            continue
-        lines = "".join(f"{row}\n" for row in BASE_ROWS + wanted[0].split())
-        wanted_told = "".join(f"mdbimport: {line}\n" for line in wanted[1])
-        if (ran.returncode, rows, told) != (0, lines, wanted_told):
-            return (f"{name}: {words}: status {ran.returncode}, {rows!r} and {told!r}, and not {lines!r} and "
-                    f"{wanted_told!r}")
-    return None
+def cases():
+    """The words, the text, and what is to be said of it: a function as that of gives()."""
+    for words, text, wanted in waves():
+        yield words, text, gives(wanted)

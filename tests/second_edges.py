@@ -1,13 +1,14 @@
 #!/usr/bin/env python3
 """Reads a table of edges, and gives the rows of a recording: a second reader, written from the page
-docs/bench/edges.md (and docs/bench/importing.md, docs/bench/rows-and-command-line.md for what a csv reader takes) and
-not from a program's code, to compare with.
+docs/bench/edges.md and not from a program's code, to compare with. Which likely cause follows a refusal was
+tried, since the page leaves it open.
 
     tests/second_edges.py [--controller NAME] [--peripheral NAME] [--unit s|ms|us|ns] [--invert]
                           [--skip-damaged] [--from MICROSECONDS] [--until MICROSECONDS] < TABLE
 
 prints the rows; or, where the table is refused, the line that is no row, and on standard error why,
-with status 2. As a module: `read(text, ..)` answers all that the pages say of a table.
+with status 2. As a module: `read(text, ..)` answers all that the pages say of a table, and `told(..)` the lines on
+standard error.
 """
 
 import sys
@@ -15,7 +16,8 @@ from bisect import bisect_right
 from fractions import Fraction
 from typing import NamedTuple
 
-from second_rows import REFUSED, disturbances
+from second_csv import found, plain, records_of, trimmed
+from second_rows import REFUSED, remarks
 
 BIT = Fraction(1, 9600)
 MICROSECOND = Fraction(1, 10**6)
@@ -23,11 +25,12 @@ UNITS = {"s": 1, "ms": 1000, "us": 10**6, "ns": 10**9}
 
 
 class Refused(Exception):
-    """What is wrong, with the number of the record, a time in microseconds and the line."""
+    """What is wrong, with the number of the record, a time in microseconds and the line; and what the
+    line shows after that."""
 
-    def __init__(self, number, why, time=None, line=None):
+    def __init__(self, number, why, time=None, line=None, found=""):
         super().__init__(why)
-        self.number, self.why, self.time, self.line = number, why, time, line
+        self.number, self.why, self.time, self.line, self.found = number, why, time, line, found
 
 
 class Answer(NamedTuple):
@@ -44,54 +47,17 @@ class Answer(NamedTuple):
     marked: bool  # a word has its mode bit set
     pulses: "list" = ()  # (time, line) of each, those outside the part included
     damaged: "list" = ()  # the same of each damaged word
+    found: "str" = ""  # what the line shows of the record that is refused, and the likely cause
 
 
+NO_HEADER = "wanted a header that names the columns"
+NO_COLUMN = "wanted one column of each line: as --controller and --peripheral say, or M and S"
+FEWER = "wanted as many fields as the header has"
 HINT = "; --skip-damaged leaves out what is damaged"
 FRAMING = "wanted a high stop bit, or a break of 100 ms or more, and the stop bit is low"
 DEVICE_BREAK = ("wanted words alone on the line of the peripherals, and it is low for a break")
 LONG_BREAK = "wanted a break of at most 999999999 microseconds, and it is longer"
 CUT = "wanted a line that is high at the end of the export, and it is low"
-
-
-def plain(text):
-    """The bytes without a byte order mark, those of UTF-16 as UTF-8."""
-    for mark, encoding in ((b"\xff\xfe", "utf-16-le"), (b"\xfe\xff", "utf-16-be")):
-        if text.startswith(mark):
-            return text[2:].decode(encoding, "replace").encode()
-    return text.removeprefix(b"\xef\xbb\xbf")
-
-
-def records_of(text):
-    """The records of a text, each as a list of its fields as bytes."""
-    record, field, at = [], bytearray(), 0
-    begun, fresh, quoted = False, True, False
-    while at < len(text):
-        byte = text[at : at + 1]
-        at += 1
-        if quoted:
-            if byte != b'"':
-                field += byte
-            elif text[at : at + 1] == b'"':
-                field += byte
-                at += 1
-            else:
-                quoted = False
-        elif byte in b"\r\n":
-            if begun:
-                yield record + [bytes(field)]
-            record, field = [], bytearray()
-            begun, fresh = False, True
-        elif byte == b",":
-            record.append(bytes(field))
-            field = bytearray()
-            begun, fresh = True, True
-        elif byte == b'"' and fresh:
-            quoted, begun, fresh = True, True, False
-        else:
-            field += byte
-            begun, fresh = True, False
-    if begun:
-        yield record + [bytes(field)]
 
 
 def number_of(field):
@@ -114,10 +80,26 @@ def micros(seconds):
     return doubled.numerator // doubled.denominator // 2
 
 
-def column_of(header, name, letters):
+def columns_named(header, name, letters):
+    """The places of the columns that are called so."""
     names = [name.encode()] if name is not None else [one.encode() for one in letters]
-    found = [at for at, field in enumerate(header) if at > 0 and field in names]
-    return found[0] if len(found) == 1 else None
+    return [at for at, field in enumerate(header) if at > 0 and field in names]
+
+
+def cause_of(why, record, names):
+    """The likely cause of what is wrong with a record by itself, or nothing."""
+    text, fields = b",".join(record), [trimmed(field) for field in record]
+    for mark, called in ((b";", "semicolons"), (b"\t", "tabs")):
+        if mark in text:
+            return f"; are its fields parted by {called}, and not by commas?"
+    if why == FEWER and len(fields) > 3 and fields[0].isdigit() and fields[1].isdigit():
+        return "; is there a decimal comma that doesn't stand in quotes?"
+    if why == NO_COLUMN:
+        for name in (name.encode() for name in names if name is not None):
+            alike = [field for field in fields[1:] if field.lower() == name.lower()]
+            if alike and name not in alike:
+                return "; does a name differ by great and small letters alone?"
+    return ""
 
 
 class Records(NamedTuple):
@@ -211,45 +193,63 @@ def line_of(records, letter, skip):
     return answer()
 
 
+class Table:
+    """What is known of a table while its records are read."""
+
+    def __init__(self, controller, peripheral, unit, invert):
+        self.names, self.unit, self.invert = (controller, peripheral), unit, invert
+        self.width, self.columns = None, None
+        self.times, self.levels = [], {"M": [], "S": []}
+
+    def header(self, record):
+        fields = [trimmed(field) for field in record]
+        if number_of(fields[0]) is not None:
+            self.refuse(1, record, NO_HEADER)
+        sent = columns_named(fields, self.names[0], "Mm")
+        answered = columns_named(fields, self.names[1], "Ss")
+        if len(sent) != 1 or len(answered) != 1 or sent == answered:
+            self.refuse(1, record, NO_COLUMN)
+        self.width, self.columns = len(fields), {"M": sent[0], "S": answered[0]}
+
+    def refuse(self, number, record, why):
+        raise Refused(number, why, found=found(record) + cause_of(why, record, self.names))
+
+    def record(self, number, record):
+        fields = [trimmed(field) for field in record]
+        if len(fields) != self.width:
+            self.refuse(number, record, FEWER)
+        time = number_of(fields[0])
+        if time is None:
+            self.refuse(number, record, "wanted a time: up to 15 digits, perhaps with decimals")
+        time /= UNITS[self.unit]
+        if micros(time) >= 10**15:
+            self.refuse(number, record, "wanted a time of at most 15 digits of microseconds")
+        for letter, column in self.columns.items():
+            if fields[column] not in (b"0", b"1"):
+                raise Refused(number, "wanted a level, 0 or 1", micros(time), letter, found(record))
+        if self.times and time <= self.times[-1]:
+            how = "the same" if time == self.times[-1] else "earlier"
+            why = f"wanted a time after that of the record before it, and it is {how}"
+            raise Refused(number, why, micros(time), None, found(record))
+        self.times.append(time)
+        for letter, column in self.columns.items():
+            self.levels[letter].append((fields[column] == b"1") != self.invert)
+
+
 def records_in(text, controller, peripheral, unit, invert):
-    times, levels = [], {"M": [], "S": []}
-    width, columns, number, fault = None, {}, 0, None
+    table, number, fault = Table(controller, peripheral, unit, invert), 0, None
     try:
         for number, record in enumerate(records_of(plain(text)), 1):
-            fields = [field.strip(b' "') for field in record]
             if number == 1:
-                if number_of(fields[0]) is not None:
-                    raise Refused(1, "wanted a header that names the columns")
-                columns["M"] = column_of(fields, controller, "Mm")
-                columns["S"] = column_of(fields, peripheral, "Ss")
-                if None in columns.values() or columns["M"] == columns["S"]:
-                    raise Refused(1, "wanted one column of each line: as --controller and"
-                                  " --peripheral say, or M and S")
-                width = len(fields)
-                continue
-            if len(fields) != width:
-                raise Refused(number, "wanted as many fields as the header has")
-            time = number_of(fields[0])
-            if time is None:
-                raise Refused(number, "wanted a time: up to 15 digits, perhaps with decimals")
-            time /= UNITS[unit]
-            if micros(time) >= 10**15:
-                raise Refused(number, "wanted a time of at most 15 digits of microseconds")
-            for letter, column in columns.items():
-                if fields[column] not in (b"0", b"1"):
-                    raise Refused(number, "wanted a level, 0 or 1", micros(time), letter)
-            if times and time <= times[-1]:
-                how = "the same" if time == times[-1] else "earlier"
-                raise Refused(number, "wanted a time after that of the record before it, and it is "
-                              + how, micros(time))
-            times.append(time)
-            for letter, column in columns.items():
-                levels[letter].append((fields[column] == b"1") != invert)
+                table.header(record)
+            else:
+                table.record(number, record)
         if number == 0:
-            raise Refused(1, "wanted a header that names the columns")
+            raise Refused(1, NO_HEADER)
     except Refused as refused:
         fault = refused
-    return Records(times, levels, range(2, len(times) + 2), len(times) + 2, fault)
+    end = len(table.times) + 2
+    return Records(table.times, table.levels, range(2, end), end, fault)
 
 
 def rows_of(records, skip):
@@ -269,8 +269,21 @@ def read(text, controller=None, peripheral=None, unit="s", invert=False, first=N
         records = records_in(text, controller, peripheral, unit, invert)
         rows, pulses, damaged = rows_of(records, skip)
     except Refused as fault:
-        return Answer([], fault.number, fault.why, fault.time, fault.line, 0, 0, set(), False)
+        return refusal(fault)
     return answer_of(rows, pulses, damaged, first, last)
+
+
+def refusal(fault):
+    return Answer([], fault.number, fault.why, fault.time, fault.line, 0, 0, set(), False, found=fault.found)
+
+
+def told(answer, place="record", on="line "):
+    """The lines on standard error, without the name of the program."""
+    if answer.refused is None:
+        return remarks(answer)
+    at = "" if answer.time is None else f" at {answer.time}"
+    at += "" if answer.line is None else f" on {on}{answer.line}"
+    return [f"{place} {answer.refused}{at}: {answer.why}{answer.found}"]
 
 
 def answer_of(rows, pulses, damaged, first, last):
@@ -305,17 +318,11 @@ def main(words):
             print(__doc__, file=sys.stderr)
             return 2
     answer = read(sys.stdin.buffer.read(), **options)
-    if answer.refused is not None:
-        at = "" if answer.time is None else f" at {answer.time}"
-        on = "" if answer.line is None else f" on line {answer.line}"
-        print(REFUSED)
-        print(f"second_edges: record {answer.refused}{at}{on}: {answer.why}", file=sys.stderr)
-        return 2
-    for row in answer.rows:
+    for row in answer.rows if answer.refused is None else [REFUSED]:
         print(row)
-    for line in disturbances(answer.pulses, answer.damaged):
+    for line in told(answer):
         print(f"second_edges: {line}", file=sys.stderr)
-    return 0
+    return 0 if answer.refused is None else 2
 
 
 if __name__ == "__main__":

@@ -15,7 +15,8 @@ import re
 import sys
 from typing import NamedTuple
 
-from second_rows import REFUSED, disturbances
+from second_edges import answer_of
+from second_rows import REFUSED, remarks
 
 
 class Refusal(NamedTuple):
@@ -268,13 +269,6 @@ def read(text: bytes, swap: bool = False, skip: bool = False):
                                (controller.damaged, device.damaged))))
 
 
-def part_of(rows, first=None, last=None):
-    """The rows of a part, and how many are before it and after it."""
-    rest = [row for row in rows if first is None or row[0] >= first]
-    part = [row for row in rest if last is None or row[0] <= last]
-    return part, len(rows) - len(rest), len(rest) - len(part)
-
-
 def main(words):
     told = {}
     rest = list(words[1:])
@@ -293,9 +287,10 @@ def main(words):
         print(REFUSED)
         print(f"second_import: {came}", file=sys.stderr)
         return 2
-    for time, line, value in part_of(came.rows, told.get("--from"), told.get("--until"))[0]:
-        print(f"{time},{line},{value}")
-    for line in disturbances(came.pulses, came.damaged):
+    answer = answer_of(*came, told.get("--from"), told.get("--until"))
+    for row in answer.rows:
+        print(row)
+    for line in remarks(answer):
         print(f"second_import: {line}", file=sys.stderr)
     return 0
 

@@ -1,7 +1,6 @@
 #!/usr/bin/env python3
 """Reads an export that is nearly rows, and gives the rows of a recording: a second reader, written
-from the pages in words (docs/bench/importing.md, and docs/bench/rows-and-command-line.md for what a csv reader
-takes) and not from a program's code, to compare with.
+from the page docs/bench/importing.md and not from a program's code, to compare with.
 
     tests/second_rows.py [--unit s|ms|us|ns] [--controller NAME] [--peripheral NAME]
                          [--from MICROSECONDS] [--until MICROSECONDS] < EXPORT
@@ -9,13 +8,15 @@ takes) and not from a program's code, to compare with.
 prints the rows, and those before a record that is refused, then the line that is no row, with one line
 on standard error that has the record's number, and status 2. As a module:
 `read_rows(text, unit, controller, peripheral, first, last)` answers the rows and no number, or no rows
-and the number of the record that is refused; `read(..)` answers more. What the page says of all
-formats is here too: REFUSED, and disturbances().
+and the number of the record that is refused; `read(..)` answers more, and `told(..)` the lines on standard
+error. What the page says of all formats is here too: REFUSED, disturbances() and remarks().
 """
 
 import re
 import sys
 from typing import NamedTuple
+
+from second_csv import found, plain, records_of, trimmed
 
 
 # What is written at the end of a refused export.
@@ -42,6 +43,27 @@ def disturbances(pulses, damaged):
     return lines
 
 
+def remarks(answer):
+    """The lines on standard error at status 0, in their order."""
+    lines = []
+    if getattr(answer, "header", False):
+        lines.append("the first record is taken for a header")
+    if answer.before or answer.after:
+        lines.append(f"left out {answer.before} rows before the part and {answer.after} after it")
+    if getattr(answer, "passed", 0):
+        lines.append(f"left out {answer.passed} records outside the part that are no rows, or not in order")
+    lines += disturbances(answer.pulses, answer.damaged)
+    if not answer.lines & {"M", "S"}:
+        return lines + ["there is no word on either line"]
+    if "M" not in answer.lines:
+        lines.append("no word of the controller (M): was only the peripherals' line recorded?")
+    if "S" not in answer.lines:
+        lines.append("no word of a peripheral (S): was only the controller's line recorded?")
+    if not answer.marked:
+        lines.append("no word has its mode bit set: was it recorded with 8 bits and not 9?")
+    return lines
+
+
 class Answer(NamedTuple):
     """What an export gives."""
 
@@ -58,6 +80,7 @@ class Answer(NamedTuple):
     marked: bool  # one of its words has its mode bit set
     pulses: "list" = ()  # (time, line) of each pulse; rows have none
     damaged: "list" = ()  # the same of each damaged word
+    found: "str" = ""  # what the line shows of the record that is refused
 
 
 # Nanoseconds are the smallest unit, with 15 decimals: all times are whole numbers of these.
@@ -72,48 +95,10 @@ LAST_TIME = 10**15 - 1
 LONGEST_BREAK = 10**9 - 1
 
 
-def plain(text):
-    """The bytes without their byte order mark, those of UTF-16 as UTF-8."""
-    for mark, encoding in ((b"\xff\xfe", "utf-16-le"), (b"\xfe\xff", "utf-16-be")):
-        if text.startswith(mark):
-            return text[2:].decode(encoding, "replace").encode()
-    return text[3:] if text.startswith(b"\xef\xbb\xbf") else text
-
-
-def records_of(text):
-    """The records that a csv reader finds, each as its bytes, with commas between its fields and
-    without the quotes that it takes."""
-    record, at = bytearray(), 0
-    begun = False  # the record has a byte, or a quote that was opened
-    fresh = True  # the next byte is the first of a field
-    quoted = False
-    while at < len(text):
-        byte = text[at : at + 1]
-        at += 1
-        if quoted:
-            if byte == b'"' and text[at : at + 1] == b'"':
-                record += byte
-                at += 1
-            elif byte == b'"':
-                quoted = False
-            else:
-                record += byte
-        elif byte in b"\r\n":
-            if begun:
-                yield bytes(record)
-            record, begun, fresh = bytearray(), False, True
-        elif byte == b'"' and fresh:
-            quoted, begun, fresh = True, True, False
-        else:
-            record += byte
-            begun, fresh = True, byte == b","
-    if begun:
-        yield bytes(record)
-
-
 def fields_of(record):
+    record = b",".join(record)
     separator = next((one for one in (b"\t", b";") if one in record), b",")
-    return [field.strip(b' "') for field in record.split(separator)]
+    return [trimmed(field) for field in record.split(separator)]
 
 
 def number_of(field):
@@ -147,12 +132,12 @@ def time_of(field, unit):
     if time_of_day(field) is not None:
         time = microseconds(time_of_day(field), "s")
     elif number_of(field) is None:
-        return "a time"
+        return "wanted a time: up to 15 digits, perhaps with decimals, or HH:MM:SS"
     elif unit is None:
-        return "the unit of the times"
+        return "the unit of the times isn't known: give --unit s, ms, us or ns"
     else:
         time = microseconds(number_of(field), unit)
-    return "a time of at most 15 digits of microseconds" if time > LAST_TIME else time
+    return "wanted a time of at most 15 digits of microseconds" if time > LAST_TIME else time
 
 
 def word_of(field):
@@ -181,7 +166,7 @@ def row_of(record, unit, names, before):
     """The row of a record: (time, line, value), or a text that says what was wanted."""
     fields = fields_of(record)
     if len(fields) != 3:
-        return "three fields"
+        return "wanted three fields: TIME, LINE and VALUE"
     time, line, value = fields
     if time_of_day(time) is not None:
         unit = unit or "s"
@@ -190,20 +175,20 @@ def row_of(record, unit, names, before):
         return time
     line = names.get(line)
     if line is None:
-        return "M, S or B"
+        return "wanted M, S or B, or a name given by --controller or --peripheral"
     if line == "B":
         length = number_of(value)
         if length is None or microseconds(length, unit) > LONGEST_BREAK:
-            return "the length of the break"
+            return "wanted the length of the break, below 1000 seconds"
         value = str(microseconds(length, unit))
     else:
         word = word_of(value)
         if word is None:
-            return "a word in hexadecimal digits, at most 1FF"
+            return "wanted a word in hexadecimal digits, at most 1FF"
         value = f"{word:03X}"
     if before is not None and time <= before:
         what = "the same" if time == before else "earlier"
-        return f"a time after that of the row before it, and it is {what}"
+        return f"wanted a time after that of the row before it, and it is {what}"
     return (time, line, value)
 
 
@@ -229,7 +214,7 @@ def read(text, unit=None, controller=None, peripheral=None, first=None, last=Non
                 passed += 1
                 continue
             return Answer(rows, number, own, before, row, header, before_part, after_part, passed,
-                          lines, marked)
+                          lines, marked, found=found(record))
         lines.add(row[1])
         marked = marked or (row[1] != "B" and row[2] >= "100")
         if first is not None and row[0] < first:
@@ -242,6 +227,22 @@ def read(text, unit=None, controller=None, peripheral=None, first=None, last=Non
         before = row[0]
     return Answer(rows, None, None, None, None, header, before_part, after_part, passed, lines,
                   marked)
+
+
+def goes_on(answer):
+    """The time to go on with after a record that is refused, or None."""
+    first = None if answer.at is None else max(answer.at, answer.behind or 0) + 1
+    return first if first is not None and first <= LAST_TIME else None
+
+
+def told(answer):
+    """The lines on standard error, without the name of the program."""
+    if answer.refused is None:
+        return remarks(answer)
+    at = "" if answer.behind is None else f" after {answer.behind}"
+    at = at if answer.at is None else f" at {answer.at}"
+    further = "" if goes_on(answer) is None else f"; go on with --from {goes_on(answer)}"
+    return [f"record {answer.refused}{at}: {answer.why}{answer.found}{further}"]
 
 
 def read_rows(text: bytes, unit=None, controller=None, peripheral=None, first=None, last=None):
@@ -263,9 +264,9 @@ def main(words):
         print(row)
     if answer.refused is not None:
         print(REFUSED)
-        print(f"second_rows: record {answer.refused}: wanted {answer.why}", file=sys.stderr)
-        return 2
-    return 0
+    for line in told(answer):
+        print(f"second_rows: {line}", file=sys.stderr)
+    return 0 if answer.refused is None else 2
 
 
 if __name__ == "__main__":

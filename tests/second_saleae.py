@@ -16,7 +16,8 @@ import sys
 from decimal import ROUND_HALF_UP, Decimal, localcontext
 from typing import NamedTuple
 
-from second_rows import REFUSED, disturbances
+from second_csv import found, plain, records_of, trimmed
+from second_rows import REFUSED, remarks
 
 
 class Answer(NamedTuple):
@@ -32,6 +33,7 @@ class Answer(NamedTuple):
     marked: bool  # one of its words has its mode bit set
     pulses: "list" = ()  # a table has none
     damaged: "list" = ()  # (time, line) of each damaged word, those outside the part included
+    found: "str" = ""  # what the line shows of the record that is refused
 
 
 class Refused(Exception):
@@ -63,46 +65,6 @@ CALLED = {
     "type": "type",
     "address": "address",
 }
-
-
-def plain(text):
-    """The bytes without their byte order mark, those of UTF-16 as UTF-8."""
-    for mark, encoding in ((b"\xff\xfe", "utf-16-le"), (b"\xfe\xff", "utf-16-be")):
-        if text.startswith(mark):
-            return text[2:].decode(encoding, "replace").encode()
-    return text[3:] if text.startswith(b"\xef\xbb\xbf") else text
-
-
-def records_of(text):
-    """The records, each as its fields."""
-    fields, field = [], bytearray()
-    begun = False  # the record has a byte, or a quote that was opened
-    fresh = True  # the next byte is the first of a field
-    quoted, at = False, 0
-    while at < len(text):
-        byte = text[at : at + 1]
-        at += 1
-        if quoted:
-            if byte != b'"':
-                field += byte
-            elif text[at : at + 1] == b'"':
-                field += byte
-                at += 1
-            else:
-                quoted = False
-        elif byte in b"\r\n":
-            if begun:
-                yield fields + [bytes(field)]
-            fields, field, begun, fresh = [], bytearray(), False, True
-        elif byte == b",":
-            fields, field, begun, fresh = fields + [bytes(field)], bytearray(), True, True
-        elif byte == b'"' and fresh:
-            quoted, begun, fresh = True, True, False
-        else:
-            field += byte
-            begun, fresh = True, False
-    if begun:
-        yield fields + [bytes(field)]
 
 
 def columns_of(header):
@@ -191,10 +153,10 @@ def read(text, controller=None, peripheral=None, length=None, first=None, last=N
     """All that the page says of a table."""
     rows, before_part, after_part, before, lines, marked = [], 0, 0, None, set(), False
     damaged = []
-    number, columns, width = 1, None, 0
+    number, columns, width, record = 1, None, 0, None
     try:
         for number, record in enumerate(records_of(plain(text)), 1):
-            fields = [field.strip(b' "') for field in record]
+            fields = [trimmed(field) for field in record]
             if columns is None:
                 columns, width = columns_of(fields), len(fields)
                 continue
@@ -224,8 +186,17 @@ def read(text, controller=None, peripheral=None, length=None, first=None, last=N
                           None)
     except Refused as refused:
         why, time = refused.args
-        return Answer(rows, number, time, why, before_part, after_part, lines, marked)
+        shown = "" if record is None else found(record)
+        return Answer(rows, number, time, why, before_part, after_part, lines, marked, found=shown)
     return Answer(rows, None, None, None, before_part, after_part, lines, marked, (), damaged)
+
+
+def told(answer):
+    """The lines on standard error, without the name of the program."""
+    if answer.refused is None:
+        return remarks(answer)
+    at = "" if answer.time is None else f" at {answer.time}"
+    return [f"record {answer.refused}{at}: {answer.why}{answer.found}"]
 
 
 def main(words):
@@ -243,12 +214,9 @@ def main(words):
         print(row)
     if answer.refused is not None:
         print(REFUSED)
-        at = "" if answer.time is None else f" at {answer.time}"
-        print(f"second_saleae: record {answer.refused}{at}: {answer.why}", file=sys.stderr)
-        return 2
-    for line in disturbances(answer.pulses, answer.damaged):
+    for line in told(answer):
         print(f"second_saleae: {line}", file=sys.stderr)
-    return 0
+    return 0 if answer.refused is None else 2
 
 
 if __name__ == "__main__":

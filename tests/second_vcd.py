@@ -14,8 +14,8 @@ import re
 import sys
 from fractions import Fraction
 
-from second_edges import Answer, Records, Refused, answer_of, micros, rows_of
-from second_rows import REFUSED, disturbances
+from second_edges import Records, Refused, answer_of, micros, refusal, rows_of, told
+from second_rows import REFUSED
 
 NO_COMMAND = "wanted a command of the header, up to $enddefinitions $end"
 TIMESCALE = "wanted a timescale of 1, 10 or 100 s, ms, us, ns, ps or fs"
@@ -209,8 +209,7 @@ def read(text, controller=None, peripheral=None, invert=False, first=None, last=
     try:
         rows, pulses, damaged = rows_of(records_in(tokens, controller, peripheral, invert), skip)
     except Refused as fault:
-        return Answer([], tokens.line_of(fault.number), fault.why, fault.time, fault.line, 0, 0, set(),
-                      False)
+        return refusal(fault)._replace(refused=tokens.line_of(fault.number))
     return answer_of(rows, pulses, damaged, first, last)
 
 
@@ -229,17 +228,11 @@ def main(words):
             print(__doc__, file=sys.stderr)
             return 2
     answer = read(sys.stdin.buffer.read(), **options)
-    if answer.refused is not None:
-        print(REFUSED)
-        at = "" if answer.time is None else f" at {answer.time}"
-        on = "" if answer.line is None else f" on line {answer.line}"
-        print(f"second_vcd: line {answer.refused}{at}{on}: {answer.why}", file=sys.stderr)
-        return 2
-    for row in answer.rows:
+    for row in answer.rows if answer.refused is None else [REFUSED]:
         print(row)
-    for line in disturbances(answer.pulses, answer.damaged):
+    for line in told(answer, "line"):
         print(f"second_vcd: {line}", file=sys.stderr)
-    return 0
+    return 0 if answer.refused is None else 2
 
 
 if __name__ == "__main__":
