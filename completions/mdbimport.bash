@@ -10,6 +10,7 @@ _mdbimport() {
             return
             ;;
         --unit) words='s ms us ns' ;;
+        --time-of) words='first last' ;;
         --controller | --peripheral | --break | --from | --until) ;;
         *)
             case ${COMP_WORDS[1]} in
@@ -18,8 +19,9 @@ _mdbimport() {
                 saleae) words='--controller --peripheral --break --skip-damaged --from --until' ;;
                 edges) words='--unit --controller --peripheral --invert --skip-damaged --from --until' ;;
                 vcd) words='--controller --peripheral --invert --skip-damaged --from --until' ;;
-                manual) [ "$COMP_CWORD" -gt 2 ] || words='sigrok rows saleae edges vcd manual' ;;
-                *) words='sigrok rows saleae edges vcd manual' ;;
+                messages) words='--unit --controller --peripheral --time-of --from --until' ;;
+                manual) [ "$COMP_CWORD" -gt 2 ] || words='sigrok rows saleae edges vcd messages manual' ;;
+                *) words='sigrok rows saleae edges vcd messages manual' ;;
             esac
             ;;
     esac

@@ -19,6 +19,7 @@ import second_import
 import second_rows
 import second_saleae
 import second_survey
+import second_messages
 import second_vcd
 from programs import TOP, load
 from second_words import DEVICES, GOALS
@@ -385,6 +386,17 @@ def vcd_export(options, wave):
     return text.encode()
 
 
+def log_of(options):
+    """The log of a sniffer, in the unit that is given, or else with times of day."""
+    unit, names = options.get("--unit"), names_of(options)
+    lines = []
+    for time, line, words in ((1_000, "M", "08 08"), (4_200, "S", "00"), (24_200, "M", "0B 0B"),
+                              (27_400, "S", "02 05 07"), (31_600, "M", "00")):
+        at = number_in(unit, time) if unit else f"0:00:{number_in('s', time)}"
+        lines.append(f"{at} {names[line]}: {words}\n")
+    return "".join(lines).encode()
+
+
 class Imports:
     """`mdbimport`."""
 
@@ -408,6 +420,7 @@ class Imports:
                 "sigrok": lambda: [trace_of(wave) for wave in waves],
                 "edges": lambda: [edges_export(options, wave) for wave in waves],
                 "vcd": lambda: [vcd_export(options, wave) for wave in waves],
+                "messages": lambda: [log_of(options)],
             }[task.command]()
         return self.known[key]
 
@@ -431,6 +444,8 @@ class Imports:
             answer = second_edges.read(text, *names, value("--unit", "s"), invert, *part, skip)
         elif task.command == "vcd":
             answer = second_vcd.read(text, *names, invert, *part, skip)
+        elif task.command == "messages":
+            answer = second_messages.read(text, value("--unit"), *names, value("--time-of"), *part)
         else:
             came = second_import.read(text, value("--swap", False), skip)
             if isinstance(came, second_import.Refusal):

@@ -4,6 +4,7 @@ from typing import NamedTuple
 
 import second_edges
 import second_import
+import second_messages
 import second_rows
 import second_saleae
 import second_vcd
@@ -48,9 +49,15 @@ def vcd_answer(text, options, flags):
         options.get("--from"), options.get("--until"), "--skip-damaged" in flags)
 
 
+def messages_answer(text, options, flags):
+    words = ("--unit", "--controller", "--peripheral", "--time-of", "--from", "--until")
+    return second_messages.read(text, *map(options.get, words))
+
+
 ANSWERS = {"rows": rows_answer, "saleae": saleae_answer, "sigrok": sigrok_answer, "edges": edges_answer,
-           "vcd": vcd_answer}
+           "vcd": vcd_answer, "messages": messages_answer}
 TOLD = {"rows": second_rows.told, "saleae": second_saleae.told, "edges": second_edges.told,
+        "messages": second_messages.told,
         "sigrok": lambda answer: second_edges.told(answer, on=""),
         "vcd": lambda answer: second_edges.told(answer, "line")}
 

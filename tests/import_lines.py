@@ -12,8 +12,9 @@ USAGE = {
     "edges": "edges [--unit U] [--controller N] [--peripheral N] [--invert] [--skip-damaged] [--from T] [--until T]",
     "vcd": "vcd [--controller NAME] [--peripheral NAME] [--invert] [--skip-damaged] [--from T] [--until T] "
            "< DUMP",
+    "messages": "messages [--unit U] [--controller N] [--peripheral N] [--time-of first|last] [--from T] [--until T]",
 }
-COMMANDS = ("rows (CSV rows), sigrok (trace), saleae (table), edges (CSV edges), vcd (dump); "
+COMMANDS = ("rows (CSV), sigrok (trace), saleae (table), edges (CSV), vcd (dump), messages (log); "
             "all: mdbimport manual")
 
 # Command lines, and what the line on standard error says of each that is refused, or None; where no
@@ -23,6 +24,7 @@ NAME = "can't name a line"
 ONE_NAME = "--controller and --peripheral have one name"
 PART = "isn't whole microseconds"
 BREAK = "isn't microseconds below 1000000000"
+TIME_OF = "isn't first or last"
 FILE = "standard input is read: write <"
 LINES = [
     ("", "no command"),
@@ -30,7 +32,7 @@ LINES = [
     ("--help", f"commands: {COMMANDS}\n"),
     ("rows --help", f"usage: mdbimport {USAGE['rows']}; all: mdbimport manual rows\n"),
     ("help edges", f"usage: mdbimport {USAGE['edges']}; all: mdbimport manual edges\n"),
-    ("--version", "mdbimport 0.7.0\n"),
+    ("--version", "mdbimport 0.8.0\n"),
     ("file", 'unknown command "file"'),
     ("row", 'unknown command "row" (rows?)'),
     ("--unit s rows", 'unknown option "--unit" (rows --unit?)'),
@@ -93,6 +95,15 @@ LINES = [
     ("vcd --controller m", f'--controller "m" {NAME}'),
     ("vcd --from x", f'--from "x" {PART}'),
     ("vcd bus.vcd", f"{FILE} bus.vcd"),
+    ("messages --unit min", f'--unit "min" {UNIT}'),
+    ("messages --time-of firs", f'--time-of "firs" {TIME_OF}'),
+    ("messages --time-of=", f'--time-of "" {TIME_OF}'),
+    ("messages --time-of last --time-of last", "--time-of stands twice"),
+    ("messages --time-of", "--time-of has no value"),
+    ("messages --skip-damaged", "messages has no --skip-damaged: sigrok has it"),
+    ("messages --controller A --peripheral A", ONE_NAME),
+    ("messages sniffer.log", f"{FILE} sniffer.log"),
+    ("rows --time-of last", "rows has no --time-of: messages has it"),
     ("rows", None),
     ("rows --unit=s --controller -- --from=0", 'one word too many: "--from=0"'),
     ("rows --unit=s --controller=-- --from=0 --until=999999999999999 --", None),

@@ -27,6 +27,7 @@ EXAMPLES = TOP / "examples"
 IN_MILLISECONDS = ("rows", "--unit", "ms", "--controller", "TX", "--peripheral", "RX")
 OF_SALEAE = ("saleae", "--controller", "MDB master", "--peripheral", "MDB slave")
 OF_EDGES = ("edges", "--controller", "Channel 0", "--peripheral", "Channel 1")
+OF_SNIFFER = ("messages", "--controller", "VMC", "--peripheral", "PER")
 REFUSAL = b"mdbimport refused this export\n"
 
 

@@ -33,6 +33,7 @@ COMMANDS = {
         "saleae": ("", "--controller --peripheral --break --skip-damaged --from --until"),
         "edges": ("", "--unit --controller --peripheral --invert --skip-damaged --from --until"),
         "vcd": ("", "--controller --peripheral --invert --skip-damaged --from --until"),
+        "messages": ("", "--unit --controller --peripheral --time-of --from --until"),
         "manual": ("[COMMAND]", ""),
     },
 }
@@ -51,7 +52,7 @@ GOALS = {
 NAME, TIME = "(?![MmSsBb]\\Z)(?s:.+)", "[0-9]{1,15}"
 VALUES = {
     "--setup": "(?s:.*)", "--without": "|".join(DEVICES), "--unit": "s|ms|us|ns", "--controller": NAME,
-    "--peripheral": NAME, "--break": "(?=0*[0-9]{1,9}\\Z)" + TIME, "--from": TIME, "--until": TIME,
+    "--peripheral": NAME, "--time-of": "first|last", "--break": "(?=0*[0-9]{1,9}\\Z)" + TIME, "--from": TIME, "--until": TIME,
 }
 NUMBERS = ("--break", "--from", "--until")
 

@@ -1,12 +1,5 @@
 //! The commands of a table, as `clap` has them.
 
-ghost use Rattle.std.specs.Prelude.{◌≡◌, ◌++◌, IfOk, List, false, map};
-ghost use Rattle.clap.specs.Words.{App, Rule, app_of, rule_of};
-ghost use Rattle.clap.specs.declared.builder.command.Command.TheViews.{out-Command as fields_of};
-ghost use Rattle.command_words.specs.Apps.{command_shape, program_app};
-ghost use Rattle.command_words.specs.Table.{command_of};
-ghost use Rattle.command_words.specs.inner.Building.{leaf_app, rule_as, with_rules};
-
 use super::table::{CommandRow, Program};
 use clap::{Arg, ArgAction, Command};
 use std::alloc::{AllocError, Global};
@@ -28,9 +21,7 @@ enum Kind {
 pub(crate) fn program_command<'a>(
     alloc: Global,
     program: &Program<'a>,
-) -> Result<Command<'a>, AllocError>
-    ensures { IfOk result (λ command. app_of command ≡ program_app program.now) }
-{
+) -> Result<Command<'a>, AllocError> {
     let mut command = Command::new(alloc, program.name)
         .version(program.version)
         .subcommand_required(true);
@@ -41,11 +32,7 @@ pub(crate) fn program_command<'a>(
 }
 
 /// The command of a row.
-fn row_command<'a>(alloc: Global, row: &CommandRow<'a>) -> Result<Command<'a>, AllocError>
-    ensures app { IfOk result (λ command.
-        app_of command ≡ leaf_app (command_shape (command_of row.now))) }
-    ensures local { IfOk result (λ command. (fields_of command).has_globals ≡ false) }
-{
+fn row_command<'a>(alloc: Global, row: &CommandRow<'a>) -> Result<Command<'a>, AllocError> {
     let bare = Command::new(alloc, row.name);
     let with_options = add_args(alloc, bare, Kind::Option, row.options)?;
     let with_flags = add_args(alloc, with_options, Kind::Flag, row.flags)?;
@@ -59,12 +46,7 @@ fn add_args<'a>(
     command: Command<'a>,
     kind: Kind,
     names: &[&'a str],
-) -> Result<Command<'a>, AllocError>
-    ensures app { IfOk result (λ made. app_of made ≡ with_rules (app_of command.entry)
-        (map (λ name. rule_as kind name.now) names.now)) }
-    ensures local { IfOk result (λ made.
-        (fields_of made).has_globals ≡ (fields_of command.entry).has_globals) }
-{
+) -> Result<Command<'a>, AllocError> {
     let mut made = command;
     for name in names {
         made = made.arg(arg_of(alloc, kind, name))?;
@@ -73,10 +55,7 @@ fn add_args<'a>(
 }
 
 /// What `clap` knows of a name.
-fn arg_of<'a>(alloc: Global, kind: Kind, name: &'a str) -> Arg<'a>
-    ensures rule { rule_of result ≡ rule_as kind name.entry.now }
-    ensures local { result.global ≡ false }
-{
+fn arg_of<'a>(alloc: Global, kind: Kind, name: &'a str) -> Arg<'a> {
     let arg = Arg::new(alloc, name);
     match kind {
         Kind::Option => arg.long(name).action(ArgAction::Append),

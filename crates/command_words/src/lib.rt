@@ -8,7 +8,6 @@
 #![tactic(auto)]
 
 mod build;
-pub mod laws;
 mod line;
 mod manual;
 mod named;

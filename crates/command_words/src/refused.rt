@@ -1,9 +1,5 @@
 //! The line on a command line that is refused.
 
-ghost use Rattle.std.specs.Prelude.{◌≡◌, [], ◌∷◌, codes};
-ghost use Rattle.clap.specs.Words.{kind_of};
-ghost use Rattle.command_words.specs.Lines.{with_texts};
-
 use super::line::Line;
 use super::table::{CommandRow, Program, command_named};
 use super::told::add_fault;
@@ -11,7 +7,8 @@ use clap::error::{Error, ErrorKind};
 use std::alloc::Global;
 
 /// The line about words that `clap` refuses, the program's name first: what is wrong, and the usage
-/// of the command alone. Requests for help or for the version are refused too.
+/// of the command alone. Requests for help or for the version are refused too: the line on the
+/// latter is the version alone.
 ///
 /// The line is printable ASCII, whatever the words are. Only words are cut, if a usage line and the
 /// longest names of the table leave room for 24 bytes of a word.
@@ -20,11 +17,7 @@ pub fn line_on_refused(
     program: &Program<'_>,
     words: &[String],
     error: &Error,
-) -> Line
-    // Asked for the version, it says that alone.
-    ensures version { kind_of error.now ≡ ErrorKind.DisplayVersion → result
-        ≡ with_texts [] (program.now.name.now ∷ codes " " ∷ program.now.version.now ∷ []) }
-{
+) -> Line {
     let mut line = Line::of(program);
     let row = row_of(program, words);
     let name = program.name;

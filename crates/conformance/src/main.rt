@@ -8,6 +8,7 @@ mod calls;
 mod cuts;
 mod noes;
 
+use mdbcheck_run::run_words;
 use std::alloc::{AllocError, Global};
 use std::io::Write;
 use std::{fs, io};
@@ -334,7 +335,7 @@ impl<'a> Case<'a> {
         let mut out = Vec::new(rt.alloc());
         let mut err = Vec::new(rt.alloc());
         let transcript = self.rows.transcript.as_slice();
-        let status = mdbcheck_run::run(rt.alloc(), words, transcript, &mut out, &mut err);
+        let status = run_words(rt.alloc(), words.as_slice(), transcript, &mut out, &mut err);
         self.judge(rt, status, out.as_slice(), err.as_slice())
     }
 

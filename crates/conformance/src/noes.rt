@@ -2,6 +2,7 @@
 //! options.
 
 use super::command_line;
+use mdbcheck_run::run_words;
 use std::alloc::Global;
 use std::io;
 use std::io::Write;
@@ -66,7 +67,7 @@ pub fn is_surveyed(
     let line = command_line(alloc, survey.as_str())?;
     let mut out = Vec::new(alloc);
     let mut err = Vec::new(alloc);
-    mdbcheck_run::run(alloc, line, transcript, &mut out, &mut err);
+    run_words(alloc, line.as_slice(), transcript, &mut out, &mut err);
     let wanted = fault_line(alloc, no)?;
     let is_wanted = is_first_fault_in(out.as_slice(), wanted.as_str());
     if !is_wanted {

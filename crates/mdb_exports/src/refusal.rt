@@ -1,10 +1,5 @@
 //! The end of what was written of a refused export.
 
-ghost use Rattle.std.specs.Prelude.{◌++◌, OnOk};
-ghost use Rattle.std.specs.Io.KnownBytes.{Appends};
-ghost use Rattle.mdb_exports.specs.Refusal.{refusal_line};
-ghost use Rattle.mdb_writing.specs.Written.{HasTaken};
-
 use mdb_writing::{Page, WriteFailed, write_text};
 use std::io::Write;
 
@@ -16,11 +11,7 @@ const REFUSAL: &str = "mdbimport refused this export\n";
 /// # Errors
 ///
 /// The writer failed. It took a front of the line.
-pub fn write_refusal<W: Write>(writer: &mut W) -> Result<(), WriteFailed>
-    ensures whole { OnOk result
-        (Appends (W.contents writer.old) (W.contents writer.new) refusal_line) }
-    ensures front { HasTaken (W.contents writer.old) (W.contents writer.new) refusal_line }
-{
+pub fn write_refusal<W: Write>(writer: &mut W) -> Result<(), WriteFailed> {
     write_text(writer, REFUSAL.as_bytes())
 }
 
@@ -29,12 +20,7 @@ pub fn write_refusal<W: Write>(writer: &mut W) -> Result<(), WriteFailed>
 /// # Errors
 ///
 /// The writer failed. It took a front of these.
-pub fn write_refused<W: Write>(page: &mut Page, writer: &mut W) -> Result<(), WriteFailed>
-    ensures whole { OnOk result (Appends (W.contents writer.old) (W.contents writer.new)
-        (page.old ++ refusal_line)) }
-    ensures front { HasTaken (W.contents writer.old) (W.contents writer.new)
-        (page.old ++ refusal_line) }
-{
+pub fn write_refused<W: Write>(page: &mut Page, writer: &mut W) -> Result<(), WriteFailed> {
     page.write_out(writer)?;
     write_refusal(writer)
 }

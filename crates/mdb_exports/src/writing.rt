@@ -1,48 +1,69 @@
 //! Rows to a writer that may fail.
 
-ghost use Rattle.std.specs.Prelude.{◌≡◌, OnErr, OnOk};
-ghost use Rattle.std.specs.Io.KnownBytes.{Appends};
-ghost use Rattle.mdb_writing.specs.Output.{Breaks, Puts, output};
-ghost use Rattle.mdb_writing.specs.Written.{HasTaken};
-ghost use Rattle.mdb_exports.specs.Rows.{row_line, rows_text};
-
+use super::part::Part;
+use super::told::Imported;
 use arrayvec::ArrayString;
-use mdb_words::Event;
+use mdb_words::{Event, Line, Word};
 use mdb_writing::{Page, WriteFailed};
 use std::io::Write;
 
 /// The row of an event, with its line end.
-pub fn line_of(event: &Event) -> ArrayString<32>
-    ensures { result.bytes ≡ row_line event.now }
-{
+fn line_of(event: &Event) -> ArrayString<32> {
     let mut line = event.row_text();
     line.push('\n');
     line
 }
 
-/// Writes the rows of events, each with its line end.
+/// Writes the rows of the events that are in a part, each with its line end, and counts all.
 ///
 /// # Errors
 ///
 /// The writer failed. It took a front of the rows.
-pub fn write_rows<W: Write>(rows: &[Event], writer: &mut W) -> Result<(), WriteFailed>
-    ensures whole { OnOk result
-        (Appends (W.contents writer.old) (W.contents writer.new) (rows_text rows.now)) }
-    ensures front { HasTaken (W.contents writer.old) (W.contents writer.new) (rows_text rows.now) }
-{
+pub fn write_part<W: Write>(
+    part: Part,
+    rows: &[Event],
+    told: &mut Imported,
+    writer: &mut W,
+) -> Result<(), WriteFailed> {
     let mut page = Page::new();
     for row in rows {
-        add_row(&mut page, row, writer)?;
+        if told.count(part, row) {
+            add_row(&mut page, row, writer)?;
+        }
     }
     page.write_out(writer)
 }
 
-/// Adds the row of an event, with its line end.
-fn add_row<W: Write>(page: &mut Page, row: &Event, writer: &mut W) -> Result<(), WriteFailed>
-    ensures added { OnOk result (Puts (output (W.contents writer.old) page.old)
-        (output (W.contents writer.new) page.new) (row_line row.now)) }
-    ensures broken { OnErr result (Breaks (output (W.contents writer.old) page.old)
-        (output (W.contents writer.new) page.new) (row_line row.now)) }
-{
-    page.add(writer, line_of(row).as_str().as_bytes())
+/// So many bytes are room for the row of a word.
+const ROW: usize = 32;
+
+/// The hexadecimal digits.
+static DIGITS: [u8; 16] = *b"0123456789ABCDEF";
+
+/// Adds the row of an event, with its line end, to a page. It stands in one write.
+///
+/// # Errors
+///
+/// The writer failed. It took a front of what waited.
+pub fn add_row<W: Write>(page: &mut Page, row: &Event, writer: &mut W) -> Result<(), WriteFailed> {
+    let Event::Word { at, line, word } = *row else {
+        return page.add(writer, line_of(row).as_str().as_bytes());
+    };
+    page.make_room(writer, ROW)?;
+    page.push_number(at.value());
+    page.add(writer, &end_of_row(line, word))
+}
+
+/// What stands in the row of a word after its time.
+fn end_of_row(line: Line, word: Word) -> [u8; 7] {
+    let letter = match line {
+        Line::Controller => b'M',
+        Line::Peripheral => b'S',
+    };
+    let mark = if word.marked() { b'1' } else { b'0' };
+    let (high, low) = (
+        DIGITS[usize::from(word.byte() / 16)],
+        DIGITS[usize::from(word.byte() % 16)],
+    );
+    [b',', letter, b',', mark, high, low, b'\n']
 }

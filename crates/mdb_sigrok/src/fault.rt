@@ -1,7 +1,5 @@
 //! Why there are no rows.
 
-ghost use Rattle.std.specs.Prelude.{◌≡◌};
-
 use mdb_writing::WriteFailed;
 use std::fmt;
 use thiserror::Error;
@@ -41,11 +39,6 @@ pub enum SigrokFault {
 }
 
 impl From<WriteFailed> for SigrokFault {
-    ghost use Rattle.std.specs.Prelude.{◌≡◌};
-    ghost use Rattle.mdb_sigrok.specs.declared.fault.SigrokFault.{SigrokFault};
-
-    ghost from_gives = { λ failed told. told ≡ SigrokFault.Write };
-
     fn from(_: WriteFailed) -> SigrokFault {
         SigrokFault::Write
     }

@@ -1,17 +1,15 @@
 //! A trace from a reader, as rows to a writer.
 
-ghost use Rattle.std.specs.Prelude.{IfSome};
-ghost use Rattle.mdb_exports.specs.shared.Closing.{IsClosed};
-ghost use Rattle.mdb_sigrok.specs.Import.{Imports};
-
 use super::fault::SigrokFault;
 use super::options::SigrokOptions;
-use super::rows::{TraceRows, rows_of_trace};
-use super::tally::{SigrokRows, tally_of};
-use super::writing::write_part;
-use mdb_exports::write_refusal;
+use super::trace::read_trace;
+use mdb_exports::{Imported, Part, merged, write_part, write_refusal};
+use mdb_words::Event;
 use std::alloc::Global;
-use std::io::{Read, Write};
+use std::io::{BufReader, Read, Write};
+
+/// How many bytes of a trace are asked for at once.
+const READ_SIZE: usize = 65_536;
 
 /// Reads the trace that sigrok-cli wrote of its decoder `uart`, and writes its rows, each with a
 /// line feed: those of the part that is asked for. It answers what is told of the whole
@@ -32,32 +30,39 @@ pub fn import_sigrok<R: Read + Drop, W: Write>(
     options: &SigrokOptions,
     reader: R,
     writer: &mut W,
-) -> Result<SigrokRows, SigrokFault>
-    ensures { IfSome (R.remaining reader) (λ text. Imports options.now text
-        (W.contents writer.old) (W.contents writer.new) result) }
-{
-    let TraceRows {
-        rows,
-        pulses,
-        damaged,
-    } = match rows_of_trace(alloc, options, reader) {
-        Ok(found) => found,
-        Err(fault) => return Err(closed(fault, writer)),
+) -> Result<Imported, SigrokFault> {
+    let part = Part {
+        from: options.from,
+        until: options.until,
     };
-    match write_part(options, rows.as_slice(), writer) {
-        Ok(()) => Ok(tally_of(options, rows.as_slice(), pulses, damaged)),
-        Err(failed) => Err(SigrokFault::from(failed)),
+    match rows_of_trace(alloc, options, reader) {
+        Ok((rows, mut told)) => {
+            write_part(part, rows.as_slice(), &mut told, writer)?;
+            Ok(told)
+        }
+        Err(fault) => {
+            write_refusal(writer)?;
+            Err(fault)
+        }
     }
 }
 
-/// Writes the line that ends a refused trace, and answers why it is refused, or that writing
-/// failed.
-fn closed<W: Write>(fault: SigrokFault, writer: &mut W) -> SigrokFault
-    ensures { IsClosed SigrokFault.Write fault (W.contents writer.old) (W.contents writer.new)
-        result }
-{
-    match write_refusal(writer) {
-        Ok(()) => fault,
-        Err(failed) => SigrokFault::from(failed),
+/// The rows of both lines of a trace, and what is told of it before its first row.
+fn rows_of_trace<R: Read + Drop>(
+    alloc: Global,
+    options: &SigrokOptions,
+    reader: R,
+) -> Result<(Vec<Event>, Imported), SigrokFault> {
+    let Ok(mut reader) = BufReader::with_capacity(alloc, READ_SIZE, reader) else {
+        return Err(SigrokFault::Memory);
+    };
+    let both = read_trace(alloc, options, &mut reader)?;
+    let (sent, answered) = (
+        both.controller.rows.as_slice(),
+        both.devices.rows.as_slice(),
+    );
+    match merged(alloc, sent, answered) {
+        Ok(rows) => Ok((rows, both.told)),
+        Err(_) => Err(SigrokFault::Memory),
     }
 }

@@ -8,7 +8,7 @@ use mdb_bus::LinkFault;
 use mdb_show::show;
 use mdb_text::Outcome;
 use mdb_verdict::{RunFault, check};
-use mdbcheck_run::run;
+use mdbcheck_run::run_words;
 use std::alloc::Global;
 use std::fmt::Debug;
 use std::process::Abort;
@@ -66,6 +66,6 @@ pub(crate) fn run_gives(
     let list = words_of(alloc, words).expect(rt, "memory");
     let mut out = Vec::new(alloc);
     let mut err = Vec::new(alloc);
-    let status = run(alloc, list, reader, &mut out, &mut err);
+    let status = run_words(alloc, list.as_slice(), reader, &mut out, &mut err);
     same_at(rt, words, (status, out.as_slice(), err.as_slice()), wanted);
 }

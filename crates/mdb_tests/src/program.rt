@@ -5,7 +5,7 @@ use super::asserts::{run_gives, same_at};
 use super::checking::{REPORT, WRONG_SUM_REPORT};
 use super::showing::{ACTS, WRONG_SUM_ACTS};
 use super::streams::{Pieces, ROWS, Sheet, WRONG_SUM, words_of};
-use mdbcheck_run::run;
+use mdbcheck_run::run_words;
 use std::alloc::Global;
 use std::io::ErrorKind;
 use std::process::Abort;
@@ -80,7 +80,7 @@ const REPLAY_HELP: &[u8] =
 < EXPLANATION; all: mdbcheck manual replay\n";
 
 /// What is told of one that asks for the version.
-const VERSION: &[u8] = b"mdbcheck 0.7.0\n";
+const VERSION: &[u8] = b"mdbcheck 0.8.0\n";
 
 /// A recording whose row isn't followed, its report, and what is told of it.
 const REVALUE: &[u8] = b"1000,M,115\n";
@@ -853,7 +853,7 @@ fn fails_to_write(
     let list = words_of(alloc, words).expect(rt, "memory");
     let mut out = Sheet::failing(alloc, u64::from(is_output), ErrorKind::BrokenPipe);
     let mut err = Sheet::failing(alloc, u64::from(!is_output), ErrorKind::BrokenPipe);
-    let status = run(alloc, list, text, &mut out, &mut err);
+    let status = run_words(alloc, list.as_slice(), text, &mut out, &mut err);
     let failed = (out.has_failed(), err.has_failed());
     same_at(rt, words, (status, failed), (2, (is_output, !is_output)));
     let nothing: &[u8] = b"";
@@ -874,7 +874,7 @@ fn a_refused_line_beside_a_no_changes_nothing_else(rt: HostRuntime) {
     let list = words_of(alloc, CHECK).expect(&rt, "memory");
     let mut out = Sheet::failing(alloc, 0, ErrorKind::BrokenPipe);
     let mut err = Sheet::failing(alloc, 1, ErrorKind::BrokenPipe);
-    let status = run(alloc, list, REVALUE, &mut out, &mut err);
+    let status = run_words(alloc, list.as_slice(), REVALUE, &mut out, &mut err);
     same_at(&rt, CHECK, (status, err.has_failed()), (1, true));
     let nothing: &[u8] = b"";
     let written = (out.text.as_slice(), err.text.as_slice());

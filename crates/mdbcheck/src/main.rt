@@ -3,6 +3,7 @@
 #![tactic(auto)]
 
 use mdb_progress::Progress;
+use mdbcheck_run::run_words;
 use std::io::BufReader;
 use std::process::ExitCode;
 use std::{env, io};
@@ -19,16 +20,16 @@ fn words(rt: &HostRuntime) -> io::Result<Vec<String>> {
     Ok(env::args(rt)?.collect(rt.alloc())?)
 }
 
-/// Hands the words and the standard streams to `mdbcheck_run::run`, and answers its status. Where
-/// there is no memory for what is asked at once, a line says so, as of any other want of memory. A
-/// long run shows how far it is where standard error is a terminal.
-fn run(rt: &HostRuntime, words: Vec<String>) -> u8 {
+/// Hands the words and the standard streams to `mdbcheck_run::run_words`, and answers its status.
+/// Where there is no memory for what is asked at once, a line says so, as of any other want of
+/// memory. A long run shows how far it is where standard error is a terminal.
+fn run(rt: &HostRuntime, words: &[String]) -> u8 {
     let progress = Progress::new(rt, rt.stderr(), "mdbcheck");
     match BufReader::with_capacity(rt.alloc(), READ_SIZE, progress.reader(rt.stdin())) {
         Ok(input) => {
             let mut out = progress.output(rt.stdout());
             let mut err = progress.writer(rt.stderr());
-            let status = mdbcheck_run::run(rt.alloc(), words, input, &mut out, &mut err);
+            let status = run_words(rt.alloc(), words, input, &mut out, &mut err);
             progress.end();
             status
         }
@@ -43,7 +44,7 @@ fn run(rt: &HostRuntime, words: Vec<String>) -> u8 {
 /// refused like words that are no command of the program: status 2 and one line.
 fn main(rt: HostRuntime) -> ExitCode {
     let status = match words(&rt) {
-        Ok(words) => run(&rt, words),
+        Ok(words) => run(&rt, words.as_slice()),
         Err(error) => {
             let _ = eprintln!(rt; "mdbcheck: the command line can't be read: {error}");
             NOT_BEGUN

@@ -9,6 +9,7 @@ use Rattle.std.proofs.lemmas.Option.{IfSome_then}
 use Rattle.std.specs.Io.KnownBytes.{Appends}
 use Rattle.csv.specs.Reading.{default_config, records, strip_bom}
 use Rattle.mdb_bus.specs.declared.fault.LinkFault.{LinkFault}
+use Rattle.mdb_bus.specs.declared.levels.Levels.{Levels}
 use Rattle.mdb_follow.specs.declared.follower.TheConstants.{ROWS_MAX}
 use Rattle.mdb_follow.specs.declared.goal.Goal.{Goal}
 use Rattle.mdb_text.specs.declared.outcome.Outcome.{Outcome}
@@ -19,14 +20,16 @@ use Rattle.mdb_explain.specs.declared.fault.MarkedFault.{MarkedFault}
 use Rattle.mdb_explain.specs.declared.fault.MarkedFault.TheVariants as marked
 use Rattle.mdb_explain.specs.Explain.{IsCutExplanation, IsExplained, LeavesNo}
 use Rattle.mdb_text.specs.declared.form.Form.{Form}
-use Rattle.mdbcheck_run.specs.Program.{NamesManual, Says, SaysAnswered, SaysExplained, SaysManual}
-use Rattle.mdbcheck_run.specs.Program.{SaysOf, SaysShown, SaysSurveyed, refused}
-use Rattle.mdbcheck_run.specs.Program.{show_status_of, status_of, survey_status_of, told}
+use Rattle.mdbcheck_run.specs.Program.{Says, SaysAnswered, SaysExplained, SaysOf, SaysShown}
+use Rattle.mdbcheck_run.specs.Program.{SaysSurveyed, show_status_of, status_of, survey_status_of}
 use Rattle.mdb_verdict.specs.Answers.{Answers, IsCutIn, Leaves}
 use Rattle.mdb_show.specs.Show.{ShowsIn, lines_in}
 use Rattle.mdb_survey.specs.Survey.{IsSurveyedWhole, SurveysIn, survey_lines_in}
 use Rattle.mdb_stretches.specs.declared.summary.Summary.{Summary}
-use Rattle.mdb_verdict.specs.Verdict.{IsNoYes}
+use Rattle.mdb_verdict.specs.Forms.{answer_text}
+use Rattle.mdb_verdict.specs.Verdict.{IsAnswer, IsNoYes}
+use Rattle.mdbcheck_run.specs.declared.task.Task.{Task}
+use Rattle.mdbcheck_run.specs.declared.task.Task.TheVariants.{Check}
 use Rattle.mdb_verdict.specs.declared.verdict.TheConstants.{BYTES_MAX}
 use Rattle.mdb_writing.specs.Written.{HasTaken}
 use Rattle.mdb_bus.specs.declared.scope.Scope.{Scope}
@@ -232,19 +235,13 @@ says_of Says known wanted status same says over other = record {
   whole = IfSome_then known over (λ text is long yes. other (is long) (sym same ∙ yes));
 }
 
--- what the status of a refused command line says
-pub refused_says : (known : Option (List ℕ)) (words : List (List ℕ))
-    (before after : Option (List ℕ)) (status : ℕ) → status ≡ 2 → after ≡ before
-    → IfSome known
-    (λ text. Says words (records default_config (strip_bom text)) before after status)
-refused_says None words before after status same kept = tt
-refused_says (Some text) words before after status same kept = refused same kept
-
--- what the status of the manual says, whatever stands in the input
-pub manual_says : (page : List ℕ) (words : List (List ℕ)) (before after : Option (List ℕ))
-    (status : ℕ) → NamesManual words page → SaysManual page before after status
-    → (known : Option (List ℕ))
-    → IfSome known
-    (λ text. Says words (records default_config (strip_bom text)) before after status)
-manual_says page words before after status names says None = tt
-manual_says page words before after status names says (Some text) = told page names says
+-- What is said of a text that `check` reads is said of its task.
+pub says_checked : (task : Task) (scope : Scope) (readers : Levels) (form : Form)
+    (known before after : Option (List ℕ)) (status : ℕ) → task ≡ Check scope readers form
+    → IfSome known (λ text. SaysAnswered
+    (IsAnswer scope ROWS_MAX (records default_config (strip_bom text))) (answer_text form scope)
+    before after status)
+    → IfSome known (λ text. Says task (records default_config (strip_bom text)) before after status)
+says_checked task scope readers form known before after status is says =
+    subst (λ t. IfSome known (λ text. Says t (records default_config (strip_bom text)) before after
+    status)) (sym is) says

@@ -1,12 +1,10 @@
 -- What standard error is told where there is an answer.
-use Rattle.std.specs.Prelude.{◌≡◌, ◌⊎◌, ◌++◌, ℕ, List, [], ◌∷◌, codes, Option, Some, None, IfSome}
+use Rattle.std.specs.Prelude.{◌≡◌, ◌++◌, ℕ, List, codes, Option, Some, None, IfSome}
 use Rattle.std.specs.Prelude.{Bool, true, false, if◌then◌else◌, Result, Ok, Err}
 use Rattle.std.specs.Fmt.{decimal}
-use Rattle.std.specs.Str.Iter.{HasSubslice}
 use Rattle.csv.specs.Reading.{default_config, records, strip_bom}
 use Rattle.mdb_msgs.specs.declared.command.Device.TheVariants.{Reader}
 use Rattle.mdb_msgs.specs.declared.command.ReaderUnit.{ReaderUnit}
-use Rattle.mdb_msgs.specs.declared.command.ReaderUnit.TheVariants.{First, Second}
 use Rattle.mdb_msgs.specs.Devices.{device_word}
 use Rattle.mdb_bus.specs.declared.fault.Blame.{Blame}
 use Rattle.mdb_bus.specs.declared.fault.Blame.TheVariants as blames
@@ -19,7 +17,6 @@ use Rattle.mdb_bus.specs.declared.scope.Profile.TheVariants.{Base, Extended}
 use Rattle.mdb_bus.specs.declared.scope.Scope.{Scope}
 use Rattle.mdb_bus.specs.FaultWords.{blame_word}
 use Rattle.mdb_follow.specs.declared.follower.TheConstants.{ROWS_MAX}
-use Rattle.mdb_follow.specs.declared.goal.Goal.{Goal}
 use Rattle.mdb_follow.specs.declared.offence.Offence.{Offence}
 use Rattle.mdb_text.specs.Text.{line}
 use Rattle.mdb_text.specs.declared.outcome.Outcome.{Outcome}
@@ -27,10 +24,10 @@ use Rattle.mdb_text.specs.declared.outcome.Outcome.TheVariants.{Yes, No}
 use Rattle.mdb_unjudged.specs.Verdict.{IsJudgedNo}
 use Rattle.mdb_verdict.specs.declared.fault.RunFault.{RunFault}
 use Rattle.mdb_writing.specs.Written.{HasTaken}
-use Rattle.mdb_text.specs.declared.form.Form.{Form}
 use Rattle.mdbcheck_run.specs.declared.aside.Remedy.{Remedy}
 use Rattle.mdbcheck_run.specs.declared.aside.Remedy.TheVariants.{Extend, TellLevel, LeaveOut}
-use Rattle.mdbcheck_run.specs.Program.{NamesCheck, NamesExplain, NamesManual, NamesReplay, NamesShow, NamesSurvey, setup_text}
+use Rattle.mdbcheck_run.specs.declared.task.Task.{Task}
+use Rattle.mdbcheck_run.specs.declared.task.Task.TheVariants.{Check}
 
 -- the line on a no that isn't judged
 abbrev pub unjudged_line : ReaderUnit → List ℕ
@@ -99,22 +96,6 @@ abbrev pub HasToldAside : {E : Type 0} → (E → Option (List ℕ)) → E → E
 HasToldAside contents old new IsAside = (aside : Option (List ℕ))
     × HasHeard contents old new aside × IsAside aside
 
--- The front of an answer to SETUP stands in one of some words, after the word of the reader, as
--- `--setup` has it: a config message of level 1.
-abbrev pub HasLevel1 : List (List ℕ) → ReaderUnit → Type 0
-HasLevel1 [] unit = ⊥
-HasLevel1 (word ∷ words) unit =
-    HasSubslice word (setup_text (Reader unit) (1 ∷ 1 ∷ [])) ⊎ HasLevel1 words unit
-
--- the level that words give of a reader: 1, or none
-abbrev pub IsLevelGiven : List (List ℕ) → ReaderUnit → Option ℕ → Type 0
-IsLevelGiven words unit None = HasLevel1 words unit → ⊥
-IsLevelGiven words unit (Some level) = (level ≡ 1) × HasLevel1 words unit
-
-pub record AreLevelsGiven (words : List (List ℕ)) (readers : Levels) : Type 0 where
-  pub first : IsLevelGiven words First readers.first.told
-  pub second : IsLevelGiven words Second readers.second.told
-
 -- The line on an answer of `check` to a text, with this status: on a no that isn't judged, or at a
 -- row that isn't followed, and on no other answer.
 pub record IsAsideOfCheck (scope : Scope) (readers : Levels) (text : Option (List ℕ)) (status : ℕ)
@@ -125,22 +106,11 @@ pub record IsAsideOfCheck (scope : Scope) (readers : Levels) (text : Option (Lis
       × IsJudgedNo scope readers ROWS_MAX (records default_config (strip_bom bytes)) offence reader
       × (aside ≡ aside_line scope.begins offence reader))
 
--- The same of the task that words name. The other tasks have none.
-pub data IsAside (words : List (List ℕ)) (text : Option (List ℕ)) (status : ℕ)
-    (aside : Option (List ℕ)) : Type 0 where
-  of_check : (scope : Scope) (form : Form) (readers : Levels) → NamesCheck words scope form
-      → AreLevelsGiven words readers → IsAsideOfCheck scope readers text status aside
-      → IsAside words text status aside
-  of_survey : (scope : Scope) (form : Form) → NamesSurvey words scope form → aside ≡ None
-      → IsAside words text status aside
-  of_show : (scope : Scope) (form : Form) → NamesShow words scope form → aside ≡ None
-      → IsAside words text status aside
-  of_explain : (scope : Scope) (goal : Goal) → NamesExplain words goal scope → aside ≡ None
-      → IsAside words text status aside
-  of_replay : (scope : Scope) (form : Form) → NamesReplay words scope form → aside ≡ None
-      → IsAside words text status aside
-  of_manual : (manual : List ℕ) → NamesManual words manual → aside ≡ None
-      → IsAside words text status aside
+-- The same of a task. The others have none.
+abbrev pub IsAside : Task → Option (List ℕ) → ℕ → Option (List ℕ) → Type 0
+IsAside (Check scope readers form) text status aside =
+    IsAsideOfCheck scope readers text status aside
+IsAside task text status aside = aside ≡ None
 
 -- The rest serves private functions: the line on an answer of `check`.
 abbrev pub aside_of : Beginning → Result Outcome RunFault → Option ReaderUnit → Option (List ℕ)

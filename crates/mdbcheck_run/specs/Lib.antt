@@ -1,4 +1,3 @@
 pub mod Aside
 pub mod Complaint
 pub mod Program
-pub mod inner

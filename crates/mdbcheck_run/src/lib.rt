@@ -1,7 +1,8 @@
 //! The program `mdbcheck`, as a function of its words.
 //!
-//! [`run`] does what the words of a command line ask, and writes to standard error why there is no
-//! answer, or why nobody did wrong by a no.
+//! [`run`] does a [`Task`], and writes to standard error why there is no answer, or why nobody did
+//! wrong by a no. [`run_words`] does what the words of a command line ask. Which task they name is
+//! tested, and not proved.
 #![tactic(auto)]
 
 mod apart;
@@ -9,12 +10,11 @@ mod aside;
 mod command_line;
 mod complaint;
 mod goal_words;
-pub mod laws;
-mod levels;
 mod manual;
 mod program;
 mod refusal;
-mod refused;
 mod setup_value;
+mod task;
 
-pub use program::run;
+pub use program::{run, run_words};
+pub use task::Task;

@@ -1,15 +1,12 @@
-//! The program over its words.
+//! The program over a task, and over its words.
 
-ghost use Rattle.std.specs.Prelude.{◌≡◌, ◌≢◌, ◌<◌, ◌⊎◌, Err};
-ghost use Rattle.std.specs.Prelude.{IfSome, length, map, option_map, string_bytes};
-ghost use Rattle.command_words.specs.Manual.{manual_text};
+ghost use Rattle.std.specs.Prelude.{◌≡◌, ◌≢◌, ◌<◌, ◌⊎◌, Err, IfSome, length};
 ghost use Rattle.mdbcheck_run.specs.Aside.{HasToldAside, IsAside, IsAsideOfCheck};
 ghost use Rattle.mdbcheck_run.specs.Complaint.{IsToldCause, excess_line};
 ghost use Rattle.mdb_explain.specs.Replay.{IsReplayAnswer};
 ghost use Rattle.mdb_verdict.specs.Verdict.{IsAnswer};
-ghost use Rattle.mdbcheck_run.specs.Program.{NameAReading, NameATask, Says, SaysAnswered};
-ghost use Rattle.mdbcheck_run.specs.Program.{SaysExplained, SaysManual, SaysOf, SaysShown, SaysSurveyed};
-ghost use Rattle.mdbcheck_run.specs.Program.{mdbcheck_manual, show_status_of, status_of};
+ghost use Rattle.mdbcheck_run.specs.Program.{Says, SaysAnswered, SaysExplained, SaysOf, SaysShown};
+ghost use Rattle.mdbcheck_run.specs.Program.{SaysSurveyed, show_status_of, status_of};
 ghost use Rattle.mdbcheck_run.specs.Program.{survey_status_of};
 ghost use Rattle.mdb_verdict.specs.Forms.{answer_text};
 ghost use Rattle.mdb_bus.specs.Scopes.{from_power_on};
@@ -20,11 +17,9 @@ ghost use Rattle.csv.specs.Reading.{default_config, records, strip_bom};
 
 use super::apart::Apart;
 use super::aside::tell_aside;
-use super::command_line::{PROGRAM, Task, task_of};
+use super::command_line::{Asked, PROGRAM, read_words};
 use super::complaint::{Wanted, complain};
-use super::levels::levels_given;
-use super::refusal::Refusal;
-use super::refused::tell_refusal;
+use super::task::Task;
 use command_words::write_manual;
 use mdb_bus::{Levels, LinkFault, Profile, Scope};
 use mdb_explain::{MarkedFault, explain_records, replay_records};
@@ -50,86 +45,118 @@ const IMPOSSIBLE: u8 = 1;
 /// The status where there is no verdict, and neither acts nor faults are shown to the end.
 const NO_VERDICT: u8 = 2;
 
-/// Runs the program for the words of its command line, the program's name first, and returns its
-/// exit status.
+/// Does a task with the text that the reader has left, and returns the exit status.
 ///
-/// `check`:
+/// `Check`:
 ///
 /// - 0: the recording is possible, and its report is on `out`.
 /// - 1: it is impossible, and the report on `out` shows why.
 ///
-/// `survey`:
+/// `Survey`:
 ///
 /// - 0: each row of the recording is possible, and its report is on `out`.
 /// - 1: it has one fault or more. The report on each stretch, each fault, the totals and the number
 ///   of faults are on `out`.
 ///
-/// `show`:
+/// `Show`:
 ///
 /// - 0: each act of the recording has a line on `out`.
 /// - 1: a row breaks a rule of the link. The last line on `out` reports it, and the lines before it
 ///   are those of the acts.
 ///
-/// `explain`:
+/// `Explain`:
 ///
 /// - 0: the recording is possible, and an explanation of the goal is on `out`: marks, and then the
 ///   rows.
 /// - 1: it is impossible, and the report on `out` shows why.
 ///
-/// `replay`:
+/// `Replay`:
 ///
 /// - 0: the recording has a run with the marks before it, and its report is on `out`.
 /// - 1: it has none, and the report on `out` shows why.
 ///
-/// `manual`:
-///
-/// - 0: the manual, or the part on the command that is named, is on `out`. It needs no input.
-///
-/// With status 0 and 1 nothing is written to `err`, with one exception: `check` writes one line if
+/// With status 0 and 1 nothing is written to `err`, with one exception: `Check` writes one line if
 /// nobody did wrong by its no. Either the no isn't judged because the rows don't show the feature
 /// level of a reader, and the line names the reader. Or the rule is `Profile`, and the line has the
 /// row, what isn't followed, and which words to type. If `err` refuses the line, the status is the
 /// same.
 ///
-/// With status 2 there is no such answer. Either the task met a fault, or the words aren't a
-/// command of the program. Words that ask for help or for the version count as none too. One line
-/// on `err` shows why. If `err` refuses the line, the status is the same.
+/// With status 2 there is no such answer: the task met a fault. One line on `err` shows why. If
+/// `err` refuses the line, the status is the same.
 ///
-/// With `--json`, `check` and `replay` write their report as one line of JSON, `show` a line of
-/// JSON for each act, and `survey` one for each stretch, for each fault and for the whole.
+/// In the form of JSON, `Check` and `Replay` write their report as one line, `Show` a line for each
+/// act, and `Survey` one for each stretch, for each fault and for the whole.
 pub fn run<R: Read + Drop, W: Write, E: Write>(
     alloc: Global,
-    words: Vec<String>,
+    task: &Task,
     reader: R,
     out: &mut W,
     err: &mut E,
 ) -> u8
     ensures status { result < 3 }
-    ensures says { IfSome (R.remaining reader) (λ text. Says (map string_bytes words.items)
+    ensures says { IfSome (R.remaining reader) (λ text. Says task.now
         (records default_config (strip_bom text)) (W.contents out.old) (W.contents out.new)
         result) }
-    ensures named { NameATask (map string_bytes words.items)
-        ⊎ ((result ≡ NO_VERDICT) × (out.new ≡ out.old)) }
-    ensures whole { NameAReading (map string_bytes words.items)
-        → IfSome (R.remaining reader) (λ text. BYTES_MAX < length text → result ≢ POSSIBLE) }
+    ensures whole { IfSome (R.remaining reader) (λ text. BYTES_MAX < length text
+        → result ≢ POSSIBLE) }
     ensures silent { result < 2 → HasToldAside E.contents err.old err.new
-        (IsAside (map string_bytes words.items) (R.remaining reader) result) }
+        (IsAside task.now (R.remaining reader) result) }
 {
-    match task_of(alloc, words.as_slice()) {
-        Ok(Task::Check(scope, form)) => {
-            let readers = levels_given(words.as_slice());
-            run_check(alloc, &scope, readers, form, reader, out, err)
+    match task {
+        Task::Check(scope, readers, form) => {
+            run_check(alloc, scope, *readers, *form, reader, out, err)
         }
-        Ok(Task::Survey(scope, form)) => run_survey(alloc, &scope, form, reader, out, err),
-        Ok(Task::Show(scope, form)) => run_show(alloc, &scope, form, reader, out, err),
-        Ok(Task::Explain(goal, profile, without)) => {
-            run_explain(alloc, profile, without, &goal, reader, out, err)
+        Task::Survey(scope, form) => run_survey(alloc, scope, *form, reader, out, err),
+        Task::Show(scope, form) => run_show(alloc, scope, *form, reader, out, err),
+        Task::Explain(goal, profile, without) => {
+            run_explain(alloc, *profile, *without, goal, reader, out, err)
         }
-        Ok(Task::Replay(profile, without, form)) => {
-            run_replay(alloc, profile, without, form, reader, out, err)
+        Task::Replay(profile, without, form) => {
+            run_replay(alloc, *profile, *without, *form, reader, out, err)
         }
-        Ok(Task::Manual(part)) => run_manual(part, out, err),
-        Err(refusal) => refuse(alloc, refusal, words.as_slice(), err),
+    }
+}
+
+/// Does what the words of a command line ask, the program's name first, and returns the exit
+/// status: that of the task that they name. `manual` needs no input: with 0 the manual is on `out`,
+/// or the part on the command that is named.
+///
+/// Words that name no task are refused: with status 2 and one line on `err`, which shows why. Words
+/// that ask for help or for the version count as such. If `err` refuses the line, the status is the
+/// same.
+pub fn run_words<R: Read + Drop, W: Write, E: Write>(
+    alloc: Global,
+    words: &[String],
+    reader: R,
+    out: &mut W,
+    err: &mut E,
+) -> u8
+    ensures status { result < 3 }
+    ensures impossible { result ≡ IMPOSSIBLE → (task : Task)
+        × IfSome (R.remaining reader) (λ text. Says task
+        (records default_config (strip_bom text)) (W.contents out.old) (W.contents out.new)
+        result) }
+{
+    match read_words(alloc, words) {
+        Ok(Asked::Task(task)) => run(alloc, &task, reader, out, err),
+        Ok(Asked::Manual(part)) => print_manual(part, out, err),
+        Err(line) => {
+            line.tell(err);
+            NO_VERDICT
+        }
+    }
+}
+
+/// Prints the manual, or a part of it.
+fn print_manual<W: Write, E: Write>(part: Option<&str>, out: &mut W, err: &mut E) -> u8
+    ensures status { (result ≡ POSSIBLE) ⊎ (result ≡ NO_VERDICT) }
+{
+    match write_manual(&PROGRAM, part, out) {
+        Ok(()) => POSSIBLE,
+        Err(WriteFailed) => {
+            let _ = writeln!(err, "mdbcheck: {}", WriteFailed);
+            NO_VERDICT
+        }
     }
 }
 
@@ -236,23 +263,6 @@ fn run_explain<R: Read + Drop, W: Write, E: Write>(
     let mut records = input_of(alloc, reader);
     let answer = explain_records(alloc, profile, without, &mut records, out, goal);
     finish_check(answer, Wanted::Row, &records, err)
-}
-
-/// Prints the manual, or a part of it.
-fn run_manual<W: Write, E: Write>(part: Option<&str>, out: &mut W, err: &mut E) -> u8
-    ensures status { result < 3 }
-    ensures says { SaysManual
-        (manual_text mdbcheck_manual (option_map (λ text. text.now) part.entry))
-        (W.contents out.old) (W.contents out.new) result }
-    ensures silent { result < 2 → err.new ≡ err.old }
-{
-    match write_manual(&PROGRAM, part, out) {
-        Ok(()) => POSSIBLE,
-        Err(WriteFailed) => {
-            let _ = writeln!(err, "mdbcheck: {}", WriteFailed);
-            NO_VERDICT
-        }
-    }
 }
 
 /// The records of the text that the reader has left, of which at most [`BYTES_MAX`] bytes are read.
@@ -364,12 +374,4 @@ fn finish_survey<R: Read + Drop, E: Write>(
             NO_VERDICT
         }
     }
-}
-
-/// Tells why a command line with these words is refused.
-fn refuse<E: Write>(alloc: Global, refusal: Refusal, words: &[String], err: &mut E) -> u8
-    ensures { result ≡ NO_VERDICT }
-{
-    tell_refusal(alloc, refusal, words, err);
-    NO_VERDICT
 }

@@ -37,7 +37,7 @@ fn run(rt: &HostRuntime, words: Vec<String>) -> u8 {
         Ok(input) => {
             let mut out = progress.output(rt.stdout());
             let mut err = progress.writer(rt.stderr());
-            let status = mdbimport_run::run(rt.alloc(), words, input, &mut out, &mut err).status();
+            let status = mdbimport_run::run(rt.alloc(), words, input, &mut out, &mut err);
             progress.end();
             status
         }

@@ -1,15 +1,11 @@
-//! What standard error is told of an import.
+//! What standard error is told of an import that is refused.
 
 use super::hint::hint_of;
-use super::notes::{Notes, say};
-use mdb_edges::{EdgesFault, EdgesOptions};
-use mdb_exports::{Imported, RecordFault};
-use mdb_levels::LevelsImported;
+use super::notes::say;
+use mdb_exports::RecordFault;
+use mdb_import_levels::{EdgesFault, EdgesOptions};
+use mdb_import_records::{ImportFault, SaleaeFault};
 use mdb_records::{ReadCause, Record, Records};
-use mdb_rows_import::ImportFault;
-use mdb_saleae::SaleaeFault;
-use mdb_sigrok::{SigrokFault, SigrokRows};
-use mdb_vcd::VcdFault;
 use mdb_writing::Excerpt;
 use std::fmt::Display;
 use std::io::{Read, Write};
@@ -17,63 +13,14 @@ use std::io::{Read, Write};
 /// So many microseconds have 15 digits or fewer.
 const TIMES: u64 = 1_000_000_000_000_000;
 
-/// Tells what was imported, or why it wasn't, of the records that the answer was met with.
-pub(crate) fn tell<R: Read + Drop, E: Write>(
-    answer: &Result<Imported, ImportFault>,
+/// Writes one line on a fault of rows: at a record that is refused what was wanted and what stands
+/// there, where the reading failed its cause. The records are those that the fault was met with.
+/// Where the line is refused, nothing more is tried.
+pub(crate) fn complain<R: Read + Drop, E: Write>(
+    fault: ImportFault,
     records: &Records<R>,
     err: &mut E,
 ) {
-    match answer {
-        Ok(imported) => Notes::of_rows(imported).tell(err),
-        Err(fault) => complain(*fault, records, err),
-    }
-}
-
-/// Tells the same of a trace.
-pub(crate) fn tell_of_trace<E: Write>(answer: &Result<SigrokRows, SigrokFault>, err: &mut E) {
-    match answer {
-        Ok(rows) => Notes::of_trace(rows).tell(err),
-        Err(fault) => complain_of(fault, None, "", err),
-    }
-}
-
-/// Tells the same of the table of an analyser, of the records that the answer was met with.
-pub(crate) fn tell_of_table<R: Read + Drop, E: Write>(
-    answer: &Result<Imported, SaleaeFault>,
-    records: &Records<R>,
-    err: &mut E,
-) {
-    match answer {
-        Ok(imported) => Notes::of_table(imported).tell(err),
-        Err(fault) => complain_of_table(*fault, records, err),
-    }
-}
-
-/// Tells the same of a table of edges, of the records that the answer was met with.
-pub(crate) fn tell_of_edges<R: Read + Drop, E: Write>(
-    options: &EdgesOptions,
-    answer: &Result<LevelsImported, EdgesFault>,
-    records: &Records<R>,
-    err: &mut E,
-) {
-    match answer {
-        Ok(imported) => Notes::of_levels(imported).tell(err),
-        Err(fault) => complain_of_edges(options, *fault, records, err),
-    }
-}
-
-/// Tells the same of a dump.
-pub(crate) fn tell_of_dump<E: Write>(answer: &Result<LevelsImported, VcdFault>, err: &mut E) {
-    match answer {
-        Ok(imported) => Notes::of_levels(imported).tell(err),
-        Err(fault) => complain_of(fault, None, "", err),
-    }
-}
-
-/// Writes one line on a fault: at a record that is refused what was wanted and what stands there,
-/// where the reading failed its cause. The records are those that the fault was met with. Where the
-/// line is refused, nothing more is tried.
-fn complain<R: Read + Drop, E: Write>(fault: ImportFault, records: &Records<R>, err: &mut E) {
     match fault {
         ImportFault::BadRecord {
             number,
@@ -81,60 +28,40 @@ fn complain<R: Read + Drop, E: Write>(fault: ImportFault, records: &Records<R>, 
             last,
             fault,
         } => {
-            let refused = Refused {
-                number,
-                own,
-                last,
-                fault,
-            };
-            let _ = complain_of_record(&refused, &records.row(), err);
+            let _ = complain_of_record(number, own, last, fault, &records.row(), err);
         }
         ImportFault::Read => say(text_of_cause(records.cause()), err),
         ImportFault::Write | ImportFault::Memory => complain_of(&fault, None, "", err),
     }
 }
 
-/// A record that is refused: its number, its own time, if it tells one, that of the last row before
-/// it, and why.
-#[derive(Clone, Copy)]
-struct Refused {
+/// Writes the line on a record that is refused: its number, its own time, if it tells one, or that
+/// of the last row before it, why it is refused, and where the import can go on.
+fn complain_of_record<E: Write>(
     number: u64,
     own: Option<u64>,
     last: Option<u64>,
     fault: RecordFault,
-}
-
-/// Writes the line on a record that is refused.
-fn complain_of_record<E: Write>(
-    refused: &Refused,
     fields: &Record<'_>,
     err: &mut E,
 ) -> std::io::Result<()> {
-    let (number, fault) = (refused.number, refused.fault);
-    let (mark, time) = match (refused.own, refused.last) {
-        (Some(at), _) => (" at ", Some(at)),
-        (None, last) => (" after ", last),
-    };
     write!(err, "mdbimport: record {number}")?;
-    write_time(mark, time, err)?;
-    write!(err, ": {fault}; found \"{}\"", found_in(fields))?;
-    write_time("; go on with --from ", first_after(refused), err)?;
-    err.write_all(b"\n")
-}
-
-/// Writes a text and a time, if there is a time.
-fn write_time<E: Write>(mark: &str, time: Option<u64>, err: &mut E) -> std::io::Result<()> {
-    match time {
-        Some(time) => write!(err, "{mark}{time}"),
-        None => Ok(()),
+    match (own, last) {
+        (Some(at), _) => write!(err, " at {at}")?,
+        (None, Some(at)) => write!(err, " after {at}")?,
+        (None, None) => {}
     }
+    write!(err, ": {fault}; found \"{}\"", found_in(fields))?;
+    if let Some(first) = first_after(own, last) {
+        write!(err, "; go on with --from {first}")?;
+    }
+    err.write_all(b"\n")
 }
 
 /// The first microsecond after a record that is refused, and after all rows before it, where it
 /// tells its time and one of 15 digits comes after it.
-fn first_after(refused: &Refused) -> Option<u64> {
-    let own = refused.own?;
-    let first = own.max(refused.last.unwrap_or(0)).saturating_add(1);
+fn first_after(own: Option<u64>, last: Option<u64>) -> Option<u64> {
+    let first = own?.max(last.unwrap_or(0)).saturating_add(1);
     if first < TIMES { Some(first) } else { None }
 }
 
@@ -148,7 +75,7 @@ fn text_of_cause(cause: ReadCause) -> &'static str {
 }
 
 /// Writes one line on a fault of an analyser's table, as [`complain`] does.
-fn complain_of_table<R: Read + Drop, E: Write>(
+pub(crate) fn complain_of_table<R: Read + Drop, E: Write>(
     fault: SaleaeFault,
     records: &Records<R>,
     err: &mut E,
@@ -166,7 +93,7 @@ fn complain_of_table<R: Read + Drop, E: Write>(
 
 /// Writes one line on a fault of a table of edges, as [`complain`] does. At a record that is
 /// refused by itself it adds the likely cause.
-fn complain_of_edges<R: Read + Drop, E: Write>(
+pub(crate) fn complain_of_edges<R: Read + Drop, E: Write>(
     options: &EdgesOptions,
     fault: EdgesFault,
     records: &Records<R>,
@@ -185,6 +112,12 @@ fn complain_of_edges<R: Read + Drop, E: Write>(
             complain_of(&fault, None, "", err);
         }
     }
+}
+
+/// Writes one line on a fault that says all itself, and answers that this is no import.
+pub(crate) fn say_fault<D: Display, E: Write>(fault: &D, err: &mut E) -> bool {
+    complain_of(fault, None, "", err);
+    false
 }
 
 /// Writes one line: the fault, the fields of the record that is refused for it, and a hint. Without

@@ -11,6 +11,7 @@ SYNOPSIS
         mdbimport saleae < CSV > ROWS
         mdbimport edges < CSV > ROWS
         mdbimport vcd < DUMP > ROWS
+        mdbimport messages < LOG > ROWS
         mdbimport manual [COMMAND]
 
 DESCRIPTION
@@ -131,6 +132,32 @@ VCD
     --skip-damaged   As with sigrok.
     --from T, --until T
                      A part of the dump. T is a time in the microseconds of
+                     the rows, and both ends belong to the part.
+
+";
+
+/// `messages`.
+pub const MESSAGES: &str = "\
+MESSAGES
+        mdbimport messages [--unit s|ms|us|ns] [--controller NAME]
+            [--peripheral NAME] [--time-of first|last] [--from T]
+            [--until T] < LOG > ROWS
+
+    Imports the text log of a sniffer, with one message a line: a time, who
+    spoke, and the words, as bytes of two hexadecimal digits or words of
+    three. messages.md has its form. The times of the words in a message are
+    made up, so rules about times say nothing about such a recording.
+
+    --unit s|ms|us|ns
+                     The unit of the times. Only times of day need none.
+    --controller NAME, --peripheral NAME
+                     What the log calls the two sides, besides M and S. A
+                     name may have its arrow: --controller 'VMC ->'.
+    --time-of first|last
+                     Whether a line has the time of the message's first word
+                     or of its last: of its first if this isn't given.
+    --from T, --until T
+                     A part of the log. T is a time in the microseconds of
                      the rows, and both ends belong to the part.
 
 ";

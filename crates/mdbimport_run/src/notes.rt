@@ -1,96 +1,60 @@
 //! What standard error is told of an import that has its rows.
 
 use mdb_exports::{Imported, Place, Places};
-use mdb_levels::LevelsImported;
-use mdb_sigrok::SigrokRows;
+use mdb_import_records::MessagesImported;
 use mdb_words::Line;
 use std::io::Write;
 
 /// What the recorder's user should know about the imported rows.
 #[derive(Clone, Copy)]
 pub(crate) struct Notes<'a> {
-    // Whether an optional header was passed over.
-    header: bool,
-    // How many rows stand before and after the part, and how many records outside it are no rows.
-    before: u64,
-    after: u64,
-    passed: u64,
-    // The pulses that were passed over, if levels were read, and the damaged words that were left
-    // out.
-    pulses: Option<&'a Places>,
-    damaged: &'a Places,
-    // Whether either line has a word, and whether a word is marked.
-    controller: bool,
-    peripheral: bool,
-    marked: bool,
+    // What is told of an optional header that was passed over; nothing if none was.
+    header: &'static str,
+    // What every import reports.
+    imported: &'a Imported,
+    // How many messages were moved, and by how much at most, if a log was read.
+    moved: Option<(u64, u64)>,
 }
 
 impl<'a> Notes<'a> {
     /// The notes on rows in another form.
     pub(crate) fn of_rows(imported: &'a Imported) -> Notes<'a> {
-        Notes {
-            header: imported.header,
-            passed: imported.passed,
-            ..Notes::of_table(imported)
+        let mut notes = Notes::of(imported);
+        if imported.header {
+            notes.header = "the first record is taken for a header";
         }
+        notes
     }
 
-    /// The notes on the table of an analyser: its header must be there, and no record is passed
-    /// over.
-    pub(crate) fn of_table(imported: &'a Imported) -> Notes<'a> {
-        Notes {
-            header: false,
-            before: imported.before,
-            after: imported.after,
-            passed: 0,
-            pulses: None,
-            damaged: &imported.damaged,
-            controller: imported.controller,
-            peripheral: imported.peripheral,
-            marked: imported.marked,
+    /// The notes on a log.
+    pub(crate) fn of_messages(log: &'a MessagesImported) -> Notes<'a> {
+        let mut notes = Notes::of(&log.imported);
+        if log.imported.header {
+            notes.header = "the first line is taken for a header";
         }
+        notes.moved = Some((log.moved, log.most));
+        notes
     }
 
-    /// The notes on a trace.
-    pub(crate) fn of_trace(rows: &'a SigrokRows) -> Notes<'a> {
+    /// The notes on any other export: where it has a header, that must be there.
+    pub(crate) fn of(imported: &'a Imported) -> Notes<'a> {
         Notes {
-            header: false,
-            before: rows.before,
-            after: rows.after,
-            passed: 0,
-            pulses: Some(&rows.pulses),
-            damaged: &rows.damaged,
-            controller: rows.controller,
-            peripheral: rows.peripheral,
-            marked: rows.marked,
-        }
-    }
-
-    /// The notes on levels.
-    pub(crate) fn of_levels(imported: &'a LevelsImported) -> Notes<'a> {
-        Notes {
-            header: false,
-            before: imported.before,
-            after: imported.after,
-            passed: 0,
-            pulses: Some(&imported.pulses),
-            damaged: &imported.damaged,
-            controller: imported.controller,
-            peripheral: imported.peripheral,
-            marked: imported.marked,
+            header: "",
+            imported,
+            moved: None,
         }
     }
 
     /// Writes a line for each note: a header that was passed over, rows, pulses and damaged words
     /// that were left out, and the likely cause if no word is marked or a line has no word.
     pub(crate) fn tell<E: Write>(self, err: &mut E) {
-        let Notes {
+        let Imported {
             before,
             after,
             passed,
             ..
-        } = self;
-        say(self.text_on_header(), err);
+        } = *self.imported;
+        say(self.header, err);
         if before > 0 || after > 0 {
             let _ = writeln!(
                 err,
@@ -104,26 +68,18 @@ impl<'a> Notes<'a> {
                 or not in order"
             );
         }
-        if let Some(pulses) = self.pulses {
-            let _ = tell_pulses(pulses, err);
+        if let Some((moved, most)) = self.moved {
+            let _ = tell_moved(moved, most, err);
         }
-        let _ = tell_damaged(self.damaged, err);
+        let _ = tell_pulses(&self.imported.pulses, err);
+        let _ = tell_damaged(&self.imported.damaged, err);
         say(self.text_on_lines(), err);
         say(self.text_on_marks(), err);
     }
 
-    /// The note on a header that was passed over.
-    fn text_on_header(self) -> &'static str {
-        if self.header {
-            "the first record is taken for a header"
-        } else {
-            ""
-        }
-    }
-
     /// The note on a line without a word.
     fn text_on_lines(self) -> &'static str {
-        match (self.controller, self.peripheral) {
+        match (self.imported.controller, self.imported.peripheral) {
             (false, false) => "there is no word on either line",
             (true, false) =>
                 "no word of a peripheral (S): was only the controller's line recorded?",
@@ -136,7 +92,7 @@ impl<'a> Notes<'a> {
 
     /// The note on a recording without a marked word.
     fn text_on_marks(self) -> &'static str {
-        if !self.marked && (self.controller || self.peripheral) {
+        if !self.imported.marked && (self.imported.controller || self.imported.peripheral) {
             "no word has its mode bit set: was it recorded with 8 bits and not 9?"
         } else {
             ""
@@ -148,6 +104,22 @@ impl<'a> Notes<'a> {
 pub(crate) fn say<E: Write>(text: &str, err: &mut E) {
     if !text.is_empty() {
         let _ = writeln!(err, "mdbimport: {text}");
+    }
+}
+
+/// Writes the line on the times of a log: how many messages were moved, by how much at most.
+fn tell_moved<E: Write>(moved: u64, most: u64, err: &mut E) -> std::io::Result<()> {
+    err.write_all(
+        b"mdbimport: each message has one time: the times of its words are made up, \
+and rules about times say nothing here; ",
+    )?;
+    match moved {
+        0 => writeln!(err, "moved no message"),
+        1 => writeln!(err, "moved 1 message, by {most} microseconds"),
+        _ => writeln!(
+            err,
+            "moved {moved} messages, by at most {most} microseconds"
+        ),
     }
 }
 

@@ -1,37 +1,32 @@
 //! The lines on a command line that is refused.
 
-ghost use Rattle.mdbimport_run.specs.Program.{IsTextWritten, left_by};
-
 use super::command_line::{
-    BREAK, COMMAND, CONTROLLER, FROM, PERIPHERAL, PROGRAM, UNIT, UNTIL, is_line_name, read_words,
+    BREAK, COMMAND, CONTROLLER, FROM, PERIPHERAL, PROGRAM, TIME_OF, UNIT, UNTIL,
 };
 use super::refusal::{Refusal, ValueFault};
+use super::task::is_line_name;
 use clap::error::ErrorKind;
-use command_words::{Line, Named, Program, line_on_refused, row_of};
+use command_words::{Line, Named, Program, line_on_refused, read, row_of};
 use mdb_exports::write_refusal;
 use mdb_words::Time;
-use mdb_writing::WriteFailed;
 use std::alloc::Global;
 use std::io::Write;
 
-/// Ends the output of words that are refused, so that no checker takes it. Words that ask for help
-/// or for the version write nothing.
-pub(crate) fn end_refused<W: Write>(refusal: Refusal, out: &mut W) -> Result<(), WriteFailed>
-    ensures { IsTextWritten (left_by refusal) (W.contents out.old) (W.contents out.new) result }
-{
-    match refusal {
-        Refusal::Words(ErrorKind::DisplayHelp | ErrorKind::DisplayVersion) => Ok(()),
-        _ => write_refusal(out),
-    }
-}
-
-/// Writes the line on words that are refused.
-pub(crate) fn tell_refusal<E: Write>(
+/// Ends the output of words that are refused, so that no checker takes it, and writes the line on
+/// them. Words that ask for help or for the version write nothing but that line.
+pub(crate) fn refuse<W: Write, E: Write>(
     alloc: Global,
     refusal: Refusal,
     words: &[String],
+    out: &mut W,
     err: &mut E,
 ) {
+    match refusal {
+        Refusal::Words(ErrorKind::DisplayHelp | ErrorKind::DisplayVersion) => {}
+        _ => {
+            let _ = write_refusal(out);
+        }
+    }
     line_on(alloc, &PROGRAM, refusal, words).tell(err);
 }
 
@@ -42,7 +37,7 @@ fn line_on(alloc: Global, program: &Program<'_>, refusal: Refusal, words: &[Stri
         line.add(&[": out of memory"]);
         return line;
     }
-    match read_words(alloc, words) {
+    match read(alloc, program, words) {
         Ok(found) => line_on_values(program, refusal, words, &found),
         Err(error) => line_on_refused(alloc, program, words, &error),
     }
@@ -68,13 +63,12 @@ fn line_on_values(
         Refusal::Value(ValueFault::Unit) => {
             add_value(&mut line, found, UNIT, "\" isn't s, ms, us or ns");
         }
+        Refusal::Value(ValueFault::TimeOf) => {
+            add_value(&mut line, found, TIME_OF, "\" isn't first or last");
+        }
         Refusal::Value(ValueFault::Length) => {
-            add_value(
-                &mut line,
-                found,
-                BREAK,
-                "\" isn't microseconds below 1000000000",
-            );
+            let reason = "\" isn't microseconds below 1000000000";
+            add_value(&mut line, found, BREAK, reason);
         }
         Refusal::Value(ValueFault::Name) => add_name(&mut line, found),
         Refusal::Value(ValueFault::Time) => add_time(&mut line, found),
@@ -85,10 +79,7 @@ fn line_on_values(
 
 /// The value of an option, if it has one.
 fn value_of<'a>(found: &Named<'a>, option: &str) -> Option<&'a str> {
-    match found.value(option) {
-        Ok(value) => value,
-        Err(_) => None,
-    }
+    found.value(option).unwrap_or(None)
 }
 
 /// Adds an option, its value, and why the value is refused.
@@ -99,7 +90,7 @@ fn add_value(line: &mut Line, found: &Named<'_>, option: &str, reason: &str) {
 
 /// Adds the first option that stands twice.
 fn add_option(line: &mut Line, kind: ErrorKind, found: &Named<'_>) {
-    for option in [UNIT, CONTROLLER, PERIPHERAL, BREAK, FROM, UNTIL] {
+    for option in [UNIT, TIME_OF, CONTROLLER, PERIPHERAL, BREAK, FROM, UNTIL] {
         if found.value(option).is_err() {
             line.add(&["--", option, " stands twice"]);
             return;

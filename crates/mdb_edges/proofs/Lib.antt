@@ -1,9 +1,0 @@
-pub mod Parts
-pub mod Stops
-pub mod Headers
-pub mod Records
-pub mod Tables
-pub mod Faults
-pub mod Refusals
-pub mod OneTable
-pub mod ReadBack

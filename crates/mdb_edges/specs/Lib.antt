@@ -1,4 +1,0 @@
-pub mod Faults
-pub mod Import
-pub mod Table
-pub mod inner

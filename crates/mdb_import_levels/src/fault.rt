@@ -1,0 +1,116 @@
+//! What is wrong with the levels of a line, and other reasons for which there are no rows.
+
+use mdb_words::Line;
+use mdb_writing::WriteFailed;
+use std::alloc::{AllocError, AllocFailed};
+use std::fmt;
+use thiserror::Error;
+
+/// A line of the bus, in a fault.
+#[derive(Clone, Copy, PartialEq, Eq, Debug, Error)]
+pub enum Wire {
+    /// The controller's line.
+    #[error("line M")]
+    Controller,
+    /// The peripherals' line.
+    #[error("line S")]
+    Peripheral,
+}
+
+impl From<Line> for Wire {
+    fn from(line: Line) -> Wire {
+        match line {
+            Line::Controller => Wire::Controller,
+            Line::Peripheral => Wire::Peripheral,
+        }
+    }
+}
+
+/// What is wrong with the levels of a line, where nothing damaged is left out.
+#[derive(Clone, Copy, PartialEq, Eq, Debug)]
+pub enum LineFault {
+    /// The line is low at the middle of a stop bit, and it isn't low for 100 milliseconds from the
+    /// start bit on.
+    Framing,
+    /// A break on the line of the peripherals.
+    DeviceBreak,
+    /// A break of more than 999,999,999 microseconds.
+    LongBreak,
+    /// The line is low at the end of the export.
+    Cut,
+}
+
+impl LineFault {
+    /// What is told of it.
+    fn text(self) -> &'static str {
+        match self {
+            LineFault::Framing => {
+                "wanted a high stop bit, or a break of 100 ms or more, and the stop bit is low; \
+                 --skip-damaged leaves out what is damaged"
+            }
+            LineFault::DeviceBreak => {
+                "wanted words alone on the line of the peripherals, and it is low for a break; \
+                 --skip-damaged leaves out what is damaged"
+            }
+            LineFault::LongBreak => {
+                "wanted a break of at most 999999999 microseconds, and it is longer; \
+                 --skip-damaged leaves out what is damaged"
+            }
+            LineFault::Cut => {
+                "wanted a line that is high at the end of the export, and it is low; \
+                 --skip-damaged leaves out what is damaged"
+            }
+        }
+    }
+}
+
+impl fmt::Display for LineFault {
+    fn fmt<W: fmt::Write>(&self, f: &mut fmt::Formatter<W>) -> fmt::Result {
+        f.write_str(self.text())
+    }
+}
+
+impl std::error::Error for LineFault {}
+
+/// Why both lines take no more.
+#[derive(Clone, Copy)]
+pub(crate) enum LevelsFault {
+    /// The levels of a line are no words and breaks.
+    Line {
+        /// Of which line.
+        line: Line,
+        /// When the faulty word or break began, in whole microseconds.
+        micros: u64,
+        /// What is wrong.
+        fault: LineFault,
+    },
+    /// Memory was refused.
+    Memory,
+}
+
+impl<T: Drop> From<AllocFailed<T>> for LevelsFault {
+    fn from(_failed: AllocFailed<T>) -> LevelsFault {
+        LevelsFault::Memory
+    }
+}
+
+/// Why rows can't be written.
+#[derive(Clone, Copy)]
+pub(crate) enum Failure {
+    /// The writer failed.
+    Write,
+    /// Memory was refused.
+    Memory,
+}
+
+impl From<AllocError> for Failure {
+    fn from(_refused: AllocError) -> Failure {
+        Failure::Memory
+    }
+}
+
+impl From<WriteFailed> for Failure {
+    fn from(_failed: WriteFailed) -> Failure {
+        Failure::Write
+    }
+}

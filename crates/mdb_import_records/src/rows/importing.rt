@@ -1,0 +1,117 @@
+//! The import of rows.
+
+use super::fault::ImportFault;
+use super::options::RowsOptions;
+use super::record::{event_in, is_header, join, time_in};
+use crate::frame::{Format, Rows, import};
+use mdb_exports::{Imported, Part, RecordFault, Side, expect_after};
+use mdb_records::Records;
+use mdb_words::Event;
+use std::alloc::Global;
+use std::io::{Read, Write};
+
+/// Imports the records that are still to come, and writes their rows as it reads.
+///
+/// Those of an export are what [`mdb_exports::records_of`] answers for its reader.
+///
+/// # Errors
+///
+/// `BadRecord` for the first record that is neither a row after the one before it nor, as the first
+/// of all, a header: then the rows of all records before it were written. A record whose own time
+/// is outside the part that is asked for is passed over in place of that. `Read` where the reader
+/// failed and `Memory` where memory was refused: then those of some first records were. After these
+/// rows comes a line that is no row, so that no checker takes them for a whole recording. `Write`
+/// where the writer failed: then it took a front of what is written where it doesn't fail.
+pub fn import_records<R: Read + Drop, W: Write>(
+    alloc: Global,
+    options: &RowsOptions,
+    records: &mut Records<R>,
+    writer: &mut W,
+) -> Result<Imported, ImportFault> {
+    let part = Part {
+        from: options.from,
+        until: options.until,
+    };
+    let mut reading = Reading {
+        options,
+        last: None,
+        line: Vec::new(alloc),
+    };
+    import(part, records, &mut reading, writer)
+}
+
+/// How far the records are read.
+#[derive(Drop)]
+struct Reading<'a> {
+    options: &'a RowsOptions,
+    // When the last row started that isn't after the part.
+    last: Option<u64>,
+    // The text of a record, whose memory the next one uses again.
+    line: Vec<u8>,
+}
+
+impl Reading<'_> {
+    /// The event of the record of a number, nothing where it is a header, or what is wrong with it.
+    fn event(&self, number: u64) -> Result<Option<Event>, RecordFault> {
+        let line = self.line.as_slice();
+        match event_in(self.options, line) {
+            Ok(event) => {
+                expect_after(self.last, &event)?;
+                Ok(Some(event))
+            }
+            Err(_) if number == 1 && is_header(self.options, line) => Ok(None),
+            Err(fault) => Err(fault),
+        }
+    }
+
+    /// Passes over the record of a number, if its own time is outside the part, else refuses it for
+    /// this.
+    fn pass(&self, number: u64, fault: RecordFault, rows: &mut Rows) -> Result<(), ImportFault> {
+        let own = time_in(self.options, self.line.as_slice());
+        if own.is_some_and(|at| rows.part.side_of(at) != Side::Within) {
+            rows.tally.passed = rows.tally.passed.saturating_add(1);
+            return Ok(());
+        }
+        Err(ImportFault::BadRecord {
+            number,
+            own,
+            last: self.last,
+            fault,
+        })
+    }
+}
+
+impl<R: Read + Drop> Format<Records<R>> for Reading<'_> {
+    type Fault = ImportFault;
+
+    fn take<W: Write>(
+        &mut self,
+        number: u64,
+        records: &Records<R>,
+        rows: &mut Rows,
+        writer: &mut W,
+    ) -> Result<(), ImportFault> {
+        if join(&records.row(), &mut self.line).is_err() {
+            return Err(ImportFault::Memory);
+        }
+        match self.event(number) {
+            Ok(Some(event)) => {
+                let at = event.start().value();
+                if rows.part.side_of(at) != Side::After {
+                    self.last = Some(at);
+                }
+                rows.add(&event, writer)?;
+                Ok(())
+            }
+            Ok(None) => {
+                rows.tally.header = true;
+                Ok(())
+            }
+            Err(fault) => self.pass(number, fault, rows),
+        }
+    }
+
+    fn end(&self) -> Result<(), ImportFault> {
+        Ok(())
+    }
+}

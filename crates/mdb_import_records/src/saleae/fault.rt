@@ -1,0 +1,185 @@
+//! Why a table isn't imported.
+
+use super::columns::Column;
+use mdb_exports::RecordFault;
+use mdb_records::ReadFault;
+use mdb_writing::WriteFailed;
+use std::fmt;
+use thiserror::Error;
+
+/// What is wrong with a header.
+#[derive(Clone, Copy, PartialEq, Eq, Debug, Error)]
+pub enum HeaderFault {
+    /// A column that must be there is missing.
+    #[error("wanted a column {column}")]
+    Missing {
+        /// The column.
+        column: Column,
+    },
+    /// A column is there twice.
+    #[error("wanted one column {column}, and there are more")]
+    Twice {
+        /// The column.
+        column: Column,
+    },
+}
+
+/// What is wrong with a record.
+#[derive(Clone, Copy, PartialEq, Eq, Debug)]
+pub enum RowFault {
+    /// It has more fields than the header, or fewer.
+    FieldCount,
+    /// Its time is before the time zero.
+    NegativeTime,
+    /// Its time is no number.
+    BadTime,
+    /// Its time has more than 15 digits of microseconds.
+    LongTime,
+    /// It is of another kind than `data`.
+    BadKind,
+    /// Its analyser is none of the two.
+    BadName,
+    /// A parity is wrong, which nine bits don't have.
+    Parity,
+    /// Its error is unknown.
+    BadError,
+    /// Its column for the mode bit shows neither that the bit is set nor that it isn't.
+    BadAddress,
+    /// Its data aren't hexadecimal digits.
+    NoHex,
+    /// Its data have more than nine bits, or more than eight where the mode bit stands elsewhere.
+    LongData,
+    /// A peripheral's word has no stop bit.
+    PeripheralFraming,
+    /// A word has no stop bit, and isn't 0.
+    Framing,
+    /// A break, and its length wasn't given.
+    NoLength,
+    /// It is at the same microsecond as the row before it.
+    SameTime,
+    /// It is earlier than the row before it.
+    EarlierTime,
+}
+
+impl RowFault {
+    /// What is told of it.
+    fn text(self) -> &'static str {
+        match self {
+            RowFault::FieldCount => "wanted as many fields as the header has",
+            RowFault::NegativeTime => {
+                "wanted no negative time: set the time zero to the start of the capture"
+            }
+            RowFault::BadTime => {
+                "wanted a time in seconds: up to 15 digits, perhaps with decimals after a point"
+            }
+            RowFault::LongTime => "wanted a time of at most 15 digits of microseconds",
+            RowFault::BadKind => "wanted the type data, which a word has",
+            RowFault::BadName => {
+                "wanted M or S as the analyser, or a name given by --controller or --peripheral"
+            }
+            RowFault::Parity => {
+                "wanted no parity error: set the analyser to nine bits with no parity bit"
+            }
+            RowFault::BadError => "wanted no error, or the error framing",
+            RowFault::BadAddress => "wanted true or false as the address, or nothing",
+            RowFault::NoHex => {
+                "wanted data as 0x and 1 to 4 hexadecimal digits: export them as hexadecimal"
+            }
+            RowFault::LongData => {
+                "wanted data of at most 0x1FF, and of at most 0xFF beside a column address"
+            }
+            RowFault::PeripheralFraming => {
+                "wanted a stop bit: only the controller sends a break; \
+                 --skip-damaged leaves out what is damaged"
+            }
+            RowFault::Framing => {
+                "wanted a stop bit: a word that isn't 0 is no break; \
+                 --skip-damaged leaves out what is damaged"
+            }
+            RowFault::NoLength => {
+                "the table doesn't tell how long the break is: give --break MICROSECONDS"
+            }
+            RowFault::SameTime => {
+                "wanted a time after that of the row before it, and it is the same"
+            }
+            RowFault::EarlierTime => {
+                "wanted a later time than the row before it: sort the table by the start time"
+            }
+        }
+    }
+}
+
+impl fmt::Display for RowFault {
+    fn fmt<W: fmt::Write>(&self, f: &mut fmt::Formatter<W>) -> fmt::Result {
+        f.write_str(self.text())
+    }
+}
+
+impl std::error::Error for RowFault {}
+
+impl From<RecordFault> for RowFault {
+    fn from(fault: RecordFault) -> RowFault {
+        match fault {
+            RecordFault::LongTime => RowFault::LongTime,
+            RecordFault::SameTime => RowFault::SameTime,
+            RecordFault::EarlierTime => RowFault::EarlierTime,
+            _ => RowFault::BadTime,
+        }
+    }
+}
+
+/// Why there is no import, or only that of the rows before.
+#[derive(Clone, Copy, PartialEq, Eq, Debug, Error)]
+pub enum SaleaeFault {
+    /// There is no record at all.
+    #[error("record 1: wanted a header with the names of the columns, and the table is empty")]
+    NoHeader,
+    /// The first record isn't a header of the expected form.
+    #[error("record 1: {fault}")]
+    BadHeader {
+        /// What is wrong with it.
+        fault: HeaderFault,
+    },
+    /// A record is no row, and its time isn't known.
+    #[error("record {number}: {fault}")]
+    BadRecord {
+        /// The record's number, from 1; the header is the first.
+        number: u64,
+        /// What is wrong with it.
+        fault: RowFault,
+    },
+    /// A record with a time is no row, or can't come at this place.
+    #[error("record {number} at {at}: {fault}")]
+    BadRow {
+        /// The record's number, from 1; the header is the first.
+        number: u64,
+        /// Its time in microseconds.
+        at: u64,
+        /// What is wrong with it.
+        fault: RowFault,
+    },
+    /// The reader failed.
+    #[error("the input can't be read")]
+    Read,
+    /// The writer failed.
+    #[error("the output can't be written")]
+    Write,
+    /// Memory was refused.
+    #[error("out of memory")]
+    Memory,
+}
+
+impl From<ReadFault> for SaleaeFault {
+    fn from(fault: ReadFault) -> SaleaeFault {
+        match fault {
+            ReadFault::Read => SaleaeFault::Read,
+            ReadFault::Memory => SaleaeFault::Memory,
+        }
+    }
+}
+
+impl From<WriteFailed> for SaleaeFault {
+    fn from(_: WriteFailed) -> SaleaeFault {
+        SaleaeFault::Write
+    }
+}

@@ -1,9 +1,0 @@
-pub mod Cells
-pub mod Columns
-pub mod Imports
-pub mod Frames
-pub mod Refusals
-pub mod Rows
-pub mod Seconds
-pub mod Values
-pub mod inner

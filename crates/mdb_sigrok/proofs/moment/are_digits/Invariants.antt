@@ -1,6 +1,0 @@
-use Rattle.std.proofs.Common.{take}
-use Rattle.std.specs.Str.Parse.{AllDigits}
-use Rattle.mdb_sigrok.proofs.moment.are_digits.Given as goal
-
-abbrev pub invariant-loop-byte : goal.invariant-loop-byte
-invariant-loop-byte l = AllDigits 10 (take l.byte-index l.text)

@@ -1,4 +1,0 @@
-pub mod CommandLine
-pub mod Values
-pub mod Status
-pub mod ReadBack
