@@ -97,6 +97,17 @@ function isAfterDamage(it) {
   return Boolean(damaged && line) && damaged.first[0].time < Number(shown(line).split(",")[0]);
 }
 
+// What a card says of a sniffer's log.
+const madeTimesNote = (it) => hasMadeTimes(it.file) ? [h("p", {id: "made-times"}, MADE_TIMES)] : [];
+
+// The rules about times, which say nothing about a recording whose times are made up.
+const TIME_RULES = ["Early", "Late", "Spacing", "Break"];
+const isOfMadeTimes = (it) => hasMadeTimes(it.file) && TIME_RULES.includes(it.report.rule);
+const storyOfMadeTimes = (it) =>
+    [...storyOf(it).filter(({kind}) => kind !== "next"),
+     nextStep("See the survey of the whole recording: it goes on after this row."),
+     nextStep("To judge times, record the lines themselves.")];
+
 // The story of a row that perhaps cannot be because a word is missing before it.
 const storyAfterDamage = (it) =>
     [...storyOf(it).filter(({kind}) => kind !== "next"),
@@ -132,6 +143,7 @@ const profileButton = (isWide) =>
 // Fills the card by the answer. Where something isn't followed, it says by which profile.
 function showVerdict(it) {
   showAnswer(it);
+  by("lead").after(...madeTimesNote(it));
   const note = profileNote(it);
   if (note) by("verdict").prepend(note);
 }
@@ -224,7 +236,8 @@ function openSetups() {
 
 function showNo(it) {
   const r = it.report, none = noTraffic(it), isExchanged = !none && isPerhapsExchanged(it);
-  const isLate = !none && isPerhapsLate(it) && !isExchanged, isFile = none || isFileLikely(it) || isAfterDamage(it);
+  const isLate = !none && isPerhapsLate(it) && !isExchanged, isTimes = !none && isOfMadeTimes(it);
+  const isFile = none || isFileLikely(it) || isAfterDamage(it) || isTimes;
   const lead = isLate ? h("strong", {}, "Was the machine already running when the recording began?") :
       none            ? noTrafficLead(none) :
       isFile          ? fileLead(it) :
@@ -233,11 +246,13 @@ function showNo(it) {
       "no",
       none            ? NO_TRAFFIC :
           isExchanged ? "Most likely lines M and S are exchanged" :
+          isTimes     ? "A rule about times, and these times are made up" :
                         headOf(it),
       lead, leftOut(it), isLate ? [lateNotes(it), h("p", {}, "If the recording does begin at power-on:")] : null,
       openPart(it),
       storyList(
           none                  ? noTrafficStory(it) :
+              isTimes           ? storyOfMadeTimes(it) :
               isAfterDamage(it) ? storyAfterDamage(it) :
                                   withOpen(it, storyOf(it)),
           isLate ? "What to do next, in that case" : undefined),
@@ -258,6 +273,7 @@ const noTrafficLead = ({bad, all}) => `${number(bad)} of the ${number(all)} mess
 
 // What comes first where the file, rather than a device, is likely to be the reason.
 function fileLead(it) {
+  if (isOfMadeTimes(it)) return "This says nothing about the machine, and blames nobody.";
   if (isAfterDamage(it)) return "A damaged word was left out before it.";
   return it.report.blame === "other" ? "Check the recording first." :
                                        "It is at the beginning of the recording. Check the recording first.";

@@ -52,6 +52,7 @@ const IMPORTS = {
   rows: RowsImport,
   saleae: SaleaeImport,
   edges: EdgesImport,
+  messages: MessagesImport,
   sigrok: SigrokImport,
   vcd: VcdImport
 };
@@ -78,12 +79,12 @@ function newImport(format, options, give, each = null) {
   return answers;
 }
 
-// Calls `each` with each record that a row was made of.
+// Calls `each` for each row with the record, or the line, that it was made of.
 function watch(made, each) {
   const {records, part} = made, take = records.each;
   records.each = (record) => {
     const before = part.rows, goesOn = take(record);
-    if (part.rows > before) each(record);
+    for (let row = before; row < part.rows; row++) each(record);
     return goesOn;
   };
 }
@@ -116,10 +117,11 @@ const LINE_LETTERS = ["M", "m", "S", "s", "B", "b"];
 const isTime = (words) => /^[0-9]{1,15}$/.test(words);
 
 // What mdbimport says of options that it refuses, or null. All are words, as they stand in fields.
-function optionsFault({unit, controller, peripheral, from, until, length}) {
+function optionsFault({unit, controller, peripheral, from, until, length, timeOf: which}) {
   const isGiven = (words) => words !== undefined && words !== null;
   const wrong = (option, words, why) => `--${option} "${wordExcerpt(words)}" ${why}`;
   if (isGiven(unit) && !(unit in UNITS)) return wrong("unit", unit, "isn't s, ms, us or ns");
+  if (isGiven(which) && which !== "first" && which !== "last") return wrong("time-of", which, "isn't first or last");
   for (const [option, name] of Object.entries({controller, peripheral}))
     if (name === "" || LINE_LETTERS.includes(name)) return wrong(option, name, "can't name a line");
   if (isGiven(controller) && controller === peripheral) return "--controller and --peripheral have one name";

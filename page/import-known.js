@@ -129,12 +129,63 @@ function isEdges([header, ...rest]) {
 
 const SIGROK_TEXT = /^(\d+-\d+ )?uart-\d+: /;
 
+// What may stand in a line of a sniffer's log before, between and after its time, who spoke, and its words.
+const LOG_MARK = String.raw`(?:[ \t[\]()<>=:;,|"]|-(?![0-9A-Fa-f]))`;
+const LOG_TIME = String.raw`(\d{1,2}:\d{1,2}:\d{1,2}(?:[.,]\d{1,15})?|\d{1,15}(?:[.,]\d{1,15})?)`;
+const LOG_NAME = String.raw`((?:-?[<>]|[^\s\d.;,|:"()[\]=<>-])[^\t;,|]*?)`;
+const LOG_WORD = String.raw`(?:0[xX])?[0-9A-Fa-f]{2,}`;
+const LOG_WORDS = `(${LOG_MARK}+)(${LOG_WORD}(?:${LOG_MARK}+${LOG_WORD})*)${LOG_MARK}*$`;
+const TIME_FIRST = new RegExp(`^${LOG_MARK}*?${LOG_TIME}${LOG_MARK}+?${LOG_NAME}${LOG_WORDS}`);
+const NAME_FIRST = new RegExp(`^${LOG_MARK}*?${LOG_NAME}${LOG_MARK}+?${LOG_TIME}${LOG_WORDS}`);
+const LOG_ARROW = /[-=]*[<>]+[-=]*/, LOG_ENDS = new RegExp(`^${LOG_MARK}+|${LOG_MARK}+$`, "g");
+// A date is no part of a time: the import refuses it.
+const LOG_DATE = /^([ [("]*)\d{1,4}[-./]\d{1,2}[-./]\d{1,4}[ T]+(?=\d{1,2}:)/;
+const MOST_LETTERS = 600;
+
+// What a line of a log has, by its form: its time, who spoke, the same up to an arrow after it, and the digits of its
+// words; or null.
+function loggedIn(whole) {
+  if (whole.length > MOST_LETTERS) return null;
+  const line = whole.replace(LOG_DATE, "$1"), first = TIME_FIRST.exec(line), found = first ?? NAME_FIRST.exec(line);
+  if (!found) return null;
+  const [time, speaker] = first ? found.slice(1) : [found[2], found[1]], spoken = speaker + (first ? found[3] : "");
+  const bare = speaker.replace(LOG_ENDS, "").split(/[<>]/)[0].replace(LOG_ENDS, "");
+  const from = spoken.slice(spoken.indexOf(bare)), arrow = LOG_ARROW.exec(from), name = bare || arrow?.[0];
+  const runs = found[4].match(/[0-9A-Fa-f]{2,}/g);
+  if (!name || runs.some(({length}) => length % 2 && length % 3)) return null;
+  return {time, name, directed: bare && arrow ? from.slice(0, arrow.index + arrow[0].length) : name, runs};
+}
+
+// Whether a line of a log can be a row too: a time, a name and one word, with separators between them; or a break.
+function isRowLike(line) {
+  const separator = ["\t", ";", ","].find((it) => line.includes(it)) ?? "\n";
+  const parts = line.replace(LOG_DATE, "$1").split(separator).map((it) => it.replace(/^[ "]+|[ "]+$/g, ""));
+  return isNearly({parts}) && (/^[bB]$/.test(parts[1]) || /^(0[xX])?0?[01]?[0-9A-Fa-f]{1,2}$/.test(parts[2]));
+}
+
+// The lines of a log's front but for blank ones and comments, and whether it has comments that are no header of rows.
+// The last line may be cut where the text goes on.
+function logLines(bytes, isWhole, encoding) {
+  const all = new TextDecoder(encoding ?? "utf-8").decode(bytes).split(/\r\n|\r|\n/);
+  const lines = (isWhole ? all : all.slice(0, -1)).filter((it) => /[^ \t]/.test(it));
+  const isComment = (it) => /^[ \t]*#/.test(it);
+  return {lines: lines.filter((it) => !isComment(it)), hasComments: lines.slice(1).some(isComment)};
+}
+
+// Whether a text is a sniffer's log: most of its first lines are messages, and some of its lines can't be rows.
+function isLog(bytes, isWhole, encoding) {
+  const front = bytes.slice(0, 1 << 16), isAll = isWhole && front.length === bytes.length;
+  const {lines, hasComments} = logLines(front, isAll, encoding), isHeaded = lines.length > 0 && !/\d/.test(lines[0]);
+  const body = lines.slice(isHeaded ? 1 : 0, 40), isOther = (it) => loggedIn(it) && !isRowLike(it);
+  return mostly(body, loggedIn) && (hasComments || body.filter(isOther).length * 8 >= body.length);
+}
+
 // A text that is no table, by its first record and its letters; or null.
 function knownText(first, text) {
   if (text.startsWith(TRACE_HEAD)) return {kind: "sigrok"};
   if (/^\s*\$[a-z]\S*\s[^]*\$end\b/.test(text)) return {kind: "vcd"};
   if (SIGROK_TEXT.test(text)) return other("the text of sigrok-cli, which has no times", DUMP_COMMAND);
-  if (/^\s*[{[]/.test(text)) return other("JSON, and no trace of sigrok-cli", DUMP_COMMAND);
+  if (/^\s*(\{|\[\s*[[{"])/.test(text)) return other("JSON, and no trace of sigrok-cli", DUMP_COMMAND);
   if (/^\s*<(!doctype|html|\?xml)/i.test(text)) return other("a page of the Web or XML");
   return null;
 }
@@ -151,15 +202,16 @@ function known(bytes, size, end) {
   const front = frontRecords(bytes, isWhole, 30), {records, encoding, hasMark} = front;
   const rest = {encoding, hasMark};
   if (!records.length && isWhole && !isBinary(bytes)) return {kind: "ours", ...rest};
-  const isPlainText = !isUtf16(encoding) && mostly(records, isPlain);
+  const isMessages = isLog(bytes, isWhole, encoding);
+  const isPlainText = !isUtf16(encoding) && !isMessages && mostly(records, isPlain);
   if (isPlainText && !isTitles(records[0])) return {kind: needsRewriting(bytes) ? "quoted" : "ours", ...rest};
   if (isWide(bytes) && !isUtf16(encoding))
     return other("saved as UTF-16 without its byte order mark: save it as UTF-8");
   if (!isUtf16(encoding) && isBinary(bytes)) return other("no text, and no export that the page knows");
-  return {...knownTable(records, bytes, encoding), ...rest};
+  return {...knownTable(records, bytes, encoding, isMessages), ...rest};
 }
 
-function knownTable(records, bytes, encoding) {
+function knownTable(records, bytes, encoding, isMessages) {
   const text = decodedFront(bytes, encoding);
   const found = knownText(records[0], text);
   if (found) return found;
@@ -168,13 +220,14 @@ function knownTable(records, bytes, encoding) {
   const isAsWide = ({fields}) => fields.length === first.fields.length;
   if (isSaleae(first) && mostly(rest, isAsWide)) return {kind: "saleae"};
   if (isEdges(records)) return {kind: "edges"};
+  if (isMessages) return {kind: "messages"};
   if (mostly(isTitles(first) ? rest : records, isNearly)) return {kind: "rows"};
   return {kind: isSaleae(first) ? "saleae" : "unknown"};
 }
 
-// The letters of a text's front.
+// The letters of a text's front. Of many blanks before them one is left.
 function decodedFront(bytes, encoding) {
-  return new TextDecoder(encoding ?? "utf-8").decode(bytes.slice(0, 4096));
+  return new TextDecoder(encoding ?? "utf-8").decode(bytes).replace(/^\s+/, " ").slice(0, 4096);
 }
 
 // Whether a recording can't be read in place: it has quotes, or a CR alone ends its lines.
@@ -189,6 +242,7 @@ const LOOKED = 20000;
 // What an import's fields can be filled with, of a piece of a text: names, titles, and what is asked.
 function look(bytes, isWhole, kind) {
   if (kind === "vcd") return lookAtVcd(bytes);
+  if (kind === "messages") return lookAtMessages(bytes, isWhole);
   const {records} = frontRecords(bytes, isWhole, LOOKED), lines = records.slice(0, 3).map(({text}) => text);
   const made = {rows: lookAtRows, saleae: lookAtSaleae, edges: lookAtEdges}[kind];
   return {lines, ...made?.(records)};
@@ -237,6 +291,27 @@ function lookAtEdges([header, ...rest]) {
     names: namesIn(names.length > 1 ? names : titles),
     hasM: hasLetter(titles, "M"),
     hasS: hasLetter(titles, "S")
+  };
+}
+
+function lookAtMessages(bytes, isWhole) {
+  const {encoding} = frontRecords(bytes, isWhole, 1), {lines} = logLines(bytes, isWhole, encoding);
+  const found = lines.slice(0, LOOKED).map(loggedIn).filter(Boolean);
+  const speakers = found.map(({name}) => name), names = namesIn(speakers);
+  const isOne = names.length === 1 && !hasLetter(speakers, "M") && !hasLetter(speakers, "S");
+  const clear = found.flatMap(({runs}) => runs).find(({length}) => length % 6);
+  return {
+    lines: lines.slice(0, 3),
+    titles: lines.length && !/\d/.test(lines[0]) ? lines[0] : null,
+    // One name in both directions is told from itself by its arrows.
+    names: isOne ? namesIn(found.map(({directed}) => directed)) : names,
+    hasM: hasLetter(speakers, "M"),
+    hasS: hasLetter(speakers, "S"),
+    hasNumbers: found.some(({time}) => !time.includes(":")),
+    hasClocks: found.some(({time}) => time.includes(":")),
+    digits: !clear       ? 0 :
+        clear.length % 2 ? 3 :
+                           2
   };
 }
 

@@ -6,6 +6,7 @@ const FORMATS = {
   edges: "a table of edges",
   sigrok: "a trace of sigrok-cli",
   vcd: "a value change dump (VCD)",
+  messages: "a sniffer's log, one message a line",
 };
 const UNIT_WORDS = {
   s: "seconds",
@@ -19,11 +20,13 @@ const FORMAT_FIELDS = {
   edges: ["controller", "peripheral", "unit", "invert", "skip"],
   sigrok: ["swap", "skip"],
   vcd: ["controller", "peripheral", "invert", "skip"],
+  messages: ["unit", "controller", "peripheral", "timeOf"],
 };
 const PROGRAM_WORDS = {
   unit: "--unit",
   controller: "--controller",
   peripheral: "--peripheral",
+  timeOf: "--time-of",
   length: "--break",
   invert: "--invert",
   swap: "--swap",
@@ -262,7 +265,14 @@ const goWords = (it) => it.then === run ? "Import and check" : "Import and take 
 // What the page took for what.
 function tookList({format, look, found}) {
   const encoding = encodingWords(format, found);
-  const items = {rows: rowsTook, saleae: saleaeTook, edges: edgesTook, sigrok: sigrokTook, vcd: vcdTook}[format](look);
+  const items = {
+    rows: rowsTook,
+    saleae: saleaeTook,
+    edges: edgesTook,
+    sigrok: sigrokTook,
+    vcd: vcdTook,
+    messages: messagesTook
+  }[format](look);
   return h("ul", {id: "import-took"}, [...items, encoding].filter(Boolean).map((words) => h("li", {}, words)));
 }
 
@@ -309,6 +319,20 @@ function vcdTook() {
   ];
 }
 
+function messagesTook({titles, digits}) {
+  const words = digits === 3 ? "three hexadecimal digits, as they stand" :
+      digits === 2           ? "two hexadecimal digits, with the mode bits that the bus has" :
+                               "two or three hexadecimal digits";
+  return [
+    titles ? `The first line is taken for a header: ${shownName(titles)}.` : null,
+    `Each line is a message: when, who spoke, and its words of ${words}.`, MADE_TIMES
+  ];
+}
+
+// What it means that a log has one time for each message.
+const MADE_TIMES =
+    "A sniffer's log has one time for each message. The times of the words within it are made up, so rules about times say nothing about this recording.";
+
 // A title that names another unit than seconds.
 const OTHER_UNIT = /(^|[^a-z])(ms|µs|μs|us|ns)([^a-z]|$)/i;
 const labelled = (words, ...inner) => h("label", {}, words, ...inner);
@@ -316,7 +340,7 @@ const labelled = (words, ...inner) => h("label", {}, words, ...inner);
 function unitField({format, look}) {
   const isTold = format === "edges" && !OTHER_UNIT.test(look.timeTitle ?? ""),
         isAsked = format === "edges" || look.hasNumbers !== false;
-  const first = format === "rows" && !isAsked ? "none: times of day" : "choose";
+  const first = isAsked ? "choose" : "none: times of day";
   const options =
       Object.entries(UNIT_WORDS).map(([value,
                                        words]) => h("option", {value, selected: isTold && value === "s"}, words));
@@ -358,6 +382,10 @@ const FIELDS = {
   invert: checkField("invert", "The levels are upside down"),
   swap: checkField("swap", "RX is the controller's line"),
   skip: checkField("skip", "Leave damaged words out"),
+  timeOf: () => labelled(
+      "Each time is that of",
+      h("select", {id: "import-timeOf"}, h("option", {value: ""}, "the first word"),
+        h("option", {value: "last"}, "the last word"))),
 };
 
 // What stands in the fields, as the words of mdbimport's options.
@@ -383,6 +411,8 @@ function asksOf({format, look}, options) {
   if (format === "rows" && look.hasNumbers && !options.unit)
     asks.push(
         "Which unit do the times have? The words of one message follow each other after about a thousandth of a second.");
+  if (format === "messages" && look.hasNumbers && !options.unit)
+    asks.push("Which unit do the times have? Two messages are mostly some thousandths of a second apart.");
   if (format === "edges" && !options.unit) asks.push("Which unit do the times have?");
   if (isFree && !hasM && controller === undefined) asks.push("Which name is the controller's line (M)?");
   if (isFree && !hasS && peripheral === undefined) asks.push("Which name is the devices' line (S)?");
@@ -417,7 +447,7 @@ async function showFirstRows() {
   }
   const first = await it.importer.ask({work: "preview", format: it.format, options});
   if (it !== openImport || it.preview !== mine) return;
-  by("import-first").replaceChildren(...firstRows(first));
+  by("import-first").replaceChildren(...firstRows(first, it.format === "messages" ? "line" : "record"));
   it.isEarly = first.isEarly;
   if (it.answer || !first.refused) return;
   it.refusal = first;
@@ -443,9 +473,9 @@ function standing(it) {
   return `${what} The import is refused. The reason, and what can be done, stand above.${can}`;
 }
 
-function firstRows({first, records, refused, isWhole}) {
+function firstRows({first, records, refused, isWhole}, called) {
   const isOfRecords = records.length === first.length && first.length > 0;
-  const heads = isOfRecords ? [["record", "number"], ["in the file"], ["row"]] : [["row"]];
+  const heads = isOfRecords ? [[called, "number"], ["in the file"], ["row"]] : [["row"]];
   const cell = (words) => h("td", {}, h("code", {}, words));
   const lines = first.map(
       (row, i) => isOfRecords ?
@@ -500,6 +530,11 @@ const WAYS = {
   vcd: [
     "Export the dump again, to its end.", CUT_CAPTURE,
     "Or export the same capture as a table of edges (CSV), and choose that."
+  ],
+  messages: [
+    "If there is a date before the time, cut the dates off all lines. Then choose the log again.",
+    "Correct that line of the log, or delete it.",
+    "If times go back at that line, cut the log before it. Each piece is a recording of its own."
   ],
 };
 // mdbimport reads these as they stand.
@@ -589,7 +624,8 @@ async function importAll() {
       command: importCommand(it, options),
       damaged,
       notes,
-      hasClocks: Boolean(it.look.hasClocks)
+      hasClocks: Boolean(it.look.hasClocks),
+      hasMadeTimes: it.format === "messages"
     });
     if (!answer.refused) lastNames = {controller: options.controller, peripheral: options.peripheral};
     it.answer = answer;
@@ -678,7 +714,6 @@ async function importAndSave() {
     saveFile(answer.file);
 }
 
-
 function saveFile(file) {
   const url = URL.createObjectURL(file), link = h("a", {href: url, download: file.name});
   link.click();
@@ -718,6 +753,9 @@ function exchangedSource({damaged, isExchanged = false, ...rest}) {
   const first = damaged?.first.map(({time, line}) => ({time, line: 1 - line}));
   return {...rest, damaged: damaged && {...damaged, first}, isExchanged: !isExchanged};
 }
+
+// Whether the times of rows within a message are made up.
+const hasMadeTimes = (rows) => Boolean(madeFiles.get(rows)?.hasMadeTimes);
 
 // The damaged words that were left out when rows were made: how many, and the first by their times. Null if none were.
 function leftOutOf(rows) {

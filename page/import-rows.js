@@ -178,7 +178,7 @@ class RowsImport {
     const parts = partsOf(lineOfRecord(record)), wrong = this.wrongWith(parts);
     if (!wrong) return true;
     if (record.number === 1 && isHeader(parts, this.options)) {
-      this.part.header = true;
+      this.part.header = "record";
       return true;
     }
     return this.pass(record, parts[0], wrong);

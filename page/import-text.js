@@ -300,6 +300,40 @@ class Lines {
   }
 }
 
+// The lines of a log, each with its number. An end is LF, CR LF or CR. Its memory is used again for the next line.
+class LogLines {
+  constructor(each) {
+    this.each = each;
+    this.line = new Bytes();
+    this.number = 0;
+    this.before = 0;
+    this.isDone = false;
+  }
+
+  take(bytes) {
+    let from = 0;
+    for (let i = 0; i < bytes.length && !this.isDone; i++) {
+      const byte = bytes[i], isSecond = byte === LF && this.before === CR;
+      this.before = byte;
+      if (byte !== LF && byte !== CR) continue;
+      if (!isSecond) this.give(bytes.subarray(from, i));
+      from = i + 1;
+    }
+    if (!this.isDone) this.line.add(bytes.subarray(from));
+  }
+
+  give(rest) {
+    this.line.add(rest);
+    this.number++;
+    this.isDone = this.each(this) === false;
+    this.line.length = 0;
+  }
+
+  end() {
+    if (!this.isDone && this.line.length) this.give([]);
+  }
+}
+
 // The lines of a recording, in the order in which they are counted here.
 const CONTROLLER = 0, PERIPHERAL = 1, BREAK = 2;
 const LETTERS = [77, 83, 66];
@@ -385,7 +419,7 @@ class Part {
     this.from = from;
     this.until = until;
     this.text = new RowText(give);
-    Object.assign(this, {rows: 0, before: 0, after: 0, passed: 0, header: false});
+    Object.assign(this, {rows: 0, before: 0, after: 0, passed: 0, header: null, moved: null});
     Object.assign(this, {marked: false, controller: false, peripheral: false});
     Object.assign(this, {pulses: new Places(), damaged: new Places()});
   }
@@ -432,11 +466,21 @@ function damagedNote({count, first}) {
       places}; mdbcheck survey shows what is missing`;
 }
 
+// Where each message has one time: which messages were moved, since a word lasted longer.
+function movedNote({count, most}) {
+  const moved = !count ? "no message" :
+      count === 1      ? `1 message, by ${most} microseconds` :
+                         `${count} messages, by at most ${most} microseconds`;
+  return `each message has one time: the times of its words are made up, and rules about times say nothing here; moved ${
+      moved}`;
+}
+
 // What mdbimport reports of a whole import, a line each.
-function notesOf({header, before, after, passed, pulses, damaged, marked, controller, peripheral}) {
+function notesOf({header, before, after, moved, passed, pulses, damaged, marked, controller, peripheral}) {
   const notes = [];
-  if (header) notes.push("the first record is taken for a header");
+  if (header) notes.push(`the first ${header} is taken for a header`);
   if (before || after) notes.push(`left out ${before} rows before the part and ${after} after it`);
+  if (moved) notes.push(movedNote(moved));
   if (passed) notes.push(`left out ${passed} records outside the part that are no rows, or not in order`);
   if (pulses.count) notes.push(pulsesNote(pulses));
   if (damaged.count) notes.push(damagedNote(damaged));

@@ -22,7 +22,7 @@ SCRIPTS = ("layout messages words news elements texts clock report options runs 
 # Those of the worker.
 WORKERS = "sha256 layout messages worker relist".split()
 # Those of the worker that imports an export.
-IMPORT_SCRIPTS = ["sha256", *(f"import-{name}" for name in "text rows levels saleae edges sigrok vcd formats known worker".split())]
+IMPORT_SCRIPTS = ["sha256", *(f"import-{name}" for name in "text rows levels saleae edges sigrok vcd messages formats known worker".split())]
 # Recordings of examples/ that the page has for those who want to try it, each with what it is.
 EXAMPLES = {
     "coin-told-twice": "A coin that was reported twice: was it one or two?",

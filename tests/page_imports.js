@@ -30,6 +30,7 @@ function imported({format, options, text, sizes}) {
 
 const WORK = {
   import: imported,
+  look: ({text, kind}) => of.look(new Uint8Array(Buffer.from(text, "base64")), true, kind),
   known: ({text, size}) => {
     const bytes = new Uint8Array(Buffer.from(text, "base64"));
     return of.known(bytes, size ?? bytes.length, bytes);
