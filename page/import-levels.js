@@ -50,11 +50,11 @@ function instantOf(number, unit) {
   return rounded(time) < MOST_TIME ? time : null;
 }
 
-const FRAMING = "wanted a high stop bit, or a break of 100 ms or more, and the stop bit is low";
+const FRAMING = "wanted a high stop bit, or a break of 95 ms or more, and the stop bit is low";
 const DEVICE_BREAK = "wanted words alone on the line of the peripherals, and it is low for a break";
 const LONG_BREAK = "wanted a break of at most 999999999 microseconds, and it is longer";
 const CUT = "wanted a line that is high at the end of the export, and it is low";
-const LEAST_BREAK = 100000;
+const LEAST_BREAK = 95000;
 
 // Numbers that are added one by one.
 class Column {

@@ -223,6 +223,10 @@ function devicesSection(it) {
   if (r.unvalued)
     words.push(
         "“Without a value” counts coins, bills and sales whose worth isn't known. If it is 0, the device's sums lack nothing.");
+  const late = untimelyWords(r);
+  if (late)
+    words.push(
+        `Out of the standard's times: ${late}. By the extended profile that is no fault, and the rows were read.`);
   if (r.without.length)
     words.push("If a device that is left out handles money, these sums aren't all the money of the machine.");
   return section(

@@ -9,14 +9,17 @@ const ACCOUNTS = {
   "sold-2": {title: "Sold by card reader 2", device: "cashless-2", owner: "Card reader 2", did: "booked"},
 };
 
+// Lines with a number of each device, or of each sender.
+const COUNTED = ["decimals", "silences", "untimely", "unvalued"];
+
 function readReport(text) {
-  const report = {accounts: {}, decimals: {}, silences: {}, unvalued: null, setup: [], without: []};
+  const report = {accounts: {}, decimals: {}, silences: {}, untimely: null, unvalued: null, setup: [], without: []};
   for (const line of text.trimEnd().split("\n")) {
     const [word, ...rest] = line.split(" ");
     if (word in ACCOUNTS) {
       const range = (i) => rest[i].split("..").map(BigInt);
       report.accounts[word] = {device: range(1), controller: range(3), difference: range(5)};
-    } else if (word === "decimals" || word === "silences" || word === "unvalued") {
+    } else if (COUNTED.includes(word)) {
       report[word] ??= {};
       for (let i = 0; i < rest.length; i += 2) report[word][rest[i]] = rest[i + 1] === "-" ? null : Number(rest[i + 1]);
     } else if (word === "setup" || word === "without")
@@ -25,4 +28,10 @@ function readReport(text) {
       report[word] = rest.join(" ");
   }
   return report;
+}
+
+// How many rows came out of their time, by who sent them; empty where none did, or they aren't counted.
+function untimelyWords({untimely}) {
+  const some = Object.entries(untimely ?? {}).filter(([, n]) => n > 0);
+  return listed(some.map(([who, n]) => `${counted(n, "row")} of ${BLAMES[who]}`));
 }

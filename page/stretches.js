@@ -11,6 +11,8 @@ function stretchNotes(report) {
     if (silences) notes.push(`${counted(silences, "silence")} of ${named([device])}`);
     if (missing) notes.push(`${counted(missing, "amount")} of ${named([device])} without a known value`);
   }
+  const late = untimelyWords(report);
+  if (late) notes.push(`out of time: ${late}`);
   if (report.without.length) notes.push(`left out: ${named(report.without)}`);
   if (report.setup.length) notes.push(`set-up known of: ${named(report.setup)}`);
   return notes.map((words) => h("div", {class: "soft"}, words));

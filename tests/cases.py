@@ -116,6 +116,8 @@ class Case(Rows):
     def __init__(self, name, file):
         super().__init__(name)
         self.file, self.why, self.words, self.status = file, "", ["check"], None
+        # How the program is known to answer otherwise; empty where it answers as wanted.
+        self.wrong = ""
         # The parts of a survey: the line in front, the lines that stand unless the case says
         # otherwise, and those that it says. Other output is one part.
         self.printed, self.errors = [("", [], [])], ""
@@ -124,24 +126,27 @@ class Case(Rows):
         word, _, rest = line.partition(" ")
         if word == "why":
             self.why = rest
+        elif word == "wrong":
+            self.wrong = rest
         elif word == "words":
             self.words = words_of(rest)
         elif word == "status":
             self.status = int(rest)
         elif word == "yes":
             self.status = 0
-            self.printed = [("", report("--joined" in self.words), [f"rows {rest}"])]
+            self.printed = [("", report(self.words), [f"rows {rest}"])]
         elif word == "no":
             row, rule, blame = rest.split(" ")
             self.status = 1
             self.printed[-1][2].extend(["verdict no", f"row {row}", f"rule {rule}", f"blame {blame}"])
         elif word == "stretch":
             number, rows = rest.split(" ")
-            self.printed.append((f"stretch {number} rows {rows}", report(True, "verdict", "rows"), []))
+            lines = report([*self.words, "--joined"], "verdict", "rows")
+            self.printed.append((f"stretch {number} rows {rows}", lines, []))
         elif word == "fault":
             self.printed.append((line, [], []))
         elif word == "total":
-            self.printed.append(("total", report(True, "verdict", "rows", "decimals"), []))
+            self.printed.append(("total", report([*self.words, "--joined"], "verdict", "rows", "decimals"), []))
         elif word == "faults":
             self.status = 0 if rest.startswith("0 ") else 1
             self.printed.append((line, [], []))
@@ -158,8 +163,8 @@ class Case(Rows):
 
     def no(self):
         """The line that `survey` has of a no of `check`, of its row, rule and blame; None where the case
-        is none."""
-        if self.status != 1 or self.words[0] != "check":
+        is none, or is known to come out wrong."""
+        if self.wrong or self.status != 1 or self.words[0] != "check":
             return None
         out = self.output()
         if "--json" in self.words:
@@ -180,10 +185,10 @@ def part_lines(front, defaults, lines):
     return [front] * bool(front) + out + said
 
 
-def report(is_joined, *but):
-    """The lines of a report at their defaults, of a recording from power-on or in mid-session, but
-    those with one of these first words."""
-    kinds = ("out", "joined") if is_joined else ("out",)
+def report(words, *but):
+    """The lines of a report at their defaults, of a command line with these words, but those with
+    one of these first words."""
+    kinds = ["out", *(kind for kind in ("extended", "joined") if f"--{kind}" in words)]
     parted = (line.partition(" ") for line in lines_of(FOLDER / "report"))
     return [rest for kind, _, rest in parted if kind in kinds and rest.partition(" ")[0] not in but]
 
@@ -201,7 +206,12 @@ def fronts():
 
 
 def all_cases():
-    """The cases of all files, in the order of the files' names."""
+    """The cases that the program answers as wanted, in the order of the files' names."""
+    return (case for case in every_case() if not case.wrong)
+
+
+def every_case():
+    """The same, and those that are known to come out wrong."""
     shared = fronts()
     for path in sorted(FOLDER.glob("*.cases")):
         known, read, case = dict(shared), [], None

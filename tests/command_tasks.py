@@ -160,7 +160,7 @@ def by_device(name, value):
 
 def text_of_report(report, is_extended):
     """The text that says what an object of JSON says (docs/programs/json.md)."""
-    if report["version"] != 1 + is_extended:
+    if report["version"] != (3 if is_extended else 1):
         return f"version {report['version']}"
     if report["verdict"] == "no":
         return "verdict no\n" + "".join(f"{name} {report[name]}\n" for name in ("row", "rule", "blame"))
@@ -173,6 +173,9 @@ def text_of_report(report, is_extended):
         lines.append(" ".join([account] + [f"{side} {sides[side]['least']}..{sides[side]['greatest']}"
                                            for side in GOALS["SIDE"]]))
     lines.append(by_device("silences", lambda one: devices[one]["silences"]))
+    if is_extended:
+        counts = report["untimely"]
+        lines.append(by_device(f"untimely controller {counts['controller']}", counts.get))
     if report["joined"]:
         lines.append(by_device("unvalued", lambda one: devices[one]["unvalued"]))
     for name in ("setup", "without"):

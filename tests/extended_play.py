@@ -1,10 +1,12 @@
 """Recordings with readers of feature levels 1 to 3 and with recyclers, for tests/replayed.
 
-played(dice) plays whole honest machines, as tests/joined does it. talked(dice) puts single talks
-together, as tests/without does it, with each message and each refusal that
-docs/bench/extended-profile.md has, and with many that it doesn't allow.
+played(dice) plays whole honest machines, as tests/joined does it; a coin or a bill that is on its way
+as a device is reset is told after that; and mostly they have other times (tests/other_times.py).
+talked(dice) puts single talks together, as tests/without does it, with each message and each refusal
+that docs/bench/extended-profile.md has, and with many that it doesn't allow.
 """
 
+import other_times
 from programs import load
 
 joined, without = load("joined"), load("without")
@@ -218,7 +220,55 @@ class ReaderController(joined.ReaderController):
                 self.is_refused = True
 
 
-class Recycler(joined.Validator):
+class LateCoins:
+    """A changer that tells a coin that was on its way as it was reset: of a type that it took before."""
+
+    once_enabled, on_its_way = 0, ()
+
+    def hears(self, command):
+        self.once_enabled |= self.enabled
+        return super().hears(command)
+
+    def power_on(self):
+        super().power_on()
+        kinds = [kind for kind in range(16) if self.once_enabled >> kind & 1]
+        if kinds and self.dice.random() < 0.3 and not getattr(self.bus, "is_base", False):
+            self.on_its_way = [self.dice.choice(kinds)]
+
+    def coins(self):
+        if not self.on_its_way or self.room() < 2 or self.dice.random() < 0.3:
+            return super().coins()
+        (kind,), self.on_its_way = self.on_its_way, ()
+        self.gained.append(("coins-in", self.value(kind)))
+        return [(self.dice.choice((0x40, 0x50)) + kind, self.dice.randrange(60))]
+
+
+class LateBills:
+    """A validator that tells after a reset that it has stacked a bill as it was ordered before."""
+
+    escrow, order, on_its_way = None, None, ()
+
+    def power_on(self):
+        ordered = self.escrow if self.order == "stack" else None
+        super().power_on()
+        if ordered is not None and self.dice.random() < 0.7 and not getattr(self.bus, "is_base", False):
+            self.on_its_way = [ordered]
+
+    def bills(self):
+        if not self.on_its_way:
+            return super().bills()
+        if self.dice.random() < 0.3:
+            return []
+        (kind,), self.on_its_way = self.on_its_way, ()
+        self.gained.append(("bills-in", self.value(kind)))
+        return [(0x80 + kind,)]
+
+
+class Changer(LateCoins, joined.Changer):
+    pass
+
+
+class Recycler(LateBills, joined.Validator):
     """A validator that stacks into a recycler, and says what becomes of its bills."""
 
     def again(self, message):
@@ -252,7 +302,7 @@ class RecyclerController(joined.ValidatorController):
 
 
 MACHINES = {
-    "changer": joined.MACHINES["changer"],
+    "changer": (Changer, joined.ChangerController),
     "bill": (Recycler, RecyclerController),
     "cashless": (Reader, ReaderController),
     "cashless-2": (Reader, ReaderController),
@@ -261,7 +311,7 @@ MACHINES = {
 
 def played(dice):
     """A whole recording from power-on, with the truth of it."""
-    return joined.recording(dice, MACHINES)
+    return other_times.played(dice, joined.recording(dice, MACHINES))
 
 
 # Single talks.
@@ -803,8 +853,49 @@ def recycler(bus, careless):
             next(talk)
 
 
+def masked(bus, base):
+    """A changer or a validator that is reset, broken off and enabled for few types at any time, and tells
+    coins or bills, mostly of types that it once took."""
+    dice, once = bus.dice, {0}
+    reset, mask, heads = (0x0B, 0x0C, (0x40, 0x50)) if base == 8 else (0x06, 0x34, (0x80, 0x80, 0xB0))
+    tail = [9] * (base == 8)
+    yield from without.tells(bus, base, reset)
+    while True:
+        yield
+        draw, kind = dice.random(), dice.choice([*once] * 4 + [3])
+        if draw < 0.35:
+            types = dice.choice((0, 1, 2, 3, 5))
+            bus.ask(mask, 0, types, 0, 0xFF)
+            dice.choice((bus.ack, bus.ack, bus.ack, bus.nak, lambda: None))()
+            once |= {bit for bit in range(3) if types >> bit & 1}
+        elif draw < 0.6:
+            yield from is_reset(bus, base)
+            yield from without.tells(bus, base, reset, *[dice.choice(heads) + kind, *tail] * dice.randrange(2))
+        elif draw < 0.8 or base == 8:
+            yield from without.tells(bus, base, dice.choice(heads) + kind, *tail)
+        else:
+            yield from without.tells(bus, base, 0x90 + kind)
+            yield from without.taken(bus, 0x35, dice.random() < 0.8)
+            if dice.random() < 0.7:
+                yield from is_reset(bus, base)
+                yield from without.tells(bus, base, reset)
+            yield from without.tells(bus, base, dice.choice(heads) + kind)
+
+
+def is_reset(bus, base):
+    """A break, or a RESET, which may not be taken."""
+    if bus.dice.random() < 0.4:
+        bus.hold()
+    else:
+        bus.ask(base)
+        bus.dice.choice((bus.ack, bus.ack, bus.ack, bus.nak, lambda: None))()
+    yield
+
+
 def talks(bus, dice):
     """Those of some devices from power-on, and perhaps of others."""
+    if dice.random() < 0.15:
+        return [masked(bus, dice.choice((0x08, 0x30)))]  # alone, since it breaks off
     careless = dice.choice((0, 0, 0, 0.02, 0.1))
     made = [dice.choice((reader, seller, seller))(bus, base, careless) for base in without.READERS]
     made = dice.sample(made, dice.choice((0, 1, 1, 1, 1, 2)))
@@ -818,8 +909,8 @@ def talks(bus, dice):
 
 
 def talked(dice):
-    """The rows of some talks at once, perhaps with some of them damaged."""
-    rows = without.generated(dice, talks, dice.choice((150, 300, 500)))
+    """The rows of some talks at once, mostly at other times, perhaps with some of them damaged."""
+    rows = other_times.sometimes(dice, without.generated(dice, talks, dice.choice((150, 300, 500))))
     for _ in range(dice.choice((0, 0, 0, 0, 1, 1, 2))):
         if rows:
             rows = without.changed(dice, rows)

@@ -146,9 +146,9 @@ TRACES = [
     ("", ZERO + "TX B 5000 1000004999.500000", "", f"record 7 at 5000 on M: {LONG_BREAK}"),
     ("--skip-damaged", ZERO + "TX B 5000 1000004999.499999", "5000,B,999999999", NO_WORD),
     ("--skip-damaged", ZERO + "TX B 5000 1000004999.500000", "", f"{damaged('5000 on M')}\n{NO_WORD}"),
-    ("--skip-damaged", ZERO + "TX B 5000 104999.499999", "", f"{damaged('5000 on M')}\n{NO_WORD}"),
-    ("--skip-damaged", ZERO + "TX B 5000 104999.500000", "5000,B,100000", NO_WORD),
-    ("", ZERO + "TX B 5000 104999.499999", "5000,B,99999", NO_WORD),
+    ("--skip-damaged", ZERO + "TX B 5000 99999.499999", "", f"{damaged('5000 on M')}\n{NO_WORD}"),
+    ("--skip-damaged", ZERO + "TX B 5000 99999.500000", "5000,B,95000", NO_WORD),
+    ("", ZERO + "TX B 5000 99999.499999", "5000,B,94999", NO_WORD),
     ("--skip-damaged", ZERO.replace("000 ", "001 ") + "TX B 5000 205000", "", f"{damaged('5000 on M')}\n{NO_WORD}"),
     ("", DEVICE_ZERO + "RX B 5000 205000", "", f"record 7 at 5000 on S: {ON_S}"),
     ("", DEVICE_ZERO + "RX B 5000 4000", "", f"record 7 at 5000 on S: {ON_S}"),
@@ -202,7 +202,7 @@ NO_COLUMN = "wanted one column of each line: as --controller and --peripheral sa
 FIELDS = "wanted as many fields as the header has"
 TIME = "wanted a time: up to 15 digits, perhaps with decimals"
 LEVEL = "wanted a level, 0 or 1"
-FRAMING = "wanted a high stop bit, or a break of 100 ms or more, and the stop bit is low" + SKIP
+FRAMING = "wanted a high stop bit, or a break of 95 ms or more, and the stop bit is low" + SKIP
 DEVICE = "wanted words alone on the line of the peripherals, and it is low for a break" + SKIP
 TOO_LONG = "wanted a break of at most 999999999 microseconds, and it is longer" + SKIP
 CUT_LINE = "wanted a line that is high at the end of the export, and it is low" + SKIP
@@ -255,15 +255,15 @@ LEVELS = [
     ("", "0:11 " + " ".join(f"{at}000:10 {at}030:11" for at in range(1, 301)), "",
      f"passed over 300 pulses shorter than half a bit; the first at 1000 on S\n{NO_WORD}"),
     # Breaks.
-    ("", "0:11 1000:01 100999.499999:11", "", f"?3 1000 M {FRAMING}"),
-    ("", "0:11 1000:01 100999.5:11", "1000,B,100000", NO_WORD),
-    ("", "0:11 1000.5:01 101000:11", "1001,B,100000", NO_WORD),
-    ("", "0:11 1000.5:01 101000.4:11", "1001,B,100000", NO_WORD),
+    ("", "0:11 1000:01 95999.499999:11", "", f"?3 1000 M {FRAMING}"),
+    ("", "0:11 1000:01 95999.5:11", "1000,B,95000", NO_WORD),
+    ("", "0:11 1000.5:01 96000:11", "1001,B,95000", NO_WORD),
+    ("", "0:11 1000.5:01 96000.4:11", "1001,B,95000", NO_WORD),
     ("", "0:11 1000:01 1000000999.499999:11", "1000,B,999999999", NO_WORD),
     ("", "0:11 1000:01 1000000999.5:11", "", f"?3 1000 M {TOO_LONG}"),
     ("--skip-damaged", "0:11 1000:01 1000000999.5:11", "", f"{damaged('1000 on M')}\n{NO_WORD}"),
-    ("", "0:11 1000:10 100999.499999:11", "", f"?3 1000 S {FRAMING}"),
-    ("", "0:11 1000:10 100999.5:11", "", f"?3 1000 S {DEVICE}"),
+    ("", "0:11 1000:10 95999.499999:11", "", f"?3 1000 S {FRAMING}"),
+    ("", "0:11 1000:10 95999.5:11", "", f"?3 1000 S {DEVICE}"),
     ("", "0:11 1000:10 2000001000:11", "", f"?3 1000 S {DEVICE}"),
     ("--skip-damaged", "0:11 1000:10 201000:11 300000:10 300060:11", "300000,S,1FF",
      f"{damaged('1000 on S')}\n{ONLY_S}"),
@@ -390,8 +390,8 @@ RECORDS = [
     ("", T + "x,x,x\n", "", f'record 3: {TIME}; found "x,x,x"'),
     ("", T + "9999999999,x,x\n", "", f'record 3: {LONG}; found "9999999999,x,x"'),
     ("", T + "0,x,x\n", "", f'record 3 at 0 on line M: {LEVEL}; found "0,x,x"'),
-    ("", T + "0.001,0,1\n0.1,1,1\n0.1,1,1\n", "", f"record 4 at 1000 on line M: {FRAMING}"),
-    ("", T + "0.001,0,1\n0.1,x,1\n", "", f'record 4 at 100000 on line M: {LEVEL}; found "0.1,x,1"'),
+    ("", T + "0.001,0,1\n0.09,1,1\n0.09,1,1\n", "", f"record 4 at 1000 on line M: {FRAMING}"),
+    ("", T + "0.001,0,1\n0.09,x,1\n", "", f'record 4 at 90000 on line M: {LEVEL}; found "0.09,x,1"'),
     ("", T + "0.001,0,1\n0.0005,1,1\n", "", f'record 4 at 500: {EARLY_RECORD}; found "0.0005,1,1"'),
     ("", T + "0.001,0,1\n0.0011,1,1\n0.0012,0,1\n0.01,0,1\nx,1,1\n", "", f"record 6 at 1000 on line M: {FRAMING}"),
     ("", "S,t,x,M\n0,1,,1\n".replace("S,t", "t,S"), "", NO_WORD),

@@ -264,7 +264,7 @@ DUMPS_TOLD = [
     ("", {17: "$comment 1!"}, "line 18: " + CUT_DUMP),
     ("", {16: '0"', 17: "#2605"}, "line 18 at 2500 on line S: wanted a line that is high at the end of the export"),
     ("", {12: "0!"}, "line 18 at 1000 on line M: wanted a line that is high at the end of the export"),
-    ("", {12: "1!\n#1500\n0!"}, "line 17 at 1000 on line M: wanted a high stop bit, or a break of 100 ms"),
+    ("", {12: "1!\n#1500\n0!"}, "line 17 at 1000 on line M: wanted a high stop bit, or a break of 95 ms"),
     ("", {12: "1!\n#1500\n0!", 13: "#2093", 14: "0?"}, "line 19 at 1000 on line M: wanted a high stop bit"),
 ]
 

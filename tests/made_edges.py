@@ -49,7 +49,7 @@ def damage_changes(rng, changes, places):
             changes.setdefault(new, {}).update(changes.pop(time))
     elif what == "pulse":
         begin = time + int(rng.choice([2000, rng.uniform(-2000, 2000)]) * micro)
-        length = rng.choice([1, 10, 52, 53, 100, 1000, 1100, 99_999, 100_000, 150_000])
+        length = rng.choice([1, 10, 52, 53, 100, 1000, 1100, 94_999, 95_000, 100_000, 150_000])
         length = rng.choice([length, rng.uniform(0, 200), rng.choice(MIDDLES) / 3])
         wire, level = rng.choice("MS"), rng.choice([0, 0, 1])
         if begin > 0:
@@ -67,7 +67,7 @@ def damage_changes(rng, changes, places):
 
 
 def edges_export(rng, recordings):
-    rows = part_of(rng, recordings, 100_000)
+    rows = part_of(rng, recordings, 95_000)
     lead = rng.choice([2000, 5000, rng.randrange(2000, 10**6), rng.randrange(2000, 10**9)])
     rows = [(time - rows[0][0] + lead, line, value) for time, line, value in rows]
     rows = ties(rng, rows, rng.choice([0, 0, 0.2]))

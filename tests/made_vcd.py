@@ -28,7 +28,7 @@ DUMP_BYTES = b'0101#!"xzb$ \t\r\n$endMSms123456789.'
 
 
 def vcd_export(rng, recordings):
-    rows = part_of(rng, recordings, 100_000)
+    rows = part_of(rng, recordings, 95_000)
     lead = rng.choice([2000, 5000, rng.randrange(2000, 10**6), rng.randrange(2000, 10**9)])
     rows = [(time - rows[0][0] + lead, line, value) for time, line, value in rows]
     rows = ties(rng, rows, rng.choice([0, 0, 0.2]))

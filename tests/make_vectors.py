@@ -1,7 +1,7 @@
 #!/usr/bin/env python3
 """make_vectors.py FILE: writes the worked cases of crates/conformance/data as JSON Lines.
 
-Each line is one case, an object with these members, in this order:
+Each line is one case that the program answers as wanted, an object with these members, in this order:
 
     name      the case's name; no two cases have one
     why       why this is wanted, or ""
@@ -41,7 +41,7 @@ def vector(case):
 
 
 def vectors():
-    """The cases of all files, as they stand in the file."""
+    """The cases that the program answers as wanted, as they stand in the file."""
     return map(vector, all_cases())
 
 

@@ -81,7 +81,7 @@ class Scene:
     def low(self, line, length):
         """Low for so long, which is longer than a word."""
         micros = self.micros(length)
-        kind = BREAK if line == "M" and 100_000 <= micros < 10**9 else DAMAGED
+        kind = BREAK if line == "M" and 95_000 <= micros < 10**9 else DAMAGED
         return Thing(line, 0, [0, length], [(0, kind, micros)], length + 1)
 
     def spoilt(self, line, value, rise):
@@ -126,18 +126,18 @@ class Scene:
             off = rng.choice([-2, -1, 0, 1, 2, rng.randint(-20 * self.micro, 20 * self.micro)])
             return self.low(line, int(self.bits(11) // 1) + off)
         if kind == "low":
-            return self.low(line, rng.randint(2 * milli, 99 * milli))
+            return self.low(line, rng.randint(2 * milli, 94 * milli))
         if kind == "break on S":
-            return self.low("S", rng.choice([100 * milli, rng.randint(100 * milli, 10**4 * milli),
+            return self.low("S", rng.choice([95 * milli, rng.randint(95 * milli, 10**4 * milli),
                                              10**6 * milli]))
         if kind == "too long":
             return self.low("M", 10**6 * milli + rng.choice([0, rng.randint(0, 10**6 * milli)]))
         if kind == "edge of a break":
-            edge = rng.choice([100 * milli, 10**6 * milli])
+            edge = rng.choice([95 * milli, 10**6 * milli])
             return self.low("M", edge - self.micro // 2 + rng.choice([-1, 0, -self.micro, self.micro]))
         if kind == "fell in a word":
-            return self.fell(line, rng.choice([rng.randint(2 * milli, 99 * milli),
-                                               rng.randint(100 * milli, 10**3 * milli)]))
+            return self.fell(line, rng.choice([rng.randint(2 * milli, 94 * milli),
+                                               rng.randint(95 * milli, 10**3 * milli)]))
         if kind == "pulse in a stop bit":
             word = self.word(line, rng.randrange(512))
             fall = rng.randint(max(word.edges[-1] + 1, int(self.bits(10) // 1) + 1), int(stop // 1))
@@ -306,7 +306,7 @@ def trace_truth(found, at, skip):
             if not is_wrong:
                 rows.append((time, line, f"{value:03X}"))
             elif line == "M" and value == 0 and broken and length < 10**9 and (
-                    length >= 100_000 or not skip):
+                    length >= 95_000 or not skip):
                 rows.append((whole(at(broken[0])), "B", str(length)))
             elif skip:
                 damaged.append((time, line))

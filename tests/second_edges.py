@@ -54,7 +54,7 @@ NO_HEADER = "wanted a header that names the columns"
 NO_COLUMN = "wanted one column of each line: as --controller and --peripheral say, or M and S"
 FEWER = "wanted as many fields as the header has"
 HINT = "; --skip-damaged leaves out what is damaged"
-FRAMING = "wanted a high stop bit, or a break of 100 ms or more, and the stop bit is low"
+FRAMING = "wanted a high stop bit, or a break of 95 ms or more, and the stop bit is low"
 DEVICE_BREAK = ("wanted words alone on the line of the peripherals, and it is low for a break")
 LONG_BREAK = "wanted a break of at most 999999999 microseconds, and it is longer"
 CUT = "wanted a line that is high at the end of the export, and it is low"
@@ -173,7 +173,7 @@ def line_of(records, letter, skip):
         rise = next_of(True, bisect_right(times, stop))
         low_since = next_of(True, fall) == rise  # low from the start bit to there
         length = None if rise is None else micros(times[rise] - start)
-        is_break = low_since and letter == "M" and rise is not None and 100_000 <= length < 10**9
+        is_break = low_since and letter == "M" and rise is not None and 95_000 <= length < 10**9
         if is_break:
             rows.append((micros(start), "B", str(length)))
         elif skip:
@@ -184,7 +184,7 @@ def line_of(records, letter, skip):
             return refused(number, start, FRAMING)
         elif rise is None:
             return answer() if records.fault else refused(end, start, CUT)
-        elif length < 100_000:
+        elif length < 95_000:
             return refused(records.numbers[rise], start, FRAMING)
         else:
             why = DEVICE_BREAK if letter == "S" else LONG_BREAK

@@ -56,7 +56,7 @@ NAMES = {
 }
 
 LAST_TIME = 10**15 - 1
-SHORTEST_BREAK = 100_000  # where damage is skipped
+SHORTEST_BREAK = 95_000  # where damage is skipped
 LONGEST_BREAK = 10**9 - 1
 
 # What is wanted in more places than one.

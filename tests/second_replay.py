@@ -34,6 +34,8 @@ import re
 import sys
 from typing import Iterator, NamedTuple, Optional
 
+import second_times as times
+
 CONTROLLER = "controller"
 CHANGER = "changer"
 BILL = "bill"
@@ -44,6 +46,8 @@ OTHER = "other"
 #: The devices, in the order of the report.
 DEVICES = (CHANGER, BILL, CASHLESS, CASHLESS_2)
 READERS = (CASHLESS, CASHLESS_2)
+#: Whose rows can be untimely, in the order of the report.
+SENDERS = (CONTROLLER, *DEVICES)
 
 #: The greatest number of rows, and of marks.
 MOST_ROWS = 100_000_000
@@ -395,13 +399,9 @@ def has_messages(command: Command) -> bool:
 # The link (bus.md, *What a bus may do*, *Times*, *The rules*)
 # ------------------------------------------------------------------------------------------------------
 
-LEAST_GAP = 996
-LONGEST_IN_BLOCK = 2296
-LONGEST_TO_ANSWER = 6296
-LEAST_TO_NEXT_BLOCK = 5996
-LEAST_AFTER_BREAK = 200_000
-LEAST_BREAK = 100_000
 MOST_WORDS = 36
+#: From when gaps count at the first row: nothing is too early there.
+LONG_AGO = -times.BASE[times.AFTER_BREAK].least
 
 #: The positions of the bus.
 QUIET, IN_COMMAND, ASKED, IN_DATA, REPLIED, RETURNED, IN_REPEAT, FOREIGN = range(8)
@@ -459,9 +459,12 @@ class Link:
         self.position = FOREIGN if self.joined else QUIET
         #: When the last row started, and from when gaps count: that, or the end of a break.
         self.started = -1
-        self.since = -LEAST_AFTER_BREAK
-        #: The least gap in front of a block where nothing is open.
-        self.least = LEAST_GAP
+        self.since = LONG_AGO
+        self.is_after_break = False
+        #: Whether the controller began the last block before the time to answer was over.
+        self.is_before_its_time = False
+        #: For whom the last row is untimely, if it is.
+        self.untimely: Optional[str] = None
         #: The device of the last whole command, since a break or a foreign opening: it is blamed for row S.
         self.device: Optional[str] = None
         #: What is open: what the command may be, its bytes so far (at the end without the sum); the words
@@ -481,16 +484,24 @@ class Link:
         """The act that the row ends, if one."""
         if time <= self.started:
             raise Broken("Order", self._sender(line))
-        gap = time - self.since
-        if line == b"M":
-            act = self._controller_word(gap, value)
-        elif line == b"S":
-            act = self._peripheral_word(gap, value)
-        else:
+        gap, self.untimely = time - self.since, None
+        if line == b"B":
             return self._break(time, gap, value)
+        word = self._controller_word if line == b"M" else self._peripheral_word
+        try:
+            act = word(gap, value)
+        except Broken as broken:
+            raise self.blamed(broken, line) from None
         self.started = self.since = time
-        self.least = LEAST_GAP
+        self.is_after_break = False
         return act
+
+    def blamed(self, broken: Broken, line: bytes) -> Broken:
+        """What a fault of a word is: after a block that came before its time the controller's, mostly."""
+        is_own = line == b"M" and broken.blame == CONTROLLER
+        if not self.is_before_its_time or is_own or broken.rule == PROFILE:
+            return broken
+        return Broken("Early", CONTROLLER)
 
     def _sender(self, line: bytes) -> str:
         return (self.device or OTHER) if line == b"S" else CONTROLLER
@@ -498,14 +509,11 @@ class Link:
     # -- breaks
 
     def _break(self, time: int, gap: int, length: int) -> Act:
-        # `least` says what the last row was: after a break the next one may begin at once.
-        if gap < (0 if self.least == LEAST_AFTER_BREAK else LEAST_GAP):
-            raise Broken("Early", CONTROLLER)
-        if length < LEAST_BREAK:
-            raise Broken("Break", CONTROLLER)
+        self._in_time(gap, times.FROM_BREAK_TO_BREAK if self.is_after_break else times.BETWEEN_WORDS, CONTROLLER)
+        self._in_time(length, times.BREAK_LENGTH, CONTROLLER)
         self.started = time
         self.since = time + length
-        self.least = LEAST_AFTER_BREAK
+        self.is_after_break, self.is_before_its_time = True, False
         self.position = QUIET
         self.device = None
         self.options_unknown.clear()
@@ -519,26 +527,29 @@ class Link:
         if position == IN_COMMAND:
             if marked:
                 raise Broken("Mode", CONTROLLER)
-            self._within_block(gap, CONTROLLER)
+            self._in_time(gap, times.IN_BLOCK, CONTROLLER)
             return self._further_of_command(word)
         if position == IN_DATA or position == IN_REPEAT:
-            if gap <= LONGEST_IN_BLOCK:
+            if gap <= times.BASE[times.IN_BLOCK].most:
                 raise Broken("Speaker", CONTROLLER)
             raise Broken("Spacing", self.device)
         if marked:
-            awaits = position == ASKED or position == REPLIED or position == RETURNED
-            if gap < (LEAST_TO_NEXT_BLOCK if awaits else self.least):
-                raise Broken("Early", CONTROLLER)
+            self._next_block_in_time(gap)
             self._begin_block(word & 0xFF)
             return None
         if position == REPLIED:
-            self._in_time_to_answer(gap, CONTROLLER)
+            self._in_time(gap, times.TO_ANSWER, CONTROLLER)
             return self._answer_of_controller(word)
         if position == FOREIGN:
-            if gap < LEAST_GAP:
-                raise Broken("Early", CONTROLLER)
+            self._in_time(gap, times.BETWEEN_WORDS, CONTROLLER)
             return None
         raise Broken("Mode", CONTROLLER)
+
+    def _next_block_in_time(self, gap: int):
+        awaits = self.position in (ASKED, REPLIED, RETURNED)
+        kind = times.AFTER_BREAK if self.is_after_break else times.BETWEEN_WORDS
+        self._in_time(gap, times.TO_NEXT_BLOCK if awaits else kind, CONTROLLER)
+        self.is_before_its_time = self.position != REPLIED and awaits and self.untimely is not None
 
     def _begin_block(self, first: int):
         opening = self.openings.get(first)
@@ -597,22 +608,21 @@ class Link:
     def _peripheral_word(self, gap: int, word: int) -> Optional[Act]:
         position = self.position
         if position == IN_DATA:
-            self._within_block(gap, self.device)
+            self._in_time(gap, times.IN_BLOCK, self.device)
             return self._further_of_data(word)
         if position == ASKED:
-            self._in_time_to_answer(gap, self.device)
+            self._in_time(gap, times.TO_ANSWER, self.device)
             return self._answer_of_peripheral(word)
         if position == RETURNED:
-            self._in_time_to_answer(gap, self.device)
+            self._in_time(gap, times.TO_ANSWER, self.device)
             self.position = IN_REPEAT
             self.repeated = 0
             return self._word_of_repeat(word)
         if position == IN_REPEAT:
-            self._within_block(gap, self.device)
+            self._in_time(gap, times.IN_BLOCK, self.device)
             return self._word_of_repeat(word)
         if position == FOREIGN:
-            if gap < LEAST_GAP:
-                raise Broken("Early", OTHER)
+            self._in_time(gap, times.BETWEEN_WORDS, OTHER)
             return None
         raise Broken("Speaker", self._sender(b"S"))
 
@@ -734,19 +744,13 @@ class Link:
 
     # -- times
 
-    @staticmethod
-    def _within_block(gap: int, sender: str):
-        if gap < LEAST_GAP:
-            raise Broken("Early", sender)
-        if gap > LONGEST_IN_BLOCK:
-            raise Broken("Spacing", sender)
-
-    @staticmethod
-    def _in_time_to_answer(gap: int, sender: str):
-        if gap < LEAST_GAP:
-            raise Broken("Early", sender)
-        if gap > LONGEST_TO_ANSWER:
-            raise Broken("Late", sender)
+    def _in_time(self, time: int, kind: str, sender: str):
+        """Judges a time; one beyond a limit that is a remark is the sender's."""
+        rule = times.broken_by(time, kind, self.extended)
+        if rule is not None:
+            raise Broken(rule, sender)
+        if times.is_untimely(time, kind):
+            self.untimely = sender
 
 
 # ------------------------------------------------------------------------------------------------------
@@ -809,8 +813,8 @@ class Device:
     varies: dict[str, tuple] = {}
     accounts: tuple = ()
 
-    def __init__(self, name: str, told: Optional[Told]):
-        self.joined = told is not None
+    def __init__(self, name: str, told: Optional[Told], extended: bool):
+        self.joined, self.extended = told is not None, extended
         self.setup = told.setup.get(name) if told else None
         self.unvalued = 0
         self.reset_owed = not self.joined
@@ -997,8 +1001,8 @@ class Changer(Device):
     varies = {"holds": (False, True), "waits": (False, True)}
     accounts = ("coins_in", "paid_out")
 
-    def __init__(self, name, told):
-        super().__init__(name, told)
+    def __init__(self, name, told, extended):
+        super().__init__(name, told, extended)
         self.types = _ALL_TYPES if self.joined else 0
         #: Whether the controller waits for the end of a DISPENSE, and the byte of the last one asked.
         self.waits = False
@@ -1026,7 +1030,8 @@ class Changer(Device):
 
     def forget(self):
         super().forget()
-        self.types = 0
+        if not self.extended:
+            self.types = 0
 
     def controller_to_power_on(self):
         self.waits = False
@@ -1105,8 +1110,8 @@ class Validator(Device):
     varies = {"holds": (False, True), "escrow": (None, *range(16)), "ordered": (False, True)}
     accounts = ("bills_in",)
 
-    def __init__(self, name, told):
-        super().__init__(name, told)
+    def __init__(self, name, told, extended):
+        super().__init__(name, told, extended)
         self.types = _ALL_TYPES if self.joined else 0
         #: The type of the bill in escrow, if there is one, and whether it has the order to be stacked.
         self.escrow: Optional[int] = None
@@ -1131,7 +1136,8 @@ class Validator(Device):
 
     def forget(self):
         super().forget()
-        self.types = 0
+        if not self.extended:
+            self.types = 0
 
     def place(self):
         return self.holds, self.escrow, self.escrow is not None and self.ordered
@@ -1204,8 +1210,8 @@ class Reader(Device):
     varies = {"holds": (False, True), "state": tuple(range(7)), "back": (DISABLED, ENABLED), "view": VIEWS}
     accounts = ("approved", "sold")
 
-    def __init__(self, name, told):
-        super().__init__(name, told)
+    def __init__(self, name, told, extended):
+        super().__init__(name, told, extended)
         self.state = INACTIVE
         #: In a session: the state that it goes back to.
         self.back = DISABLED
@@ -1468,8 +1474,10 @@ class Runs:
         self.marks = marks
         #: The states that each device can have. The devices don't depend on one another.
         machines = {CHANGER: Changer, BILL: Validator, CASHLESS: Reader, CASHLESS_2: Reader}
-        self.devices = {name: machine(name, told).at_start() for name, machine in machines.items()}
+        self.devices = {name: machine(name, told, extended).at_start() for name, machine in machines.items()}
         self.silences = {device: Silences() for device in DEVICES}
+        #: How many rows are untimely, by sender.
+        self.untimely = dict.fromkeys(SENDERS, 0)
         self.rows = 0
 
     def take_row(self, time: int, line: bytes, value: int):
@@ -1484,7 +1492,12 @@ class Runs:
             if choices[0] and self.marks.take_off() != letter:
                 raise no_such_mark(self.rows)
         if act is not None:
-            self._follow(act, time, choices)
+            try:
+                self._follow(act, time, choices)
+            except Broken as broken:
+                raise self.link.blamed(broken, line) from None
+        if self.link.untimely is not None:
+            self.untimely[self.link.untimely] += 1
 
     def _letter(self, act: Act) -> Optional[str]:
         """The mark that the act may have (machines.md, *What is chosen*)."""
@@ -1565,6 +1578,8 @@ class Runs:
             account("sold-2", CASHLESS_2, "sold"),
             one_line("silences", ((d, self.silences[d].number) for d in DEVICES)),
         ]
+        if self.link.extended:
+            lines.append(one_line("untimely", self.untimely.items()))
         if self.told is not None:
             lines.append(one_line("unvalued", ((d, self.devices[d][0].unvalued) for d in DEVICES)))
             if self.told.named:

@@ -58,6 +58,9 @@ ACCOUNTS = {
 }
 SIDES = ("device", "controller", "difference")
 
+#: Whose rows can be untimely, in the order of the report.
+SENDERS = ("controller", *DEVICES)
+
 #: Who can be to blame, in the order of the last line.
 BLAMES = ("controller", *DEVICES, "other")
 
@@ -366,11 +369,16 @@ class Survey:
         return status, (json_of if is_json else text_of)(self), self.refused or ""
 
     def total(self) -> Optional[dict]:
-        """The sums of all stretches' ranges and counts, by device; None where there is none."""
-        reports = [part.report["devices"] for part in self.parts if isinstance(part, Stretch)]
+        """The sums of all stretches' ranges and counts; None where there is none."""
+        reports = [part.report for part in self.parts if isinstance(part, Stretch)]
         if not reports:
             return None
-        return {device: added([report[device] for report in reports]) for device in DEVICES}
+        of_each = ((device, [report["devices"][device] for report in reports]) for device in DEVICES)
+        total = {"devices": {device: added(of) for device, of in of_each}}
+        if "untimely" in reports[0]:
+            senders = ((sender, [report["untimely"][sender] for report in reports]) for sender in SENDERS)
+            total["untimely"] = {sender: sum(of) for sender, of in senders}
+        return total
 
 
 def added(reports: "list[dict]") -> dict:
@@ -531,7 +539,7 @@ class ExtendedKnown:
 class ExtendedSurvey(Survey):
     """A recording that is cut by the extended profile."""
 
-    version = 2
+    version = 3
 
     def begins(self, options: Options):
         self.known = ExtendedKnown(options)
@@ -590,7 +598,8 @@ class ExtendedSurvey(Survey):
             joined = functools.reduce(replay.Sum.joined, sums)
             devices[device]["accounts"][account] = sides_of(joined)
         head = {"verdict": "yes", "rows": rows, "joined": self.known.is_joined}
-        return {**head, "extended": True, "devices": devices, "version": self.version}
+        counted = {"devices": devices, "untimely": dict(runs.untimely)}
+        return {**head, "extended": True, **counted, "version": self.version}
 
     def goes_on(self, first: int, fault: Fault):
         self.known.crosses(asked_for_more(self.rows, first, fault))
@@ -628,17 +637,18 @@ def text_of(survey: Survey) -> str:
             lines.append(f"fault {part.row} {part.rule} {part.blame}")
         else:
             lines.append(f"stretch {part.number} rows {part.first}-{part.last}")
-            lines += report_lines(part.report["devices"])
+            lines += report_lines(part.report)
     if not survey.refused:
         lines += last_lines(survey)
     return "".join(line + "\n" for line in lines)
 
 
-def report_lines(devices: dict) -> "list[str]":
+def report_lines(report: dict) -> "list[str]":
     """The lines of a stretch after its first."""
+    devices = report["devices"]
     places = {d: devices[d]["decimals"] for d in DEVICES}
     lines = [by_device("decimals", {d: "-" if n is None else n for d, n in places.items()})]
-    lines += [*sum_lines(devices), *count_lines(devices)]
+    lines += [*sum_lines(devices), *count_lines(report)]
     for word in ("setup", "without"):
         lines += named(word, [device for device in DEVICES if devices[device][word]])
     return lines
@@ -651,9 +661,13 @@ def sum_lines(devices: dict) -> Iterator[str]:
         yield f"{account} {' '.join(ranges)}"
 
 
-def count_lines(devices: dict) -> Iterator[str]:
-    for word in ("silences", "unvalued"):
-        yield by_device(word, {device: devices[device][word] for device in DEVICES})
+def count_lines(counted: dict) -> Iterator[str]:
+    """The counts of a report, or of a total."""
+    devices = counted["devices"]
+    yield by_device("silences", {device: devices[device]["silences"] for device in DEVICES})
+    if "untimely" in counted:
+        yield by_device("untimely", {sender: counted["untimely"][sender] for sender in SENDERS})
+    yield by_device("unvalued", {device: devices[device]["unvalued"] for device in DEVICES})
 
 
 def by_device(word: str, values: dict) -> str:
@@ -669,7 +683,7 @@ def last_lines(survey: Survey) -> "list[str]":
     """The totals, and the last line."""
     lines, total = [], survey.total()
     if total is not None:
-        lines += [*sum_lines(total), *count_lines(total)]
+        lines += [*sum_lines(total["devices"]), *count_lines(total)]
         lines += named("without", [d for d in DEVICES if d in survey.known.left_out])
     lines = [f"total {line}" for line in lines]
     faults, (blames, profiles) = survey.faults(), counted(survey.faults())
@@ -706,7 +720,8 @@ def json_total(survey: Survey) -> Optional[dict]:
     total, left_out = survey.total(), survey.known.left_out
     if total is None:
         return None
-    return {"devices": {name: {**of, "without": name in left_out} for name, of in total.items()}}
+    devices = total["devices"].items()
+    return {**total, "devices": {name: {**of, "without": name in left_out} for name, of in devices}}
 
 
 def json_faults(faults: "list[Fault]") -> dict:

@@ -1,7 +1,8 @@
 //! Runs the program `mdbcheck` on each worked case of its folder, prints each that doesn't come
-//! out as it is wanted, and at the end how many there are. `data/README` says how a case is
-//! written. Each no of `check` is surveyed too (`noes`). Then it gives a recording to the follower
-//! in two pieces (`cuts`), and makes calls of the libraries (`calls`).
+//! out as it is wanted, and at the end how many there are. Those that are known to come out wrong
+//! are counted apart. `data/README` says how a case is written. Each no of `check` is surveyed too
+//! (`noes`). Then it gives a recording to the follower in two pieces (`cuts`), and makes calls of
+//! the libraries (`calls`).
 #![tactic(auto)]
 
 mod calls;
@@ -14,7 +15,7 @@ use std::io::Write;
 use std::{fs, io};
 
 /// The files of cases, one for each subject.
-static FILES: [&str; 27] = [
+static FILES: [&str; 31] = [
     "rows.cases",
     "times.cases",
     "commands.cases",
@@ -36,6 +37,10 @@ static FILES: [&str; 27] = [
     "joined.cases",
     "joined-levels.cases",
     "extended.cases",
+    "extended-formats.cases",
+    "extended-sales.cases",
+    "extended-times.cases",
+    "extended-masks.cases",
     "joined-extended.cases",
     "asides.cases",
     "surveys.cases",
@@ -69,13 +74,17 @@ struct Shared {
     // The fronts, and after them the earlier cases of its file.
     known: Vec<Rows>,
     fronts: usize,
-    // The lines of a report at their defaults, of a recording from power-on and in mid-session.
+    // The file of a report's lines at their defaults.
     report: String,
-    joined: String,
-    // Those of a stretch of a survey after its first, and those of the totals, without the word in
-    // front.
-    stretch: String,
-    total: String,
+}
+
+/// What has lines of a report: a report, a stretch of a survey after its first line, or the totals,
+/// whose lines have a word in front.
+#[derive(Clone, Copy, PartialEq, Eq, Drop)]
+enum Part {
+    Report,
+    Stretch,
+    Total,
 }
 
 /// A transcript, and what the program has to make of it.
@@ -87,6 +96,8 @@ struct Case<'a> {
     words: &'a str,
     // The exit status, as it is written.
     status: &'a str,
+    // Whether the program is known to answer otherwise.
+    is_wrong: bool,
     // The whole lines of the parts of a survey that stand before the last part.
     done: String,
     // Whether the last part is the totals.
@@ -99,11 +110,12 @@ struct Case<'a> {
     err: String,
 }
 
-/// How many cases there were, how many of them were a no of `check` and surveyed too, and how many
-/// came out otherwise than wanted.
+/// How many cases there were beside those that are known to come out wrong, and how many of these;
+/// how many were a no of `check` and surveyed too; and how many lines or cases are to be mended.
 #[derive(Clone, Copy, Drop)]
 struct Tally {
     cases: u64,
+    wrong: u64,
     noes: u64,
     differing: u64,
 }
@@ -184,26 +196,38 @@ impl Rows {
 }
 
 impl Shared {
-    /// Adds a line of the report on a recording in mid-session, and to the parts of a survey that
-    /// have it.
-    fn add_joined(&mut self, line: &str) -> Result<(), AllocError> {
-        add_line(&mut self.joined, line)?;
-        match first_word(line) {
-            "verdict" | "rows" => Ok(()),
-            "decimals" => add_line(&mut self.stretch, line),
-            _ => {
-                add_line(&mut self.stretch, line)?;
-                add_line(&mut self.total, line)
+    /// Adds the lines of a part at their defaults, of a command line with these words.
+    fn add_defaults(&self, text: &mut String, words: &str, part: Part) -> Result<(), AllocError> {
+        for line in self.report.as_str().split('\n') {
+            let Some((kind, rest)) = line.split_once(' ') else {
+                continue;
+            };
+            if part.has_kind(words, kind) && part.has_line(first_word(rest)) {
+                add_line(text, rest)?;
             }
+        }
+        Ok(())
+    }
+}
+
+impl Part {
+    /// Whether there are lines of this kind, by a command line with these words.
+    fn has_kind(self, words: &str, kind: &str) -> bool {
+        match kind {
+            "out" => true,
+            "extended" => has_word(words, "--extended"),
+            "joined" => self != Part::Report || has_word(words, "--joined"),
+            _ => false,
         }
     }
 
-    /// The lines of a report at their defaults, of a command line with these words.
-    fn report_for(&self, words: &str) -> &str {
-        if has_word(words, "--joined") {
-            return self.joined.as_str();
+    /// Whether there is a line with this first word.
+    fn has_line(self, word: &str) -> bool {
+        match word {
+            "verdict" | "rows" => self == Part::Report,
+            "decimals" => self != Part::Total,
+            _ => true,
         }
-        self.report.as_str()
     }
 }
 
@@ -215,6 +239,7 @@ impl<'a> Case<'a> {
             rows: Rows::named(alloc, name)?,
             words: "check",
             status: "",
+            is_wrong: false,
             done: String::new(alloc),
             is_total: false,
             defaults: String::new(alloc),
@@ -232,6 +257,7 @@ impl<'a> Case<'a> {
             "words" => self.words = rest,
             "status" => self.status = rest,
             "why" => {}
+            "wrong" => self.is_wrong = true,
             "yes" => self.add_yes(rest, shared)?,
             "no" => return self.add_no(rest),
             "stretch" => return self.begin_stretch(alloc, rest, shared),
@@ -251,7 +277,7 @@ impl<'a> Case<'a> {
         }
         self.end_part(alloc)?;
         self.is_total = true;
-        self.defaults.push_str(shared.total.as_str())?;
+        shared.add_defaults(&mut self.defaults, self.words, Part::Total)?;
         Ok(true)
     }
 
@@ -263,7 +289,7 @@ impl<'a> Case<'a> {
         };
         self.end_part(alloc)?;
         writeln!(self.done, "stretch {number} rows {rows}")?;
-        self.defaults.push_str(shared.stretch.as_str())?;
+        shared.add_defaults(&mut self.defaults, self.words, Part::Stretch)?;
         Ok(true)
     }
 
@@ -293,9 +319,9 @@ impl<'a> Case<'a> {
         Ok(())
     }
 
-    /// Whether the case is a no of `check`.
+    /// Whether the case is a no of `check`, which the program answers as wanted.
     fn is_no(&self) -> bool {
-        self.status == "1" && first_word(self.words) == "check"
+        !self.is_wrong && self.status == "1" && first_word(self.words) == "check"
     }
 
     /// Surveys the rows of a no of `check`, and answers whether the first fault is that no.
@@ -307,7 +333,7 @@ impl<'a> Case<'a> {
     /// Wants a report on so many rows, with its other lines at their defaults.
     fn add_yes(&mut self, rows: &str, shared: &Shared) -> io::Result<()> {
         self.status = "0";
-        self.defaults.push_str(shared.report_for(self.words))?;
+        shared.add_defaults(&mut self.defaults, self.words, Part::Report)?;
         writeln!(self.out, "rows {rows}")?;
         Ok(())
     }
@@ -328,8 +354,8 @@ impl<'a> Case<'a> {
         Ok(true)
     }
 
-    /// Runs the case, and answers whether it came out as wanted. Where it didn't, what came is
-    /// printed.
+    /// Runs the case, and answers whether it came out as wanted; or, of a case that is known to
+    /// come out wrong, whether it did. Where not, that is printed.
     fn run(&self, rt: &HostRuntime) -> io::Result<bool> {
         let words = command_line(rt.alloc(), self.words)?;
         let mut out = Vec::new(rt.alloc());
@@ -347,17 +373,23 @@ impl<'a> Case<'a> {
         Ok(text)
     }
 
-    /// Answers whether this is what the case wants, and prints it where it isn't.
+    /// Answers whether this is what the case wants, or another, where that is known of it. Where
+    /// it isn't so, that is printed.
     fn judge(&self, rt: &HostRuntime, status: u8, out: &[u8], err: &[u8]) -> io::Result<bool> {
         let wanted = self.wanted(rt.alloc())?;
-        let is_wanted = self.status.parse().ok() == Some(status)
+        let is_right = self.status.parse().ok() == Some(status)
             && out == wanted.as_str().as_bytes()
             && err == self.err.as_str().as_bytes();
-        if !is_wanted {
+        if is_right && self.is_wrong {
+            println!(rt;
+                "{}: comes out right, so its line `wrong` has to go",
+                self.name
+            )?;
+        } else if !is_right && !self.is_wrong {
             println!(rt; "{}: status {status}", self.name)?;
             print_both(rt, out, err)?;
         }
-        Ok(is_wanted)
+        Ok(is_right != self.is_wrong)
     }
 }
 
@@ -368,10 +400,14 @@ fn print_both(rt: &HostRuntime, out: &[u8], err: &[u8]) -> io::Result<()> {
 }
 
 impl Tally {
-    /// Counts a case after it was run.
-    fn count(&mut self, is_wanted: bool) {
-        self.cases = self.cases.saturating_add(1);
-        if !is_wanted {
+    /// Counts a case after it was run, by whether it is known to come out wrong.
+    fn count(&mut self, is_wrong: bool, is_as_told: bool) {
+        if is_wrong {
+            self.wrong = self.wrong.saturating_add(1);
+        } else {
+            self.cases = self.cases.saturating_add(1);
+        }
+        if !is_as_told {
             self.differing = self.differing.saturating_add(1);
         }
     }
@@ -543,7 +579,7 @@ fn run_case(
             tally.tell(rt, file, line)?;
         }
     }
-    tally.count(case.run(rt)?);
+    tally.count(case.is_wrong, case.run(rt)?);
     if case.is_no() {
         tally.count_no(case.survey(rt)?);
     }
@@ -613,33 +649,26 @@ fn read_front(rt: &HostRuntime, text: &str, known: &[Rows], tally: &mut Tally) -
 fn read_shared(rt: &HostRuntime, tally: &mut Tally) -> io::Result<Shared> {
     let known = read_fronts(rt, tally)?;
     let fronts = known.len();
-    let mut shared = Shared {
-        known,
-        fronts,
-        report: String::new(rt.alloc()),
-        joined: String::new(rt.alloc()),
-        stretch: String::new(rt.alloc()),
-        total: String::new(rt.alloc()),
-    };
-    let text = fs::read_to_string(rt, REPORT)?;
-    for line in text.as_str().split('\n') {
+    let report = fs::read_to_string(rt, REPORT)?;
+    for line in report.as_str().split('\n') {
         match line.split_once(' ') {
-            Some(("out", rest)) => {
-                add_line(&mut shared.report, rest)?;
-                shared.add_joined(rest)?;
-            }
-            Some(("joined", rest)) => shared.add_joined(rest)?,
+            Some(("out" | "extended" | "joined", _)) => {}
             _ if says_nothing(line) => {}
             _ => tally.tell(rt, REPORT, line)?,
         }
     }
-    Ok(shared)
+    Ok(Shared {
+        known,
+        fronts,
+        report,
+    })
 }
 
 /// Runs the cases of all files, and prints how many there are.
 fn run_files(rt: &HostRuntime) -> io::Result<()> {
     let mut tally = Tally {
         cases: 0,
+        wrong: 0,
         noes: 0,
         differing: 0,
     };
@@ -649,12 +678,12 @@ fn run_files(rt: &HostRuntime) -> io::Result<()> {
         run_text(rt, *file, text.as_str(), &mut shared, &mut tally)?;
         shared.known.truncate(shared.fronts);
     }
-    let cases = tally.cases;
+    let (cases, wrong, noes) = (tally.cases, tally.wrong, tally.noes);
     match tally.differing {
         0 => println!(rt; "{cases} cases, each as wanted")?,
         differing => println!(rt; "{cases} cases, and {differing} that differ")?,
     }
-    let noes = tally.noes;
+    println!(rt; "{wrong} more that are known to come out wrong")?;
     println!(rt; "{noes} noes of check, each surveyed too")
 }
 

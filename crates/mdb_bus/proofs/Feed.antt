@@ -9,7 +9,6 @@ use Rattle.mdb_msgs.specs.Commands.{device_of}
 use Rattle.mdb_bus.specs.declared.act.Act.{Act}
 use Rattle.mdb_bus.specs.declared.act.Act.TheVariants as acts
 use Rattle.mdb_bus.specs.declared.bus.Bus.{Bus}
-use Rattle.mdb_bus.specs.declared.fault.Blame.{Blame}
 use Rattle.mdb_bus.specs.declared.fault.LinkFault.{LinkFault}
 use Rattle.mdb_bus.specs.declared.fault.Rule.{Rule}
 use Rattle.mdb_bus.specs.declared.levels.Levels.{Levels}
@@ -18,10 +17,13 @@ use Rattle.mdb_bus.specs.declared.place.Place.{Place}
 use Rattle.mdb_bus.specs.shared.Step.{Step}
 use Rattle.mdb_bus.specs.shared.Step as step
 use Rattle.mdb_bus.specs.ActLists.{ArePieces, HasActList, Piece, Position, Quiet, InAsk, Asked, InReply, Replied, Returned, InRepeat, InForeign, IsRepeatFront, acts_of, with_act, events_of, last_of, levels_after, levels_if, levels_of, position_of}
-use Rattle.mdb_bus.specs.WideMoney.{counted_as, first_known, known_by, known_if, known_of, wide_at, wide_of}
+use Rattle.mdb_bus.specs.WideMoney.{first_known, known_by, known_if, known_of, wide_at, wide_of}
 use Rattle.mdb_bus.specs.Bus.{GoesOn, Grown, StandsFor, ended_act, position_at}
 use Rattle.mdb_bus.specs.inner.Gone.{HasGone}
-use Rattle.mdb_bus.specs.LinkFaults.{IsFirstBroken, IsLinkFault, RowBreaks, Situation, blame_of, situation_of}
+use Rattle.mdb_bus.specs.LinkFaults.{IsFirstBroken, IsLinkFault, RowBreaks, Situation, asked_device, fault_at, fault_of, situation_of}
+use Rattle.mdb_bus.specs.Haste.{haste_after, haste_by, haste_of, is_in_haste}
+use Rattle.mdb_bus.specs.Untimely.{untimely_of, untimely_sender, with_sender}
+use Rattle.mdb_bus.proofs.GrownTimes.{haste_on, untimely_by_step}
 use Rattle.mdb_bus.specs.shared.RulePlaces.{IsFirstByPlace}
 use Rattle.mdb_bus.proofs.Decided.{by_place}
 use Rattle.mdb_bus.specs.shared.Steps.{HasAdvanced, IsAt, IsEnded, IsJudged, IsReadAt, IsSound, Leads, WordLeads, act_after, asked_after, pieces_after, position_after}
@@ -37,6 +39,7 @@ use Rattle.mdb_bus.proofs.Sound.{is_sound}
 use Rattle.mdb_bus.specs.declared.scope.Scope.{Scope}
 use Rattle.mdb_bus.specs.Scopes.{levels_before, profile_of}
 use Rattle.mdb_bus.specs.declared.scope.Profile.{Profile}
+use Rattle.mdb_bus.specs.declared.scope.Profile.TheVariants.{Base, Extended}
 
 -- the situation that a bus is in
 abbrev pub situation_at : Bus → Situation
@@ -137,6 +140,14 @@ known_more : (before : KnownOptions) (act : Option Act) (acts : List Act)
 known_more before None acts = refl
 known_more before (Some act) acts = refl
 
+-- by the base profile there is no haste, however it goes on
+haste_again : (profile : Profile) (position : Position) (from : Option Event) (row : Event)
+    (haste : Bool)
+    → haste_by profile (haste_after position from row (haste_by profile haste))
+    ≡ haste_by profile (haste_after position from row haste)
+haste_again Base position from row haste = refl
+haste_again Extended position from row haste = refl
+
 -- the bus stands for one row more
 stands_by : (old new : Bus) (pieces : List Piece) (row : Event) (next : Step) (act : Option Act)
     → StandsFor old pieces
@@ -146,8 +157,8 @@ stands_by old new pieces row next act stands leads gone =
     let went : HasGone old next row new act = gone (leads_at (situation_at old) row next leads) in
     let There : Situation → Type 0 = λ s. Leads s row next in
     let profile = profile_of old.scope.begins in
-    let more = forward old.scope pieces row next stands.in_order
-    (subst There (sym (same_situation old pieces stands)) leads) in
+    let there = subst There (sym (same_situation old pieces stands)) leads in
+    let more = forward old.scope pieces row next stands.in_order there in
     record {
       longer = pieces_after old.scope pieces row next;
       stands = record {
@@ -169,14 +180,30 @@ stands_by old new pieces row next act stands leads gone =
             ∙ (known_more (first_known old.scope.begins) act (acts_of pieces)
             ∙ (ap (known_if act) stands.options ∙ sym went.options)));
         asked = more.asked ∙ (ap (λ a. asked_after a next) stands.asked ∙ sym went.asked);
+        haste = ap (λ s. haste_of s (pieces_after old.scope pieces row next)) went.scope
+            ∙ (ap (haste_by profile) (haste_on old.scope pieces row next _ stands.in_order there
+            more.grown) ∙ (sym (haste_again profile (position_of old.scope pieces)
+            (last_of (events_of pieces)) row (is_in_haste old.scope pieces))
+            ∙ (ap (λ h. haste_by profile (haste_after (position_of old.scope pieces)
+            (last_of (events_of pieces)) row h)) stands.haste
+            ∙ (ap (λ p. haste_by profile (haste_after p (last_of (events_of pieces)) row old.haste))
+            stands.position
+            ∙ (ap (λ l. haste_by profile (haste_after (position_at old.place) l row old.haste))
+            stands.last ∙ sym went.haste)))));
       };
       rows = more.rows;
       acts = more.acts ∙ acts_same stands.position went.advanced.act;
       grown = subst Goes (ended stands.position went.advanced.act) more.grown;
+      untimely = subst Counted (sym went.scope)
+          (untimely_by_step old.scope pieces row next _ stands.in_order there more.grown);
     }
   where
     Ordered : Scope → Type 0
     Ordered s = ArePieces s (pieces_after old.scope pieces row next)
+
+    Counted : Scope → Type 0
+    Counted s = untimely_of s (pieces_after old.scope pieces row next)
+        ≡ with_sender (untimely_sender s pieces row) (untimely_of s pieces)
 
     Goes : Option Act → Type 0
     Goes a = Grown pieces row a (pieces_after old.scope pieces row next)
@@ -226,25 +253,34 @@ pub read_breaks : (old : Bus) (pieces : List Piece) (row : Event) (broken : Rule
 read_breaks old pieces row broken stands ended read = ended (Err broken) read
 
 -- the fault of a row that is refused
-pub fault_of : (old : Bus) (pieces : List Piece) (row : Event) (broken told : Rule) (blamed : Blame)
-    → StandsFor old pieces
-    → IsFirstByPlace (situation_at old) row broken
-    → told ≡ counted_as broken (position_at old.place) (wide_at old.options old.levels)
-    → blamed ≡ blame_of (position_at old.place) old.asked row told
-    → IsLinkFault old.scope pieces row told blamed
-fault_of old pieces row broken told blamed stands judged counts blame =
-    let There : Situation → Type 0 = λ s. IsFirstBroken s row broken in
+same_fault : (old : Bus) (pieces : List Piece) (row : Event) (first : Rule) → StandsFor old pieces
+    → fault_at (position_at old.place) old.asked (wide_at old.options old.levels) old.haste row
+    first
+    ≡ fault_of old.scope pieces row first
+same_fault old pieces row first stands =
+    ap (λ p. fault_at p old.asked (wide_at old.options old.levels) old.haste row first)
+    (sym stands.position)
+    ∙ (ap (λ a. fault_at (position_of old.scope pieces) a (wide_at old.options old.levels) old.haste
+    row first) (sym stands.asked)
+    ∙ (ap (λ w. fault_at (position_of old.scope pieces) (asked_device pieces) w old.haste row first)
+    (sym (same_wide old pieces stands))
+    ∙ ap (λ h. fault_at (position_of old.scope pieces) (asked_device pieces)
+    (wide_of old.scope pieces) h row first) (sym stands.haste)))
+
+pub has_fault : (old : Bus) (pieces : List Piece) (row : Event) (first : Rule) (told : LinkFault)
+    → StandsFor old pieces → IsFirstByPlace (situation_at old) row first
+    → told ≡ fault_at (position_at old.place) old.asked (wide_at old.options old.levels) old.haste
+    row first
+    → IsLinkFault old.scope pieces row told.rule told.blame
+has_fault old pieces row first told stands judged is =
+    let There : Situation → Type 0 = λ s. IsFirstBroken s row first in
+    let same = is ∙ same_fault old pieces row first stands in
     record {
-      first = broken;
+      first = first;
       rule = subst There (sym (same_situation old pieces stands))
-          (by_place (situation_at old) row broken judged);
-      counts = counts
-          ∙ (ap (λ p. counted_as broken p (wide_at old.options old.levels)) (sym stands.position)
-          ∙ ap (counted_as broken (position_of old.scope pieces))
-          (sym (same_wide old pieces stands)));
-      blame = blame
-          ∙ (ap (λ p. blame_of p old.asked row told) (sym stands.position)
-          ∙ ap (λ a. blame_of (position_of old.scope pieces) a row told) (sym stands.asked));
+          (by_place (situation_at old) row first judged);
+      counts = ap (λ (f : LinkFault). f.rule) same;
+      blame = ap (λ (f : LinkFault). f.blame) same;
     }
 
 -- the bus after a row that ends a reply: the row goes on where the reply can be read, and else
@@ -272,14 +308,13 @@ pub read_has_fault : (old : Bus) (pieces : List Piece) (row : Event)
     → StandsFor old pieces → IsEnded (situation_at old) row
     → IfErr result (λ fault. (first : Rule)
     × IsReadAt old.scope.begins (position_at old.place) old.levels (Err first)
-    × (fault.rule ≡ counted_as first (position_at old.place) (wide_at old.options old.levels)))
-    → IfErr result (λ fault. fault.blame ≡ blame_of (position_at old.place) old.asked row
-    fault.rule)
+    × (fault ≡ fault_at (position_at old.place) old.asked (wide_at old.options old.levels)
+    old.haste row first))
     → IfErr result (λ fault. IsLinkFault old.scope pieces row fault.rule fault.blame)
-read_has_fault old pieces row (Ok act) stands ended read blame = tt
-read_has_fault old pieces row (Err fault) stands ended read blame =
-    fault_of old pieces row read.0 fault.rule fault.blame stands
-    (read_breaks old pieces row read.0 stands ended read.1) read.2 blame
+read_has_fault old pieces row (Ok act) stands ended read = tt
+read_has_fault old pieces row (Err fault) stands ended read =
+    has_fault old pieces row read.0 fault stands
+    (read_breaks old pieces row read.0 stands ended read.1) read.2
 
 -- what is refused ends the act list
 pub fault_ends : ((scope : Scope) (pieces : List Piece) (row : Event) (broken : Rule)
@@ -309,11 +344,16 @@ ended_is : (ended : Bool) (act told : Act) → ended_act ended act ≡ Some told
 ended_is true act told is = cc
 ended_is false act told is = absurd (cc)
 
+-- haste goes on as a row tells
+abbrev pub Hastens : Bus → Bus → Event → Type 0
+Hastens old new row = new.haste ≡ haste_by (profile_of old.scope.begins)
+    (haste_after (position_at old.place) old.last row old.haste)
+
 -- a bus has gone by the ask that its place has advanced by, where it keeps what the act tells
 pub gone_ask : (old new : Bus) (place : Place) (row : Event) (found : Judged) (ended : Bool)
     (act : Act)
     → found ≡ judged.Ask → new.place ≡ place
-    → new.scope ≡ old.scope → new.last ≡ Some row
+    → new.scope ≡ old.scope → new.last ≡ Some row → Hastens old new row
     → new.options ≡ old.options
     → ((command : Command) → act ≡ acts.Ask command → new.levels ≡ levels_after command old.levels)
     → ((command : Command) → act ≡ acts.Ask command → new.asked ≡ Some (device_of command))
@@ -321,7 +361,8 @@ pub gone_ask : (old new : Bus) (place : Place) (row : Event) (found : Judged) (e
     → HasAdvanced (position_at old.place) next (position_at place) (ended_act ended act))
     → EachStep found row (λ next. IsAt (position_at old.place) next
     → HasGone old next row new (ended_act ended act))
-gone_ask old new place row judged.Ask ended act is there scope last options levels asked advanced =
+gone_ask old new place row judged.Ask ended act is there scope last haste options levels asked
+    advanced =
     λ command at.
     let Led : Place → Type 0 = λ p.
     HasAdvanced (position_at old.place) (step.Ask command) (position_at p) (ended_act ended act) in
@@ -332,6 +373,7 @@ gone_ask old new place row judged.Ask ended act is there scope last options leve
       scope = scope;
       advanced = has;
       last = last;
+      haste = haste;
       levels = levels command told
           ∙ ap (λ a. levels_if (profile_of old.scope.begins) a old.levels)
           (sym (asks (position_at old.place) command at) ∙ sym has.act);
@@ -340,7 +382,7 @@ gone_ask old new place row judged.Ask ended act is there scope last options leve
           (sym (asks (position_at old.place) command at) ∙ sym has.act);
       asked = asked command told;
     }
-gone_ask old new place row found ended act is there scope last options levels asked advanced =
+gone_ask old new place row found ended act is there scope last haste options levels asked advanced =
     absurd (cc)
 
 -- a step that ends neither an ask nor a reply
@@ -448,15 +490,17 @@ broken_off at length = refl
 
 -- a bus has gone by a step that tells no level
 gone_quiet : (old new : Bus) (row : Event) (next : Step) (act : Option Act)
-    → new.scope ≡ old.scope → new.last ≡ Some row → new.levels ≡ old.levels
+    → new.scope ≡ old.scope → new.last ≡ Some row → Hastens old new row
+    → new.levels ≡ old.levels
     → new.options ≡ known_if act old.options
     → new.asked ≡ asked_after old.asked next → IsQuiet next
     → HasAdvanced (position_at old.place) next (position_at new.place) act
     → HasGone old next row new act
-gone_quiet old new row next act scope last levels options asked quiet advanced = record {
+gone_quiet old new row next act scope last haste levels options asked quiet advanced = record {
   scope = scope;
   advanced = advanced;
   last = last;
+  haste = haste;
   levels = stay old new next act levels quiet advanced.act;
   options = options;
   asked = asked;
@@ -465,101 +509,114 @@ gone_quiet old new row next act scope last levels options asked quiet advanced =
 -- a bus has gone by the ACK that its place has advanced by
 pub gone_ack : (old new : Bus) (row : Event) (found : Judged) (ended : Bool) (act : Act)
     → found ≡ judged.Ack
-    → new.scope ≡ old.scope → new.last ≡ Some row → new.levels ≡ old.levels
+    → new.scope ≡ old.scope → new.last ≡ Some row → Hastens old new row
+    → new.levels ≡ old.levels
     → new.options ≡ known_by act old.options → new.asked ≡ old.asked
     → EachStep found row (λ next. IsAt (position_at old.place) next
     → HasAdvanced (position_at old.place) next (position_at new.place) (ended_act ended act))
     → EachStep found row (λ next. IsAt (position_at old.place) next
     → HasGone old next row new (ended_act ended act))
-gone_ack old new row judged.Ack ended act is scope last levels options asked advanced = λ at.
+gone_ack old new row judged.Ack ended act is scope last haste levels options asked advanced = λ at.
     let told = acked (position_at old.place) at in
-    gone_quiet old new row _ (ended_act ended act) scope last levels
+    gone_quiet old new row _ (ended_act ended act) scope last haste levels
     (settled ended act (acts.Ack told.0) old.options new.options ((advanced at).act ∙ told.1)
     options) asked tt (advanced at)
-gone_ack old new row found ended act is scope last levels options asked advanced = absurd (cc is)
+gone_ack old new row found ended act is scope last haste levels options asked advanced =
+    absurd (cc is)
 
 -- by the foreign word
 pub gone_foreign : (old new : Bus) (row : Event) (found : Judged) (act : Option Act)
     → found ≡ judged.Foreign
-    → new.scope ≡ old.scope → new.last ≡ Some row → new.levels ≡ old.levels
+    → new.scope ≡ old.scope → new.last ≡ Some row → Hastens old new row
+    → new.levels ≡ old.levels
     → new.options ≡ old.options → new.asked ≡ None
     → EachStep found row (λ next. IsAt (position_at old.place) next
     → HasAdvanced (position_at old.place) next (position_at new.place) act)
     → EachStep found row (λ next. IsAt (position_at old.place) next → HasGone old next row new act)
-gone_foreign old new row judged.Foreign act is scope last levels options asked advanced = λ at.
-    gone_quiet old new row _ act scope last levels
+gone_foreign old new row judged.Foreign act is scope last haste levels options asked advanced =
+    λ at.
+    gone_quiet old new row _ act scope last haste levels
     (unsettled old new step.Foreign act options tt (advanced at).act) asked tt (advanced at)
-gone_foreign old new row found act is scope last levels options asked advanced = absurd (cc is)
+gone_foreign old new row found act is scope last haste levels options asked advanced =
+    absurd (cc is)
 
 -- by the break
 pub gone_break : (old new : Bus) (row : Event) (found : Judged) (ended : Bool) (act : Act)
     → found ≡ judged.Break
-    → new.scope ≡ old.scope → new.last ≡ Some row → new.levels ≡ old.levels
+    → new.scope ≡ old.scope → new.last ≡ Some row → Hastens old new row
+    → new.levels ≡ old.levels
     → new.options ≡ known_by act old.options → new.asked ≡ None
     → EachStep found row (λ next. IsAt (position_at old.place) next
     → HasAdvanced (position_at old.place) next (position_at new.place) (ended_act ended act))
     → EachStep found row (λ next. IsAt (position_at old.place) next
     → HasGone old next row new (ended_act ended act))
-gone_break old new (Break start length) judged.Break ended act is scope last levels options asked
+gone_break old new (Break start length) judged.Break ended act is scope last haste levels options
+    asked
     advanced = λ at.
-    gone_quiet old new (Break start length) _ (ended_act ended act) scope last levels
+    gone_quiet old new (Break start length) _ (ended_act ended act) scope last haste levels
     (settled ended act (acts.Break length) old.options new.options
     ((advanced at).act ∙ broken_off (position_at old.place) length) options) asked tt (advanced at)
-gone_break old new (Word at line word) judged.Break ended act is scope last levels options asked
+gone_break old new (Word at line word) judged.Break ended act is scope last haste levels options
+    asked
     advanced = tt
-gone_break old new row found ended act is scope last levels options asked advanced = absurd (cc is)
+gone_break old new row found ended act is scope last haste levels options asked advanced =
+    absurd (cc is)
 
 -- by another step that its place has advanced by, which changes neither the levels, the options
 -- nor the device that was asked
 pub gone_on : (old new : Bus) (row : Event) (found : Judged) (act : Option Act)
     → (found ≡ judged.Ask → ⊥) → (found ≡ judged.Ack → ⊥) → (found ≡ judged.Foreign → ⊥)
     → (found ≡ judged.Break → ⊥)
-    → new.scope ≡ old.scope → new.last ≡ Some row → new.levels ≡ old.levels
+    → new.scope ≡ old.scope → new.last ≡ Some row → Hastens old new row
+    → new.levels ≡ old.levels
     → new.options ≡ old.options → new.asked ≡ old.asked
     → EachStep found row (λ next. IsAt (position_at old.place) next
     → HasAdvanced (position_at old.place) next (position_at new.place) act)
     → EachStep found row (λ next. IsAt (position_at old.place) next → HasGone old next row new act)
-gone_on old new row judged.Ask act ask ack foreign pause scope last levels options asked advanced =
+gone_on old new row judged.Ask act ask ack foreign pause scope last haste levels options asked
+    advanced =
     absurd (ask refl)
-gone_on old new row judged.Ack act ask ack foreign pause scope last levels options asked advanced =
+gone_on old new row judged.Ack act ask ack foreign pause scope last haste levels options asked
+    advanced =
     absurd (ack refl)
-gone_on old new row judged.Foreign act ask ack foreign pause scope last levels options asked
+gone_on old new row judged.Foreign act ask ack foreign pause scope last haste levels options asked
     advanced =
     absurd (foreign refl)
-gone_on old new row judged.Break act ask ack foreign pause scope last levels options asked
+gone_on old new row judged.Break act ask ack foreign pause scope last haste levels options asked
     advanced =
     absurd (pause refl)
-gone_on old new row judged.Reply act ask ack foreign pause scope last levels options asked
+gone_on old new row judged.Reply act ask ack foreign pause scope last haste levels options asked
     advanced = tt
-gone_on old new row judged.AskByte act ask ack foreign pause scope last levels options asked
+gone_on old new row judged.AskByte act ask ack foreign pause scope last haste levels options asked
     advanced = λ at.
-    gone_quiet old new row _ act scope last levels
+    gone_quiet old new row _ act scope last haste levels
     (unsettled old new _ act options tt (advanced at).act) asked tt (advanced at)
-gone_on old new row judged.Nak act ask ack foreign pause scope last levels options asked
+gone_on old new row judged.Nak act ask ack foreign pause scope last haste levels options asked
     advanced = λ at.
-    gone_quiet old new row _ act scope last levels
+    gone_quiet old new row _ act scope last haste levels
     (unsettled old new _ act options tt (advanced at).act) asked tt (advanced at)
-gone_on old new row judged.ReplyByte act ask ack foreign pause scope last levels options asked
+gone_on old new row judged.ReplyByte act ask ack foreign pause scope last haste levels options asked
     advanced = λ at.
-    gone_quiet old new row _ act scope last levels
+    gone_quiet old new row _ act scope last haste levels
     (unsettled old new _ act options tt (advanced at).act) asked tt (advanced at)
-gone_on old new row judged.VmcAck act ask ack foreign pause scope last levels options asked
+gone_on old new row judged.VmcAck act ask ack foreign pause scope last haste levels options asked
     advanced = λ at.
-    gone_quiet old new row _ act scope last levels
+    gone_quiet old new row _ act scope last haste levels
     (unsettled old new _ act options tt (advanced at).act) asked tt (advanced at)
-gone_on old new row judged.VmcNak act ask ack foreign pause scope last levels options asked
+gone_on old new row judged.VmcNak act ask ack foreign pause scope last haste levels options asked
     advanced = λ at.
-    gone_quiet old new row _ act scope last levels
+    gone_quiet old new row _ act scope last haste levels
     (unsettled old new _ act options tt (advanced at).act) asked tt (advanced at)
-gone_on old new row judged.VmcRet act ask ack foreign pause scope last levels options asked
+gone_on old new row judged.VmcRet act ask ack foreign pause scope last haste levels options asked
     advanced = λ at.
-    gone_quiet old new row _ act scope last levels
+    gone_quiet old new row _ act scope last haste levels
     (unsettled old new _ act options tt (advanced at).act) asked tt (advanced at)
-gone_on old new row judged.RepeatWord act ask ack foreign pause scope last levels options asked
+gone_on old new row judged.RepeatWord act ask ack foreign pause scope last haste levels options
+    asked
     advanced = λ at.
-    gone_quiet old new row _ act scope last levels
+    gone_quiet old new row _ act scope last haste levels
     (unsettled old new _ act options tt (advanced at).act) asked tt (advanced at)
-gone_on old new row judged.Repeat act ask ack foreign pause scope last levels options asked
+gone_on old new row judged.Repeat act ask ack foreign pause scope last haste levels options asked
     advanced = λ at.
-    gone_quiet old new row _ act scope last levels
+    gone_quiet old new row _ act scope last haste levels
     (unsettled old new _ act options tt (advanced at).act) asked tt (advanced at)

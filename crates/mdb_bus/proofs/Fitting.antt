@@ -11,7 +11,9 @@ use Rattle.mdb_bus.specs.ActLists.{Piece, Whole, ArePieces, MayCome, MayStand, Q
 use Rattle.mdb_bus.specs.Acts.{IsAck}
 use Rattle.mdb_bus.specs.Wish.{Wish, HearsFreeAsWished, HearsAsWished, IsFree, nothing_told}
 use Rattle.mdb_bus.specs.Loss.{AllArrive, FitsNext, Heard, Hearing, IsAsTold, IsHeard, Loss, LossFits, Open, Unheard, told_by, told_by_block}
+use Rattle.mdb_bus.specs.declared.scope.Profile.{Profile}
 use Rattle.mdb_bus.specs.declared.scope.Scope.{Scope}
+use Rattle.mdb_bus.specs.Scopes.{profile_of}
 
 -- the first of two tests or the second
 abbrev pick : Bool → Bool → Bool → Bool
@@ -94,13 +96,15 @@ abbrev IsSparing : Hearing → Act → Type 0
 IsSparing hearing act = left_open act ≡ Quiet → hearing ≡ Open
 
 -- so it is with what an act tells that may come after
-sparing_told : (next : Act) (events : List Event) (act : Act) (from : Option Event) (to : Event)
-    → MayCome (Whole next events) (left_open act) from to → IsSparing (told_by next act) act
-sparing_told (acts.Ask command) events act from to comes = no_block_tells act
-sparing_told (acts.Nak command) events act from to comes = λ quiet. refl
-sparing_told acts.Foreign events act from to comes = no_block_tells act
-sparing_told (acts.Break length) events act from to comes = λ quiet. refl
-sparing_told next events act from to comes = λ quiet. let stands = comes.0 in cc
+sparing_told : (profile : Profile) (next : Act) (events : List Event) (act : Act)
+    (from : Option Event) (to : Event)
+    → MayCome profile (Whole next events) (left_open act) from to
+    → IsSparing (told_by next act) act
+sparing_told profile (acts.Ask command) events act from to comes = no_block_tells act
+sparing_told profile (acts.Nak command) events act from to comes = λ quiet. refl
+sparing_told profile acts.Foreign events act from to comes = no_block_tells act
+sparing_told profile (acts.Break length) events act from to comes = λ quiet. refl
+sparing_told profile next events act from to comes = λ quiet. let stands = comes.0 in cc
 
 -- nothing is told of a free act
 free_open : (act : Act) (hearing : Hearing) → IsSparing hearing act → IsFree act hearing
@@ -168,7 +172,7 @@ next_sparing : (scope : Scope) (pieces : List Piece) (next : Act) (events : List
     → MayStand scope pieces (Whole next events)
     → TellsSparingly (told_by next) pieces
 next_sparing scope (Whole act rows ∷ pieces) next events stands =
-    sparing_told next events act _ stands.first stands.comes
+    sparing_told (profile_of scope.begins) next events act _ stands.first stands.comes
 next_sparing scope _ next events stands = tt
 
 -- a piece has a row

@@ -1,7 +1,6 @@
 -- A row that a position leads on by extends the act list.
 use Rattle.std.proofs.Common.{◌⊎◌, arith, refl, ap, sym, subst, ◌∙◌, ◌≡◌, ◌+◌, ◌<◌, ◌≤◌, ℕ, List, [], ◌∷◌, ◌++◌, inl, inr, Some, length, length-append, append_assoc}
 use Rattle.std.proofs.lemmas.List.Elements.{All-append, All-from_recursion}
-use Rattle.mdb_words.specs.declared.limits.TheConstants.{WORD_GAP_MIN, BLOCK_GAP_MAX, BREAK_LENGTH_MIN}
 use Rattle.mdb_words.specs.declared.event.Event.{Event}
 use Rattle.mdb_words.specs.declared.event.Event.TheVariants.{Word, Break}
 use Rattle.mdb_words.specs.declared.word.Line.{Line}
@@ -15,7 +14,7 @@ use Rattle.mdb_bus.specs.declared.act.Act.TheVariants as acts
 use Rattle.mdb_bus.specs.shared.Step.{Step}
 use Rattle.mdb_bus.specs.shared.Step as step
 use Rattle.mdb_bus.specs.Acts.{Say}
-use Rattle.mdb_bus.specs.ActLists.{Piece, Whole, AskTail, ReplyTail, RepeatTail, Position, Quiet, InAsk, Asked, InReply, Replied, Returned, InRepeat, InForeign, ArePieces, AreSpaced, Within, IsPiece, IsReplyFront, IsSaid, IsTail, MayCome, MayStand, PieceFits, act_in, acts_of, events_of, first_position, last_of, left_open, levels_if, levels_of, piece_events, position_of, with_act}
+use Rattle.mdb_bus.specs.ActLists.{Piece, Whole, AskTail, ReplyTail, RepeatTail, Position, Quiet, InAsk, Asked, InReply, Replied, Returned, InRepeat, InForeign, ArePieces, AreSpaced, InBlockTime, IsPiece, IsReplyFront, IsSaid, IsTail, MayCome, MayStand, PieceFits, act_in, acts_of, events_of, first_position, last_of, left_open, levels_if, levels_of, piece_events, position_of, with_act}
 use Rattle.mdb_bus.specs.Bus.{Grown}
 use Rattle.mdb_bus.specs.LinkFaults.{asked_device, situation_of}
 use Rattle.mdb_bus.specs.shared.Steps.{Answers, AnswersReply, BeginsRepeat, GoesOnAsking, GoesOnRepeating, GoesOnReplying, Leads, Opens, WordLeads, act_after, asked_after, grown, piece_after, pieces_after, position_after}
@@ -26,6 +25,7 @@ use Rattle.mdb_bus.specs.declared.levels.Levels.{Levels}
 use Rattle.mdb_bus.specs.declared.scope.Beginning.TheVariants.{PowerOn, Joined}
 use Rattle.mdb_bus.specs.declared.scope.Scope.{Scope}
 use Rattle.mdb_bus.specs.Scopes.{levels_before, profile_of}
+use Rattle.mdb_bus.specs.Times.{break_least}
 use Rattle.mdb_bus.specs.declared.scope.Profile.{Profile}
 
 -- what a step makes of pieces
@@ -262,12 +262,13 @@ fresh : (scope : Scope) (pieces : List Piece) (row : Event) (next : Step)
     → Adds scope next piece → piece_after (position_of scope pieces) next ≡ piece
     → pieces_after scope pieces row next ≡ piece (row ∷ []) ∷ pieces → ArePieces scope pieces
     → IsSaid scope (piece (row ∷ []))
-    → MayCome (piece (row ∷ [])) (position_of scope pieces) (last_of (events_of pieces)) row
+    → MayCome (profile_of scope.begins) (piece (row ∷ [])) (position_of scope pieces)
+    (last_of (events_of pieces)) row
     → PieceFits scope.begins (levels_of (profile_of scope.begins) (levels_before scope) pieces)
     (piece (row ∷ []))
     → Extended scope pieces row next
 fresh scope pieces row next piece adds added made are said comes levels =
-    let Spaced : List Event → Type 0 = λ es. AreSpaced es in
+    let Spaced : List Event → Type 0 = λ es. AreSpaced (profile_of scope.begins) es in
     let right : IsPiece scope (piece (row ∷ [])) =
     record { said = said; spaced = subst Spaced (sym (adds.rows (row ∷ []))) tt } in
     let stands : MayStand scope pieces (piece (row ∷ [])) =
@@ -299,23 +300,26 @@ longer : (scope : Scope) (tail : Piece) (pieces : List Piece) (row : Event) (nex
     → pieces_after scope (tail ∷ pieces) row next ≡ piece (piece_events tail ++ row ∷ []) ∷ pieces
     → ArePieces scope (tail ∷ pieces) → IsSaid scope (piece (piece_events tail ++ row ∷ []))
     → ((first : Event) (others : List Event) → piece_events tail ≡ first ∷ others
-    → MayCome tail (position_of scope pieces) (last_of (events_of pieces)) first
-    → MayCome (piece (piece_events tail ++ row ∷ [])) (position_of scope pieces)
+    → MayCome (profile_of scope.begins) tail (position_of scope pieces) (last_of (events_of pieces))
+    first
+    → MayCome (profile_of scope.begins) (piece (piece_events tail ++ row ∷ []))
+    (position_of scope pieces)
     (last_of (events_of pieces)) first)
     → PieceFits scope.begins (levels_of (profile_of scope.begins) (levels_before scope) pieces)
     (piece (piece_events tail ++ row ∷ []))
-    → Within WORD_GAP_MIN BLOCK_GAP_MAX (last_of (events_of (tail ∷ pieces))) row
+    → InBlockTime (profile_of scope.begins) (last_of (events_of (tail ∷ pieces))) row
     → Extended scope (tail ∷ pieces) row next
 longer scope tail pieces row next piece is_tail adds added made are said comes levels gap =
     let stood = are.1 in
     let profile = profile_of scope.begins in
     let old = piece_events tail in
     let Timed : List Event → Type 0 =
-    λ es. Within WORD_GAP_MIN BLOCK_GAP_MAX (last_of (events_of pieces ++ es)) row in
-    let Spaced : List Event → Type 0 = λ es. AreSpaced es in
-    let Longer : List Event → Type 0 = λ es. AreSpaced (es ++ row ∷ []) in
-    let more : AreSpaced (old ++ row ∷ []) = subst Longer (sym stood.begins)
-    (spaced_more (events_of pieces) stood.first stood.others row
+    λ es. InBlockTime (profile_of scope.begins) (last_of (events_of pieces ++ es)) row in
+    let Spaced : List Event → Type 0 = λ es. AreSpaced (profile_of scope.begins) es in
+    let Longer : List Event → Type 0 = λ es. AreSpaced (profile_of scope.begins) (es ++ row ∷ []) in
+    let more : AreSpaced (profile_of scope.begins) (old ++ row ∷ []) =
+    subst Longer (sym stood.begins)
+    (spaced_more (profile_of scope.begins) (events_of pieces) stood.first stood.others row
     (subst Spaced stood.begins are.0.spaced)
     (subst Timed stood.begins gap)) in
     let right : IsPiece scope (piece (old ++ row ∷ [])) =
@@ -426,7 +430,8 @@ begun : (scope : Scope) (position : Position) (pieces : List Piece) (row : Event
     → pieces_after scope pieces row next
     ≡ grown pieces row (piece_after (position_of scope pieces) next)
     → piece_after position next ≡ piece → IsSaid scope (piece (row ∷ []))
-    → MayCome (piece (row ∷ [])) (position_of scope pieces) (last_of (events_of pieces)) row
+    → MayCome (profile_of scope.begins) (piece (row ∷ [])) (position_of scope pieces)
+    (last_of (events_of pieces)) row
     → PieceFits scope.begins (levels_of (profile_of scope.begins) (levels_before scope) pieces)
     (piece (row ∷ []))
     → Extended scope pieces row next
@@ -443,7 +448,7 @@ answered : (scope : Scope) (command : Command) (pieces : List Piece) (at word : 
     → ArePieces scope pieces
     → AreClosed pieces
     → position_of scope pieces ≡ Asked command
-    → Answers command (last_of (events_of pieces)) (Word at Peripheral word) word next
+    → Answers scope command (last_of (events_of pieces)) (Word at Peripheral word) word next
     → Extended scope pieces (Word at Peripheral word) next
 answered scope command pieces at word step.Ack are closed here leads =
     begun scope (Asked command) pieces (Word at Peripheral word) step.Ack (Whole (acts.Ack command))
@@ -505,7 +510,7 @@ returned : (scope : Scope) (command : Command) (reply : Reply) (pieces : List Pi
     (next : Step)
     → ArePieces scope pieces
     → AreClosed pieces → position_of scope pieces ≡ Returned command reply
-    → BeginsRepeat reply (last_of (events_of pieces)) (Word at Peripheral word) word next
+    → BeginsRepeat scope reply (last_of (events_of pieces)) (Word at Peripheral word) word next
     → Extended scope pieces (Word at Peripheral word) next
 returned scope command reply pieces at word (step.RepeatWord said) are closed here leads =
     let Front : ℕ
@@ -641,7 +646,7 @@ in_reply : (scope : Scope) (command : Command) (bytes : List ℕ) (events : List
     (pieces : List Piece)
     (at word : ℕ) (next : Step)
     → ArePieces scope (ReplyTail command bytes events ∷ pieces)
-    → GoesOnReplying scope.begins command bytes (last_of (events_of pieces ++ events))
+    → GoesOnReplying scope command bytes (last_of (events_of pieces ++ events))
     (levels_of (profile_of scope.begins) (levels_before scope) pieces) (Word at Peripheral word)
     word next
     → Extended scope (ReplyTail command bytes events ∷ pieces) (Word at Peripheral word) next
@@ -689,7 +694,8 @@ in_repeat : (scope : Scope) (command : Command) (reply : Reply) (words : List �
     (events : List Event)
     (pieces : List Piece)
     (at word : ℕ) (next : Step) → ArePieces scope (RepeatTail command reply words events ∷ pieces)
-    → GoesOnRepeating reply words (last_of (events_of pieces ++ events)) (Word at Peripheral word)
+    → GoesOnRepeating scope reply words (last_of (events_of pieces ++ events))
+    (Word at Peripheral word)
     word next
     → Extended scope (RepeatTail command reply words events ∷ pieces) (Word at Peripheral word) next
 in_repeat scope command reply words events pieces at word (step.RepeatWord told) are leads =
@@ -729,7 +735,7 @@ broken : (scope : Scope) (pieces : List Piece) (at length : ℕ) (next : Step)
     → Extended scope pieces (Break at length) next
 broken scope pieces at length (step.Break lasted) are leads =
     let row = Break at length in
-    let Long : ℕ → Type 0 = λ l. BREAK_LENGTH_MIN ≤ l in
+    let Long : ℕ → Type 0 = λ l. break_least (profile_of scope.begins) ≤ l in
     fresh scope pieces row (step.Break lasted) (Whole (acts.Break lasted)) (adds_break scope lasted)
     (break_after (position_of scope pieces) lasted) refl are
     (at, ap (λ l. Break at l ∷ []) (sym leads.0), subst Long (sym leads.0) leads.1) leads.2 tt

@@ -1,9 +1,9 @@
 -- Pieces in order, where further devices are left out: what stays may stand where it stood, and
 -- what is of a device that is left out stands as foreign acts.
-use Rattle.std.proofs.Common.{arith, ap, refl, sym, subst, ◌∙◌, ◌≡◌, ◌++◌, inl, inr, Bool, true, false, if◌then◌else◌, List, [], ◌∷◌, Option, Some, None, append_assoc}
+use Rattle.std.proofs.Common.{arith, ap, refl, sym, subst, ◌∙◌, ◌≡◌, ◌≤◌, ◌++◌, inl, inr, Bool, true, false, if◌then◌else◌, List, [], ◌∷◌, Option, Some, None, append_assoc}
 use Rattle.std.proofs.lemmas.Bool.{cond_both}
 use Rattle.std.proofs.lemmas.List.{append-nil}
-use Rattle.mdb_words.specs.declared.limits.TheConstants.{WORD_GAP_MIN}
+use Rattle.mdb_words.specs.declared.limits.TheConstants.{NEW_BLOCK_GAP_MIN}
 use Rattle.mdb_words.specs.declared.event.Event.{Event}
 use Rattle.mdb_words.specs.declared.event.Event.TheVariants.{Word, Break}
 use Rattle.mdb_words.specs.declared.word.Line.TheVariants.{Controller, Peripheral}
@@ -37,10 +37,11 @@ use Rattle.mdb_bus.specs.Acts.{IsForeign, Say, reply_words}
 use Rattle.mdb_bus.specs.ActLists.{Piece, Whole, AskTail, ReplyTail, RepeatTail, Position, Quiet, InAsk, Asked, InReply, Replied, Returned, InRepeat, InForeign, ArePieces, AreSpaced, BlockMayCome, ForeignMayCome, IsInProfile, IsLow, IsPiece, IsSaid, MayCome, MayStand, NotBefore, PieceFits, ReplyFits, events_of, first_position, last_of, left_by, levels_after, levels_of, levels_told, piece_events, position_of}
 use Rattle.mdb_bus.specs.LeavingOut.{LeavesOutMore, begin_left_out, is_left_out, is_one_left_out, leave_out, position_without, with_foreign}
 use Rattle.mdb_bus.specs.Scopes.{HasCommand, IsFollowed, IsLeftOut, first_levels, levels_before, profile_of}
+use Rattle.mdb_bus.specs.Times.{break_least, rest_after}
 use Rattle.mdb_bus.specs.shared.Steps.{IsCommandFront}
 use Rattle.mdb_msgs.proofs.CommandBytes.{spelled_low}
 use Rattle.mdb_bus.proofs.Followed.{FirstTells, front_followed, plain_front}
-use Rattle.mdb_bus.proofs.LeftOutWords.{AreForeignWords, Becomes, answer_foreign, as_block, as_foreign, as_words, foreign_stays, peripheral_foreign}
+use Rattle.mdb_bus.proofs.LeftOutWords.{AreForeignWords, Becomes, answer_foreign, as_block, as_foreign, as_words, foreign_stays, peripheral_foreign, word_waits}
 use Rattle.mdb_bus.proofs.Lists.{all_front, last_push}
 use Rattle.mdb_bus.proofs.Named.{device_at}
 
@@ -89,22 +90,24 @@ where_without less more (piece ∷ pieces) order =
     after_piece more (is_left_out more piece) piece (piece_events piece) stands.first stands.others
     (leave_out more pieces) stands.begins
 
--- a block that may come waits for a word's length at least
-pub block_waits : (position : Position) (from : Option Event) (to : Event)
-    → BlockMayCome position from to → NotBefore WORD_GAP_MIN from to
-block_waits Quiet None to comes = tt
-block_waits Quiet (Some (Word at line word)) to comes = comes
-block_waits Quiet (Some (Break at length)) to comes = omega (arith, comes)
-block_waits (InAsk bytes) from to comes = absurd comes
-block_waits (Asked command) None to comes = tt
-block_waits (Asked command) (Some from) to comes = omega (arith, comes)
-block_waits (InReply command bytes) from to comes = absurd comes
-block_waits (Replied command reply) None to comes = tt
-block_waits (Replied command reply) (Some from) to comes = omega (arith, comes)
-block_waits (Returned command reply) None to comes = tt
-block_waits (Returned command reply) (Some from) to comes = omega (arith, comes)
-block_waits (InRepeat command reply words) from to comes = absurd comes
-block_waits InForeign from to comes = comes
+-- what waits for an answer waits for a word
+rests_enough : (from : Option Event) (to : Event) → NotBefore NEW_BLOCK_GAP_MIN from to
+    → NotBefore (rest_after from) from to
+rests_enough None to comes = tt
+rests_enough (Some (Word at line word)) to comes = omega (arith, comes)
+rests_enough (Some (Break at length)) to comes = omega (arith, comes)
+
+-- a block that may come may come in foreign traffic
+pub block_waits : (profile : Profile) (position : Position) (from : Option Event) (to : Event)
+    → BlockMayCome profile position from to → BlockMayCome profile InForeign from to
+block_waits profiles.Base Quiet (Some (Break at length)) to comes = omega (arith, comes)
+block_waits profiles.Base (Asked command) from to comes = rests_enough from to comes
+block_waits profiles.Base (Replied command reply) from to comes = rests_enough from to comes
+block_waits profiles.Base (Returned command reply) from to comes = rests_enough from to comes
+block_waits profile (InAsk bytes) from to comes = absurd comes
+block_waits profile (InReply command bytes) from to comes = absurd comes
+block_waits profile (InRepeat command reply words) from to comes = absurd comes
+block_waits profile position from to comes = comes
 
 -- a piece that leaves a command open is of its device
 of_its_device : (scope : Scope) (piece : Piece) (device : Device)
@@ -123,8 +126,9 @@ of_its_device scope piece device is = cc
 
 -- Where the bus is without further devices, by where it is with them.
 pub record Moves (scope : Scope) (position without : Position) : Type 0 where
-  pub block : (from : Option Event) (to : Event) → BlockMayCome position from to
-      → BlockMayCome without from to
+  pub block : (from : Option Event) (to : Event)
+      → BlockMayCome (profile_of scope.begins) position from to
+      → BlockMayCome (profile_of scope.begins) without from to
   pub stays : (device : Device) → device_at position ≡ Some device → IsFollowed scope device
       → without ≡ position
   pub leaves : (device : Device) → device_at position ≡ Some device → IsLeftOut scope device
@@ -143,7 +147,8 @@ first_moves less more wider =
     ap first_position wider.begins in
     let none = none_at_first less.begins in
     record {
-      block = λ from to comes. subst (λ (p : Position). BlockMayCome p from to) same comes;
+      block = λ from to comes.
+          subst (λ (p : Position). BlockMayCome (profile_of more.begins) p from to) same comes;
       stays = λ device is followed. sym same;
       leaves = λ device is out. let both : None ≡ Some device = sym none ∙ is in cc both;
       foreign = λ is. sym same ∙ is;
@@ -152,7 +157,7 @@ first_moves less more wider =
 piece_moves : (scope : Scope) (piece : Piece) (out : Bool) → is_left_out scope piece ≡ out
     → Moves scope (left_by piece) (if out then InForeign else left_by piece)
 piece_moves scope piece true out = record {
-  block = block_waits (left_by piece);
+  block = block_waits (profile_of scope.begins) (left_by piece);
   stays = λ device is followed.
       let both : true ≡ false = sym out ∙ (of_its_device scope piece device is ∙ followed) in
       cc both;
@@ -178,8 +183,8 @@ moves less more wider (piece ∷ pieces) order =
 
 -- a foreign act may come where one might
 foreign_moves : (scope : Scope) (position without : Position) (from : Option Event) (to : Event)
-    → Moves scope position without → ForeignMayCome position from to
-    → ForeignMayCome without from to
+    → Moves scope position without → ForeignMayCome (profile_of scope.begins) position from to
+    → ForeignMayCome (profile_of scope.begins) without from to
 foreign_moves scope position without from to moved (inl opens) =
     inl (opens.0, moved.block from to opens.1)
 foreign_moves scope position without from to moved (inr further) =
@@ -204,13 +209,19 @@ said_stays law less more wider (AskTail bytes events) kept said = (
       (plain_front less bytes said.0)) kept,
   said.1,
 )
+said_stays law less more wider (Whole (acts.Break length) events) kept said = (
+  said.0,
+  said.1,
+  subst (λ begins. break_least (profile_of begins) ≤ length) wider.begins said.2,
+)
 said_stays law less more wider piece kept said = said
 
 -- and it may come where it came
 pub comes_as_it_did : (scope : Scope) (piece : Piece) (position without : Position)
     (from : Option Event) (to : Event)
     → Moves scope position without → is_left_out scope piece ≡ false
-    → MayCome piece position from to → MayCome piece without from to
+    → MayCome (profile_of scope.begins) piece position from to
+    → MayCome (profile_of scope.begins) piece without from to
 comes_as_it_did scope (Whole (acts.Ask command) events) position without from to moved kept comes =
     moved.block from to comes
 comes_as_it_did scope (Whole (acts.Ack command) events) position without from to moved kept comes =
@@ -248,7 +259,7 @@ comes_as_it_did scope (RepeatTail command reply words events) position without f
 becomes : FirstTells → (less more : Scope) → LeavesOutMore less more → (piece : Piece)
     (position without : Position) (from : Option Event) (first : Event) (others : List Event)
     → is_left_out more piece ≡ true → IsSaid less piece → piece_events piece ≡ first ∷ others
-    → Moves more position without → MayCome piece position from first
+    → Moves more position without → MayCome (profile_of more.begins) piece position from first
     → Becomes more without from first others
 becomes law less more wider (Whole (acts.Ask command) events) position without from first others
     out said are moved comes =
@@ -328,11 +339,12 @@ becomes law less more wider (RepeatTail command reply words events) position wit
 -- further words of foreign traffic stand, each an act by itself
 words_stand : (scope : Scope) (from : Event) (events : List Event) (pieces : List Piece)
     → ArePieces scope pieces → position_of scope pieces ≡ InForeign
-    → last_of (events_of pieces) ≡ Some from → AreSpaced (from ∷ events) → AreForeignWords events
+    → last_of (events_of pieces) ≡ Some from
+    → AreSpaced (profile_of scope.begins) (from ∷ events) → AreForeignWords events
     → ArePieces scope (with_foreign events pieces)
 words_stand scope from [] pieces are here last spaced words = are
 words_stand scope from (event ∷ events) pieces are here last spaced words =
-    let Late : Option Event → Type 0 = λ before. NotBefore WORD_GAP_MIN before event in
+    let Late : Option Event → Type 0 = λ before. NotBefore (rest_after before) before event in
     let piece : IsPiece scope (Whole acts.Foreign (event ∷ [])) = record {
       said = inr (event, refl, words.0);
       spaced = tt;
@@ -341,17 +353,22 @@ words_stand scope from (event ∷ events) pieces are here last spaced words =
       first = event;
       others = [];
       begins = refl;
-      comes = inr (words.0, here, subst Late (sym last) spaced.0);
+      comes = inr (
+        words.0,
+        here,
+        subst Late (sym last) (word_waits (Some from) event spaced.0.0),
+      );
       levels = tt;
     } in
     words_stand scope event events (Whole acts.Foreign (event ∷ []) ∷ pieces) (piece, stands, are)
-    refl (last_push (events_of pieces) event) spaced.2 words.1
+    refl (last_push (events_of pieces) event) spaced.1 words.1
 
 -- so do all words of what is left out
 all_stand : (scope : Scope) (first : Event) (others : List Event) (pieces : List Piece)
     → ArePieces scope pieces
     → Becomes scope (position_of scope pieces) (last_of (events_of pieces)) first others
-    → AreSpaced (first ∷ others) → ArePieces scope (with_foreign (first ∷ others) pieces)
+    → AreSpaced (profile_of scope.begins) (first ∷ others)
+    → ArePieces scope (with_foreign (first ∷ others) pieces)
 all_stand scope first others pieces are become spaced =
     let piece : IsPiece scope (Whole acts.Foreign (first ∷ [])) = record {
       said = become.act;
@@ -566,12 +583,19 @@ in_order law less more wider (piece ∷ pieces) order =
     let said = order.0.said in
     let stands = order.1 in
     let rest = leave_out more pieces in
+    let spaced : AreSpaced (profile_of more.begins) (piece_events piece) =
+    subst (λ begins. AreSpaced (profile_of begins) (piece_events piece)) wider.begins
+    order.0.spaced in
+    let came : MayCome (profile_of more.begins) piece (position_of less pieces)
+    (last_of (events_of pieces)) stands.first =
+    subst (λ begins. MayCome (profile_of begins) piece (position_of less pieces)
+    (last_of (events_of pieces)) stands.first) wider.begins stands.comes in
     let before = in_order law less more wider pieces order.2 in
     let moved = moves less more wider pieces order.2 in
     let last : last_of (events_of rest) ≡ last_of (events_of pieces) =
     ap last_of (same_rows more pieces) in
     let Comes : Option Event → Type 0 =
-    λ from. MayCome piece (position_of more rest) from stands.first in
+    λ from. MayCome (profile_of more.begins) piece (position_of more rest) from stands.first in
     let Come : Option Event → Type 0 =
     λ from. Becomes more (position_of more rest) from stands.first stands.others in
     let Pieces : List Event → Type 0 = λ events. ArePieces more (with_foreign events rest) in
@@ -585,17 +609,17 @@ in_order law less more wider (piece ∷ pieces) order =
     (subst Come (sym last)
     (becomes law less more wider piece (position_of less pieces) (position_of more rest)
     (last_of (events_of pieces)) stands.first stands.others out said stands.begins moved
-    stands.comes))
-    (subst AreSpaced stands.begins order.0.spaced)))
+    came))
+    (subst (AreSpaced (profile_of more.begins)) stands.begins spaced)))
     (λ kept. (
-      record { said = said_stays law less more wider piece kept said; spaced = order.0.spaced },
+      record { said = said_stays law less more wider piece kept said; spaced = spaced },
       record {
         first = stands.first;
         others = stands.others;
         begins = stands.begins;
         comes = subst Comes (sym last)
             (comes_as_it_did more piece (position_of less pieces) (position_of more rest)
-            (last_of (events_of pieces)) stands.first moved kept stands.comes);
+            (last_of (events_of pieces)) stands.first moved kept came);
         levels = levels_fit more piece pieces kept (subst (Fits more.begins) wider.levels
             (subst (λ begins. Fits begins less.levels) wider.begins stands.levels));
       },

@@ -20,6 +20,7 @@ use Rattle.mdb_bus.specs.ActLists.{Position, InForeign, BlockMayCome, ForeignMay
 use Rattle.mdb_bus.specs.Acts.{IsForeign, IsForeignOpening, IsForeignWord, Say, said_by}
 use Rattle.mdb_bus.specs.LeavingOut.{LeavesOutMore, begin_left_out}
 use Rattle.mdb_bus.specs.Scopes.{IsFollowed, needed_by, needed_in, profile_of}
+use Rattle.mdb_bus.specs.Times.{rest_after}
 use Rattle.mdb_bus.proofs.Followed.{AreFollowed, needed_followed}
 use Rattle.mdb_bus.proofs.Rows.{begins_block}
 
@@ -159,14 +160,15 @@ foreign_stays less more wider events kept (inr further) = inr further
 pub record Becomes (scope : Scope) (position : Position) (from : Option Event) (first : Event)
     (others : List Event) : Type 0 where
   pub act : IsForeign scope (first ∷ [])
-  pub comes : ForeignMayCome position from first
+  pub comes : ForeignMayCome (profile_of scope.begins) position from first
   pub words : AreForeignWords others
 
 -- a block to a device that is left out opens foreign traffic by its first word
 first_opens : (scope : Scope) (byte : ℕ) (rest : List ℕ) (position : Position)
     (from : Option Event) (first : Event) (others : List Event)
     → is_to_one_of scope.without byte ≡ true → AllByRecursion IsByte rest
-    → Say Controller ((256 + byte) ∷ rest) (first ∷ others) → ForeignMayCome position from first
+    → Say Controller ((256 + byte) ∷ rest) (first ∷ others)
+    → ForeignMayCome (profile_of scope.begins) position from first
     → Becomes scope position from first others
 first_opens scope byte rest position from first others out low says comes =
     let one : said_by first ≡ Some (Controller, 256 + byte) = cc in
@@ -180,13 +182,21 @@ first_opens scope byte rest position from first others out low says comes =
 pub as_block : (scope : Scope) (bytes : List ℕ) (position : Position) (from : Option Event)
     (first : Event) (others : List Event)
     → is_to_one_of scope.without (slice_index bytes 0) ≡ true → All IsByte bytes
-    → Say Controller (controller_words bytes) (first ∷ others) → BlockMayCome position from first
+    → Say Controller (controller_words bytes) (first ∷ others)
+    → BlockMayCome (profile_of scope.begins) position from first
     → Becomes scope position from first others
 as_block scope [] position from first others out low says comes = cc
 as_block scope (byte ∷ rest) position from first others out low says comes =
     first_opens scope byte rest position from first others out
     (recursion_from_All IsByte (byte ∷ rest) low).1 says
     (inl (begins_block (byte ∷ rest) first others (λ none. cc) says, comes))
+
+-- a word waits for another no less than for a break
+pub word_waits : (from : Option Event) (to : Event) → NotBefore WORD_GAP_MIN from to
+    → NotBefore (rest_after from) from to
+word_waits None to late = tt
+word_waits (Some (Word at line word)) to late = late
+word_waits (Some (Break at length)) to late = omega (arith, late)
 
 -- words inside foreign traffic are foreign words
 pub as_words : (scope : Scope) (position : Position) (from : Option Event) (first : Event)
@@ -195,7 +205,7 @@ pub as_words : (scope : Scope) (position : Position) (from : Option Event) (firs
     → Becomes scope position from first others
 as_words scope position from first others words here late = record {
   act = inr (first, refl, words.0);
-  comes = inr (words.0, here, late);
+  comes = inr (words.0, here, word_waits from first late);
   words = words.1;
 }
 
@@ -203,7 +213,8 @@ as_words scope position from first others words here late = record {
 pub as_foreign : (less more : Scope) (position : Position) (from : Option Event) (first : Event)
     (others : List Event)
     → begin_left_out more (first ∷ others) ≡ true → IsForeign less (first ∷ others)
-    → ForeignMayCome position from first → Becomes more position from first others
+    → ForeignMayCome (profile_of more.begins) position from first
+    → Becomes more position from first others
 as_foreign less more position from first others out (inl ([], opening, says)) comes =
     absurd opening
 as_foreign less more position from first others out (inl (byte ∷ [], opening, says)) comes =

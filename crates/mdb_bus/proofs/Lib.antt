@@ -7,6 +7,7 @@ pub mod Fitting
 pub mod Followed
 pub mod FormatLaws
 pub mod Forward
+pub mod GrownTimes
 pub mod Verdicts
 pub mod LeftOutActs
 pub mod LeftOutOrder

@@ -3,14 +3,13 @@ use Rattle.std.proofs.Common.{arith, refl, ap, sym, subst, ◌∙◌, ◌≡◌,
 use Rattle.std.specs.List.{AllByRecursion}
 use Rattle.std.proofs.lemmas.List.{length-map}
 use Rattle.std.proofs.lemmas.List.Elements.{recursion_from_All, All-from_recursion}
-use Rattle.mdb_words.specs.declared.limits.TheConstants.{WORD_GAP_MIN, BLOCK_GAP_MAX}
 use Rattle.mdb_words.specs.declared.event.Event.{Event}
 use Rattle.mdb_words.specs.declared.word.Line.{Line}
 use Rattle.mdb_words.specs.declared.word.Line.TheVariants.{Controller}
-use Rattle.mdb_words.specs.Event.{AtLeast, AtMost}
 use Rattle.mdb_blocks.specs.Block.{controller_words, peripheral_words}
 use Rattle.mdb_bus.specs.Acts.{Say, said_by}
-use Rattle.mdb_bus.specs.ActLists.{AreSpaced, Within, last_of}
+use Rattle.mdb_bus.specs.declared.scope.Profile.{Profile}
+use Rattle.mdb_bus.specs.ActLists.{AreSpaced, InBlockTime, last_of}
 
 -- a list that isn't empty has a last element
 pub front_and_last : {X : Type 0} (xs : List X) → xs ≢ [] → (front : List X) × (last : X)
@@ -123,30 +122,30 @@ peripheral_push (x ∷ []) byte = refl
 peripheral_push (x ∷ y ∷ ys) byte = ap (λ ws. x ∷ ws) (peripheral_push (y ∷ ys) byte)
 
 -- the gaps of events that end in one
-pub spaced_front : (events : List Event) (from to : Event)
-    → AreSpaced ((events ++ from ∷ []) ++ to ∷ [])
-    → AreSpaced (events ++ from ∷ []) × AtLeast WORD_GAP_MIN from to × AtMost BLOCK_GAP_MAX from to
-spaced_front [] from to spaced = (tt, spaced.0, spaced.1)
-spaced_front (x ∷ []) from to spaced = ((spaced.0, spaced.1, tt), spaced.2.0, spaced.2.1)
-spaced_front (x ∷ y ∷ ys) from to spaced =
-    let rest = spaced_front (y ∷ ys) from to spaced.2 in
-    ((spaced.0, spaced.1, rest.0), rest.1, rest.2)
+pub spaced_front : (profile : Profile) (events : List Event) (from to : Event)
+    → AreSpaced profile ((events ++ from ∷ []) ++ to ∷ [])
+    → AreSpaced profile (events ++ from ∷ []) × InBlockTime profile (Some from) to
+spaced_front profile [] from to spaced = (tt, spaced.0)
+spaced_front profile (x ∷ []) from to spaced = ((spaced.0, tt), spaced.1.0)
+spaced_front profile (x ∷ y ∷ ys) from to spaced =
+    let rest = spaced_front profile (y ∷ ys) from to spaced.1 in
+    ((spaced.0, rest.0), rest.1)
 
 -- the same after other events
-pub inside : (before front : List Event) (event : Event) → front ≢ []
-    → AreSpaced (front ++ event ∷ [])
-    → AreSpaced front × Within WORD_GAP_MIN BLOCK_GAP_MAX (last_of (before ++ front)) event
-inside before front event some spaced =
+pub inside : (profile : Profile) (before front : List Event) (event : Event) → front ≢ []
+    → AreSpaced profile (front ++ event ∷ [])
+    → AreSpaced profile front × InBlockTime profile (last_of (before ++ front)) event
+inside profile before front event some spaced =
     let split = front_and_last front some in
-    let Longer : List Event → Type 0 = λ es. AreSpaced (es ++ event ∷ []) in
-    let Alone : List Event → Type 0 = λ es. AreSpaced es in
-    let In : Option Event → Type 0 = λ from. Within WORD_GAP_MIN BLOCK_GAP_MAX from event in
-    let apart = spaced_front split.0 split.1 event (subst Longer split.2 spaced) in
+    let Longer : List Event → Type 0 = λ es. AreSpaced profile (es ++ event ∷ []) in
+    let Alone : List Event → Type 0 = λ es. AreSpaced profile es in
+    let In : Option Event → Type 0 = λ from. InBlockTime profile from event in
+    let apart = spaced_front profile split.0 split.1 event (subst Longer split.2 spaced) in
     let joined : before ++ front ≡ (before ++ split.0) ++ split.1 ∷ [] =
     ap (λ es. before ++ es) split.2 ∙ sym (append_assoc before split.0 (split.1 ∷ [])) in
     let last : last_of (before ++ front) ≡ Some split.1 = ap last_of joined
     ∙ last_push (before ++ split.0) split.1 in
-    (subst Alone (sym split.2) apart.0, subst In (sym last) (apart.1, apart.2))
+    (subst Alone (sym split.2) apart.0, subst In (sym last) apart.1)
 
 -- what holds of each element holds of each in a front, and of the last
 front_by_recursion : (P : ℕ → Type 0) (xs ys : List ℕ) → AllByRecursion P (xs ++ ys)

@@ -1,5 +1,5 @@
 -- No act names a device that is left out, and no fault of the link is blamed on one.
-use Rattle.std.proofs.Common.{refl, ap, sym, subst, ◌∙◌, ◌≡◌, ◌⊎◌, inl, inr, List, [], ◌∷◌, Option, Some, None}
+use Rattle.std.proofs.Common.{refl, ap, sym, subst, ◌∙◌, ◌≡◌, ◌⊎◌, ◌&&◌, Bool, true, false, if◌then◌else◌, inl, inr, List, [], ◌∷◌, Option, Some, None}
 use Rattle.mdb_words.specs.declared.event.Event.{Event}
 use Rattle.mdb_words.specs.declared.event.Event.TheVariants.{Word, Break}
 use Rattle.mdb_words.specs.declared.word.Line.TheVariants.{Controller, Peripheral}
@@ -18,8 +18,11 @@ use Rattle.mdb_bus.specs.declared.scope.Beginning.TheVariants.{PowerOn, Joined}
 use Rattle.mdb_bus.specs.declared.scope.Scope.{Scope}
 use Rattle.mdb_bus.specs.ActLists.{Piece, Whole, ReplyTail, RepeatTail, Position, Asked, InReply, Replied, Returned, InRepeat, ArePieces, first_position, position_of}
 use Rattle.mdb_bus.specs.LeavingOut.{device_in}
-use Rattle.mdb_bus.specs.LinkFaults.{IsLinkFault, asked_device, blame_of, blame_on, vmc_blame}
+use Rattle.mdb_bus.specs.LinkFaults.{IsLinkFault, asked_device, blame_of, blame_on, fault_of, vmc_blame}
+use Rattle.mdb_bus.specs.Haste.{haste_of, is_excused}
 use Rattle.mdb_bus.specs.Scopes.{IsFollowed}
+use Rattle.mdb_bus.specs.WideMoney.{counted_as, wide_of}
+use Rattle.mdb_bus.specs.declared.fault.LinkFault.{LinkFault}
 
 -- the device of the command that is open at a position
 abbrev pub device_at : Position → Option Device
@@ -132,6 +135,30 @@ blamed_for_row position asked (Word at Controller word) broken =
     blamed_for_vmc position asked broken
 blamed_for_row position asked (Break at length) broken = inr refl
 
+-- what counts in haste is blamed on the controller, or as it was
+one_of : (is : Bool) (one other : LinkFault)
+    → ((if is then one else other).blame ≡ other.blame)
+    ⊎ ((if is then one else other).blame ≡ one.blame)
+one_of true one other = inr refl
+one_of false one other = inl refl
+
+blamed_in : (scope : Scope) (pieces : List Piece) (row : Event) (first : Rule)
+    → ((fault_of scope pieces row first).blame ≡ blame_on (asked_device pieces))
+    ⊎ ((fault_of scope pieces row first).blame ≡ blame.Controller)
+blamed_in scope pieces row first =
+    let position = position_of scope pieces in
+    let asked = asked_device pieces in
+    let broken = counted_as first position (wide_of scope pieces) in
+    let fault : LinkFault = record { rule = broken; blame = blame_of position asked row broken } in
+    elim (one_of (haste_of scope pieces && is_excused row broken)
+    (record { rule = rule.Early; blame = blame.Controller }) fault) [
+      | inr early ↦ inr early
+      | inl as_it_was ↦ elim (blamed_for_row position asked row broken) [
+        | inl by ↦ inl (as_it_was ∙ by)
+        | inr by ↦ inr (as_it_was ∙ by)
+      ]
+    ]
+
 -- who is blamed as a device is blamed is the one that was asked
 is_asked : (asked : Option Device) (blamed : Blame) (device : Device)
     → (blamed ≡ blame_on asked) ⊎ (blamed ≡ blame.Controller) → blamed ≡ blame_on (Some device)
@@ -148,7 +175,6 @@ pub blamed_followed : (scope : Scope) (pieces : List Piece) (row : Event) (broke
     → ArePieces scope pieces → IsLinkFault scope pieces row broken blamed
     → blamed ≡ blame_on (Some device) → IsFollowed scope device
 blamed_followed scope pieces row broken blamed device order fault is =
-    let asked = asked_device pieces in
     asked_followed scope pieces device order
-    (is_asked asked (blame_of (position_of scope pieces) asked row broken) device
-    (blamed_for_row (position_of scope pieces) asked row broken) (sym fault.blame ∙ is))
+    (is_asked (asked_device pieces) (fault_of scope pieces row fault.first).blame device
+    (blamed_in scope pieces row fault.first) (sym fault.blame ∙ is))

@@ -5,10 +5,9 @@ use Rattle.std.specs.List.{AllByRecursion}
 use Rattle.mdb_words.specs.declared.event.Event.{Event}
 use Rattle.mdb_bus.specs.declared.fault.Blame.{Blame}
 use Rattle.mdb_bus.specs.declared.fault.Rule.{Rule}
-use Rattle.mdb_bus.specs.ActLists.{Piece, position_of}
-use Rattle.mdb_bus.specs.LinkFaults.{IsFirstBroken, IsLinkFault, RowBreaks, Situation, asked_device, blame_of}
+use Rattle.mdb_bus.specs.ActLists.{Piece}
+use Rattle.mdb_bus.specs.LinkFaults.{IsFirstBroken, IsLinkFault, RowBreaks, Situation, fault_of}
 use Rattle.mdb_bus.specs.declared.scope.Scope.{Scope}
-use Rattle.mdb_bus.specs.WideMoney.{counted_as, wide_of}
 
 -- of rules in an order, one is the first that is broken
 one_first : (Breaks : Rule → Type 0) (r s : Rule) (before other after rest : List Rule)
@@ -38,12 +37,7 @@ pub one_fault : (scope : Scope) (pieces : List Piece) (row : Event) (r s : Rule)
     → IsLinkFault scope pieces row s b → (r ≡ s) × (a ≡ b)
 one_fault scope pieces row r s a b first second =
     let one : first.first ≡ second.first =
-    one_broken _ row first.first second.first first.rule second.rule in
-    let same : r ≡ s =
-    first.counts
-    ∙ (ap (λ x. counted_as x (position_of scope pieces) (wide_of scope pieces)) one
-    ∙ sym second.counts) in (
-      same,
-      first.blame ∙ (ap (λ x. blame_of (position_of scope pieces) (asked_device pieces) row x) same
-          ∙ sym second.blame),
+    one_broken _ row first.first second.first first.rule second.rule in (
+      first.counts ∙ (ap (λ x. (fault_of scope pieces row x).rule) one ∙ sym second.counts),
+      first.blame ∙ (ap (λ x. (fault_of scope pieces row x).blame) one ∙ sym second.blame),
     )

@@ -23,7 +23,6 @@ use Rattle.mdb_bus.specs.declared.format.Format.{Format}
 use Rattle.mdb_bus.specs.Formats.{IsReadAs, format_for}
 use Rattle.mdb_bus.specs.Scopes.{Asks, needed_in}
 use Rattle.mdb_bus.specs.declared.scope.Scope.{Scope}
-use Rattle.mdb_bus.specs.declared.scope.Beginning.{Beginning}
 
 -- what mdb_msgs promises of the commands and replies that a block may be
 pub record Readings (scope : Scope) : Type 0 where
@@ -197,54 +196,66 @@ one_asking scope readings bytes from to word step.Foreign other p q =
 one_asking scope readings bytes from to word one other p q = absurd p
 
 -- a command is answered with one step
-answer_ack : (command : Command) (from : Option Event) (to : Event) (word : ℕ) (other : Step)
-    → Answers command from to word step.Ack → Answers command from to word other → step.Ack ≡ other
-answer_ack command from to word step.Ack p q = refl
-answer_ack command from to word step.Nak p q = absurd (omega (arith, p.0, q.0))
-answer_ack command from to word (step.ReplyByte byte) p q = absurd (omega (arith, p.0, q.1))
-answer_ack command from to word other p q = absurd q
+answer_ack : (scope : Scope) (command : Command) (from : Option Event) (to : Event) (word : ℕ)
+    (other : Step)
+    → Answers scope command from to word step.Ack → Answers scope command from to word other
+    → step.Ack ≡ other
+answer_ack scope command from to word step.Ack p q = refl
+answer_ack scope command from to word step.Nak p q = absurd (omega (arith, p.0, q.0))
+answer_ack scope command from to word (step.ReplyByte byte) p q = absurd (omega (arith, p.0, q.1))
+answer_ack scope command from to word other p q = absurd q
 
-answer_nak : (command : Command) (from : Option Event) (to : Event) (word : ℕ) (other : Step)
-    → Answers command from to word step.Nak → Answers command from to word other → step.Nak ≡ other
-answer_nak command from to word step.Ack p q = absurd (omega (arith, p.0, q.0))
-answer_nak command from to word step.Nak p q = refl
-answer_nak command from to word (step.ReplyByte byte) p q = absurd (omega (arith, p.0, q.1))
-answer_nak command from to word other p q = absurd q
+answer_nak : (scope : Scope) (command : Command) (from : Option Event) (to : Event) (word : ℕ)
+    (other : Step)
+    → Answers scope command from to word step.Nak → Answers scope command from to word other
+    → step.Nak ≡ other
+answer_nak scope command from to word step.Ack p q = absurd (omega (arith, p.0, q.0))
+answer_nak scope command from to word step.Nak p q = refl
+answer_nak scope command from to word (step.ReplyByte byte) p q = absurd (omega (arith, p.0, q.1))
+answer_nak scope command from to word other p q = absurd q
 
-answer_byte : (command : Command) (from : Option Event) (to : Event) (word byte : ℕ) (other : Step)
-    → Answers command from to word (step.ReplyByte byte) → Answers command from to word other
+answer_byte : (scope : Scope) (command : Command) (from : Option Event) (to : Event) (word byte : ℕ)
+    (other : Step)
+    → Answers scope command from to word (step.ReplyByte byte)
+    → Answers scope command from to word other
     → step.ReplyByte byte ≡ other
-answer_byte command from to word byte step.Ack p q = absurd (omega (arith, p.1, q.0))
-answer_byte command from to word byte step.Nak p q = absurd (omega (arith, p.1, q.0))
-answer_byte command from to word byte (step.ReplyByte other) p q = ap step.ReplyByte (sym p.0 ∙ q.0)
-answer_byte command from to word byte other p q = absurd q
+answer_byte scope command from to word byte step.Ack p q = absurd (omega (arith, p.1, q.0))
+answer_byte scope command from to word byte step.Nak p q = absurd (omega (arith, p.1, q.0))
+answer_byte scope command from to word byte (step.ReplyByte other) p q =
+    ap step.ReplyByte (sym p.0 ∙ q.0)
+answer_byte scope command from to word byte other p q = absurd q
 
-one_answer : (command : Command) (from : Option Event) (to : Event) (word : ℕ) (one other : Step)
-    → Answers command from to word one → Answers command from to word other → one ≡ other
-one_answer command from to word step.Ack other p q = answer_ack command from to word other p q
-one_answer command from to word step.Nak other p q = answer_nak command from to word other p q
-one_answer command from to word (step.ReplyByte byte) other p q = answer_byte command from to word
+one_answer : (scope : Scope) (command : Command) (from : Option Event) (to : Event) (word : ℕ)
+    (one other : Step)
+    → Answers scope command from to word one → Answers scope command from to word other
+    → one ≡ other
+one_answer scope command from to word step.Ack other p q = answer_ack scope command from to word
+    other p q
+one_answer scope command from to word step.Nak other p q = answer_nak scope command from to word
+    other p q
+one_answer scope command from to word (step.ReplyByte byte) other p q =
+    answer_byte scope command from to word
     byte other p q
-one_answer command from to word one other p q = absurd p
+one_answer scope command from to word one other p q = absurd p
 
 -- a reply goes on with one step
-reply_byte : (begins : Beginning) (command : Command) (bytes : List ℕ) (from : Option Event)
+reply_byte : (scope : Scope) (command : Command) (bytes : List ℕ) (from : Option Event)
     (levels : Levels) (to : Event) (word byte : ℕ) (other : Step)
-    → GoesOnReplying begins command bytes from levels to word (step.ReplyByte byte)
-    → GoesOnReplying begins command bytes from levels to word other → step.ReplyByte byte ≡ other
-reply_byte begins command bytes from levels to word byte (step.ReplyByte other) p q =
+    → GoesOnReplying scope command bytes from levels to word (step.ReplyByte byte)
+    → GoesOnReplying scope command bytes from levels to word other → step.ReplyByte byte ≡ other
+reply_byte scope command bytes from levels to word byte (step.ReplyByte other) p q =
     ap step.ReplyByte (sym p.0 ∙ q.0)
-reply_byte begins command bytes from levels to word byte (step.Reply reply) p q =
+reply_byte scope command bytes from levels to word byte (step.Reply reply) p q =
     absurd (omega (arith, p.1, q.0))
-reply_byte begins command bytes from levels to word byte other p q = absurd q
+reply_byte scope command bytes from levels to word byte other p q = absurd q
 
 reply_end : (scope : Scope) (readings : Readings scope) (command : Command) (bytes : List ℕ)
     (from : Option Event)
     (levels : Levels)
     (to : Event) (word : ℕ)
     (reply : Reply) (other : Step)
-    → GoesOnReplying scope.begins command bytes from levels to word (step.Reply reply)
-    → GoesOnReplying scope.begins command bytes from levels to word other
+    → GoesOnReplying scope command bytes from levels to word (step.Reply reply)
+    → GoesOnReplying scope command bytes from levels to word other
     → step.Reply reply ≡ other
 reply_end scope readings command bytes from levels to word reply (step.ReplyByte byte) p q =
     absurd (omega (arith, q.1, p.0))
@@ -258,10 +269,10 @@ one_replying : (scope : Scope) (readings : Readings scope) (command : Command) (
     (levels : Levels)
     (to : Event) (word : ℕ)
     (one other : Step)
-    → GoesOnReplying scope.begins command bytes from levels to word one
-    → GoesOnReplying scope.begins command bytes from levels to word other → one ≡ other
+    → GoesOnReplying scope command bytes from levels to word one
+    → GoesOnReplying scope command bytes from levels to word other → one ≡ other
 one_replying scope readings command bytes from levels to word (step.ReplyByte byte) other p q =
-    reply_byte scope.begins command bytes from levels to word byte other p q
+    reply_byte scope command bytes from levels to word byte other p q
 one_replying scope readings command bytes from levels to word (step.Reply reply) other p q =
     reply_end scope readings command bytes from levels to word reply other p q
 one_replying scope readings command bytes from levels to word one other p q = absurd p
@@ -345,50 +356,60 @@ one_vmc_answer scope readings command reply from to word one other p q =
     vmc_opens scope readings command reply from to word one other p q
 
 -- a repeat begins with one step
-repeat_first : (reply : Reply) (from : Option Event) (to : Event) (word said : ℕ) (other : Step)
-    → BeginsRepeat reply from to word (step.RepeatWord said) → BeginsRepeat reply from to word other
+repeat_first : (scope : Scope) (reply : Reply) (from : Option Event) (to : Event) (word said : ℕ)
+    (other : Step)
+    → BeginsRepeat scope reply from to word (step.RepeatWord said)
+    → BeginsRepeat scope reply from to word other
     → step.RepeatWord said ≡ other
-repeat_first reply from to word said (step.RepeatWord other) p q =
+repeat_first scope reply from to word said (step.RepeatWord other) p q =
     ap step.RepeatWord (sym p.0 ∙ q.0)
-repeat_first reply from to word said other p q = absurd q
+repeat_first scope reply from to word said other p q = absurd q
 
-one_repeat : (reply : Reply) (from : Option Event) (to : Event) (word : ℕ) (one other : Step)
-    → BeginsRepeat reply from to word one → BeginsRepeat reply from to word other → one ≡ other
-one_repeat reply from to word (step.RepeatWord said) other p q = repeat_first reply from to word
+one_repeat : (scope : Scope) (reply : Reply) (from : Option Event) (to : Event) (word : ℕ)
+    (one other : Step)
+    → BeginsRepeat scope reply from to word one → BeginsRepeat scope reply from to word other
+    → one ≡ other
+one_repeat scope reply from to word (step.RepeatWord said) other p q =
+    repeat_first scope reply from to word
     said other p q
-one_repeat reply from to word one other p q = absurd p
+one_repeat scope reply from to word one other p q = absurd p
 
 -- it goes on with one step
-repeat_word : (reply : Reply) (words : List ℕ) (from : Option Event) (to : Event) (word said : ℕ)
+repeat_word : (scope : Scope) (reply : Reply) (words : List ℕ) (from : Option Event) (to : Event)
+    (word said : ℕ)
     (other : Step)
-    → GoesOnRepeating reply words from to word (step.RepeatWord said)
-    → GoesOnRepeating reply words from to word other
+    → GoesOnRepeating scope reply words from to word (step.RepeatWord said)
+    → GoesOnRepeating scope reply words from to word other
     → step.RepeatWord said ≡ other
-repeat_word reply words from to word said (step.RepeatWord other) p q =
+repeat_word scope reply words from to word said (step.RepeatWord other) p q =
     ap step.RepeatWord (sym p.0 ∙ q.0)
-repeat_word reply words from to word said step.Repeat p q =
+repeat_word scope reply words from to word said step.Repeat p q =
     absurd (repeat_not_whole reply (words ++ word ∷ []) p.1 q.0)
-repeat_word reply words from to word said other p q = absurd q
+repeat_word scope reply words from to word said other p q = absurd q
 
-repeat_end : (reply : Reply) (words : List ℕ) (from : Option Event) (to : Event) (word : ℕ)
+repeat_end : (scope : Scope) (reply : Reply) (words : List ℕ) (from : Option Event) (to : Event)
+    (word : ℕ)
     (other : Step)
-    → GoesOnRepeating reply words from to word step.Repeat
-    → GoesOnRepeating reply words from to word other
+    → GoesOnRepeating scope reply words from to word step.Repeat
+    → GoesOnRepeating scope reply words from to word other
     → step.Repeat ≡ other
-repeat_end reply words from to word (step.RepeatWord said) p q =
-    sym (repeat_word reply words from to word said step.Repeat q p)
-repeat_end reply words from to word step.Repeat p q = refl
-repeat_end reply words from to word other p q = absurd q
+repeat_end scope reply words from to word (step.RepeatWord said) p q =
+    sym (repeat_word scope reply words from to word said step.Repeat q p)
+repeat_end scope reply words from to word step.Repeat p q = refl
+repeat_end scope reply words from to word other p q = absurd q
 
-one_repeating : (reply : Reply) (words : List ℕ) (from : Option Event) (to : Event) (word : ℕ)
+one_repeating : (scope : Scope) (reply : Reply) (words : List ℕ) (from : Option Event) (to : Event)
+    (word : ℕ)
     (one other : Step)
-    → GoesOnRepeating reply words from to word one → GoesOnRepeating reply words from to word other
+    → GoesOnRepeating scope reply words from to word one
+    → GoesOnRepeating scope reply words from to word other
     → one ≡ other
-one_repeating reply words from to word (step.RepeatWord said) other p q =
-    repeat_word reply words from to word said other p q
-one_repeating reply words from to word step.Repeat other p q = repeat_end reply words from to word
+one_repeating scope reply words from to word (step.RepeatWord said) other p q =
+    repeat_word scope reply words from to word said other p q
+one_repeating scope reply words from to word step.Repeat other p q =
+    repeat_end scope reply words from to word
     other p q
-one_repeating reply words from to word one other p q = absurd p
+one_repeating scope reply words from to word one other p q = absurd p
 
 -- foreign traffic goes on with one step
 is_foreign : (from : Option Event) (to : Event) (next : Step) → GoesOnForeign from to next
@@ -427,7 +448,7 @@ one_word scope readings (InAsk bytes) from levels to Peripheral word one other p
 one_word scope readings (Asked command) from levels to Controller word one other p q =
     one_opening scope readings (Asked command) from to word one other p q
 one_word scope readings (Asked command) from levels to Peripheral word one other p q =
-    one_answer command from to word one other p q
+    one_answer scope command from to word one other p q
 one_word scope readings (InReply command bytes) from levels to Controller word one other p q =
     absurd p
 one_word scope readings (InReply command bytes) from levels to Peripheral word one other p q =
@@ -439,13 +460,13 @@ one_word scope readings (Replied command reply) from levels to Peripheral word o
 one_word scope readings (Returned command reply) from levels to Controller word one other p q =
     one_opening scope readings (Returned command reply) from to word one other p q
 one_word scope readings (Returned command reply) from levels to Peripheral word one other p q =
-    one_repeat reply from to word one other p q
+    one_repeat scope reply from to word one other p q
 one_word scope readings (InRepeat command reply words) from levels to Controller word one other p
     q =
     absurd p
 one_word scope readings (InRepeat command reply words) from levels to Peripheral word one other p
     q =
-    one_repeating reply words from to word one other p q
+    one_repeating scope reply words from to word one other p q
 one_word scope readings InForeign from levels to Controller word one other p q =
     one_after_foreign scope readings from to word one other p q
 one_word scope readings InForeign from levels to Peripheral word one other p q =

@@ -1,15 +1,14 @@
 -- Lists of rows and of words, with one more at the end.
 use Rattle.std.proofs.Common.{arith, refl, ap, sym, subst, ◌∙◌, ◌≡◌, ◌≢◌, ◌+◌, ◌%◌, ℕ, List, [], ◌∷◌, ◌++◌, Option, Some, length, map, sum, append_assoc}
 use Rattle.std.proofs.lemmas.List.{map-append}
-use Rattle.mdb_words.specs.declared.limits.TheConstants.{WORD_GAP_MIN, BLOCK_GAP_MAX}
 use Rattle.mdb_words.specs.declared.event.Event.{Event}
 use Rattle.mdb_words.specs.declared.event.Event.TheVariants.{Word, Break}
 use Rattle.mdb_words.specs.declared.word.Line.{Line}
 use Rattle.mdb_words.specs.declared.word.Line.TheVariants.{Controller, Peripheral}
-use Rattle.mdb_words.specs.Event.{AtLeast, AtMost}
 use Rattle.mdb_blocks.specs.Block.{block_of, controller_words, peripheral_words}
 use Rattle.mdb_bus.specs.Acts.{IsBlockWord, Say, said_by}
-use Rattle.mdb_bus.specs.ActLists.{AreSpaced, Within, last_of}
+use Rattle.mdb_bus.specs.declared.scope.Profile.{Profile}
+use Rattle.mdb_bus.specs.ActLists.{AreSpaced, InBlockTime, last_of}
 use Rattle.mdb_bus.proofs.Lists.{last_push, peripheral_push}
 
 -- a list that begins with an element has a last one
@@ -78,28 +77,29 @@ begins_block (byte ∷ bytes) (Word at Peripheral word) others some says =
 begins_block (byte ∷ bytes) (Break at length) others some says = cc
 
 -- spaced events with one more in time
-spaced_push : (events : List Event) (from to : Event) → AreSpaced (events ++ from ∷ [])
-    → AtLeast WORD_GAP_MIN from to
-    → AtMost BLOCK_GAP_MAX from to → AreSpaced ((events ++ from ∷ []) ++ to ∷ [])
-spaced_push [] from to spaced least most = (least, most, tt)
-spaced_push (x ∷ []) from to spaced least most = (spaced.0, spaced.1, (least, most, tt))
-spaced_push (x ∷ y ∷ ys) from to spaced least most =
-    (spaced.0, spaced.1, spaced_push (y ∷ ys) from to spaced.2 least most)
+spaced_push : (profile : Profile) (events : List Event) (from to : Event)
+    → AreSpaced profile (events ++ from ∷ []) → InBlockTime profile (Some from) to
+    → AreSpaced profile ((events ++ from ∷ []) ++ to ∷ [])
+spaced_push profile [] from to spaced near = (near, tt)
+spaced_push profile (x ∷ []) from to spaced near = (spaced.0, (near, tt))
+spaced_push profile (x ∷ y ∷ ys) from to spaced near =
+    (spaced.0, spaced_push profile (y ∷ ys) from to spaced.1 near)
 
--- the newest events with a row in time for their block
-pub spaced_more : (rows : List Event) (first : Event) (others : List Event) (row : Event)
-    → AreSpaced (first ∷ others)
-    → Within WORD_GAP_MIN BLOCK_GAP_MAX (last_of (rows ++ first ∷ others)) row
-    → AreSpaced ((first ∷ others) ++ row ∷ [])
-spaced_more rows first others row spaced gap =
+-- the same where they stand after others
+pub spaced_more : (profile : Profile) (rows : List Event) (first : Event) (others : List Event)
+    (row : Event)
+    → AreSpaced profile (first ∷ others)
+    → InBlockTime profile (last_of (rows ++ first ∷ others)) row
+    → AreSpaced profile ((first ∷ others) ++ row ∷ [])
+spaced_more profile rows first others row spaced gap =
     let split = front_and_last first others in
     let joined : rows ++ first ∷ others ≡ (rows ++ split.0) ++ split.1 ∷ [] =
     ap (λ es. rows ++ es) split.2 ∙ sym (append_assoc rows split.0 (split.1 ∷ [])) in
     let last : last_of (rows ++ first ∷ others) ≡ Some split.1 =
     ap last_of joined ∙ last_push (rows ++ split.0) split.1 in
-    let Near : Option Event → Type 0 = λ from. Within WORD_GAP_MIN BLOCK_GAP_MAX from row in
-    let here : Within WORD_GAP_MIN BLOCK_GAP_MAX (Some split.1) row = subst Near last gap in
-    let Spaced : List Event → Type 0 = λ es. AreSpaced es in
-    let Longer : List Event → Type 0 = λ es. AreSpaced (es ++ row ∷ []) in
-    subst Longer (sym split.2) (spaced_push split.0 split.1 row (subst Spaced split.2 spaced) here.0
-    here.1)
+    let Near : Option Event → Type 0 = λ from. InBlockTime profile from row in
+    let here : InBlockTime profile (Some split.1) row = subst Near last gap in
+    let Spaced : List Event → Type 0 = λ es. AreSpaced profile es in
+    let Longer : List Event → Type 0 = λ es. AreSpaced profile (es ++ row ∷ []) in
+    subst Longer (sym split.2)
+    (spaced_push profile split.0 split.1 row (subst Spaced split.2 spaced) here)

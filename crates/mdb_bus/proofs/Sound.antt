@@ -13,10 +13,11 @@ use Rattle.mdb_bus.specs.declared.act.Act.TheVariants as acts
 use Rattle.mdb_bus.specs.Acts.{IsForeign, IsForeignWord, IsReply, NamesAReply, Say, command_words, reply_words}
 use Rattle.mdb_bus.specs.ActLists.{Piece, Whole, AskTail, ReplyTail, RepeatTail, Position, InRepeat, Replied, Returned, ArePieces, IsSaid, events_of, first_position, last_of, piece_events, position_of}
 use Rattle.mdb_bus.specs.shared.Steps.{IsSound}
-use Rattle.mdb_bus.proofs.Stops.{LastIsLong}
+use Rattle.mdb_bus.proofs.Stops.{LastIsLong, lasts}
 use Rattle.mdb_bus.specs.declared.scope.Beginning.{Beginning}
 use Rattle.mdb_bus.specs.declared.scope.Beginning.TheVariants.{PowerOn, Joined}
 use Rattle.mdb_bus.specs.declared.scope.Scope.{Scope}
+use Rattle.mdb_bus.specs.Scopes.{profile_of}
 
 -- a recording begins at a position that is sound, where no reply is open
 first_sound : (scope : Scope) (begins : Beginning) → IsSound scope (first_position begins)
@@ -44,7 +45,7 @@ is_sound scope (Whole acts.Foreign events ∷ pieces) order = tt
 is_sound scope (piece ∷ pieces) order = tt
 
 -- the last of some rows after others
-rest_last : (front : List Event) (first : Event) (others : List Event)
+pub rest_last : (front : List Event) (first : Event) (others : List Event)
     → last_of (front ++ first ∷ others) ≡ last_of (first ∷ others)
 rest_last [] first others = refl
 rest_last (x ∷ []) first others = refl
@@ -100,7 +101,7 @@ piece_long scope (Whole (acts.Repeat command reply) events) said =
 piece_long scope (Whole acts.Foreign events) said = a_foreign_long scope events said
 piece_long scope (Whole (acts.Break length) events) said =
     let P : List Event → Type 0 = λ es. LastIsLong (last_of es) in
-    subst P (sym said.1) said.2
+    subst P (sym said.1) (lasts (profile_of scope.begins) length said.2)
 piece_long scope (AskTail bytes events) said =
     say_long Controller (words_on Controller bytes) events
     said.1

@@ -4,7 +4,7 @@ use Rattle.std.proofs.lemmas.List.{same_from_push}
 use Rattle.std.proofs.lemmas.List.Elements.{All-append, All-from_get_or, All-from_recursion}
 use Rattle.std.proofs.lemmas.Option.{slice_get-get_or, slice_get_past, slice_get_within}
 use Rattle.std.specs.List.{All}
-use Rattle.mdb_words.specs.declared.limits.TheConstants.{ANSWER_GAP_MAX, WORD_GAP_MIN, BLOCK_GAP_MAX}
+use Rattle.mdb_words.specs.declared.limits.TheConstants.{WORD_GAP_MIN}
 use Rattle.mdb_words.specs.declared.event.Event.{Event}
 use Rattle.mdb_words.specs.declared.event.Event.TheVariants.{Word}
 use Rattle.mdb_words.specs.declared.word.Line.TheVariants.{Controller, Peripheral}
@@ -30,13 +30,14 @@ use Rattle.mdb_bus.specs.declared.place.Place.{Place}
 use Rattle.mdb_bus.specs.declared.judged.Judged.{Judged}
 use Rattle.mdb_bus.specs.declared.judged.Judged.TheVariants as judged
 use Rattle.mdb_bus.specs.Acts.{reply_words}
-use Rattle.mdb_bus.specs.ActLists.{Asked, InAsk, InReply, IsRepeatFront, NotBefore, NotAfter}
+use Rattle.mdb_bus.specs.ActLists.{Asked, InAsk, InReply, IsRepeatFront, NotBefore, NotPast}
 use Rattle.mdb_bus.specs.declared.phase.Phase.{Phase}
 use Rattle.mdb_bus.specs.declared.phase.Phase.TheVariants as phase
 use Rattle.mdb_bus.specs.Bus.{position_at, position_in}
-use Rattle.mdb_bus.specs.LinkFaults.{IsBefore, IsAfter, OutOfOrder, RowBreaks, Situation, WrongLength}
+use Rattle.mdb_bus.specs.LinkFaults.{IsBefore, IsPast, OutOfOrder, RowBreaks, Situation, WrongLength}
 use Rattle.mdb_bus.specs.shared.RulePlaces.{IsFirstByPlace, place_of}
 use Rattle.mdb_bus.specs.shared.Steps.{Belongs, IsCommandFront, IsGoingOn, IsJudged, IsOpened, IsRead, IsReplyEnd, IsSettled, IsSound, IsUnknownExpansion, MayAsk}
+use Rattle.mdb_bus.specs.Times.{answer_most, block_most}
 use Rattle.mdb_bus.proofs.Needs.{at_least_two, at_most_32, not_left, stays, narrows}
 use Rattle.mdb_bus.specs.declared.scope.Scope.{Scope}
 use Rattle.mdb_bus.specs.ActLists.{IsAskFront}
@@ -55,10 +56,11 @@ pub in_time : (least : ℕ) (from : Option Event) (to : Event) → (IsBefore lea
 in_time least None to early = tt
 in_time least (Some before) to early = omega (arith, early)
 
-pub not_late : (most : ℕ) (from : Option Event) (to : Event) → (IsAfter most from to → ⊥)
-    → NotAfter most from to
-not_late most None to late = tt
-not_late most (Some before) to late = omega (arith, late)
+pub not_late : (most : Option ℕ) (from : Option Event) (to : Event) → (IsPast most from to → ⊥)
+    → NotPast most from to
+not_late None from to late = tt
+not_late (Some most) None to late = tt
+not_late (Some most) (Some before) to late = omega (arith, late)
 
 -- what fits a byte each are bytes
 pub are_bytes : (bytes : List ℕ) → ((i : ℕ) → Fits w8 (get_or bytes i 0)) → All IsByte bytes
@@ -365,7 +367,8 @@ pub going_on : (scope : Scope) (bytes : List ℕ) (from : Option Event) (at word
     (result : Result Judged Rule)
     → (OutOfOrder from (Word at Controller word) → ⊥)
     → (IsBefore WORD_GAP_MIN from (Word at Controller word) → ⊥)
-    → (IsAfter BLOCK_GAP_MAX from (Word at Controller word) → ⊥) → word < 256
+    → (IsPast (block_most (profile_of scope.begins)) from (Word at Controller word) → ⊥)
+    → word < 256
     → FirstTells → bytes ≢ [] → AreFollowed scope bytes
     → IsGoingOn (profile_of scope.begins) bytes word result
     → IsJudged (record { scope = scope; position = InAsk bytes; last = from; levels = levels })
@@ -373,21 +376,24 @@ pub going_on : (scope : Scope) (bytes : List ℕ) (from : Option Event) (at word
 going_on scope bytes from at word levels (Ok judged.AskByte) order early late small law some
     followed h =
     let soon = in_time WORD_GAP_MIN from (Word at Controller word) early in
-    let near = not_late BLOCK_GAP_MAX from (Word at Controller word) late in
+    let near = not_late (block_most (profile_of scope.begins)) from (Word at Controller word)
+    late in
     let front = front_followed law scope (bytes ++ word % 256 ∷ []) h.1
     (still_followed scope bytes (word % 256 ∷ []) some followed) in
     (h.0, small, front, (soon, near))
 going_on scope bytes from at word levels (Ok judged.Ask) order early late small law some
     followed h =
     let soon = in_time WORD_GAP_MIN from (Word at Controller word) early in
-    let near = not_late BLOCK_GAP_MAX from (Word at Controller word) late in
+    let near = not_late (block_most (profile_of scope.begins)) from (Word at Controller word)
+    late in
     let asks = asks_followed law scope h.0 (bytes ++ word ∷ []) h.1 h.2
     (still_followed scope bytes (word ∷ []) some followed) in
     (h.0, (small, asks, h.3, (soon, near)))
 going_on scope bytes from at word levels (Ok judged.Foreign) order early late small law some
     followed h =
     let soon = in_time WORD_GAP_MIN from (Word at Controller word) early in
-    let near = not_late BLOCK_GAP_MAX from (Word at Controller word) late in
+    let near = not_late (block_most (profile_of scope.begins)) from (Word at Controller word)
+    late in
     let opening = expansion_opens scope (bytes ++ word ∷ []) h
     (still_followed scope bytes (word ∷ []) some followed) in
     (small, opening, (soon, near))
@@ -464,7 +470,8 @@ pub no_answer : (scope : Scope) (command : Command) (from : Option Event) (at wo
     (levels : Levels)
     → (OutOfOrder from (Word at Peripheral word) → ⊥)
     → (IsBefore WORD_GAP_MIN from (Word at Peripheral word) → ⊥)
-    → (IsAfter ANSWER_GAP_MAX from (Word at Peripheral word) → ⊥) → 256 ≤ word → word < 512
+    → (IsPast (answer_most (profile_of scope.begins)) from (Word at Peripheral word) → ⊥)
+    → 256 ≤ word → word < 512
     → byte ≡ word % 256
     → ((answer : Answer) → answer_byte answer ≢ byte)
     → IsFirstByPlace
@@ -511,7 +518,7 @@ reply_read : (scope : Scope) → BytesHaveOneFault → ReplyHasNoFault
     (result : Result Reply Rule)
     → (OutOfOrder from (Word at Peripheral word) → ⊥)
     → (IsBefore WORD_GAP_MIN from (Word at Peripheral word) → ⊥)
-    → (IsAfter BLOCK_GAP_MAX from (Word at Peripheral word) → ⊥)
+    → (IsPast (block_most (profile_of scope.begins)) from (Word at Peripheral word) → ⊥)
     → 256 ≤ word → HasDataAnswer command (length bytes) → word ≡ 256 + sum bytes % 256
     → IsRead scope.begins command bytes levels result
     → IsSettled
@@ -522,7 +529,8 @@ reply_read scope one none command bytes from at word levels (Ok reply) order ear
     total
     h =
     let soon = in_time WORD_GAP_MIN from (Word at Peripheral word) early in
-    let near = not_late BLOCK_GAP_MAX from (Word at Peripheral word) late in
+    let near = not_late (block_most (profile_of scope.begins)) from (Word at Peripheral word)
+    late in
     (total, h.0, h.1, h.2, (soon, near))
 reply_read scope one none command bytes from at word levels (Err rule.Length) order early late
     marked has
@@ -614,7 +622,7 @@ pub reply_ended : (scope : Scope) → BytesHaveOneFault → ReplyHasNoFault
     (result : Result Judged Rule)
     → (OutOfOrder from (Word at Peripheral word) → ⊥)
     → (IsBefore WORD_GAP_MIN from (Word at Peripheral word) → ⊥)
-    → (IsAfter BLOCK_GAP_MAX from (Word at Peripheral word) → ⊥)
+    → (IsPast (block_most (profile_of scope.begins)) from (Word at Peripheral word) → ⊥)
     → 256 ≤ word → IsReplyEnd command bytes word result
     → IsJudged
     (record { scope = scope; position = InReply command bytes; last = from; levels = levels })

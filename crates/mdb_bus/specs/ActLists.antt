@@ -4,9 +4,8 @@
 use Rattle.std.specs.Prelude.{◌≡◌, ◌≢◌, ◌<◌, ◌≤◌, ◌⊎◌, ℕ, Bool, true, false, List, [], ◌∷◌, ◌++◌, length, All, Option, Some, None}
 use Rattle.std.specs.List.{list_any}
 use Rattle.std.specs.Option.{option_or}
-use Rattle.mdb_words.specs.declared.limits.TheConstants.{WORD_GAP_MIN, BLOCK_GAP_MAX, ANSWER_GAP_MAX, NEW_BLOCK_GAP_MIN, SETUP_GAP_MIN}
+use Rattle.mdb_words.specs.declared.limits.TheConstants.{WORD_GAP_MIN}
 use Rattle.mdb_words.specs.declared.event.Event.{Event}
-use Rattle.mdb_words.specs.declared.event.Event.TheVariants.{Break}
 use Rattle.mdb_words.specs.declared.word.Line.TheVariants.{Controller, Peripheral}
 use Rattle.mdb_words.specs.Event.{AtLeast, AtMost}
 use Rattle.mdb_blocks.specs.Block.{words_on}
@@ -31,7 +30,9 @@ use Rattle.mdb_bus.specs.declared.scope.Profile.TheVariants.{Base, Extended}
 use Rattle.mdb_bus.specs.declared.scope.Scope.{Scope}
 use Rattle.mdb_bus.specs.Acts.{IsAct, IsBlockWord, IsForeignWord, Say, reply_words}
 use Rattle.mdb_bus.specs.Formats.{IsReadAs, format_for, levels_for}
+pub use Rattle.mdb_bus.specs.Positions.{Position, Quiet, InAsk, Asked, InReply, Replied, Returned, InRepeat, InForeign}
 use Rattle.mdb_bus.specs.Scopes.{Asks, levels_before, profile_of}
+use Rattle.mdb_bus.specs.Times.{answer_most, block_most, block_rest, rest_after}
 
 -- A piece of a transcript with its events: a whole act; or a tail, the words of an act that has
 -- begun and not ended, with the bytes that they have.
@@ -61,12 +62,39 @@ abbrev pub IsTail : Piece → Type 0
 IsTail (Whole act events) = ⊥
 IsTail _ = Unit {0}
 
+-- the gap from the row before, if there is one, is at least, at most so long; it counts from a
+-- word's start and a break's end
+abbrev pub NotBefore : ℕ → Option Event → Event → Type 0
+NotBefore least None to = Unit {0}
+NotBefore least (Some from) to = AtLeast least from to
+
+abbrev pub NotAfter : ℕ → Option Event → Event → Type 0
+NotAfter most None to = Unit {0}
+NotAfter most (Some from) to = AtMost most from to
+
+-- the gap is at most so long, where there is a limit
+abbrev pub NotPast : Option ℕ → Option Event → Event → Type 0
+NotPast None from to = Unit {0}
+NotPast (Some most) from to = NotAfter most from to
+
+-- a row comes at least, and at most, so long after the row before it
+abbrev pub Within : ℕ → Option ℕ → Option Event → Event → Type 0
+Within least most from to = NotBefore least from to × NotPast most from to
+
+-- a word comes in time after the word before it in its block, an answer or a repeat after the block
+-- that it answers
+abbrev pub InBlockTime : Profile → Option Event → Event → Type 0
+InBlockTime profile = Within WORD_GAP_MIN (block_most profile)
+
+abbrev pub InAnswerTime : Profile → Option Event → Event → Type 0
+InAnswerTime profile = Within WORD_GAP_MIN (answer_most profile)
+
 -- the gaps between the words of one act
-abbrev pub AreSpaced : List Event → Type 0
-AreSpaced [] = Unit {0}
-AreSpaced (event ∷ []) = Unit {0}
-AreSpaced (event ∷ next ∷ events) =
-    AtLeast WORD_GAP_MIN event next × AtMost BLOCK_GAP_MAX event next × AreSpaced (next ∷ events)
+abbrev pub AreSpaced : Profile → List Event → Type 0
+AreSpaced profile [] = Unit {0}
+AreSpaced profile (event ∷ []) = Unit {0}
+AreSpaced profile (event ∷ next ∷ events) =
+    InBlockTime profile (Some event) next × AreSpaced profile (next ∷ events)
 
 -- bytes that begin the block of a command to a device that is followed, and don't end it
 pub record IsAskFront (scope : Scope) (bytes : List ℕ) : Type 0 where
@@ -103,26 +131,7 @@ IsSaid scope (RepeatTail command reply words events) = IsRepeatFront reply words
 -- a piece by itself: its words, and the gaps between them
 pub record IsPiece (scope : Scope) (piece : Piece) : Type 0 where
   pub said : IsSaid scope piece
-  pub spaced : AreSpaced (piece_events piece)
-
--- Where the bus is: what the last act has left open, or what a tail has said.
-pub data Position : Type 0 where
-  -- nothing is open
-  Quiet : Position
-  -- the bytes so far of a block of the controller
-  InAsk : List ℕ → Position
-  -- a command, whose answer is open
-  Asked : Command → Position
-  -- the bytes so far of a reply to a command
-  InReply : Command → List ℕ → Position
-  -- a reply to a command: the controller's answer is open
-  Replied : Command → Reply → Position
-  -- RET was sent: the repeat is open
-  Returned : Command → Reply → Position
-  -- the words so far of the repeat
-  InRepeat : Command → Reply → List ℕ → Position
-  -- a foreign block was opened: its further words are open
-  InForeign : Position
+  pub spaced : AreSpaced (profile_of scope.begins) (piece_events piece)
 
 -- what an act leaves open
 abbrev pub left_open : Act → Position
@@ -155,83 +164,54 @@ abbrev pub position_of : Scope → List Piece → Position
 position_of scope [] = first_position scope.begins
 position_of scope (piece ∷ pieces) = left_by piece
 
--- the gap from the row before, if there is one, is at least, at most so long; it counts from a
--- word's start and a break's end
-abbrev pub NotBefore : ℕ → Option Event → Event → Type 0
-NotBefore least None to = Unit {0}
-NotBefore least (Some from) to = AtLeast least from to
-
-abbrev pub NotAfter : ℕ → Option Event → Event → Type 0
-NotAfter most None to = Unit {0}
-NotAfter most (Some from) to = AtMost most from to
-
--- how long a block waits after a row that leaves nothing open: after a break for the setup of the
--- devices
-abbrev pub rest_before_block : Option Event → ℕ
-rest_before_block (Some (Break at length)) = SETUP_GAP_MIN
-rest_before_block _ = WORD_GAP_MIN
-
--- how long a break waits: after a break not at all
-abbrev pub rest_before_break : Option Event → ℕ
-rest_before_break (Some (Break at length)) = 0
-rest_before_break _ = WORD_GAP_MIN
-
--- a row comes at least, and at most, so long after the row before it
-abbrev pub Within : ℕ → ℕ → Option Event → Event → Type 0
-Within least most from to = NotBefore least from to × NotAfter most from to
-
 -- a block of the controller may begin: an ask, or a foreign opening
-abbrev pub BlockMayCome : Position → Option Event → Event → Type 0
-BlockMayCome Quiet from to = NotBefore (rest_before_block from) from to
-BlockMayCome (InAsk bytes) from to = ⊥
-BlockMayCome (Asked command) from to = NotBefore NEW_BLOCK_GAP_MIN from to
-BlockMayCome (InReply command bytes) from to = ⊥
-BlockMayCome (Replied command reply) from to = NotBefore NEW_BLOCK_GAP_MIN from to
-BlockMayCome (Returned command reply) from to = NotBefore NEW_BLOCK_GAP_MIN from to
-BlockMayCome (InRepeat command reply words) from to = ⊥
-BlockMayCome InForeign from to = NotBefore WORD_GAP_MIN from to
+abbrev pub BlockMayCome : Profile → Position → Option Event → Event → Type 0
+BlockMayCome profile (InAsk bytes) from to = ⊥
+BlockMayCome profile (InReply command bytes) from to = ⊥
+BlockMayCome profile (InRepeat command reply words) from to = ⊥
+BlockMayCome profile position from to = NotBefore (block_rest position profile from) from to
 
 -- a peripheral's ACK, NAK or reply to a command may come
-abbrev pub AnswerMayCome : Command → Position → Option Event → Event → Type 0
-AnswerMayCome command position from to = (position ≡ Asked command)
-    × Within WORD_GAP_MIN ANSWER_GAP_MAX from to
+abbrev pub AnswerMayCome : Profile → Command → Position → Option Event → Event → Type 0
+AnswerMayCome profile command position from to = (position ≡ Asked command)
+    × InAnswerTime profile from to
 
 -- the controller's ACK, NAK or RET to a reply may come
-abbrev pub VmcAnswerMayCome : Command → Reply → Position → Option Event → Event → Type 0
-VmcAnswerMayCome command reply position from to = (position ≡ Replied command reply)
-    × Within WORD_GAP_MIN ANSWER_GAP_MAX from to
+abbrev pub VmcAnswerMayCome : Profile → Command → Reply → Position → Option Event → Event → Type 0
+VmcAnswerMayCome profile command reply position from to = (position ≡ Replied command reply)
+    × InAnswerTime profile from to
 
 -- a repeat of a reply may come
-abbrev pub RepeatMayCome : Command → Reply → Position → Option Event → Event → Type 0
-RepeatMayCome command reply position from to = (position ≡ Returned command reply)
-    × Within WORD_GAP_MIN ANSWER_GAP_MAX from to
+abbrev pub RepeatMayCome : Profile → Command → Reply → Position → Option Event → Event → Type 0
+RepeatMayCome profile command reply position from to = (position ≡ Returned command reply)
+    × InAnswerTime profile from to
 
 -- a foreign act may come: a block where its first event is a marked word of the controller, and
 -- else a further word
-abbrev pub ForeignMayCome : Position → Option Event → Event → Type 0
-ForeignMayCome position from to =
-    (IsBlockWord to × BlockMayCome position from to)
-    ⊎ (IsForeignWord to × (position ≡ InForeign) × NotBefore WORD_GAP_MIN from to)
+abbrev pub ForeignMayCome : Profile → Position → Option Event → Event → Type 0
+ForeignMayCome profile position from to =
+    (IsBlockWord to × BlockMayCome profile position from to)
+    ⊎ (IsForeignWord to × (position ≡ InForeign) × NotBefore (rest_after from) from to)
 
 -- a break may come: everywhere, in a tail too
 abbrev pub BreakMayCome : Option Event → Event → Type 0
-BreakMayCome from to = NotBefore (rest_before_break from) from to
+BreakMayCome from to = NotBefore (rest_after from) from to
 
 -- What may come where the bus is, and how long after the row before it.
-abbrev pub MayCome : Piece → Position → Option Event → Event → Type 0
-MayCome (Whole (acts.Ask command) events) = BlockMayCome
-MayCome (Whole (acts.Ack command) events) = AnswerMayCome command
-MayCome (Whole (acts.Nak command) events) = AnswerMayCome command
-MayCome (Whole (acts.Reply command reply) events) = AnswerMayCome command
-MayCome (Whole (acts.VmcAck command reply) events) = VmcAnswerMayCome command reply
-MayCome (Whole (acts.VmcNak command reply) events) = VmcAnswerMayCome command reply
-MayCome (Whole (acts.VmcRet command reply) events) = VmcAnswerMayCome command reply
-MayCome (Whole (acts.Repeat command reply) events) = RepeatMayCome command reply
-MayCome (Whole acts.Foreign events) = ForeignMayCome
-MayCome (Whole (acts.Break length) events) = λ position. BreakMayCome
-MayCome (AskTail bytes events) = BlockMayCome
-MayCome (ReplyTail command bytes events) = AnswerMayCome command
-MayCome (RepeatTail command reply words events) = RepeatMayCome command reply
+abbrev pub MayCome : Profile → Piece → Position → Option Event → Event → Type 0
+MayCome profile (Whole (acts.Ask command) events) = BlockMayCome profile
+MayCome profile (Whole (acts.Ack command) events) = AnswerMayCome profile command
+MayCome profile (Whole (acts.Nak command) events) = AnswerMayCome profile command
+MayCome profile (Whole (acts.Reply command reply) events) = AnswerMayCome profile command
+MayCome profile (Whole (acts.VmcAck command reply) events) = VmcAnswerMayCome profile command reply
+MayCome profile (Whole (acts.VmcNak command reply) events) = VmcAnswerMayCome profile command reply
+MayCome profile (Whole (acts.VmcRet command reply) events) = VmcAnswerMayCome profile command reply
+MayCome profile (Whole (acts.Repeat command reply) events) = RepeatMayCome profile command reply
+MayCome profile (Whole acts.Foreign events) = ForeignMayCome profile
+MayCome profile (Whole (acts.Break length) events) = λ position. BreakMayCome
+MayCome profile (AskTail bytes events) = BlockMayCome profile
+MayCome profile (ReplyTail command bytes events) = AnswerMayCome profile command
+MayCome profile (RepeatTail command reply words events) = RepeatMayCome profile command reply
 
 -- the last row
 abbrev pub last_of : List Event → Option Event
@@ -335,7 +315,8 @@ pub record MayStand (scope : Scope) (pieces : List Piece) (piece : Piece) : Type
   pub first : Event
   pub others : List Event
   pub begins : piece_events piece ≡ first ∷ others
-  pub comes : MayCome piece (position_of scope pieces) (last_of (events_of pieces)) first
+  pub comes : MayCome (profile_of scope.begins) piece (position_of scope pieces)
+      (last_of (events_of pieces)) first
   pub levels : PieceFits scope.begins
       (levels_of (profile_of scope.begins) (levels_before scope) pieces) piece
 

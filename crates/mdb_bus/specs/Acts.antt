@@ -1,7 +1,6 @@
 -- What is done on the bus, and in which words (MDB/ICP 4.3, bus format; foreign acts and breaks,
 -- this profile).
 use Rattle.std.specs.Prelude.{◌≡◌, ℕ, ◌<◌, ◌≤◌, ◌⊎◌, List, [], ◌∷◌, map, Option, Some, None}
-use Rattle.mdb_words.specs.declared.limits.TheConstants.{BREAK_LENGTH_MIN}
 use Rattle.mdb_words.specs.declared.event.Event.{Event}
 use Rattle.mdb_words.specs.declared.event.Event.TheVariants.{Word, Break}
 use Rattle.mdb_words.specs.declared.word.Line.{Line}
@@ -18,7 +17,8 @@ use Rattle.mdb_msgs.specs.Replies.{IsReplyTo, reply_bytes}
 use Rattle.mdb_bus.specs.declared.act.Act.{Act}
 use Rattle.mdb_bus.specs.declared.act.Act.TheVariants as acts
 use Rattle.mdb_bus.specs.declared.scope.Scope.{Scope}
-use Rattle.mdb_bus.specs.Scopes.{Asks, needed_in}
+use Rattle.mdb_bus.specs.Scopes.{Asks, needed_in, profile_of}
+use Rattle.mdb_bus.specs.Times.{break_least}
 
 -- the line and the word of an event, if it is a word
 abbrev pub said_by : Event → Option (Line × ℕ)
@@ -91,7 +91,8 @@ IsAct scope (acts.VmcRet command reply) events = SayAnswer Controller answers.Re
 IsAct scope (acts.Repeat command reply) events = Say Peripheral (reply_words reply) events
 IsAct scope acts.Foreign events = IsForeign scope events
 IsAct scope (acts.Break length) events =
-    (at : ℕ) × (events ≡ Break at length ∷ []) × (BREAK_LENGTH_MIN ≤ length)
+    (at : ℕ) × (events ≡ Break at length ∷ [])
+    × (break_least (profile_of scope.begins) ≤ length)
 
 -- an ACK: a peripheral's, or the controller's
 abbrev pub IsAck : Act → Type 0

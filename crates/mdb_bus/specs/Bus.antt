@@ -12,7 +12,9 @@ use Rattle.mdb_bus.specs.declared.phase.Phase.TheVariants as phase
 use Rattle.mdb_bus.specs.Acts.{reply_words}
 use Rattle.mdb_bus.specs.ActLists.{Piece, Position, Quiet, InAsk, Asked, InReply, Replied, Returned, InRepeat, InForeign, ArePieces, IsTail, act_in, acts_of, events_of, last_of, levels_of, piece_events, position_of, with_act}
 use Rattle.mdb_bus.specs.LinkFaults.{asked_device}
+use Rattle.mdb_bus.specs.Haste.{haste_of}
 use Rattle.mdb_bus.specs.Scopes.{levels_before, profile_of}
+use Rattle.mdb_bus.specs.Untimely.{untimely_of, untimely_sender, with_sender}
 use Rattle.mdb_bus.specs.WideMoney.{first_known, known_of}
 
 -- the position that a phase is, with the last bytes, the last command and the last reply
@@ -53,6 +55,7 @@ pub record StandsFor (bus : Bus) (pieces : List Piece) : Type 0 where
       ≡ bus.levels
   pub options : known_of (first_known (scope_of bus).begins) (acts_of pieces) ≡ bus.options
   pub asked : asked_device pieces ≡ bus.asked
+  pub haste : haste_of (scope_of bus) pieces ≡ bus.haste
 
 -- the act, if one was ended
 abbrev pub ended_act : Bool → Act → Option Act
@@ -80,3 +83,5 @@ pub record GoesOn (bus : Bus) (pieces : List Piece) (row : Event) (act : Option 
   pub rows : events_of longer ≡ events_of pieces ++ row ∷ []
   pub acts : acts_of longer ≡ with_act act (acts_of pieces)
   pub grown : Grown pieces row act longer
+  pub untimely : untimely_of (scope_of bus) longer
+      ≡ with_sender (untimely_sender (scope_of bus) pieces row) (untimely_of (scope_of bus) pieces)

@@ -3,12 +3,16 @@ pub mod ActLists
 pub mod Bus
 pub mod FaultWords
 pub mod Formats
+pub mod Haste
 pub mod Wish
 pub mod LinkFaults
 pub mod LeavingOut
 pub mod Loss
 pub mod OpenReplies
+pub mod Positions
 pub mod Scopes
+pub mod Times
+pub mod Untimely
 pub mod WideMoney
 pub mod inner
 pub mod shared

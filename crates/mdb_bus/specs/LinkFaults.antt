@@ -1,7 +1,7 @@
 -- Which rule of the link a row breaks, and who is to blame (this profile, by the format and timing
 -- of MDB/ICP 4.3).
-use Rattle.std.specs.Prelude.{◌≡◌, ◌≢◌, ◌+◌, ◌%◌, ◌<◌, ◌≤◌, ◌⊎◌, ℕ, List, [], ◌∷◌, ◌++◌, length, sum, All, Option, Some, None}
-use Rattle.mdb_words.specs.declared.limits.TheConstants.{WORD_GAP_MIN, BLOCK_GAP_MAX, ANSWER_GAP_MAX, NEW_BLOCK_GAP_MIN, BREAK_LENGTH_MIN}
+use Rattle.std.specs.Prelude.{Bool, ◌≡◌, ◌≢◌, ◌+◌, ◌%◌, ◌<◌, ◌≤◌, ◌⊎◌, ℕ, List, [], ◌∷◌, ◌++◌, length, sum, All, Option, Some, None}
+use Rattle.mdb_words.specs.declared.limits.TheConstants.{WORD_GAP_MIN, BLOCK_GAP_MAX}
 use Rattle.mdb_words.specs.declared.event.Event.{Event}
 use Rattle.mdb_words.specs.declared.event.Event.TheVariants.{Word, Break}
 use Rattle.mdb_words.specs.declared.word.Line.TheVariants.{Controller, Peripheral}
@@ -22,16 +22,20 @@ use Rattle.mdb_msgs.specs.Replies.{reply_bytes}
 use Rattle.mdb_bus.specs.declared.act.Act.TheVariants as acts
 use Rattle.mdb_bus.specs.declared.fault.Blame.{Blame}
 use Rattle.mdb_bus.specs.declared.fault.Blame.TheVariants as blame
+use Rattle.mdb_bus.specs.declared.fault.LinkFault.{LinkFault}
 use Rattle.mdb_bus.specs.declared.fault.Rule.{Rule}
 use Rattle.mdb_bus.specs.declared.fault.Rule.TheVariants as rule
 use Rattle.mdb_bus.specs.declared.levels.Levels.{Levels}
 use Rattle.mdb_bus.specs.declared.scope.Beginning.{Beginning}
+use Rattle.mdb_bus.specs.declared.scope.Profile.{Profile}
 use Rattle.mdb_bus.specs.declared.scope.Scope.{Scope}
 use Rattle.mdb_bus.specs.Acts.{IsReply, reply_words}
 use Rattle.mdb_bus.specs.Formats.{HasFault, IsReadAs, format_for}
 use Rattle.mdb_bus.specs.Scopes.{Asks, levels_before, needed_in, profile_of}
-use Rattle.mdb_bus.specs.WideMoney.{counted_as, wide_of}
-use Rattle.mdb_bus.specs.ActLists.{Piece, Whole, Position, Quiet, InAsk, Asked, InReply, Replied, Returned, InRepeat, IsInProfile, events_of, last_of, levels_of, position_of, rest_before_block, rest_before_break}
+use Rattle.mdb_bus.specs.Haste.{counted_in, haste_of}
+use Rattle.mdb_bus.specs.Times.{answer_most, block_most, block_rest, break_least, rest_after}
+use Rattle.mdb_bus.specs.WideMoney.{Wide, counted_as, wide_of}
+use Rattle.mdb_bus.specs.ActLists.{Piece, Whole, Position, Quiet, InAsk, Asked, InReply, Replied, Returned, InRepeat, InForeign, IsInProfile, events_of, last_of, levels_of, position_of}
 
 -- What the rows so far leave for the next one.
 pub record Situation : Type 0 where
@@ -69,13 +73,18 @@ abbrev pub IsAfter : ℕ → Option Event → Event → Type 0
 IsAfter most None to = ⊥
 IsAfter most (Some from) to = end_of from + most < start_of to
 
+-- and where there is a limit
+abbrev pub IsPast : Option ℕ → Option Event → Event → Type 0
+IsPast None from to = ⊥
+IsPast (Some most) from to = IsAfter most from to
+
 -- Order: a row doesn't start after the row before it.
 abbrev pub OutOfOrder : Option Event → Event → Type 0
 OutOfOrder None to = ⊥
 OutOfOrder (Some from) to = start_of to ≤ start_of from
 
 -- Speaker: a side sends where the other one has the bus. The controller has to leave a peripheral's
--- block alone for as long as its next word may come.
+-- block alone for as long as its next word comes in the base profile's time.
 abbrev pub WrongSpeaker : Position → Option Event → Event → Type 0
 WrongSpeaker Quiet from (Word at Peripheral word) = Unit {0}
 WrongSpeaker (InAsk bytes) from (Word at Peripheral word) = Unit {0}
@@ -94,39 +103,46 @@ WrongMode (Returned command reply) (Word at Controller word) = word < 256
 WrongMode (InAsk bytes) (Word at Controller word) = 256 ≤ word
 WrongMode _ _ = ⊥
 
--- Early: a row comes too soon, or a new block does while an answer or a repeat may still come.
-abbrev pub TooEarly : Position → Option Event → Event → Type 0
-TooEarly position from (Break at length) = IsBefore (rest_before_break from) from (Break at length)
-TooEarly Quiet from to = IsBefore (rest_before_block from) from to
-TooEarly (Asked command) from (Word at Controller word) =
-    IsBefore NEW_BLOCK_GAP_MIN from (Word at Controller word)
-TooEarly (Replied command reply) from (Word at Controller word) =
-    ((256 ≤ word) × IsBefore NEW_BLOCK_GAP_MIN from (Word at Controller word))
+-- Early: a row comes too soon. By the base profile a new block does, too, while an answer or a
+-- repeat may still come.
+abbrev pub TooEarly : Profile → Position → Option Event → Event → Type 0
+TooEarly profile position from (Break at length) = IsBefore (rest_after from) from (Break at length)
+TooEarly profile Quiet from to = IsBefore (block_rest Quiet profile from) from to
+TooEarly profile InForeign from to = IsBefore (rest_after from) from to
+TooEarly profile (Asked command) from (Word at Controller word) =
+    IsBefore (block_rest (Asked command) profile from) from (Word at Controller word)
+TooEarly profile (Replied command reply) from (Word at Controller word) =
+    ((256 ≤ word)
+    × IsBefore (block_rest (Replied command reply) profile from) from (Word at Controller word))
     ⊎ ((word < 256) × IsBefore WORD_GAP_MIN from (Word at Controller word))
-TooEarly (Returned command reply) from (Word at Controller word) =
-    IsBefore NEW_BLOCK_GAP_MIN from (Word at Controller word)
-TooEarly position from to = IsBefore WORD_GAP_MIN from to
+TooEarly profile (Returned command reply) from (Word at Controller word) =
+    IsBefore (block_rest (Returned command reply) profile from) from (Word at Controller word)
+TooEarly profile position from to = IsBefore WORD_GAP_MIN from to
 
 -- Late: an answer or a repeat begins after its time.
-abbrev pub TooLate : Position → Option Event → Event → Type 0
-TooLate (Asked command) from (Word at Peripheral word) =
-    IsAfter ANSWER_GAP_MAX from (Word at Peripheral word)
-TooLate (Replied command reply) from (Word at Controller word) =
-    (word < 256) × IsAfter ANSWER_GAP_MAX from (Word at Controller word)
-TooLate (Returned command reply) from (Word at Peripheral word) =
-    IsAfter ANSWER_GAP_MAX from (Word at Peripheral word)
-TooLate _ from _ = ⊥
+abbrev pub TooLate : Profile → Position → Option Event → Event → Type 0
+TooLate profile (Asked command) from (Word at Peripheral word) =
+    IsPast (answer_most profile) from (Word at Peripheral word)
+TooLate profile (Replied command reply) from (Word at Controller word) =
+    (word < 256) × IsPast (answer_most profile) from (Word at Controller word)
+TooLate profile (Returned command reply) from (Word at Peripheral word) =
+    IsPast (answer_most profile) from (Word at Peripheral word)
+TooLate profile _ from _ = ⊥
 
 -- Spacing: the words of a block are too far apart, or the controller's word finds a peripheral's
 -- block left open.
-abbrev pub TooFarApart : Position → Option Event → Event → Type 0
-TooFarApart (InAsk bytes) from (Word at Controller word) =
+abbrev pub TooFarApart : Profile → Position → Option Event → Event → Type 0
+TooFarApart profile (InAsk bytes) from (Word at Controller word) =
+    IsPast (block_most profile) from (Word at Controller word)
+TooFarApart profile (InReply command bytes) from (Word at Peripheral word) =
+    IsPast (block_most profile) from (Word at Peripheral word)
+TooFarApart profile (InReply command bytes) from (Word at Controller word) =
     IsAfter BLOCK_GAP_MAX from (Word at Controller word)
-TooFarApart (InReply command bytes) from (Word at line word) =
-    IsAfter BLOCK_GAP_MAX from (Word at line word)
-TooFarApart (InRepeat command reply words) from (Word at line word) =
-    IsAfter BLOCK_GAP_MAX from (Word at line word)
-TooFarApart _ from _ = ⊥
+TooFarApart profile (InRepeat command reply words) from (Word at Peripheral word) =
+    IsPast (block_most profile) from (Word at Peripheral word)
+TooFarApart profile (InRepeat command reply words) from (Word at Controller word) =
+    IsAfter BLOCK_GAP_MAX from (Word at Controller word)
+TooFarApart profile _ from _ = ⊥
 
 -- Length: a reply's 36th word is unmarked, or the command isn't answered by so many data bytes.
 abbrev pub WrongLength : Position → Event → Type 0
@@ -143,9 +159,9 @@ WrongSum scope (InReply command bytes) (Word at Peripheral word) =
 WrongSum scope _ _ = ⊥
 
 -- Break: a break is too short.
-abbrev pub TooShort : Event → Type 0
-TooShort (Break at length) = length < BREAK_LENGTH_MIN
-TooShort (Word at line word) = ⊥
+abbrev pub TooShort : Profile → Event → Type 0
+TooShort profile (Break at length) = length < break_least profile
+TooShort profile (Word at line word) = ⊥
 
 -- a word is no answer of a peripheral: marked, and neither its ACK nor its NAK
 abbrev pub IsNoAnswer : ℕ → Type 0
@@ -219,12 +235,12 @@ abbrev pub RowBreaks : Situation → Event → Rule → Type 0
 RowBreaks s row rule.Order = OutOfOrder s.last row
 RowBreaks s row rule.Speaker = WrongSpeaker s.position s.last row
 RowBreaks s row rule.Mode = WrongMode s.position row
-RowBreaks s row rule.Early = TooEarly s.position s.last row
-RowBreaks s row rule.Late = TooLate s.position s.last row
-RowBreaks s row rule.Spacing = TooFarApart s.position s.last row
+RowBreaks s row rule.Early = TooEarly (profile_of s.scope.begins) s.position s.last row
+RowBreaks s row rule.Late = TooLate (profile_of s.scope.begins) s.position s.last row
+RowBreaks s row rule.Spacing = TooFarApart (profile_of s.scope.begins) s.position s.last row
 RowBreaks s row rule.Length = WrongLength s.position row
 RowBreaks s row rule.Sum = WrongSum s.scope s.position row
-RowBreaks s row rule.Break = TooShort row
+RowBreaks s row rule.Break = TooShort (profile_of s.scope.begins) row
 RowBreaks s row rule.Answer = WrongAnswer s.scope.begins s.levels s.position row
 RowBreaks s row rule.Message =
     HasBadMessage s.scope.begins s.levels s.position row
@@ -271,10 +287,22 @@ blame_of position asked (Word at Peripheral word) broken = blame_on asked
 blame_of position asked (Word at Controller word) broken = vmc_blame position asked broken
 blame_of position asked (Break at length) broken = blame.Controller
 
--- the fault of a row after pieces: the rule that counts for the first one that it breaks
+-- the fault of a row at a position that breaks this rule first
+abbrev pub fault_at : Position → Option Device → Wide → Bool → Event → Rule → LinkFault
+fault_at position asked wide haste row first =
+    let broken = counted_as first position wide in
+    counted_in haste row (record { rule = broken; blame = blame_of position asked row broken })
+
+-- and after pieces
+abbrev pub fault_of : Scope → List Piece → Event → Rule → LinkFault
+fault_of scope pieces =
+    fault_at (position_of scope pieces) (asked_device pieces) (wide_of scope pieces)
+    (haste_of scope pieces)
+
+-- the fault of a row after pieces: what counts for the first rule that it breaks
 pub record IsLinkFault (scope : Scope) (pieces : List Piece) (row : Event) (broken : Rule)
     (blamed : Blame) : Type 0 where
   pub first : Rule
   pub rule : IsFirstBroken (situation_of scope pieces) row first
-  pub counts : broken ≡ counted_as first (position_of scope pieces) (wide_of scope pieces)
-  pub blame : blamed ≡ blame_of (position_of scope pieces) (asked_device pieces) row broken
+  pub counts : broken ≡ (fault_of scope pieces row first).rule
+  pub blame : blamed ≡ (fault_of scope pieces row first).blame

@@ -1,6 +1,6 @@
 //! The bus: which rows may follow which, and the acts that they form.
 
-ghost use Rattle.std.specs.Prelude.{◌≡◌, ◌≢◌, [], ◌∷◌, ◌++◌, ℕ, List, Some, false, true, IfOk, IfErr, OnErr, Ok, Err};
+ghost use Rattle.std.specs.Prelude.{◌≡◌, ◌≢◌, ◌⊎◌, [], ◌∷◌, ◌++◌, ℕ, List, Some, false, true, IfOk, IfErr, OnErr, Ok, Err};
 ghost use Rattle.mdb_msgs.specs.declared.reply.Reply.{Reply};
 ghost use Rattle.mdb_bus.specs.declared.fault.Rule.{Rule};
 ghost use Rattle.mdb_bus.specs.Scopes.{all_joined, power_on, profile_of};
@@ -10,6 +10,7 @@ ghost use Rattle.mdb_bus.specs.shared.Step.{EachStep};
 use super::act::Act;
 use super::begun::Begun;
 use super::fault::{Blame, LinkFault, Rule};
+use super::haste::{came_early, counted_in};
 use super::judged::Judged;
 use super::judging::judge;
 use super::laws;
@@ -17,8 +18,9 @@ use super::levels::Levels;
 use super::options::{KnownOptions, asked_with_amounts, reader_asked};
 use super::phase::Phase;
 use super::place::Place;
-use super::scope::{Beginning, Scope};
+use super::scope::{Beginning, Profile, Scope};
 use super::spelled::Spelled;
+use super::untimely::is_untimely;
 use mdb_msgs::{ChangerCommand, Command, Device, DeviceSet, ReaderCommand, Setups};
 use mdb_words::{Event, Line};
 
@@ -33,13 +35,16 @@ pub struct Bus {
     levels: Levels,
     options: KnownOptions,
     asked: Option<Device>,
+    haste: bool,
 }
 
 impl Bus {
     ghost use Rattle.mdb_msgs.specs.Commands.{device_of};
     ghost use Rattle.mdb_bus.specs.ActLists.{HasActList, Piece, events_of, levels_after};
     ghost use Rattle.mdb_bus.specs.Bus.{GoesOn, StandsFor, ended_act, open_block_of, position_at, scope_of};
-    ghost use Rattle.mdb_bus.specs.LinkFaults.{IsLinkFault, blame_of};
+    ghost use Rattle.mdb_bus.specs.Haste.{counted_in as counted_in_lem, haste_after, haste_by, haste_of};
+    ghost use Rattle.mdb_bus.specs.LinkFaults.{IsLinkFault, blame_of, fault_at};
+    ghost use Rattle.mdb_bus.specs.Untimely.{sender_by, untimely_sender};
     ghost use Rattle.mdb_bus.specs.inner.Gone.{HasGone};
     ghost use Rattle.mdb_bus.specs.shared.Step as step;
     ghost use Rattle.mdb_bus.specs.shared.Steps.{Belongs, IsAt, IsReadAt};
@@ -83,6 +88,7 @@ impl Bus {
             levels: scope.levels_before(),
             options: KnownOptions::before(&scope.begins),
             asked: None,
+            haste: false,
         }
     }
 
@@ -165,20 +171,20 @@ impl Bus {
             × IsReadAt self.old.scope.begins (position_at self.old.place)
             self.old.levels (Ok reply)
             × HasGone self.old (step.Reply reply) event self.new (ended_act ended act.new)) }
-        ensures rule { IfErr result (λ fault. (first : Rule)
+        ensures fault { IfErr result (λ fault. (first : Rule)
             × IsReadAt self.old.scope.begins (position_at self.old.place)
             self.old.levels (Err first)
-            × (fault.rule ≡ counted_as first (position_at self.old.place)
-            (wide_at self.old.options self.old.levels))) }
-        ensures blame { IfErr result (λ fault. fault.blame
-            ≡ blame_of (position_at self.old.place) self.old.asked event fault.rule) }
+            × (fault ≡ fault_at (position_at self.old.place) self.old.asked
+            (wide_at self.old.options self.old.levels) self.old.haste event first)) }
         ensures unchanged { OnErr result (self.new ≡ self.old) }
         ensures ends { IfOk result (λ ended. ended ≡ true) }
         ensures scope { self.new.scope ≡ self.old.scope }
         ensures untouched { OnErr result (act.new ≡ act.old) }
     {
+        let haste = self.haste_after(&event);
         match self.place.end_reply(&self.scope.begins, self.levels, act) {
             Ok(()) => {
+                self.haste = haste;
                 self.levels.note(self.scope.begins.profile(), act);
                 self.options.note(act);
                 self.last = Some(event);
@@ -201,6 +207,7 @@ impl Bus {
         ensures none { result ≡ false → act.new ≡ act.old }
         ensures scope { self.new.scope ≡ self.old.scope }
     {
+        self.haste = self.haste_after(&event);
         let ended = self.place.advance(judged, &event, act);
         // After the step, since it was measured to be quicker: so no store stands between judging
         // a row and choosing its step.
@@ -218,11 +225,30 @@ impl Bus {
         ended
     }
 
+    /// Whether the controller is in haste after a row: never by the base profile.
+    #[inline(always)]
+    fn haste_after(&self, event: &Event) -> bool
+        ensures { result ≡ haste_by (profile_of self.now.scope.begins)
+            (haste_after (position_at self.now.place) self.now.last event.now self.now.haste) }
+    {
+        match self.scope.begins.profile() {
+            Profile::Base => false,
+            Profile::Extended => match *event {
+                Event::Break { .. } => false,
+                Event::Word { line, word, .. } if line == Line::Controller && word.marked() => {
+                    came_early(self.place.phase, &self.last, event)
+                }
+                Event::Word { .. } => self.haste,
+            },
+        }
+    }
+
     /// Keeps the levels and the device of an act, if it is an ask.
     #[inline(always)]
     fn note_ask(&mut self, act: &Act)
         ensures scope { self.new.scope ≡ self.old.scope }
         ensures options { self.new.options ≡ self.old.options }
+        ensures haste { self.new.haste ≡ self.old.haste }
         ensures levels { (command : Command) → act.now ≡ Act.Ask command
             → self.new.levels ≡ levels_after command self.old.levels }
         ensures asked { (command : Command) → act.now ≡ Act.Ask command
@@ -240,17 +266,55 @@ impl Bus {
 
     /// The fault of a row that breaks this rule first.
     fn fault(&self, rule: Rule, event: &Event) -> LinkFault
-        ensures rule { result.rule ≡ counted_as rule (position_at self.now.place)
-            (wide_at self.now.options self.now.levels) }
-        ensures blame { result.blame
-            ≡ blame_of (position_at self.now.place) self.now.asked event.now result.rule }
+        ensures { result ≡ fault_at (position_at self.now.place) self.now.asked
+            (wide_at self.now.options self.now.levels) self.now.haste event.now rule }
     {
         let rule = self.counted(rule);
-        let blame = match *event {
+        let blame = self.blame_for(event, rule);
+        counted_in(self.haste, event, LinkFault { rule, blame })
+    }
+
+    /// Who is to blame for a row, where this rule counts.
+    fn blame_for(&self, event: &Event, rule: Rule) -> Blame
+        ensures { result ≡ blame_of (position_at self.now.place) self.now.asked event.now rule }
+    {
+        match *event {
             Event::Word { line, .. } => self.blame(line, rule),
             Event::Break { .. } => Blame::Controller,
-        };
-        LinkFault { rule, blame }
+        }
+    }
+
+    /// The fault that counts for a fault of the last row that was accepted: where the controller is
+    /// in haste, its own.
+    pub fn counted_in_haste(&self, event: &Event, fault: LinkFault) -> LinkFault
+        ensures counted { (pieces : List Piece) → StandsFor self.now pieces
+            → result ≡ counted_in_lem (haste_of (scope_of self.now) pieces) event.now fault }
+        ensures either { (result ≡ fault) ⊎ (result.rule ≡ Rule.Early) }
+    {
+        counted_in(self.haste, event, fault)
+    }
+
+    /// Who sends a row out of its time, if it is the next and out of the base profile's times.
+    #[inline(always)]
+    pub fn untimely_sender(&self, event: &Event) -> Option<Blame>
+        ensures { (pieces : List Piece) → StandsFor self.now pieces
+            → result ≡ untimely_sender (scope_of self.now) pieces event.now }
+    {
+        if is_untimely(&self.place, &self.last, event) {
+            Some(self.sender(event))
+        } else {
+            None
+        }
+    }
+
+    /// Who sends a row.
+    fn sender(&self, event: &Event) -> Blame
+        ensures { result ≡ sender_by self.now.asked event.now }
+    {
+        match *event {
+            Event::Word { line, .. } if line == Line::Peripheral => Blame::on(self.asked),
+            _ => Blame::Controller,
+        }
     }
 
     /// The rule that counts for a row that breaks this rule first: `Profile` where what it breaks

@@ -1,17 +1,15 @@
 //! The time between neighbouring rows.
 
-ghost use Rattle.std.specs.Prelude.{◌≡◌, ◌<◌, ◌^◌, ◌↔◌, IsTrue, IfErr, OnOk};
-ghost use Rattle.mdb_words.specs.declared.limits.TheConstants as limits;
+ghost use Rattle.std.specs.Prelude.{◌≡◌, ◌<◌, ◌^◌, ◌↔◌, IsTrue, IfErr, IfSome, OnOk};
 ghost use Rattle.mdb_bus.specs.declared.fault.Rule.TheVariants as rules;
 ghost use Rattle.mdb_bus.specs.ActLists as lists;
-ghost use Rattle.mdb_bus.specs.LinkFaults.{IsBefore, IsAfter, OutOfOrder};
+ghost use Rattle.mdb_bus.specs.LinkFaults.{IsBefore, IsAfter, IsPast, OutOfOrder};
+ghost use Rattle.mdb_bus.specs.Times.{answer_most, block_most};
 ghost use Rattle.mdb_bus.specs.shared.Steps.{IsUntimely};
 
 use super::fault::Rule;
-use mdb_words::{
-    ANSWER_GAP_MAX, BLOCK_GAP_MAX, Event, Line, SETUP_GAP_MIN, Time, WORD_GAP_MIN, Word,
-    is_at_least, is_at_most,
-};
+use super::scope::Profile;
+use mdb_words::{Event, Line, Time, WORD_GAP_MIN, Word, is_at_least, is_at_most};
 
 /// The row of a word.
 pub(crate) fn word_row(at: Time, line: Line, word: Word) -> Event
@@ -52,18 +50,33 @@ pub(crate) fn is_later_than(last: &Option<Event>, row: &Event, most: u64) -> boo
     }
 }
 
+/// Whether a row starts more than `most` after the row before it, where there is such a limit.
+#[inline(always)]
+fn is_past(last: &Option<Event>, row: &Event, most: Option<u64>) -> bool
+    requires { IfSome most (λ most. most < 2 ^ 32) }
+    ensures { IsTrue result ↔ IsPast most last.now row.now }
+{
+    match most {
+        None => false,
+        Some(most) => is_later_than(last, row, most),
+    }
+}
+
 /// Refuses a row that is no answer in its time: it comes too soon, or too late.
 #[inline(always)]
-pub(crate) fn in_answer_time(last: &Option<Event>, row: &Event) -> Result<(), Rule>
-    ensures timely { OnOk result
-        (lists.Within limits.WORD_GAP_MIN limits.ANSWER_GAP_MAX last.now row.now) }
+pub(crate) fn in_answer_time(
+    profile: Profile,
+    last: &Option<Event>,
+    row: &Event,
+) -> Result<(), Rule>
+    ensures timely { OnOk result (lists.InAnswerTime profile last.now row.now) }
     ensures untimely { IfErr result
-        (IsUntimely rules.Late limits.ANSWER_GAP_MAX last.now row.now) }
+        (IsUntimely rules.Late (answer_most profile) last.now row.now) }
 {
     if is_sooner_than(last, row, WORD_GAP_MIN) {
         return Err(Rule::Early);
     }
-    if is_later_than(last, row, ANSWER_GAP_MAX) {
+    if is_past(last, row, profile.answer_most()) {
         return Err(Rule::Late);
     }
     Ok(())
@@ -72,39 +85,16 @@ pub(crate) fn in_answer_time(last: &Option<Event>, row: &Event) -> Result<(), Ru
 /// Refuses a row that doesn't go on with a block in its time: it comes too soon, or too far from
 /// the word before it.
 #[inline(always)]
-pub(crate) fn in_block_time(last: &Option<Event>, row: &Event) -> Result<(), Rule>
-    ensures timely { OnOk result
-        (lists.Within limits.WORD_GAP_MIN limits.BLOCK_GAP_MAX last.now row.now) }
+pub(crate) fn in_block_time(profile: Profile, last: &Option<Event>, row: &Event) -> Result<(), Rule>
+    ensures timely { OnOk result (lists.InBlockTime profile last.now row.now) }
     ensures untimely { IfErr result
-        (IsUntimely rules.Spacing limits.BLOCK_GAP_MAX last.now row.now) }
+        (IsUntimely rules.Spacing (block_most profile) last.now row.now) }
 {
     if is_sooner_than(last, row, WORD_GAP_MIN) {
         return Err(Rule::Early);
     }
-    if is_later_than(last, row, BLOCK_GAP_MAX) {
+    if is_past(last, row, profile.block_most()) {
         return Err(Rule::Spacing);
     }
     Ok(())
-}
-
-/// How long a block waits after a row that leaves nothing open.
-pub(crate) fn rest_before_block(last: &Option<Event>) -> u64
-    ensures value { result ≡ lists.rest_before_block last.now }
-    ensures small { result < 2 ^ 32 }
-{
-    match last {
-        Some(Event::Break { .. }) => SETUP_GAP_MIN,
-        _ => WORD_GAP_MIN,
-    }
-}
-
-/// How long a break waits.
-pub(crate) fn rest_before_break(last: &Option<Event>) -> u64
-    ensures value { result ≡ lists.rest_before_break last.now }
-    ensures small { result < 2 ^ 32 }
-{
-    match last {
-        Some(Event::Break { .. }) => 0,
-        _ => WORD_GAP_MIN,
-    }
 }

@@ -1,12 +1,13 @@
 //! What is made of a row: one small function for each place of the bus and each side.
 
-ghost use Rattle.std.specs.Prelude.{ℕ, List, IfOk};
+ghost use Rattle.std.specs.Prelude.{◌≡◌, ℕ, List, IfOk};
 ghost use Rattle.mdb_words.specs.declared.event.Event.{Event};
 ghost use Rattle.mdb_bus.specs.declared.levels.Levels.{Levels};
 ghost use Rattle.mdb_bus.specs.declared.phase.Phase.{Phase};
 ghost use Rattle.mdb_bus.specs.Acts.{IsForeignWord};
 ghost use Rattle.mdb_bus.specs.ActLists as lists;
 ghost use Rattle.mdb_bus.specs.Bus.{position_at};
+ghost use Rattle.mdb_bus.specs.Scopes.{profile_of};
 ghost use Rattle.mdb_bus.specs.LinkFaults.{OutOfOrder};
 ghost use Rattle.mdb_bus.specs.declared.scope.Scope.{Scope};
 ghost use Rattle.mdb_bus.specs.shared.Steps.{Belongs, IsJudged, IsSound};
@@ -17,17 +18,16 @@ mod repeating;
 mod replying;
 
 use super::fault::Rule;
-use super::gaps::{
-    is_out_of_order, is_sooner_than, rest_before_block, rest_before_break, word_row,
-};
+use super::gaps::{is_out_of_order, is_sooner_than, word_row};
 use super::judged::Judged;
 use super::phase::Phase;
 use super::place::Place;
-use super::scope::Scope;
+use super::scope::{Profile, Scope};
+use super::times::rest_after;
 use answering::{answer, answer_reply};
 use asking::{begin_block, go_on_asking};
 use mdb_msgs::laws;
-use mdb_words::{BREAK_LENGTH_MIN, Event, Line, NEW_BLOCK_GAP_MIN, Span, Time, WORD_GAP_MIN, Word};
+use mdb_words::{Event, Line, Span, Time, Word};
 use repeating::{begin_repeat, go_on_repeating};
 use replying::{cut_in, go_on_replying};
 
@@ -51,20 +51,26 @@ pub(crate) fn judge(
     if is_out_of_order(last, row) {
         return Err(Rule::Order);
     }
+    let profile = scope.begins.profile();
     match *row {
-        Event::Break { at, length } => judge_break(last, at, length),
+        Event::Break { at, length } => judge_break(profile, last, at, length),
         Event::Word { at, line, word } => match line {
             Line::Controller => judge_controller(scope, place, last, at, word),
-            Line::Peripheral => judge_peripheral(place, last, at, word),
+            Line::Peripheral => judge_peripheral(profile, place, last, at, word),
         },
     }
 }
 
 /// A break: it may come everywhere.
-fn judge_break(last: &Option<Event>, at: Time, length: Span) -> Result<Judged, Rule>
+fn judge_break(
+    profile: Profile,
+    last: &Option<Event>,
+    at: Time,
+    length: Span,
+) -> Result<Judged, Rule>
     requires { OutOfOrder last.now (Event.Break at length) → ⊥ }
     ensures judged { (scope : Scope) (position : lists.Position) (levels : Levels)
-        → IsJudged (record {
+        → profile ≡ profile_of scope.begins → IsJudged (record {
           scope = scope;
           position = position;
           last = last.now;
@@ -74,10 +80,10 @@ fn judge_break(last: &Option<Event>, at: Time, length: Span) -> Result<Judged, R
         → IfOk result (Belongs here bytes (Event.Break at length)) }
 {
     let row = Event::Break { at, length };
-    if is_sooner_than(last, &row, rest_before_break(last)) {
+    if is_sooner_than(last, &row, rest_after(last)) {
         return Err(Rule::Early);
     }
-    if length.value() < BREAK_LENGTH_MIN {
+    if length.value() < profile.break_least() {
         return Err(Rule::Break);
     }
     Ok(Judged::Break)
@@ -106,16 +112,27 @@ fn judge_controller(
 {
     laws::first_byte_tells_the_device();
     laws::first_two_bytes_tell_enable_options();
+    let profile = scope.begins.profile();
     match place.phase {
-        Phase::Quiet => begin_block(scope, last, at, word, rest_before_block(last)),
-        Phase::InAsk => go_on_asking(scope.begins.profile(), &place.bytes, last, at, word),
-        Phase::Asked => begin_block(scope, last, at, word, NEW_BLOCK_GAP_MIN),
+        Phase::Quiet => begin_block(scope, last, at, word, profile.block_rest(place.phase, last)),
+        Phase::InAsk => go_on_asking(profile, &place.bytes, last, at, word),
+        Phase::Asked => begin_block(scope, last, at, word, profile.block_rest(place.phase, last)),
         Phase::InReply => cut_in(last, at, word),
-        Phase::Replied if word.marked() => begin_block(scope, last, at, word, NEW_BLOCK_GAP_MIN),
-        Phase::Replied => answer_reply(last, at, word),
-        Phase::Returned => begin_block(scope, last, at, word, NEW_BLOCK_GAP_MIN),
+        Phase::Replied if word.marked() => {
+            begin_block(scope, last, at, word, profile.block_rest(place.phase, last))
+        }
+        Phase::Replied => answer_reply(profile, last, at, word),
+        Phase::Returned => begin_block(
+            scope,
+            last,
+            at,
+            word,
+            profile.block_rest(place.phase, last),
+        ),
         Phase::InRepeat(..) => cut_in(last, at, word),
-        Phase::InForeign if word.marked() => begin_block(scope, last, at, word, WORD_GAP_MIN),
+        Phase::InForeign if word.marked() => {
+            begin_block(scope, last, at, word, profile.block_rest(place.phase, last))
+        }
         Phase::InForeign => go_on_foreign(last, at, Line::Controller, word),
     }
 }
@@ -123,28 +140,30 @@ fn judge_controller(
 /// A word of a peripheral.
 #[inline(always)]
 fn judge_peripheral(
+    profile: Profile,
     place: &Place,
     last: &Option<Event>,
     at: Time,
     word: Word,
 ) -> Result<Judged, Rule>
     requires { OutOfOrder last.now (Event.Word at Line.Peripheral word) → ⊥ }
-    ensures judged { (scope : Scope) (levels : Levels) → IsJudged (record {
-      scope = scope;
-      position = position_at place.now;
-      last = last.now;
-      levels = levels;
-    })
+    ensures judged { (scope : Scope) (levels : Levels) → profile ≡ profile_of scope.begins
+        → IsJudged (record {
+          scope = scope;
+          position = position_at place.now;
+          last = last.now;
+          levels = levels;
+        })
         (Event.Word at Line.Peripheral word) result }
     ensures belongs { IfOk result (Belongs place.now.phase place.now.bytes
         (Event.Word at Line.Peripheral word)) }
 {
     match place.phase {
         Phase::Quiet | Phase::InAsk | Phase::Replied => Err(Rule::Speaker),
-        Phase::Asked => answer(&place.command, last, at, word),
-        Phase::InReply => go_on_replying(&place.command, &place.bytes, last, at, word),
-        Phase::Returned => begin_repeat(&place.last_reply, last, at, word),
-        Phase::InRepeat(said) => go_on_repeating(&place.last_reply, said, last, at, word),
+        Phase::Asked => answer(profile, &place.command, last, at, word),
+        Phase::InReply => go_on_replying(profile, &place.command, &place.bytes, last, at, word),
+        Phase::Returned => begin_repeat(profile, &place.last_reply, last, at, word),
+        Phase::InRepeat(said) => go_on_repeating(profile, &place.last_reply, said, last, at, word),
         Phase::InForeign => go_on_foreign(last, at, Line::Peripheral, word),
     }
 }
@@ -165,7 +184,7 @@ fn go_on_foreign(last: &Option<Event>, at: Time, line: Line, word: Word) -> Resu
         → IfOk result (Belongs here bytes row) }
 {
     let row = word_row(at, line, word);
-    if is_sooner_than(last, &row, WORD_GAP_MIN) {
+    if is_sooner_than(last, &row, rest_after(last)) {
         Err(Rule::Early)
     } else {
         Ok(Judged::Foreign)

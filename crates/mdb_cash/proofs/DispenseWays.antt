@@ -42,11 +42,11 @@ pub owed_ways : (setups : Setups) (profile : Profile) (so_far : List Act) (coins
     choice before after gains
     ↔ (after ≡ before) × ((gains ≡ no_gains)
     ⊎ (gains ≡ controller_gains (in_slots
-    (0 ∷ dispensed_value (facts_recorded tables setups so_far).setup coins ∷ []))))
+    (0 ∷ dispensed_value (facts_recorded tables setups profile so_far).setup coins ∷ []))))
 owed_ways setups profile so_far coins choice before after gains none owed = (forth, back)
   where
     value : ℕ
-    value = dispensed_value (facts_recorded tables setups so_far).setup coins
+    value = dispensed_value (facts_recorded tables setups profile so_far).setup coins
 
     forth : (machine (Joined setups profile)).Step so_far
         (acts.Ask (Changer (changer.Dispense coins))) choice before after gains
@@ -98,9 +98,9 @@ pub free_way : (setups : Setups) (profile : Profile) (so_far : List Act) (coins 
     choice before after gains
     ↔ (after ≡ record before { dispense_owed = true })
     × (gains ≡ controller_gains (in_slots
-    (0 ∷ dispensed_value (facts_recorded tables setups so_far).setup coins ∷ [])))
+    (0 ∷ dispensed_value (facts_recorded tables setups profile so_far).setup coins ∷ [])))
 free_way setups profile so_far coins choice before after gains free =
-    let value = dispensed_value (facts_recorded tables setups so_far).setup coins in (
+    let value = dispensed_value (facts_recorded tables setups profile so_far).setup coins in (
       λ step. (
         step.step.0,
         step.step.1

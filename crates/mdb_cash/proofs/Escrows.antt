@@ -11,13 +11,13 @@ use Rattle.mdb_machine.specs.Pair.{IsOnly}
 
 -- a message that can be new
 pub stacks : (facts : Facts) {escrow : Escrow} (bill : BillType) {number : ℕ}
-    → bill.number ≡ number → facts.past.enabled number ≡ true → MayStack bill escrow
+    → bill.number ≡ number → facts.enabled number ≡ true → MayStack bill escrow
     → IsOnly (StacksBill facts number escrow) (Some Empty)
 stacks facts bill same enabled may = ((bill, same, enabled, may, refl), λ x takes. takes.4)
 
 pub puts : (facts : Facts) {message : BillActivity} {escrow : Escrow} (bill : BillType) {number : ℕ}
     → message ≡ activity.Escrow number → bill.number ≡ number
-    → facts.past.enabled number ≡ true → escrow ≡ Empty
+    → facts.enabled number ≡ true → escrow ≡ Empty
     → IsOnly (MovesBill facts message escrow) (Some (Waiting bill))
 puts facts bill is same enabled may =
     rw is (
@@ -32,7 +32,7 @@ returns facts bill is same may = rw is ((bill, same, may, refl), λ x takes. tak
 
 -- and one that can't
 pub stacks_not : (facts : Facts) {escrow : Escrow} (bill : BillType) {number : ℕ}
-    → bill.number ≡ number → (facts.past.enabled number ≡ true → MayStack bill escrow → ⊥)
+    → bill.number ≡ number → (facts.enabled number ≡ true → MayStack bill escrow → ⊥)
     → (x : Escrow) → StacksBill facts number escrow x → ⊥
 stacks_not facts {escrow} bill same denied x takes =
     denied takes.2

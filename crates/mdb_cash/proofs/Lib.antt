@@ -1,2 +1,3 @@
 pub mod DispenseWays
 pub mod Escrows
+pub mod Wider

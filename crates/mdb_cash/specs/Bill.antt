@@ -52,7 +52,7 @@ MayReturn type escrow = (escrow ≡ Empty) ⊎ (escrow ≡ Waiting type) ⊎ (es
 -- recycler. Its type is enabled. There are no types past 15, so nothing may be told of one.
 abbrev pub StacksBill : Facts → ℕ → Escrow → Escrow → Type 0
 StacksBill facts number before after =
-    (type : BillType) × (type.number ≡ number) × (facts.past.enabled number ≡ true)
+    (type : BillType) × (type.number ≡ number) × (facts.enabled number ≡ true)
     × MayStack type before × (after ≡ Empty)
 
 -- And before and after a message that is new. A bill in escrow is of a type that is enabled too.
@@ -60,7 +60,7 @@ abbrev pub MovesBill : Facts → BillActivity → Escrow → Escrow → Type 0
 MovesBill facts (activity.Stacked number) before after = StacksBill facts number before after
 MovesBill facts (activity.Recycled number) before after = StacksBill facts number before after
 MovesBill facts (activity.Escrow number) before after =
-    (type : BillType) × (type.number ≡ number) × (facts.past.enabled number ≡ true)
+    (type : BillType) × (type.number ≡ number) × (facts.enabled number ≡ true)
     × (before ≡ Empty) × (after ≡ Waiting type)
 MovesBill facts (activity.Returned number) before after =
     (type : BillType) × (type.number ≡ number) × MayReturn type before × (after ≡ Empty)

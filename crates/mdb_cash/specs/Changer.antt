@@ -48,8 +48,8 @@ paid_by_hand setup _ = 0
 
 -- a new deposit is of a type that is enabled; coins may be dispensed by hand at any time
 abbrev pub MayBeNew : Facts → ChangerActivity → Type 0
-MayBeNew facts (CashBox coin) = facts.past.enabled coin ≡ true
-MayBeNew facts (Tube coin) = facts.past.enabled coin ≡ true
+MayBeNew facts (CashBox coin) = facts.enabled coin ≡ true
+MayBeNew facts (Tube coin) = facts.enabled coin ≡ true
 MayBeNew facts (Dispensed count coin) = Unit {0}
 
 -- whether this is Y1 of the last DISPENSE asked

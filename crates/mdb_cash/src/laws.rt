@@ -14,6 +14,7 @@ ghost use Rattle.mdb_bus.specs.declared.act.Act.TheVariants as acts;
 ghost use Rattle.mdb_bus.specs.declared.scope.Beginning.{Beginning};
 ghost use Rattle.mdb_bus.specs.declared.scope.Beginning.TheVariants.{PowerOn, Joined};
 ghost use Rattle.mdb_bus.specs.declared.scope.Profile.{Profile};
+ghost use Rattle.mdb_bus.specs.declared.scope.Profile.TheVariants.{Base, Extended};
 ghost use Rattle.mdb_cash.specs.declared.bill.state.BillState.{BillState};
 ghost use Rattle.mdb_cash.specs.declared.changer.state.ChangerState.{ChangerState};
 ghost use Rattle.mdb_machine.specs.declared.choice.Choice.{Choice};
@@ -80,11 +81,12 @@ pub fn breaks_tell_nothing_of_the_validator()
 pub fn from_power_on_all_is_known_of_the_changer()
     ensures facts { (profile : Profile) (so_far : List Act) (holds : Bool) (facts : changer.Facts)
         → AllowsFacts (changer.known_of (PowerOn profile) so_far) holds facts
-        ↔ (facts ≡ changer.facts_of so_far) }
+        ↔ (facts ≡ changer.facts_of profile so_far) }
     ensures steps { (profile : Profile) (so_far : List Act) (act : Act) (choice : Choice)
         (before after : ChangerState) (gains : Gains)
         → (changer_machine.machine (PowerOn profile)).Step so_far act choice before after gains
-        ↔ changer_machine.ChangerStep (changer.facts_of so_far) act choice before after gains }
+        ↔ changer_machine.ChangerStep (changer.facts_of profile so_far) act choice before after
+        gains }
 {}
 
 /// From power-on all is known of the validator: the facts are those that the acts leave, and each
@@ -92,11 +94,34 @@ pub fn from_power_on_all_is_known_of_the_changer()
 pub fn from_power_on_all_is_known_of_the_validator()
     ensures facts { (profile : Profile) (so_far : List Act) (holds : Bool) (facts : bill.Facts)
         → AllowsFacts (bill.known_of (PowerOn profile) so_far) holds facts
-        ↔ (facts ≡ bill.facts_of so_far) }
+        ↔ (facts ≡ bill.facts_of profile so_far) }
     ensures steps { (profile : Profile) (so_far : List Act) (act : Act) (choice : Choice)
         (before after : BillState) (gains : Gains)
         → (bill_machine.machine (PowerOn profile)).Step so_far act choice before after gains
-        ↔ bill_machine.BillStep (bill.facts_of so_far) act choice before after gains }
+        ↔ bill_machine.BillStep (bill.facts_of profile so_far) act choice before after gains }
+{}
+
+/// Each step of the changer and of the validator by the base profile is one by the extended
+/// profile: the types that the one enables are enabled by the other.
+pub fn by_the_extended_profile_each_step_by_the_base_profile_is_one()
+    ensures changer { (so_far : List Act) (act : Act) (choice : Choice)
+        (before after : ChangerState) (gains : Gains)
+        → (changer_machine.machine (PowerOn Base)).Step so_far act choice before after gains
+        → (changer_machine.machine (PowerOn Extended)).Step so_far act choice before after gains }
+    ensures changer_joined { (setups : Setups) (so_far : List Act) (act : Act) (choice : Choice)
+        (before after : ChangerState) (gains : Gains)
+        → (changer_machine.machine (Joined setups Base)).Step so_far act choice before after gains
+        → (changer_machine.machine (Joined setups Extended)).Step so_far act choice before after
+        gains }
+    ensures bill { (so_far : List Act) (act : Act) (choice : Choice) (before after : BillState)
+        (gains : Gains)
+        → (bill_machine.machine (PowerOn Base)).Step so_far act choice before after gains
+        → (bill_machine.machine (PowerOn Extended)).Step so_far act choice before after gains }
+    ensures bill_joined { (setups : Setups) (so_far : List Act) (act : Act) (choice : Choice)
+        (before after : BillState) (gains : Gains)
+        → (bill_machine.machine (Joined setups Base)).Step so_far act choice before after gains
+        → (bill_machine.machine (Joined setups Extended)).Step so_far act choice before after
+        gains }
 {}
 
 /// Where a recording begins in mid-session, the changer has these ways and no other. It replies
@@ -113,8 +138,8 @@ pub fn in_mid_session_the_changer_has_these_ways_alone()
         → (changer_machine.machine (Joined setups profile)).Step so_far
         (acts.Reply (commands.Changer command) reply) Plain before after gains
         ↔ ((count : ℕ) × TellsHeldFirst changer_machine.conduct
-        (facts_recorded changer.tables setups so_far) (changer_messages.parts_of reply) count before
-        after gains) }
+        (facts_recorded changer.tables setups profile so_far) (changer_messages.parts_of reply)
+        count before after gains) }
     ensures poll { (setups : Setups) (profile : Profile) (so_far : List Act) (reply : Reply)
         (before after : ChangerState) (gains : Gains)
         → TellsNone changer.tables so_far → before.holds ≡ true
@@ -134,7 +159,7 @@ pub fn in_mid_session_the_changer_has_these_ways_alone()
         → (changer_machine.machine (Joined setups profile)).Step so_far
         (acts.Ask (commands.Changer (changer_commands.Dispense coins))) choice before after gains
         ↔ (after ≡ before) × ((gains ≡ no_gains) ⊎ (gains ≡ controller_gains (in_slots
-        (0 ∷ dispensed_value (facts_recorded changer.tables setups so_far).setup coins
+        (0 ∷ dispensed_value (facts_recorded changer.tables setups profile so_far).setup coins
         ∷ [])))) }
     ensures free { (setups : Setups) (profile : Profile) (so_far : List Act) (coins : ℕ)
         (choice : Choice) (before after : ChangerState) (gains : Gains)
@@ -142,15 +167,15 @@ pub fn in_mid_session_the_changer_has_these_ways_alone()
         → (changer_machine.machine (Joined setups profile)).Step so_far
         (acts.Ask (commands.Changer (changer_commands.Dispense coins))) choice before after gains
         ↔ (after ≡ record before { dispense_owed = true }) × (gains ≡ controller_gains (in_slots
-        (0 ∷ dispensed_value (facts_recorded changer.tables setups so_far).setup coins
+        (0 ∷ dispensed_value (facts_recorded changer.tables setups profile so_far).setup coins
         ∷ []))) }
     ensures settled { (setups : Setups) (profile : Profile) (so_far : List Act) (act : Act)
         (choice : Choice) (before after : ChangerState) (gains : Gains)
         → IsSettled changer.tables changer_machine.conduct so_far act choice before
         → (changer_machine.machine (Joined setups profile)).Step so_far act choice before after
         gains
-        ↔ changer_machine.ChangerStep (facts_recorded changer.tables setups so_far) act choice
-        before after gains }
+        ↔ changer_machine.ChangerStep (facts_recorded changer.tables setups profile so_far) act
+        choice before after gains }
 {}
 
 /// Where a recording begins in mid-session, the validator has these ways and no other. It replies
@@ -166,8 +191,8 @@ pub fn in_mid_session_the_validator_has_these_ways_alone()
         → (bill_machine.machine (Joined setups profile)).Step so_far
         (acts.Reply (commands.Bill command) reply) Plain before after gains
         ↔ ((count : ℕ) × TellsHeldFirst bill_machine.conduct
-        (facts_recorded bill.tables setups so_far) (bill_messages.parts_of reply) count before after
-        gains) }
+        (facts_recorded bill.tables setups profile so_far) (bill_messages.parts_of reply) count
+        before after gains) }
     ensures poll { (setups : Setups) (profile : Profile) (so_far : List Act) (reply : Reply)
         (before after : BillState) (gains : Gains)
         → TellsNone bill.tables so_far → before.holds ≡ true
@@ -185,6 +210,6 @@ pub fn in_mid_session_the_validator_has_these_ways_alone()
         (choice : Choice) (before after : BillState) (gains : Gains)
         → IsSettled bill.tables bill_machine.conduct so_far act choice before
         → (bill_machine.machine (Joined setups profile)).Step so_far act choice before after gains
-        ↔ bill_machine.BillStep (facts_recorded bill.tables setups so_far) act choice before after
-        gains }
+        ↔ bill_machine.BillStep (facts_recorded bill.tables setups profile so_far) act choice before
+        after gains }
 {}

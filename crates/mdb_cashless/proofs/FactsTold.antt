@@ -46,7 +46,6 @@ answered unit command refused messages old =
       past =
           past_after
           (resets (effect_taken (effect_of unit) (if refused then None else Some command)))
-          (effect_taken (effect_of unit) (if refused then None else Some command))
           (map part_of (own_messages unit command messages)) old.past;
     }
 
@@ -66,8 +65,7 @@ answered_own found refused messages old =
           extended_after None (last_said level_in own_ones) None
           (extended_taking (resets (effect_of_own took)) took old.extended);
       past =
-          past_after (resets (effect_of_own took)) (effect_of_own took) (map part_of own_ones)
-          old.past;
+          past_after (resets (effect_of_own took)) (map part_of own_ones) old.past;
     }
 
 same_answer : (unit : ReaderUnit) (command : Command) (refused : Bool) (messages : List ReaderMsg)

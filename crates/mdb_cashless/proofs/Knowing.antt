@@ -65,7 +65,7 @@ as_guess : (known : ReaderKnown) (holds : Bool) (facts : Facts)
     → facts ≡ idling (guessing (facts_in known.facts) facts.asked facts.taken facts.past.last_kept)
     facts.always_idle facts.requested
 as_guess known holds facts is = same_facts is.config refl refl is.amount is.refused refl refl
-    (same_past (λ kind. ap (λ e. e kind) is.past.enabled) is.past.reset_owed refl)
+    (same_past is.past.reset_owed refl)
 
 as_idle : (known : ReaderKnown) (holds : Bool) (facts : Facts)
     → AllowsFacts (known_in known) holds facts
@@ -97,7 +97,7 @@ allowed known holds a t k asked taken kept = record {
   request = may_be_so (known_requested known.facts.extended);
   is_request = its_may (known_requested known.facts.extended);
   requested = refl;
-  past = record { enabled = refl; reset_owed = refl; last_kept = kept };
+  past = record { reset_owed = refl; last_kept = kept };
 }
 
 -- what is kept may be, where it is known, and anything where it isn't

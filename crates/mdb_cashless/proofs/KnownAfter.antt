@@ -13,11 +13,10 @@ use Rattle.mdb_bus.specs.declared.act.Act.TheVariants as acts
 use Rattle.mdb_bus.specs.declared.scope.Beginning.{Beginning}
 use Rattle.mdb_bus.specs.declared.scope.Beginning.TheVariants.{PowerOn, Joined}
 use Rattle.mdb_machine.specs.declared.kept.Part.{Part}
-use Rattle.mdb_machine.specs.declared.past.Effect.{Effect}
 use Rattle.mdb_machine.specs.declared.past.Past.{Past}
 use Rattle.mdb_machine.specs.Kept.{kept_of}
 use Rattle.mdb_machine.specs.Known.{known_before}
-use Rattle.mdb_machine.specs.Past.{effect_by, effect_taken, or_else, powers_on, resets, tells_out_of_sequence, unless_empty}
+use Rattle.mdb_machine.specs.Past.{effect_taken, or_else, powers_on, resets, tells_out_of_sequence, unless_empty}
 use Rattle.mdb_machine.specs.PastValues.{first_past, from_power_on, if_known, known_more, known_past_after, past_after, past_in, past_known}
 use Rattle.mdb_machine.specs.shared.PastWays.{same_known_past}
 use Rattle.mdb_cashless.specs.declared.reader.facts.ReaderFacts.{ReaderFacts}
@@ -61,11 +60,10 @@ kept_after false [] old = refl
 kept_after false (x ∷ kept) old = refl
 
 past_more : {M : Type 0} {CAP : ℕ} (was is : Bool) (old new : Past M CAP) (powers : Bool)
-    (effect : Effect) (parts : List (Part M)) → is ≡ (was || is_some (unless_empty (kept_of parts)))
-    → past_in new ≡ past_after powers effect parts (past_in old)
-    → past_known is new ≡ known_past_after powers effect parts (past_known was old)
-past_more was is old new powers effect parts knows same = same_known_past
-    (λ kind. ap (λ past. past.enabled kind) same)
+    (parts : List (Part M)) → is ≡ (was || is_some (unless_empty (kept_of parts)))
+    → past_in new ≡ past_after powers parts (past_in old)
+    → past_known is new ≡ known_past_after powers parts (past_known was old)
+past_more was is old new powers parts knows same = same_known_past
     (ap (λ past. past.reset_owed) same)
     (ap (λ k. if_known k new.last_kept.items) knows
     ∙ ap (λ l. if_known (was || is_some (unless_empty (kept_of parts))) l)
@@ -92,7 +90,7 @@ known_after unit act old new asked taken kept same = same_fields
     (ap (λ (t : ToldFacts). t.amount) same)
     (ap (λ (t : ToldFacts). t.extended) same)
     (past_more old.knows_kept new.knows_kept old.facts.past new.facts.past
-    (powers_on (effect_of unit) act) (effect_by (effect_of unit) act) (parts_by unit act) kept
+    (powers_on (effect_of unit) act) (parts_by unit act) kept
     (ap (λ (t : ToldFacts). t.past) same))
 
 -- what is known of no act
@@ -114,7 +112,7 @@ known_first unit (PowerOn profile) facts knows so config asked taken amount exte
     config (ap (λ k. if_known k facts.asked) so ∙ ap (λ a. if_known true a) asked)
     (ap (λ k. if_known k facts.taken) so ∙ ap (λ a. if_known true a) taken)
     amount extended
-    (same_known_past (λ kind. ap (λ p. p.enabled kind) past) (ap (λ p. p.reset_owed) past)
+    (same_known_past (ap (λ p. p.reset_owed) past)
     (ap (λ k. if_known k facts.past.last_kept.items) so
     ∙ ap (λ p. if_known true p.last_kept) past))
 known_first unit (Joined setups profile) facts knows so config asked taken amount extended past =
@@ -122,7 +120,7 @@ known_first unit (Joined setups profile) facts knows so config asked taken amoun
     config (ap (λ k. if_known k facts.asked) so)
     (ap (λ k. if_known k facts.taken) so)
     amount extended
-    (same_known_past (λ kind. ap (λ p. p.enabled kind) past) (ap (λ p. p.reset_owed) past)
+    (same_known_past (ap (λ p. p.reset_owed) past)
     (ap (λ k. if_known k facts.past.last_kept.items) so))
 
 -- what a reply tells of the last transaction, where the command to the reader is known

@@ -183,8 +183,7 @@ as_guess : (unit : ReaderUnit) (setups : Setups) (profile : Profile) (so_far : L
     facts.past.last_kept
 as_guess unit setups profile so_far holds facts is =
     same_facts is.config refl refl is.amount is.refused refl is.requested
-    (same_past (λ kind. ap (λ e. e kind) is.past.enabled)
-    (is.past.reset_owed ∙ same_owed unit setups profile so_far) refl)
+    (same_past (is.past.reset_owed ∙ same_owed unit setups profile so_far) refl)
 
 guess_allowed : (unit : ReaderUnit) (setups : Setups) (profile : Profile) (so_far : List Act)
     (idle : MayIdle unit setups profile so_far) (holds : Bool) (a t : Option Transaction)
@@ -204,11 +203,7 @@ guess_allowed unit setups profile so_far idle holds a t k asked taken kept = rec
   request = idle.request;
   is_request = idle.may_be_request;
   requested = refl;
-  past = record {
-    enabled = refl;
-    reset_owed = sym (same_owed unit setups profile so_far);
-    last_kept = kept;
-  };
+  past = record { reset_owed = sym (same_owed unit setups profile so_far); last_kept = kept };
 }
 
 its_taken : (unit : ReaderUnit) (setups : Setups) (profile : Profile) (so_far : List Act)

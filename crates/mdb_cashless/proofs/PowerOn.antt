@@ -1,7 +1,6 @@
 -- From power-on all is known of a reader.
-use Rattle.std.proofs.Common.{◌≡◌, ◌∙◌, ◌↔◌, ◌&&◌, ◌||◌, not, Bool, true, false, List, [], ◌∷◌, Option, Some, None, option_map, ltb, refl, ap, subst, sym, unwrap_or, if◌then◌else◌}
+use Rattle.std.proofs.Common.{◌≡◌, ◌∙◌, ◌↔◌, ◌&&◌, not, Bool, true, false, List, [], ◌∷◌, Option, Some, None, option_map, refl, ap, subst, sym, unwrap_or, if◌then◌else◌}
 use Rattle.mdb_msgs.specs.declared.command.ReaderUnit.{ReaderUnit}
-use Rattle.std.proofs.Math.Path.{fun_ext}
 use Rattle.mdb_bus.specs.declared.act.Act.{Act}
 use Rattle.mdb_bus.specs.declared.scope.Beginning.TheVariants.{PowerOn}
 use Rattle.mdb_bus.specs.declared.scope.Profile.{Profile}
@@ -54,10 +53,6 @@ kept_known : {M : Type 0} (profile : Profile) (told : Option (List M)) (holds : 
 kept_known profile None holds kept = (λ e. e, λ e. e)
 kept_known profile (Some list) holds kept = (λ e. e, λ e. e)
 
-no_more : (a b : Bool) → (a || (false && b)) ≡ a
-no_more true b = refl
-no_more false b = refl
-
 owed_so : (a : Bool) → (a && not false) ≡ a
 owed_so true = refl
 owed_so false = refl
@@ -88,9 +83,7 @@ power_on_known unit profile acts holds facts =
           (is.requested ∙ ap (λ r. r && facts.always_idle) ((request is.request).0 is.is_request)
           ∙ ap (λ i. is_so (known_requested extended) && i)
           ((idle facts.always_idle).0 is.always_idle))
-          (same_past
-          (λ kind. ap (λ e. e kind) is.past.enabled ∙ no_more (past.enabled kind) (ltb kind 16))
-          (is.past.reset_owed ∙ owed_so past.reset_owed)
+          (same_past (is.past.reset_owed ∙ owed_so past.reset_owed)
           ((kept facts.past.last_kept).0 is.past.last_kept)),
       λ same. record {
         config = ap (λ (f : Facts). f.config) same ∙ sym config;
@@ -105,8 +98,6 @@ power_on_known unit profile acts holds facts =
             ∙ ap (λ i. is_so (known_requested extended) && i)
             (sym (ap (λ (f : Facts). f.always_idle) same));
         past = record {
-          enabled = fun_ext (λ kind. ap (λ (f : Facts). f.past.enabled kind) same
-              ∙ sym (no_more (past.enabled kind) (ltb kind 16)));
           reset_owed = ap (λ (f : Facts). f.past.reset_owed) same ∙ sym (owed_so past.reset_owed);
           last_kept = (kept facts.past.last_kept).1 (ap (λ (f : Facts). f.past.last_kept) same);
         };

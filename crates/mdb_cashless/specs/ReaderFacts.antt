@@ -248,7 +248,7 @@ pub record Facts : Type 0 where
   -- whether it is on, and the last transaction that the reader took is a VEND REQUEST, where a
   -- session that begins leaves that transaction the last one
   pub requested : Bool
-  -- the reset message, and the last kept list; a reader has no types that could be enabled
+  -- the reset message, and the last kept list
   pub past : PastFacts ReaderActivity
 
 -- The facts after acts, as these tell them: what isn't known of always idle isn't so.

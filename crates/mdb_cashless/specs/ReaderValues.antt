@@ -211,8 +211,7 @@ taken (Some command) facts =
       taken = last_after command facts.taken;
       extended = extended_taking (resets (effect_of_own (Some command))) (Some command)
           facts.extended;
-      past = past_after (resets (effect_of_own (Some command))) (effect_of_own (Some command)) []
-          facts.past;
+      past = past_after (resets (effect_of_own (Some command))) [] facts.past;
     }
 
 -- the facts after a break
@@ -221,7 +220,7 @@ powered facts =
     record facts {
       taken = None;
       extended = extended_taking true None facts.extended;
-      past = past_after true effects.Other [] facts.past;
+      past = past_after true [] facts.past;
     }
 
 -- the facts after the messages of a reply
@@ -232,7 +231,7 @@ told messages facts =
       taken = if begin_session messages then None else facts.taken;
       amount = or_else (last_said amount_in messages) facts.amount;
       extended = extended_after None (last_said level_in messages) None facts.extended;
-      past = past_after false effects.Other (map part_of messages) facts.past;
+      past = past_after false (map part_of messages) facts.past;
     }
 
 -- whether the controller's view may change after a command that it sends

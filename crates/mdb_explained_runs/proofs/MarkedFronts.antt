@@ -11,11 +11,13 @@ use Rattle.mdb_blocks.specs.Block.{controller_words}
 use Rattle.mdb_bus.specs.declared.act.Act.{Act}
 use Rattle.mdb_bus.specs.declared.act.Act.TheVariants as acts
 use Rattle.mdb_bus.specs.declared.scope.Beginning.{Beginning}
+use Rattle.mdb_bus.specs.declared.scope.Profile.{Profile}
 use Rattle.mdb_bus.specs.declared.scope.Scope.{Scope}
 use Rattle.mdb_bus.specs.Acts.{IsForeign, IsForeignOpening, Say, said_by}
 use Rattle.mdb_bus.specs.ActLists.{AskTail, ForeignMayCome, IsActList, IsPiece, IsTail, MayStand}
 use Rattle.mdb_bus.specs.ActLists.{Piece, RepeatTail, ReplyTail, Whole, acts_of, events_of, last_of}
 use Rattle.mdb_bus.specs.ActLists.{left_by, piece_events, position_of, with_act}
+use Rattle.mdb_bus.specs.Scopes.{profile_of}
 use Rattle.mdb_machine.specs.declared.choice.Choice.{Choice}
 use Rattle.mdb_machine.specs.declared.choice.Choice.TheVariants.{Plain, Lost, Restart}
 use Rattle.mdb_machine.specs.Choices.{CanStand}
@@ -101,15 +103,16 @@ two_words scope events front last some long (inr word) =
     absurd (some (same_from_push front [] last word.0 (sym long ∙ word.1)).0)
 
 -- no block comes while an act has begun and not ended
-no_block : (tail : Piece) → IsTail tail → (from : Option Event) (to : Event)
-    → ForeignMayCome (left_by tail) from to → ⊥
-no_block (Whole act events) is from to comes = is
-no_block (AskTail bytes events) is from to (inl block) = block.1
-no_block (AskTail bytes events) is from to (inr word) = absurd (cc word.1)
-no_block (ReplyTail command bytes events) is from to (inl block) = block.1
-no_block (ReplyTail command bytes events) is from to (inr word) = absurd (cc word.1)
-no_block (RepeatTail command reply words events) is from to (inl block) = block.1
-no_block (RepeatTail command reply words events) is from to (inr word) = absurd (cc word.1)
+no_block : (profile : Profile) (tail : Piece) → IsTail tail → (from : Option Event) (to : Event)
+    → ForeignMayCome profile (left_by tail) from to → ⊥
+no_block profile (Whole act events) is from to comes = is
+no_block profile (AskTail bytes events) is from to (inl block) = block.1
+no_block profile (AskTail bytes events) is from to (inr word) = absurd (cc word.1)
+no_block profile (ReplyTail command bytes events) is from to (inl block) = block.1
+no_block profile (ReplyTail command bytes events) is from to (inr word) = absurd (cc word.1)
+no_block profile (RepeatTail command reply words events) is from to (inl block) = block.1
+no_block profile (RepeatTail command reply words events) is from to (inr word) =
+    absurd (cc word.1)
 
 -- acts that go on by one act at most, where both end in one more than others, end in the same
 same_act : (more : Option Act) (one other : Act) (acts : List Act)
@@ -191,8 +194,9 @@ before_foreign scope one rows front last events rest words whole earlier stands 
           in_order = (cut.right, cut.stands, list.in_order.2);
           whole = ap (λ es. events_of others ++ es) cut.events ∙ is;
         }) earlier in
-        no_block cut.tail cut.is (last_of (events_of rest)) stands.first
-        (subst (λ ps. ForeignMayCome (position_of scope ps) (last_of (events_of rest)) stands.first)
+        no_block _ cut.tail cut.is (last_of (events_of rest)) stands.first
+        (subst (λ ps. ForeignMayCome (profile_of scope.begins) (position_of scope ps)
+        (last_of (events_of rest)) stands.first)
         (sym at) stands.comes)
 
     not_in_block : (begun : List Event) (end : Event) → begun ≢ []

@@ -1,14 +1,16 @@
 -- A replay blames no device that is left out, and tells nothing of one.
 use Rattle.std.proofs.Common.{ap, refl, subst, sym, ◌∙◌, ◌≡◌, inl, inr, ℤ, ℕ, pos}
 use Rattle.std.specs.Prelude.{◌-ℤ◌}
-use Rattle.std.proofs.Common.{List, [], ◌∷◌, ◌++◌, Option, Some, All}
+use Rattle.std.proofs.Common.{List, [], ◌∷◌, ◌++◌, ◌&&◌, Option, Some, All}
 use Rattle.std.proofs.lemmas.List.Elements.{All-from_recursion}
 use Rattle.mdb_words.specs.declared.event.Event.{Event}
 use Rattle.mdb_msgs.specs.declared.command.Device.{Device}
 use Rattle.mdb_bus.specs.declared.fault.Blame.{Blame}
 use Rattle.mdb_bus.specs.declared.fault.Rule.{Rule}
 use Rattle.mdb_bus.specs.declared.scope.Scope.{Scope}
-use Rattle.mdb_bus.specs.ActLists.{ArePieces, Piece, acts_of}
+use Rattle.mdb_bus.specs.ActLists.{ArePieces, Piece, Whole, acts_of}
+use Rattle.mdb_bus.specs.Haste.{haste_of, is_excused}
+use Rattle.mdb_follow.specs.Senders.{sender_of}
 use Rattle.mdb_bus.specs.LeavingOut.{acts_with, breaks_among}
 use Rattle.mdb_bus.specs.LinkFaults.{IsLinkFault, blame_on}
 use Rattle.mdb_bus.specs.Scopes.{IsFollowed, IsLeftOut}
@@ -25,7 +27,7 @@ use Rattle.mdb_follow.specs.Report.{device_report, device_report_of}
 use Rattle.mdb_follow.specs.Runs.{AllSums, Run}
 use Rattle.mdb_follow.specs.Sums.{AccountSums, no_sums}
 use Rattle.mdb_follow.proofs.OwnWays.{are_breaks}
-use Rattle.mdb_follow.proofs.ReportsWithout.{BreaksTellNothing, blamed_in}
+use Rattle.mdb_follow.proofs.ReportsWithout.{BreaksTellNothing, blamed_in, not_early}
 use Rattle.mdb_follow.proofs.SilencesWithout.{NamesFollowed, nothing_counted}
 use Rattle.mdb_follow.proofs.Told.{listed}
 use Rattle.mdb_explained_runs.specs.declared.mark.Mark.{Mark}
@@ -50,7 +52,11 @@ offends_followed names faults scope rows marks row mark offence device is blamed
   | inr machine ↦
       names scope machine.act (machine.begun ++ row ∷ []) machine.earlier device
       machine.act_list.in_order
-      (blamed_in machine.act device (sym machine.blame ∙ blamed))
+      (blamed_in machine.act device
+      (not_early (haste_of scope (Whole machine.act (machine.begun ++ row ∷ []) ∷ machine.earlier)
+      && is_excused row machine.own)
+      (record { rule = machine.own; blame = sender_of machine.act }) device
+      (sym machine.blame ∙ blamed)))
 ]
 
 -- What is told of a device that is left out.

@@ -19,11 +19,11 @@ use Rattle.mdb_explained_runs.specs.declared.replay.ReplayFault.{ReplayFault}
 use Rattle.mdb_explained_runs.specs.declared.replay.ReplayFault.TheVariants as faults
 use Rattle.mdb_follow.specs.Machines.{machine_of}
 use Rattle.mdb_explained_runs.specs.Marks.{choice_by}
-use Rattle.mdb_follow.specs.Offences.{BreaksLink, rule_of}
+use Rattle.mdb_follow.specs.Offences.{BreaksLink, act_fault, rule_of}
+use Rattle.mdb_bus.specs.declared.fault.LinkFault.{LinkFault}
 use Rattle.mdb_explained_runs.specs.ReplayFaults.{BreaksMarkedMachine, HasMarkedRun, HasNoMarkedStep}
 use Rattle.mdb_explained_runs.specs.ReplayFaults.{IsMarkFault, IsReplayFault, IsReplayOffence}
 use Rattle.mdb_explained_runs.specs.ReplayFaults.{MayStandAt, MayStandOnNewest}
-use Rattle.mdb_follow.specs.Senders.{sender_of}
 use Rattle.mdb_explained_runs.specs.Tracks.{HasNoStepFrom}
 use Rattle.mdb_follow.proofs.Machines.{is_machine_of, of_or_not, whose, whose_is}
 use Rattle.mdb_follow.proofs.OneAnswer.{BusLaws}
@@ -92,12 +92,19 @@ one-why scope laws events marks row mark reached r s a b (inr p) (inr q) =
     let same : one ≡ other = laws.one (events ++ row ∷ []) one other p.act_list q.act_list in
     let acts : p.act ∷ acts_of p.earlier ≡ q.act ∷ acts_of q.earlier = ap acts_of same in
     let act : p.act ≡ q.act = cc acts in
-    let by-p = whose_rule scope events marks r p.act (choice_by mark) (acts_of p.earlier) p.no_step
+    let by-p = whose_rule scope events marks p.own p.act (choice_by mark) (acts_of p.earlier)
+    p.no_step
     reached in
-    let by-q = whose_rule scope events marks s q.act (choice_by mark) (acts_of q.earlier) q.no_step
-    reached in (
-      sym by-p ∙ (ap (λ x. rule_of (whose x)) act ∙ by-q),
-      p.blame ∙ (ap sender_of act ∙ sym q.blame),
+    let by-q = whose_rule scope events marks q.own q.act (choice_by mark) (acts_of q.earlier)
+    q.no_step
+    reached in
+    let own : p.own ≡ q.own = sym by-p ∙ (ap (λ x. rule_of (whose x)) act ∙ by-q) in
+    let fault : act_fault scope one row p.act p.own ≡ act_fault scope other row q.act q.own =
+    ap (λ ps. act_fault scope ps row p.act p.own) same
+    ∙ (ap (λ x. act_fault scope other row x p.own) act
+    ∙ ap (act_fault scope other row q.act) own) in (
+      p.counts ∙ (ap (λ (f : LinkFault). f.rule) fault ∙ sym q.counts),
+      p.blame ∙ (ap (λ (f : LinkFault). f.blame) fault ∙ sym q.blame),
     )
 
 one-offence : (scope : Scope) → BusLaws scope → (events : List Event) (marks : List (ℕ × Mark))

@@ -98,9 +98,9 @@ StepsAfterFacts {State} machine facts Step =
 -- so it is with each device
 pub record AllIsKnown : Type 0 where
   pub changer : StepsAfterFacts (λ profile. changer.machine (PowerOn profile))
-      (λ profile. changer_facts.facts_of) changer.ChangerStep
+      changer_facts.facts_of changer.ChangerStep
   pub bill : StepsAfterFacts (λ profile. bill.machine (PowerOn profile))
-      (λ profile. bill_facts.facts_of) bill.BillStep
+      bill_facts.facts_of bill.BillStep
   pub reader : (unit : ReaderUnit) → StepsAfterFacts
       (λ profile. reader.machine unit (PowerOn profile))
       (λ profile. reader_facts.facts_of (PowerOn profile) unit) (reader.ReaderStep unit)
@@ -315,13 +315,13 @@ pub machine_is_one : AllIsKnown → (profile : Profile) (device : Device)
 machine_is_one known profile devices.Changer = record {
   starts = λ one other p q. p ∙ sym q;
   steps = one_after (λ profile. changer.machine (PowerOn profile))
-      (λ profile. changer_facts.facts_of) changer.ChangerStep known.changer
+      changer_facts.facts_of changer.ChangerStep known.changer
       (keeper_one changer_facts.tables changer.conduct changer_is_one) profile;
 }
 machine_is_one known profile devices.Bill = record {
   starts = λ one other p q. p ∙ sym q;
   steps = one_after (λ profile. bill.machine (PowerOn profile))
-      (λ profile. bill_facts.facts_of) bill.BillStep known.bill
+      bill_facts.facts_of bill.BillStep known.bill
       (keeper_one bill_facts.tables bill.conduct bill_is_one) profile;
 }
 machine_is_one known profile (devices.Reader unit) = record {

@@ -40,9 +40,9 @@ pub one_replay_report : (scope : Scope) → OneActList scope → (rows : List Ev
     → IsReplayReport scope rows marks b → a ≡ b
 one_replay_report scope one rows marks a b p q =
     p.telling
-    ∙ (ap (λ pieces. report_of scope.begins (length rows) pieces p.accounts)
+    ∙ (ap (λ pieces. report_of scope (length rows) pieces p.accounts)
     (one rows p.pieces q.pieces p.act_list q.act_list)
-    ∙ (ap (with_accounts (report_of scope.begins (length rows) q.pieces p.accounts))
+    ∙ (ap (with_accounts (report_of scope (length rows) q.pieces p.accounts))
     (one-list (MarkedRun scope rows marks) p.accounts q.accounts p.of_run q.of_run)
     ∙ sym q.telling))
 
@@ -62,7 +62,7 @@ pub named_in_replay : (scope : Scope) (rows : List Event) (marks : List (ℕ × 
 named_in_replay scope rows marks report is account =
     subst (IsAccount (MarkedRun scope rows marks) (sums_of account))
     (sym (ap (account_of account) is.telling
-    ∙ named scope.begins (length rows) is.pieces is.accounts account)) (is.of_run account)
+    ∙ named scope (length rows) is.pieces is.accounts account)) (is.of_run account)
 
 -- what an account has come to is one where the sums of the devices are
 same_sums : (account : AccountName) (one other : AllSums)
@@ -177,7 +177,7 @@ report_of_run known splits tell scope one rows marks begins reached =
     let same : (account : AccountName) (other : AllSums) → MarkedRun scope rows marks other
     → sums_of account other ≡ sums_of account sums =
     λ account other also. same_sums account other sums (only other also) in (
-      report_of scope.begins (length rows) reached.1.run.pieces accounts,
+      report_of scope (length rows) reached.1.run.pieces accounts,
       record {
         sums = sums;
         reached = reached.1;

@@ -10,7 +10,6 @@ use Rattle.mdb_msgs.specs.declared.command.ReaderUnit.TheVariants.{First, Second
 use Rattle.mdb_bus.specs.declared.act.Act.{Act}
 use Rattle.mdb_bus.specs.declared.act.Act.TheVariants as acts
 use Rattle.mdb_bus.specs.declared.bus.Bus.{Bus}
-use Rattle.mdb_bus.specs.declared.fault.Blame.{Blame}
 use Rattle.mdb_bus.specs.declared.fault.LinkFault.{LinkFault}
 use Rattle.mdb_bus.specs.declared.scope.Beginning.{Beginning}
 use Rattle.mdb_bus.specs.declared.scope.Beginning.TheVariants.{PowerOn}
@@ -21,6 +20,8 @@ use Rattle.mdb_bus.specs.ActLists.{RepeatTail, ReplyTail, Whole, act_in, acts_of
 use Rattle.mdb_bus.specs.Bus as link
 use Rattle.mdb_bus.specs.Bus.{GoesOn, Grown, ended_act}
 use Rattle.mdb_bus.specs.LinkFaults.{IsLinkFault}
+use Rattle.mdb_bus.specs.Untimely.{AreFew, times_of}
+use Rattle.mdb_bus.specs.declared.untimely.Untimely.{Untimely}
 use Rattle.mdb_bus.specs.Loss.{Loss, LossFits}
 use Rattle.mdb_machine.specs.declared.choice.Choice.{Choice}
 use Rattle.mdb_machine.specs.Choices.{CanStand}
@@ -42,7 +43,7 @@ use Rattle.mdb_explained_runs.specs.Replays.{IsReplayReport, StandsFor, scope_of
 use Rattle.mdb_follow.specs.Ranges.{IsCell}
 use Rattle.mdb_follow.specs.Report.{report_of}
 use Rattle.mdb_follow.specs.Runs.{AllSums, IsWay, States}
-use Rattle.mdb_follow.specs.Senders.{sender_of}
+use Rattle.mdb_follow.specs.Offences.{act_fault}
 use Rattle.mdb_follow.specs.Silences.{asks_of}
 use Rattle.mdb_follow.specs.SilencesKept.{StandsForAsks, silence_in}
 use Rattle.mdb_explained_runs.specs.Tracks.{AreTracks, HasNoStepFrom, chosen_more, track_in}
@@ -210,10 +211,12 @@ can-stand (Some mark_kinds.Restart) (acts.Break length) may = absurd may
 
 -- no act ended
 pub stands-still : (old new : Replay) (events : List Event) (marks : List (ℕ × Mark))
-    (row : Event) (on : StandsFor old events marks) → GoesOn new.bus on.pieces row None
+    (row : Event) (on : StandsFor old events marks) (goes : GoesOn new.bus on.pieces row None)
     → scope_of new ≡ scope_of old → new.tracks ≡ old.tracks → new.silences ≡ old.silences
-    → new.rows ≡ old.rows + 1 → new.fault ≡ old.fault → StandsFor new (events ++ row ∷ []) marks
-stands-still old new events marks row on goes same_scope same_tracks same_silences more same =
+    → new.rows ≡ old.rows + 1 → new.fault ≡ old.fault
+    → new.untimely ≡ times_of (scope_of new) goes.longer → StandsFor new (events ++ row ∷ []) marks
+stands-still old new events marks row on goes same_scope same_tracks same_silences more same
+    times =
     let known = still-known on.profile new.tracks marks on.pieces row goes.longer goes.grown
     (subst (λ tracks. Known on.profile tracks marks on.pieces) (sym same_tracks)
     (known-of old events marks on)) in
@@ -233,20 +236,25 @@ stands-still old new events marks row on goes same_scope same_tracks same_silenc
           (subst (λ silences. StandsForAsks (silence_in silences device)
           (asks_of (PowerOn on.profile) device on.pieces)) (sym same_silences)
           (on.silences device));
+      untimely = times;
     }
 
 -- an act was followed
 pub stands-on : (old mid new : Replay) (events : List Event) (marks : List (ℕ × Mark))
     (row : Event) (act : Act) (mark : Option Mark) (on : StandsFor old events marks)
-    → GoesOn mid.bus on.pieces row (Some act) → scope_of mid ≡ scope_of old
+    (goes : GoesOn mid.bus on.pieces row (Some act)) → scope_of mid ≡ scope_of old
     → mid.tracks ≡ old.tracks → mid.silences ≡ old.silences → mid.rows ≡ old.rows
-    → mid.fault ≡ old.fault → MayStandAt mark (Some act) → (at : ℕ) → at ≡ start_of row
-    → (choice : Choice) → choice ≡ choice_by mark → HasReplayed mid act choice at new
-    → StandsFor new (events ++ row ∷ []) (with_mark (old.rows + 1) mark marks)
+    → mid.fault ≡ old.fault → MayStandAt mark (Some act)
+    → (choice : Choice) → choice ≡ choice_by mark → HasReplayed mid act choice row new
+    → (counts : Option Untimely)
+    → (few : (times : Untimely) → counts ≡ Some times → AreFew new.rows times)
+    → counts ≡ times_of (scope_of new) goes.longer
+    → StandsFor (record new { untimely = counts; few_untimely = few }) (events ++ row ∷ [])
+    (with_mark (old.rows + 1) mark marks)
 stands-on old mid new events marks row act mark on goes old_scope same_tracks same_silences
-    same_rows same may at start choice same_choice had =
+    same_rows same may choice same_choice had counts few times =
     let can = can-stand mark act may in
-    let has = subst (λ choice. HasReplayed mid act choice at new) same_choice had in
+    let has = subst (λ choice. HasReplayed mid act choice row new) same_choice had in
     let led : TracksLead old.tracks act (choice_by mark) new.tracks =
     subst (λ tracks. TracksLead tracks act (choice_by mark) new.tracks) same_tracks has.tracks in
     let number = rows-more on.pieces goes.longer events row goes.rows on.whole in
@@ -258,8 +266,7 @@ stands-on old mid new events marks row act mark on goes old_scope same_tracks sa
     let first = new.tracks.first_reader.facts in
     let second = new.tracks.second_reader.facts in
     let follows : SilencesFollow mid.silences act (start_of row) first second new.silences =
-    subst (λ at. SilencesFollow mid.silences act at first second new.silences) start has.silences
-    in
+    has.silences in
     record {
       begins = ap (λ (s : Scope). s.begins) (ap link.scope_of has.on_bus ∙ old_scope)
           ∙ on.begins;
@@ -280,6 +287,7 @@ stands-on old mid new events marks row act mark on goes old_scope same_tracks sa
           (subst (λ silences. StandsForAsks (silence_in silences device)
           (asks_of (PowerOn on.profile) device on.pieces)) (sym same_silences)
           (on.silences device)));
+      untimely = times;
     }
 
 -- where no act ended, a mark that may stand is none
@@ -391,14 +399,14 @@ pub machine-offence : JoinWithChoices → SplitWithChoices → MarksTell
     (fault : ReplayFault) (on : StandsFor old events marks)
     → GoesOn mid.bus on.pieces row (Some act) → scope_of mid ≡ scope_of old
     → mid.tracks ≡ old.tracks → mid.rows ≡ old.rows → MayStandAt mark (Some act)
-    → (chosen : Choice) → chosen ≡ choice_by mark → HasStopped mid act chosen new fault
+    → (chosen : Choice) → chosen ≡ choice_by mark → HasStopped mid act chosen row new fault
     → IsReplayFault (scope_of old) events marks row mark fault
 machine-offence joins splits tell one old mid new events marks row act mark fault on goes same_scope
     same_tracks same_rows may chosen same_choice had =
     let can = can-stand mark act may in
     let scope : Scope = scope_of old in
     let choice = choice_by mark in
-    let has = subst (λ c. HasStopped mid act c new fault) same_choice had in
+    let has = subst (λ c. HasStopped mid act c row new fault) same_choice had in
     let grown = goes.grown in
     let earlier = earlier-known on.profile old.tracks marks on.pieces row (Some act) goes.longer
     grown (known-of old events marks on) in
@@ -418,8 +426,12 @@ machine-offence joins splits tell one old mid new events marks row act mark faul
     ap length list.whole ∙ length-append events (row ∷ []) in
     let have = more-marked marks grown.earlier (grown.begun ++ row ∷ []) act mark
     (length events + 1) earlier.chosen can count earlier.marked in
-    let blamed : Blame = sender_of act in
-    let offence : Offence = record { row = mid.rows + 1; rule = has.rule; blame = blamed } in
+    let counted : has.counted ≡ act_fault scope pieces row act has.rule =
+    has.counts goes.longer goes.stands
+    ∙ (ap (λ s. act_fault s goes.longer row act has.rule) same_scope
+    ∙ ap (λ ps. act_fault scope ps row act has.rule) are) in
+    let offence : Offence =
+    record { row = mid.rows + 1; rule = has.counted.rule; blame = has.counted.blame } in
     let is : IsReplayOffence scope events marks row mark offence = record {
       reached = (_, run-of joins old events marks on);
       not_reached = λ reached.
@@ -451,7 +463,9 @@ machine-offence joins splits tell one old mid new events marks row act mark faul
               (acts_of grown.earlier) act choice s)
               (sym (only-run splits tell one old events marks on sums marked device).0) none);
         };
-        blame = refl;
+        own = has.rule;
+        counts = ap (λ (f : LinkFault). f.rule) counted;
+        blame = ap (λ (f : LinkFault). f.blame) counted;
       });
     } in
     subst (IsReplayFault scope events marks row mark) (sym has.is) is
@@ -519,7 +533,7 @@ pub reported : JoinWithChoices → SplitWithChoices → MarksTell
     (marks : List (ℕ × Mark)) (report : Report) (on : StandsFor replay events marks)
     (cells : Device → Cell)
     → ((device : Device) → cells device ≡ (track_in replay.tracks device).cell)
-    → report ≡ report_of (PowerOn on.profile) replay.rows on.pieces (account_by cells)
+    → report ≡ report_of (scope_of replay) replay.rows on.pieces (account_by cells)
     → IsReplayReport (scope_of replay) events marks report
 reported joins splits tell one replay events marks report on cells are telling =
     let scope : Scope = scope_of replay in
@@ -543,9 +557,7 @@ reported joins splits tell one replay events marks report on cells are telling =
           (subst (IsCell (λ other. other ≡ sums device)) (sym (are device))
           (on.tracks device).cell));
       telling = telling
-          ∙ ap (λ rows. report_of (PowerOn on.profile) rows on.pieces (account_by cells)) on.rows
-          ∙ ap (λ begins. report_of begins (length events) on.pieces (account_by cells))
-          (sym on.begins);
+          ∙ ap (λ rows. report_of scope rows on.pieces (account_by cells)) on.rows;
     }
 
 -- an act ended, or none did

@@ -15,6 +15,7 @@ use Rattle.mdb_msgs.specs.declared.reply.Reply.{Reply}
 use Rattle.mdb_msgs.specs.Commands.{IsByte, command_bytes}
 use Rattle.mdb_msgs.specs.Replies.{reply_bytes}
 use Rattle.mdb_bus.specs.declared.act.Act.TheVariants as acts
+use Rattle.mdb_bus.specs.declared.scope.Profile.{Profile}
 use Rattle.mdb_bus.specs.declared.scope.Scope.{Scope}
 use Rattle.mdb_bus.specs.Acts.{Say, command_words, reply_words}
 use Rattle.mdb_bus.specs.ActLists.{AreSpaced, AskTail, IsAskFront, IsPiece, IsRepeatFront}
@@ -26,11 +27,12 @@ use Rattle.mdb_bus.proofs.Lists.{all_front, controller_last, first_stays, periph
 use Rattle.mdb_bus.proofs.Backward.{some_words, answer_alone}
 
 -- the gaps of events without their last
-spaced_less : (events : List Event) (event : Event) → AreSpaced (events ++ event ∷ [])
-    → AreSpaced events
-spaced_less [] event spaced = tt
-spaced_less (x ∷ []) event spaced = tt
-spaced_less (x ∷ y ∷ ys) event spaced = (spaced.0, spaced.1, spaced_less (y ∷ ys) event spaced.2)
+spaced_less : (profile : Profile) (events : List Event) (event : Event)
+    → AreSpaced profile (events ++ event ∷ []) → AreSpaced profile events
+spaced_less profile [] event spaced = tt
+spaced_less profile (x ∷ []) event spaced = tt
+spaced_less profile (x ∷ y ∷ ys) event spaced =
+    (spaced.0, spaced_less profile (y ∷ ys) event spaced.1)
 
 -- a tail of some rows, which may stand after pieces
 pub record TailOf (scope : Scope) (rest : List Piece) (front : List Event) : Type 0 where
@@ -45,20 +47,23 @@ as_tail : (scope : Scope) (rest : List Piece) (piece tail : Piece) (front : List
     (row : Event)
     → front ≢ [] → piece_events piece ≡ front ++ row ∷ [] → IsTail tail
     → piece_events tail ≡ front → IsSaid scope tail
-    → ((to : Event) → MayCome piece (position_of scope rest) (last_of (events_of rest)) to
-    → MayCome tail (position_of scope rest) (last_of (events_of rest)) to)
+    → ((to : Event)
+    → MayCome (profile_of scope.begins) piece (position_of scope rest) (last_of (events_of rest)) to
+    → MayCome (profile_of scope.begins) tail (position_of scope rest) (last_of (events_of rest)) to)
     → PieceFits scope.begins (levels_of (profile_of scope.begins) (levels_before scope) rest) tail
-    → AreSpaced (piece_events piece) → MayStand scope rest piece → TailOf scope rest front
+    → AreSpaced (profile_of scope.begins) (piece_events piece) → MayStand scope rest piece
+    → TailOf scope rest front
 as_tail scope rest piece tail front row some long is short said may levels spaced stands =
     let kept = first_stays front row stands.first stands.others some (sym long ∙ stands.begins) in
+    let profile = profile_of scope.begins in
     record {
       tail = tail;
       is = is;
       events = short;
       right = record {
         said = said;
-        spaced = subst AreSpaced (sym short)
-            (spaced_less front row (subst AreSpaced long spaced));
+        spaced = subst (AreSpaced profile) (sym short)
+            (spaced_less profile front row (subst (AreSpaced profile) long spaced));
       };
       stands = record {
         first = stands.first;

@@ -17,9 +17,8 @@ use Rattle.mdb_explained_runs.specs.declared.replay.ReplayFault.{ReplayFault}
 use Rattle.mdb_explained_runs.specs.declared.replay.ReplayFault.TheVariants as faults
 use Rattle.mdb_follow.specs.Machines.{machine_of}
 use Rattle.mdb_explained_runs.specs.Marks.{MarkedRun, MayStandOn, choice_by, with_mark}
-use Rattle.mdb_follow.specs.Offences.{BreaksLink, rule_of}
+use Rattle.mdb_follow.specs.Offences.{BreaksLink, act_fault, rule_of}
 use Rattle.mdb_follow.specs.Runs.{AllSums}
-use Rattle.mdb_follow.specs.Senders.{sender_of}
 use Rattle.mdb_explained_runs.specs.Tracks.{HasNoStepFrom}
 
 -- some run of rows has these marks
@@ -62,8 +61,13 @@ pub record BreaksMarkedMachine (scope : Scope) (events : List Event) (marks : Li
   pub earlier : List Piece
   pub act_list : IsActList scope (Whole act (begun ++ row ∷ []) ∷ earlier) (events ++ row ∷ [])
   pub may : MayStandAt mark (Some act)
-  pub no_step : HasNoMarkedStep scope events marks broken act (choice_by mark) (acts_of earlier)
-  pub blame : blamed ≡ sender_of act
+  -- the rule of the device
+  pub own : Rule
+  pub no_step : HasNoMarkedStep scope events marks own act (choice_by mark) (acts_of earlier)
+  pub counts : broken
+      ≡ (act_fault scope (Whole act (begun ++ row ∷ []) ∷ earlier) row act own).rule
+  pub blame : blamed
+      ≡ (act_fault scope (Whole act (begun ++ row ∷ []) ∷ earlier) row act own).blame
 
 -- The offence of a row with a mark or without one, after rows that have a run with these marks:
 -- with the row there is none.

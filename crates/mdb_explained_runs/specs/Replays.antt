@@ -8,6 +8,7 @@ use Rattle.mdb_bus.specs.declared.scope.Profile.{Profile}
 use Rattle.mdb_bus.specs.declared.scope.Scope.{Scope}
 use Rattle.mdb_bus.specs.ActLists.{IsActList, Piece, acts_of, events_of}
 use Rattle.mdb_bus.specs.Bus as bus
+use Rattle.mdb_bus.specs.Untimely.{times_of}
 use Rattle.mdb_follow.specs.declared.account.Account.{Account}
 use Rattle.mdb_follow.specs.declared.account_name.AccountName.{AccountName}
 use Rattle.mdb_explained_runs.specs.declared.mark.Mark.{Mark}
@@ -34,7 +35,8 @@ abbrev pub fault_of : Replay → Option ReplayFault
 fault_of replay = replay.fault
 
 -- A replay stands for events and marks: its bus does for the events, each of its tracks for their
--- acts with the choices that have these marks, and its silences are those of their asks.
+-- acts with the choices that have these marks, its silences are those of their asks, and its count
+-- of rows out of their time is theirs.
 pub record StandsFor (replay : Replay) (events : List Event) (marks : List (ℕ × Mark))
     : Type 0 where
   pub profile : Profile
@@ -48,6 +50,7 @@ pub record StandsFor (replay : Replay) (events : List Event) (marks : List (ℕ 
   pub marked : marks_of pieces chosen ≡ marks
   pub tracks : AreTracks profile replay.tracks (acts_of pieces) chosen
   pub silences : AllStandForAsks replay.silences (λ device. asks_of (PowerOn profile) device pieces)
+  pub untimely : replay.untimely ≡ times_of (scope_of replay) pieces
 
 -- The report on rows that have a run with these marks: both ends of each range are the value in
 -- that run, and all such runs have the same sums. What is reported of each device beside its
@@ -62,4 +65,4 @@ pub record IsReplayReport (scope : Scope) (events : List Event) (marks : List (�
   pub act_list : IsActList scope pieces events
   pub accounts : AccountName → Account
   pub of_run : AreAccounts (MarkedRun scope events marks) accounts
-  pub telling : report ≡ report_of scope.begins (length events) pieces accounts
+  pub telling : report ≡ report_of scope (length events) pieces accounts

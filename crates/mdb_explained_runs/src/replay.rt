@@ -12,16 +12,20 @@ ghost use Rattle.mdb_bus.specs.Scopes.{profile_of};
 ghost use Rattle.mdb_explained_runs.specs.Marks as marks;
 ghost use Rattle.mdb_explained_runs.specs.ReplayFaults.{MayStandAt, row_of};
 ghost use Rattle.mdb_bus.specs.Scopes as scopes;
+ghost use Rattle.mdb_bus.specs.Untimely as times;
 ghost use Rattle.mdb_follow.specs.SilenceSteps.{AreFew};
 ghost use Rattle.mdb_explained_runs.specs.inner.TrackSteps.{AreTracksWithin};
 
 use crate::tracks::Tracks;
 use crate::{Mark, laws};
-use mdb_bus::{Act, Bus, LinkFault, Profile, Scope, laws as bus_laws};
-use mdb_follow::{Offence, ROWS_MAX, Report, Silences, laws as follow_laws, sender_of};
+use mdb_bus::{Act, Bus, LinkFault, Profile, Scope, Untimely, laws as bus_laws};
+use mdb_follow::{
+    Offence, ROWS_MAX, Report, Silences, laws as follow_laws, note_untimely, sender_of,
+    untimely_sender,
+};
 use mdb_machine::Choice;
 use mdb_msgs::DeviceSet;
-use mdb_words::{Event, Time};
+use mdb_words::Event;
 
 /// Why rows with these marks have no run.
 #[derive(Clone, Copy, PartialEq, Eq, Debug)]
@@ -40,6 +44,7 @@ pub struct Replay {
     bus: Bus,
     tracks: Tracks,
     silences: Silences,
+    untimely: Option<Untimely>,
     rows: u64,
     fault: Option<ReplayFault>,
     /// Room for the act that a row ends. Between rows its content is irrelevant.
@@ -47,6 +52,7 @@ pub struct Replay {
     ghost few: { rows ≤ 100000000 },
     ghost within: { ForNone fault (AreTracksWithin (rows * 2 ^ 32) tracks) },
     ghost few_silences: { AreFew rows silences },
+    ghost few_untimely: { ForSome untimely (times.AreFew rows) },
     ghost numbered: { ForSome fault (λ fault. row_of fault ≡ rows + 1) },
 }
 
@@ -143,7 +149,7 @@ impl Replay {
         }
         let cells = self.tracks.cells();
         let facts = self.tracks.facts();
-        Ok(Report::of(self.rows, &cells, &facts, &self.silences))
+        Ok(Report::of(self.rows, &cells, &facts, &self.silences, self.untimely))
     }
 
     /// Takes the next row, after rows that can be. Answers whether it can be too: where it can't,
@@ -166,6 +172,7 @@ impl Replay {
         follow_laws::ways_split_with_choices();
         laws::marks_tell_what_is_chosen();
         bus_laws::transcripts_have_one_act_list();
+        let sender = untimely_sender(&self.untimely, &self.bus, &event);
         match self.bus.feed_into(event, &mut self.act) {
             Err(fault) => {
                 self.fault = Some(offence_of(self.rows, fault));
@@ -177,36 +184,44 @@ impl Replay {
                     return false;
                 }
                 if !ended {
+                    note_untimely(&mut self.untimely, sender);
                     self.rows += 1;
                     return true;
                 }
-                self.follow(event.start(), choice_by(mark))
+                if self.follow(&event, choice_by(mark)) {
+                    note_untimely(&mut self.untimely, sender);
+                    true
+                } else {
+                    false
+                }
             }
         }
     }
 
-    /// Follows the act that was ended by a row that started at a time, under a choice. Answers
-    /// whether each track has a step by it: where one hasn't, the offence is noted.
-    fn follow(&mut self, at: Time, choice: Choice) -> bool
+    /// Follows the act that a row has ended, under a choice. Answers whether each track has a step
+    /// by it: where one hasn't, the offence is noted.
+    fn follow(&mut self, event: &Event, choice: Choice) -> bool
         requires room { rows_of self.old < ROWS_MAX }
         requires going { fault_of self.old ≡ None }
         ensures followed { OnTrue result
-            (HasReplayed self.old self.old.act choice at self.new) }
-        ensures stopped { OnFalse result
-            (IsSomeAnd (fault_of self.new) (HasStopped self.old self.old.act choice self.new)) }
+            (HasReplayed self.old self.old.act choice event.now self.new) }
+        ensures stopped { OnFalse result (IsSomeAnd (fault_of self.new)
+            (HasStopped self.old self.old.act choice event.now self.new)) }
         ensures scope { scope_of self.new ≡ scope_of self.old }
     {
         match self.tracks.lead(&self.act, choice) {
             Ok(()) => {
                 let first = &self.tracks.first_reader.facts;
                 let second = &self.tracks.second_reader.facts;
-                self.silences.follow(&self.act, at, first, second);
+                self.silences
+                    .follow(&self.act, event.start(), first, second);
                 self.rows += 1;
                 true
             }
             Err(rule) => {
                 let blame = sender_of(&self.act);
-                self.fault = Some(offence_of(self.rows, LinkFault { rule, blame }));
+                let fault = self.bus.counted_in_haste(event, LinkFault { rule, blame });
+                self.fault = Some(offence_of(self.rows, fault));
                 false
             }
         }
@@ -234,6 +249,7 @@ impl Replay {
             bus: Bus::scoped(scope),
             tracks: Tracks::start(scope.begins.profile()),
             silences: Silences::NONE,
+            untimely: Untimely::start(scope.begins.profile()),
             rows: 0,
             fault: None,
             act: Act::Foreign,

@@ -1,5 +1,5 @@
 -- What a follower that stands for events goes on to, and what it answers.
-use Rattle.std.proofs.Common.{sym, ap, subst, ◌∙◌, ◌≡◌, inl, inr, ℕ, ℤ, pos, ◌-ℤ◌, ◌+◌, List}
+use Rattle.std.proofs.Common.{refl, sym, ap, subst, ◌∙◌, ◌≡◌, inl, inr, ℕ, ℤ, pos, ◌-ℤ◌, ◌+◌, List}
 use Rattle.std.proofs.Common.{[], ◌∷◌, ◌++◌, length, length-append, ◌<◌, ◌≤◌, take, drop, get_or}
 use Rattle.std.proofs.Common.{append_assoc, add-one, arith, map, Option, Some, None}
 use Rattle.std.proofs.lemmas.List.{take_all, take_more}
@@ -13,6 +13,7 @@ use Rattle.mdb_msgs.specs.declared.command.Device.TheVariants as devices
 use Rattle.mdb_msgs.specs.declared.command.ReaderUnit.TheVariants.{First, Second}
 use Rattle.mdb_bus.specs.declared.act.Act.{Act}
 use Rattle.mdb_bus.specs.declared.bus.Bus.{Bus}
+use Rattle.mdb_bus.specs.declared.fault.Blame.{Blame}
 use Rattle.mdb_bus.specs.declared.fault.LinkFault.{LinkFault}
 use Rattle.mdb_bus.specs.declared.fault.Rule.{Rule}
 use Rattle.mdb_bus.specs.declared.fault.Rule.TheVariants as rules
@@ -21,6 +22,13 @@ use Rattle.mdb_bus.specs.ActLists.{RepeatTail, act_in, acts_of, events_of, piece
 use Rattle.mdb_bus.specs.Bus as link
 use Rattle.mdb_bus.specs.Bus.{GoesOn}
 use Rattle.mdb_bus.specs.LinkFaults.{IsLinkFault}
+use Rattle.mdb_bus.specs.Scopes.{profile_of}
+use Rattle.std.specs.Option.{ForSome}
+use Rattle.mdb_bus.specs.declared.fault.Blame.TheVariants as blames
+use Rattle.mdb_bus.specs.Untimely.{AreFew, counted_for, times_of, untimely_of, untimely_sender, with_sender}
+use Rattle.mdb_bus.specs.declared.scope.Profile.{Profile}
+use Rattle.mdb_bus.specs.declared.scope.Profile.TheVariants.{Base, Extended}
+use Rattle.mdb_bus.specs.declared.untimely.Untimely.{Untimely}
 use Rattle.mdb_bus.specs.declared.scope.Beginning.{Beginning}
 use Rattle.mdb_machine.specs.declared.gains.TheConstants.{SLOTS}
 use Rattle.mdb_machine.specs.Machine.{Machine}
@@ -35,6 +43,7 @@ use Rattle.mdb_follow.specs.declared.sides.Sides.{Sides}
 use Rattle.mdb_follow.specs.declared.silence.Silence.{Silence}
 use Rattle.mdb_follow.specs.AccountNames.{account_device, account_in, account_slot}
 use Rattle.mdb_follow.specs.Cells.{account_by}
+use Rattle.mdb_follow.specs.Counted.{counted_with}
 use Rattle.mdb_follow.specs.EndedActs.{IsEndedAct}
 use Rattle.mdb_follow.specs.Feeding.{HasTakenRows}
 use Rattle.mdb_follow.specs.Follower.{HasAccepted, StandsFor, rows_of, scope_of}
@@ -50,7 +59,7 @@ use Rattle.mdb_follow.specs.declared.account.Account.{Account}
 use Rattle.mdb_follow.specs.Runs.{AllSums, IsReached, Run, States}
 use Rattle.mdb_follow.specs.Arrivals.{Arrives, EachArrives}
 use Rattle.mdb_follow.specs.Machines.{machine_of}
-use Rattle.mdb_follow.specs.Offences.{NoStep, rule_of}
+use Rattle.mdb_follow.specs.Offences.{NoStep, act_fault, rule_of}
 use Rattle.mdb_follow.specs.Sides.{AreSides}
 use Rattle.mdb_follow.specs.Silences.{asks_of}
 use Rattle.mdb_follow.specs.inner.SideSteps.{AreStanding, SidesStay}
@@ -117,6 +126,7 @@ accepted follower events on = record {
   rows = on.rows;
   sides = on.sides;
   silences = on.silences;
+  untimely = on.untimely;
 }
 
 -- the act list of the events
@@ -233,17 +243,19 @@ standing-for {follower} on = record {
   stand = on.sides;
 }
 
--- A rule of a device isn't that of what isn't followed.
-pub none-beyond : {T : Type 0} (old : Follower) (act : Act) (new : Follower) (offence : Offence)
-    → HasStopped old act new offence → offence.rule ≡ rules.Profile → T
-none-beyond old act new offence has beyond =
-    no-device-is-beyond has.none.0 (sym has.none.1.rule ∙ beyond)
+-- A rule of a device isn't that of what isn't followed, nor is the one that counts in haste.
+pub none-beyond : {T : Type 0} (old : Follower) (act : Act) (row : Event) (new : Follower)
+    (offence : Offence) → HasStopped old act row new offence → offence.rule ≡ rules.Profile → T
+none-beyond old act row new offence has beyond = elim has.either [
+  | inl own ↦ no-device-is-beyond has.none.0 (sym has.none.1.rule ∙ (sym own ∙ beyond))
+  | inr early ↦ absurd (let clash : rules.Early ≡ rules.Profile = sym early ∙ beyond in cc clash)
+]
 
 -- A follower that has stopped has accepted still what it stood for.
 pub accepted-still : (old new : Follower) (events : List Event) → StandsFor old events
     → scope_of new ≡ scope_of old → new.rows ≡ old.rows → SidesStay old.sides new.sides
-    → new.silences ≡ old.silences → HasAccepted new events
-accepted-still old new events on same_scope same_rows stay same_silences =
+    → new.silences ≡ old.silences → new.untimely ≡ old.untimely → HasAccepted new events
+accepted-still old new events on same_scope same_rows stay same_silences same_untimely =
     let begins : Beginning = (scope_of old).begins in
     record {
       pieces = on.pieces;
@@ -257,15 +269,110 @@ accepted-still old new events on same_scope same_rows stay same_silences =
           (silence_in new.silences device) on.pieces same_scope
           (subst (λ silences. StandsForAsks (silence_in silences device)
           (asks_of begins device on.pieces)) (sym same_silences) (on.silences device));
+      untimely = same_untimely ∙ on.untimely
+          ∙ ap (λ scope. times_of scope on.pieces) (sym same_scope);
     }
+
+-- rows out of their time are counted as the profile has it
+counted-one : (profile : Profile) (sender : Option Blame) (counts : Untimely)
+    → counted_with sender (counted_for profile counts)
+    ≡ counted_for profile (with_sender sender counts)
+counted-one Base sender counts = refl
+counted-one Extended sender counts = refl
+
+-- few counts are few where more are, and one row more adds one at most
+few-more : (counts : Untimely) (some more : ℕ) → some ≤ more → AreFew some counts
+    → AreFew more counts
+few-more counts some more less few = record {
+  controller = omega (arith, few.controller);
+  changer = omega (arith, few.changer);
+  bill = omega (arith, few.bill);
+  cashless = omega (arith, few.cashless);
+  cashless2 = omega (arith, few.cashless2);
+}
+
+pub few-times : {counts before : Option Untimely} → counts ≡ before → (some more : ℕ)
+    → some ≤ more → ForSome before (AreFew some) → ForSome counts (AreFew more)
+few-times is some more less few counts at =
+    few-more counts some more less (few counts (sym is ∙ at))
+
+few-sender : (sender : Option Blame) (counts : Untimely) (rows : ℕ) → AreFew rows counts
+    → AreFew (rows + 1) (with_sender sender counts)
+few-sender None counts rows few = few-more counts rows (rows + 1) (omega arith) few
+few-sender (Some blames.Controller) counts rows few = record {
+  controller = omega (arith, few.controller);
+  changer = omega (arith, few.changer);
+  bill = omega (arith, few.bill);
+  cashless = omega (arith, few.cashless);
+  cashless2 = omega (arith, few.cashless2);
+}
+few-sender (Some blames.Changer) counts rows few = record {
+  controller = omega (arith, few.controller);
+  changer = omega (arith, few.changer);
+  bill = omega (arith, few.bill);
+  cashless = omega (arith, few.cashless);
+  cashless2 = omega (arith, few.cashless2);
+}
+few-sender (Some blames.Bill) counts rows few = record {
+  controller = omega (arith, few.controller);
+  changer = omega (arith, few.changer);
+  bill = omega (arith, few.bill);
+  cashless = omega (arith, few.cashless);
+  cashless2 = omega (arith, few.cashless2);
+}
+few-sender (Some blames.Cashless) counts rows few = record {
+  controller = omega (arith, few.controller);
+  changer = omega (arith, few.changer);
+  bill = omega (arith, few.bill);
+  cashless = omega (arith, few.cashless);
+  cashless2 = omega (arith, few.cashless2);
+}
+few-sender (Some blames.Cashless2) counts rows few = record {
+  controller = omega (arith, few.controller);
+  changer = omega (arith, few.changer);
+  bill = omega (arith, few.bill);
+  cashless = omega (arith, few.cashless);
+  cashless2 = omega (arith, few.cashless2);
+}
+few-sender (Some blames.Other) counts rows few =
+    few-more counts rows (rows + 1) (omega arith) few
+
+pub few-next : {counts : Option Untimely} (before : Option Untimely) (sender : Option Blame)
+    (rows : ℕ) → counts ≡ counted_with sender before → ForSome before (AreFew rows)
+    → ForSome counts (AreFew (rows + 1))
+few-next None sender rows is few counts at =
+    let clash : None ≡ Some counts = sym is ∙ at in cc
+few-next (Some before) sender rows is few counts at =
+    let both : Some (with_sender sender before) ≡ Some counts = sym is ∙ at in
+    let same : with_sender sender before ≡ counts = cc in
+    subst (AreFew (rows + 1)) same (few-sender sender before rows (few before refl))
+
+-- What is counted of the times of a row more, where its sender was told.
+pub times-on : (old new : Scope) (pieces : List Piece) (row : Event) (bus : Bus)
+    (act : Option Act) (goes : GoesOn bus pieces row act) (before counts : Option Untimely)
+    (sender : Option Blame)
+    → link.scope_of bus ≡ old → new ≡ old → before ≡ times_of old pieces
+    → counted_with sender before ≡ counted_with (untimely_sender old pieces row) before
+    → counts ≡ counted_with sender before → counts ≡ times_of new goes.longer
+times-on old new pieces row bus act goes before counts sender same_bus same_new was told counted =
+    let profile = profile_of old.begins in
+    let as_told = untimely_sender old pieces row in
+    counted ∙ (told ∙ (ap (counted_with as_told) was
+    ∙ (counted-one profile as_told (untimely_of old pieces)
+    ∙ (ap (counted_for profile)
+    (sym (subst (λ s. untimely_of s goes.longer
+    ≡ with_sender (untimely_sender s pieces row) (untimely_of s pieces)) same_bus
+    goes.untimely))
+    ∙ ap (λ s. times_of s goes.longer) (sym same_new)))))
 
 -- no act ended
 pub stands-still : (old new : Follower) (bus : Bus) (events : List Event) (row : Event)
-    (on : StandsFor old events) → GoesOn bus on.pieces row None → new.bus ≡ bus
+    (on : StandsFor old events) (goes : GoesOn bus on.pieces row None) → new.bus ≡ bus
     → scope_of new ≡ scope_of old → new.sides ≡ old.sides → new.silences ≡ old.silences
-    → new.rows ≡ old.rows + 1 → new.offence ≡ old.offence → StandsFor new (events ++ row ∷ [])
+    → new.rows ≡ old.rows + 1 → new.offence ≡ old.offence
+    → new.untimely ≡ times_of (scope_of new) goes.longer → StandsFor new (events ++ row ∷ [])
 stands-still old new bus events row on goes same_bus same_scope same_sides same_silences more
-    same =
+    same times =
     let begins : Beginning = (scope_of old).begins in
     record {
       pieces = goes.longer;
@@ -282,16 +389,20 @@ stands-still old new bus events row on goes same_bus same_scope same_sides same_
           (sym (asks-stay begins device on.pieces row goes.longer goes.grown))
           (subst (λ silences. StandsForAsks (silence_in silences device)
           (asks_of begins device on.pieces)) (sym same_silences) (on.silences device)));
+      untimely = times;
     }
 
 -- an act was followed
 pub stands-on : (old mid new : Follower) (events : List Event) (row : Event) (act : Act)
-    (on : StandsFor old events) → GoesOn mid.bus on.pieces row (Some act)
+    (on : StandsFor old events) (goes : GoesOn mid.bus on.pieces row (Some act))
     → scope_of mid ≡ scope_of old → mid.sides ≡ old.sides → mid.silences ≡ old.silences
-    → mid.rows ≡ old.rows → mid.offence ≡ old.offence → (at : ℕ) → at ≡ start_of row
-    → HasFollowedAct mid act at new → StandsFor new (events ++ row ∷ [])
-stands-on old mid new events row act on goes old_scope same_sides same_silences same_rows same at
-    start has =
+    → mid.rows ≡ old.rows → mid.offence ≡ old.offence
+    → HasFollowedAct mid act row new → (counts : Option Untimely)
+    → (few : (times : Untimely) → counts ≡ Some times → AreFew new.rows times)
+    → counts ≡ times_of (scope_of new) goes.longer
+    → StandsFor (record new { untimely = counts; few_untimely = few }) (events ++ row ∷ [])
+stands-on old mid new events row act on goes old_scope same_sides same_silences same_rows same
+    has counts few times =
     let begins : Beginning = (scope_of old).begins in
     let same_scope : scope_of new ≡ scope_of old = ap link.scope_of has.on_bus ∙ old_scope in
     let sides : AreSides begins new.sides (act ∷ acts_of on.pieces) =
@@ -301,8 +412,7 @@ stands-on old mid new events row act on goes old_scope same_sides same_silences 
     let first = new.sides.first_reader.facts in
     let second = new.sides.second_reader.facts in
     let follows : SilencesFollow mid.silences act (start_of row) first second new.silences =
-    subst (λ at. SilencesFollow mid.silences act at first second new.silences) start has.silences
-    in
+    has.silences in
     record {
       pieces = goes.longer;
       on_bus = subst (λ b. link.StandsFor b goes.longer) (sym has.on_bus) goes.stands;
@@ -320,6 +430,7 @@ stands-on old mid new events row act on goes old_scope same_sides same_silences 
           ((follows device).stands (asks_of begins device on.pieces)
           (subst (λ silences. StandsForAsks (silence_in silences device)
           (asks_of begins device on.pieces)) (sym same_silences) (on.silences device))));
+      untimely = times;
     }
 
 -- a row breaks a rule of the link
@@ -367,14 +478,14 @@ pub machine-offence : ((scope : Scope) → OneActList scope) → ((scope : Scope
     (row : Event) (act : Act) (offence : Offence) (on : StandsFor old events)
     → GoesOn mid.bus on.pieces row (Some act) → link.scope_of mid.bus ≡ scope_of old
     → mid.sides ≡ old.sides → mid.rows ≡ old.rows
-    → HasStopped mid act new offence → IsOffence (scope_of old) events row offence
+    → HasStopped mid act row new offence → IsOffence (scope_of old) events row offence
 machine-offence one joins old mid new events row act offence on goes same_scope same_sides
     same_rows has =
     let scope : Scope = scope_of old in
     let list : IsActList scope goes.longer (events ++ row ∷ []) =
     subst (λ s. IsActList s goes.longer (events ++ row ∷ [])) same_scope
     (list-on mid.bus events row on.pieces (Some act) on.whole goes) in
-    let none : NoStep scope.begins offence.rule act (acts_of on.pieces) = record {
+    let none : NoStep scope.begins has.own act (acts_of on.pieces) = record {
       device = has.none.0;
       rule = has.none.1.rule;
       none = has.none.1.none scope.begins (acts_of on.pieces)
@@ -386,12 +497,17 @@ machine-offence one joins old mid new events row act offence on goes same_scope 
     let are : goes.longer ≡ Whole act (grown.begun ++ row ∷ []) ∷ grown.earlier =
     grown.are ∙ ap (λ p. p ∷ grown.earlier) (whole-piece grown.newest act
     (grown.begun ++ row ∷ []) grown.ends grown.events) in
+    let fault : record { rule = offence.rule; blame = offence.blame }
+    ≡ act_fault scope (Whole act (grown.begun ++ row ∷ []) ∷ grown.earlier) row act has.own =
+    has.counts goes.longer goes.stands
+    ∙ (ap (λ s. act_fault s goes.longer row act has.own) same_scope
+    ∙ ap (λ ps. act_fault scope ps row act has.own) are) in
     let same : acts_of on.pieces ≡ acts_of grown.earlier = last-alike act (acts_of on.pieces)
     (acts_of grown.earlier) (sym goes.acts ∙ ap acts_of are) in
     record {
       reached = reached-by joins old events on;
       not_reached = unreached scope (one scope) (events ++ row ∷ []) goes.longer list
-          (λ states sums ways. stuck scope.begins offence.rule act (acts_of on.pieces) none states
+          (λ states sums ways. stuck scope.begins has.own act (acts_of on.pieces) none states
           sums (subst (λ acts. EachArrives scope.begins acts states sums) goes.acts ways));
       number = has.number ∙ ap (λ n. n + 1) (same_rows ∙ on.rows);
       why = inr (record {
@@ -399,8 +515,10 @@ machine-offence one joins old mid new events row act offence on goes same_scope 
         begun = grown.begun;
         earlier = grown.earlier;
         act_list = subst (λ ps. IsActList scope ps (events ++ row ∷ [])) are list;
-        no_step = subst (NoStep scope.begins offence.rule act) same none;
-        blame = has.blame;
+        own = has.own;
+        no_step = subst (NoStep scope.begins has.own act) same none;
+        counts = ap (λ (f : LinkFault). f.rule) fault;
+        blame = ap (λ (f : LinkFault). f.blame) fault;
       });
     }
 
@@ -499,7 +617,7 @@ pub reported : ((scope : Scope) → OneActList scope) → ((scope : Scope) → J
     → ((device : Device)
     → IsCell (ArrivesAnywhere (Arrives (machine_of (scope_of follower).begins device)
     (acts_of has.pieces))) (cells device))
-    → report ≡ report_of (scope_of follower).begins follower.rows has.pieces (account_by cells)
+    → report ≡ report_of (scope_of follower) follower.rows has.pieces (account_by cells)
     → IsReport (scope_of follower) events report
 reported one joins follower events report cells has are telling =
     let scope : Scope = scope_of follower in
@@ -514,7 +632,7 @@ reported one joins follower events report cells has are telling =
           (device-is scope (one scope) (joins scope) events has.pieces has.act_list some device)
           (cells device) (are device));
       telling = telling
-          ∙ ap (λ rows. report_of scope.begins rows has.pieces (account_by cells)) has.rows;
+          ∙ ap (λ rows. report_of scope rows has.pieces (account_by cells)) has.rows;
     }
 
 -- a follower that stands for rows after others has taken them

@@ -20,10 +20,10 @@ use Rattle.mdb_follow.specs.declared.report.Report.{Report}
 use Rattle.mdb_follow.specs.AccountNames.{account_of, sums_of}
 use Rattle.mdb_follow.specs.Ranges.{IsAccount, IsRange}
 use Rattle.mdb_follow.specs.Sums.{AccountSums}
-use Rattle.mdb_follow.specs.Offences.{BreaksLink, BreaksMachine, IsOffence}
+use Rattle.mdb_follow.specs.Offences.{BreaksLink, BreaksMachine, IsOffence, act_fault}
+use Rattle.mdb_bus.specs.declared.fault.LinkFault.{LinkFault}
 use Rattle.mdb_follow.specs.Report.{AreAccounts, IsReport, report_of}
 use Rattle.mdb_follow.specs.Runs.{AllSums, IsReached, Run}
-use Rattle.mdb_follow.specs.Senders.{sender_of}
 use Rattle.mdb_follow.specs.Machines.{machine_of}
 use Rattle.mdb_follow.specs.Offences.{NoStep, rule_of}
 use Rattle.mdb_follow.proofs.Accounts.{listed}
@@ -75,10 +75,10 @@ one-list Kind a b p q = map-alike a b
     (λ name. one-account Kind (sums_of name) (a name) (b name) (p name) (q name)) ALL
 
 -- what a report has of an account
-pub named : (begins : Beginning) (rows : ℕ) (pieces : List Piece) (accounts : AccountName → Account)
+pub named : (scope : Scope) (rows : ℕ) (pieces : List Piece) (accounts : AccountName → Account)
     (account : AccountName)
-    → account_of account (report_of begins rows pieces accounts) ≡ accounts account
-named begins rows pieces accounts account = listed accounts account
+    → account_of account (report_of scope rows pieces accounts) ≡ accounts account
+named scope rows pieces accounts account = listed accounts account
 
 pub named-account : (scope : Scope) (rows : List Event) (report : Report)
     → IsReport scope rows report
@@ -87,7 +87,7 @@ pub named-account : (scope : Scope) (rows : List Event) (report : Report)
 named-account scope rows report is account =
     subst (IsAccount (Run scope rows) (sums_of account))
     (sym (ap (account_of account) is.telling
-    ∙ named scope.begins (length rows) is.pieces is.accounts account)) (is.of_runs account)
+    ∙ named scope (length rows) is.pieces is.accounts account)) (is.of_runs account)
 
 abbrev pub with_accounts : Report → List Account → Report
 with_accounts report accounts = record report { accounts = accounts }
@@ -97,9 +97,9 @@ pub one-report : (scope : Scope) → OneActList scope → (rows : List Event) (a
     → IsReport scope rows b → a ≡ b
 one-report scope one rows a b p q =
     p.telling
-    ∙ (ap (λ pieces. report_of scope.begins (length rows) pieces p.accounts)
+    ∙ (ap (λ pieces. report_of scope (length rows) pieces p.accounts)
     (one rows p.pieces q.pieces p.act_list q.act_list)
-    ∙ (ap (with_accounts (report_of scope.begins (length rows) q.pieces p.accounts))
+    ∙ (ap (with_accounts (report_of scope (length rows) q.pieces p.accounts))
     (one-list (Run scope rows) p.accounts q.accounts p.of_runs q.of_runs) ∙ sym q.telling))
 
 -- what the laws of the bus say
@@ -176,15 +176,20 @@ one-why scope laws events row reached r s a b (inr p) (inr q) =
     let same : one ≡ other = laws.one (events ++ row ∷ []) one other p.act_list q.act_list in
     let acts : p.act ∷ acts_of p.earlier ≡ q.act ∷ acts_of q.earlier = ap acts_of same in
     let act : p.act ≡ q.act = cc acts in
-    let by-p : rule_of (whose p.act) ≡ r = whose_rule scope.begins r p.act
+    let by-p : rule_of (whose p.act) ≡ p.own = whose_rule scope.begins p.own p.act
     (acts_of p.earlier) p.no_step
     (some-before-act scope laws events row reached one p.act_list p.act (acts_of p.earlier) refl) in
-    let by-q : rule_of (whose q.act) ≡ s = whose_rule scope.begins s q.act
+    let by-q : rule_of (whose q.act) ≡ q.own = whose_rule scope.begins q.own q.act
     (acts_of q.earlier) q.no_step
     (some-before-act scope laws events row reached other q.act_list q.act (acts_of q.earlier)
-    refl) in (
-      sym by-p ∙ (ap (λ x. rule_of (whose x)) act ∙ by-q),
-      p.blame ∙ (ap sender_of act ∙ sym q.blame),
+    refl) in
+    let own : p.own ≡ q.own = sym by-p ∙ (ap (λ x. rule_of (whose x)) act ∙ by-q) in
+    let fault : act_fault scope one row p.act p.own ≡ act_fault scope other row q.act q.own =
+    ap (λ ps. act_fault scope ps row p.act p.own) same
+    ∙ (ap (λ x. act_fault scope other row x p.own) act
+    ∙ ap (act_fault scope other row q.act) own) in (
+      p.counts ∙ (ap (λ (f : LinkFault). f.rule) fault ∙ sym q.counts),
+      p.blame ∙ (ap (λ (f : LinkFault). f.blame) fault ∙ sym q.blame),
     )
 
 pub one-offence : (scope : Scope) → BusLaws scope

@@ -1,7 +1,7 @@
 -- Reports, reached rows and offences where further devices are left out.
 use Rattle.std.proofs.Common.{ap, ap₂, refl, subst, sym, ◌∙◌, ◌≡◌, inl, inr, ℕ, ℤ, ◌≤ℤ◌, pos}
 use Rattle.std.specs.Prelude.{◌-ℤ◌}
-use Rattle.std.proofs.Common.{Bool, true, false, arith, length}
+use Rattle.std.proofs.Common.{Bool, true, false, ◌&&◌, if◌then◌else◌, arith, length}
 use Rattle.std.proofs.Common.{List, [], ◌∷◌, ◌++◌, Option, Some, None, All}
 use Rattle.std.proofs.lemmas.Int.{ints}
 use Rattle.std.proofs.lemmas.List.Elements.{All-from_recursion}
@@ -15,11 +15,14 @@ use Rattle.mdb_bus.specs.declared.act.Act.{Act}
 use Rattle.mdb_bus.specs.declared.act.Act.TheVariants as acts
 use Rattle.mdb_bus.specs.declared.fault.Blame.{Blame}
 use Rattle.mdb_bus.specs.declared.fault.Blame.TheVariants as blame
+use Rattle.mdb_bus.specs.declared.fault.LinkFault.{LinkFault}
 use Rattle.mdb_bus.specs.declared.fault.Rule.{Rule}
+use Rattle.mdb_bus.specs.declared.fault.Rule.TheVariants as rules
 use Rattle.mdb_bus.specs.declared.scope.Beginning.{Beginning}
 use Rattle.mdb_bus.specs.declared.scope.Scope.{Scope}
-use Rattle.mdb_bus.specs.ActLists.{ArePieces, IsActList, Piece, acts_of}
+use Rattle.mdb_bus.specs.ActLists.{ArePieces, IsActList, Piece, Whole, acts_of}
 use Rattle.mdb_bus.specs.LeavingOut.{LeavesOutMore, acts_with, breaks_among, device_in, leave_out}
+use Rattle.mdb_bus.specs.Haste.{haste_of, is_excused}
 use Rattle.mdb_bus.specs.LinkFaults.{IsLinkFault, blame_on}
 use Rattle.mdb_bus.specs.Scopes.{IsFollowed, IsLeftOut}
 use Rattle.mdb_machine.specs.Pair.{IsBreak, own_acts}
@@ -275,7 +278,7 @@ report_without laws adds less more rows one leaves is =
     let reached : IsReached more rows =
     let other = laws.runs.to less more rows is.reached.0 leaves is.reached.1 in
     (other.0, other.2) in
-    let other : Report = report_of more.begins (length rows) (leave_out more is.pieces) accounts in
+    let other : Report = report_of more (length rows) (leave_out more is.pieces) accounts in
     let other_is : IsReport more rows other = record {
       reached = reached;
       pieces = leave_out more is.pieces;
@@ -397,6 +400,14 @@ blamed_in (acts.VmcRet command reply) device is = absurd (nobody device is)
 blamed_in acts.Foreign device is = absurd (nobody device is)
 blamed_in (acts.Break length) device is = absurd (nobody device is)
 
+-- Where what counts in haste is blamed on a device, so was what it counts for.
+pub not_early : (is : Bool) (fault : LinkFault) (device : Device)
+    → (if is then record { rule = rules.Early; blame = blame.Controller } else fault).blame
+    ≡ blame_on (Some device)
+    → fault.blame ≡ blame_on (Some device)
+not_early true fault device blamed = absurd (nobody device blamed)
+not_early false fault device blamed = blamed
+
 -- No offence is blamed on a device that is left out.
 pub blames_followed : ((scope : Scope) → NamesFollowed scope)
     → ((scope : Scope) (pieces : List Piece) (row : Event) (broken : Rule) (blamed : Blame)
@@ -412,5 +423,9 @@ blames_followed names faults scope rows row offence device is blamed = elim is.w
   | inr machine ↦
       names scope machine.act (machine.begun ++ row ∷ []) machine.earlier device
       machine.act_list.in_order
-      (blamed_in machine.act device (sym machine.blame ∙ blamed))
+      (blamed_in machine.act device
+      (not_early (haste_of scope (Whole machine.act (machine.begun ++ row ∷ []) ∷ machine.earlier)
+      && is_excused row machine.own)
+      (record { rule = machine.own; blame = sender_of machine.act }) device
+      (sym machine.blame ∙ blamed)))
 ]

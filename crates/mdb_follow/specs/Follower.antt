@@ -5,6 +5,7 @@ use Rattle.mdb_bus.specs.declared.act.Act.{Act}
 use Rattle.mdb_bus.specs.ActLists.{IsActList, Piece, acts_of, events_of}
 use Rattle.mdb_bus.specs.declared.scope.Scope.{Scope}
 use Rattle.mdb_bus.specs.Bus as bus
+use Rattle.mdb_bus.specs.Untimely.{times_of}
 use Rattle.mdb_follow.specs.declared.follower.Follower.{Follower}
 use Rattle.mdb_follow.specs.declared.offence.Offence.{Offence}
 use Rattle.mdb_follow.specs.Sides.{AreSides}
@@ -31,8 +32,8 @@ act_of follower = follower.act
 abbrev pub open_block_of : Follower → List ℕ
 open_block_of follower = bus.open_block_of follower.bus
 
--- A follower stands for events: its bus does, each of its sides stands for their acts, and its
--- silences are those of their asks.
+-- A follower stands for events: its bus does, each of its sides stands for their acts, its silences
+-- are those of their asks, and its count of rows out of their time is theirs.
 pub record StandsFor (follower : Follower) (events : List Event) : Type 0 where
   pub pieces : List Piece
   pub on_bus : bus.StandsFor follower.bus pieces
@@ -42,10 +43,11 @@ pub record StandsFor (follower : Follower) (events : List Event) : Type 0 where
   pub sides : AreSides (scope_of follower).begins follower.sides (acts_of pieces)
   pub silences : AllStandForAsks follower.silences
       (λ device. asks_of (scope_of follower).begins device pieces)
+  pub untimely : follower.untimely ≡ times_of (scope_of follower) pieces
 
 -- A follower has accepted events: they have an act list, each of its sides stands for their acts,
--- and its silences are those of their asks. A follower has accepted what it stands for, and after
--- an offence the rows before it.
+-- its silences are those of their asks, and its count of rows out of their time is theirs. A
+-- follower has accepted what it stands for, and after an offence the rows before it.
 pub record HasAccepted (follower : Follower) (events : List Event) : Type 0 where
   pub pieces : List Piece
   pub act_list : IsActList (scope_of follower) pieces events
@@ -53,3 +55,4 @@ pub record HasAccepted (follower : Follower) (events : List Event) : Type 0 wher
   pub sides : AreSides (scope_of follower).begins follower.sides (acts_of pieces)
   pub silences : AllStandForAsks follower.silences
       (λ device. asks_of (scope_of follower).begins device pieces)
+  pub untimely : follower.untimely ≡ times_of (scope_of follower) pieces

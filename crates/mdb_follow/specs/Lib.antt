@@ -3,6 +3,7 @@ pub mod Arrivals
 pub mod ByDevice
 pub mod Cells
 pub mod Choosing
+pub mod Counted
 pub mod Devices
 pub mod EndedActs
 pub mod Ends

@@ -4,8 +4,10 @@ use Rattle.mdb_words.specs.declared.event.Event.{Event}
 use Rattle.mdb_msgs.specs.declared.command.Device.{Device}
 use Rattle.mdb_bus.specs.declared.act.Act.{Act}
 use Rattle.mdb_bus.specs.declared.fault.Blame.{Blame}
+use Rattle.mdb_bus.specs.declared.fault.LinkFault.{LinkFault}
 use Rattle.mdb_bus.specs.declared.fault.Rule.{Rule}
 use Rattle.mdb_bus.specs.ActLists.{Piece, Whole, IsActList, acts_of}
+use Rattle.mdb_bus.specs.Haste.{counted_in, haste_of}
 use Rattle.mdb_bus.specs.LinkFaults.{IsLinkFault}
 use Rattle.mdb_bus.specs.declared.scope.Beginning.{Beginning}
 use Rattle.mdb_machine.specs.declared.choice.Choice.{Choice}
@@ -47,6 +49,12 @@ pub record NoStep (begins : Beginning) (broken : Rule) (act : Act) (before : Lis
   pub rule : broken ≡ rule_of device
   pub none : HasNoStep (machine_of begins device) act before
 
+-- the fault of a row that ends an act by which a machine has no step, where its own rule is this:
+-- in haste that the controller was early
+abbrev pub act_fault : Scope → List Piece → Event → Act → Rule → LinkFault
+act_fault scope pieces row act own =
+    counted_in (haste_of scope pieces) row (record { rule = own; blame = sender_of act })
+
 -- The act that a row ends can't have been done by its device and the controller.
 pub record BreaksMachine (scope : Scope) (events : List Event) (row : Event) (broken : Rule)
     (blamed : Blame) : Type 0 where
@@ -55,8 +63,13 @@ pub record BreaksMachine (scope : Scope) (events : List Event) (row : Event) (br
   pub begun : List Event
   pub earlier : List Piece
   pub act_list : IsActList scope (Whole act (begun ++ row ∷ []) ∷ earlier) (events ++ row ∷ [])
-  pub no_step : NoStep scope.begins broken act (acts_of earlier)
-  pub blame : blamed ≡ sender_of act
+  -- the rule of the device
+  pub own : Rule
+  pub no_step : NoStep scope.begins own act (acts_of earlier)
+  pub counts : broken
+      ≡ (act_fault scope (Whole act (begun ++ row ∷ []) ∷ earlier) row act own).rule
+  pub blame : blamed
+      ≡ (act_fault scope (Whole act (begun ++ row ∷ []) ∷ earlier) row act own).blame
 
 -- the offence of a row after rows that are reached: the row isn't
 pub record IsOffence (scope : Scope) (events : List Event) (row : Event) (offence : Offence)

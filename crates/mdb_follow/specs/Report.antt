@@ -4,6 +4,7 @@ use Rattle.mdb_words.specs.declared.event.Event.{Event}
 use Rattle.mdb_msgs.specs.declared.command.Device.{Device}
 use Rattle.mdb_bus.specs.declared.act.Act.{Act}
 use Rattle.mdb_bus.specs.ActLists.{IsActList, Piece, acts_of}
+use Rattle.mdb_bus.specs.Untimely.{times_of}
 use Rattle.mdb_bus.specs.declared.scope.Beginning.{Beginning}
 use Rattle.mdb_follow.specs.declared.account_name.AccountName.{AccountName}
 use Rattle.mdb_follow.specs.declared.account_name.TheConstants.AccountName.{ALL}
@@ -71,12 +72,13 @@ device_unvalued device report = (device_report device report).facts.unvalued
 abbrev pub device_silences : Device → Report → ℕ
 device_silences device report = (device_report device report).asks.silences
 
--- the report of so many rows, which are these pieces of a recording that begins so, with these
+-- the report of so many rows, which are these pieces of a recording that is taken so, with these
 -- accounts
-abbrev pub report_of : Beginning → ℕ → List Piece → (AccountName → Account) → Report
-report_of begins rows pieces accounts = record {
+abbrev pub report_of : Scope → ℕ → List Piece → (AccountName → Account) → Report
+report_of scope rows pieces accounts = record {
   rows = rows;
-  devices = map (λ device. device_report_of begins device pieces) DEVICES;
+  devices = map (λ device. device_report_of scope.begins device pieces) DEVICES;
+  untimely = times_of scope pieces;
   accounts = map accounts ALL;
 }
 
@@ -88,4 +90,4 @@ pub record IsReport (scope : Scope) (events : List Event) (report : Report) : Ty
   pub act_list : IsActList scope pieces events
   pub accounts : AccountName → Account
   pub of_runs : AreAccounts (Run scope events) accounts
-  pub telling : report ≡ report_of scope.begins (length events) pieces accounts
+  pub telling : report ≡ report_of scope (length events) pieces accounts

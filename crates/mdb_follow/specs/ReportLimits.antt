@@ -1,7 +1,9 @@
--- How far from 0 the sums of a report are, and how many silences and amounts without a value it
--- has. So reports can be added up.
+-- How far from 0 the sums of a report are, and how many silences, rows out of their time and
+-- amounts without a value it has. So reports can be added up.
 use Rattle.std.specs.Prelude.{◌≤◌, ℕ}
+use Rattle.std.specs.Option.{ForSome}
 use Rattle.mdb_msgs.specs.declared.command.Device.{Device}
+use Rattle.mdb_bus.specs.Untimely.{AreFew}
 use Rattle.mdb_follow.specs.declared.account_name.AccountName.{AccountName}
 use Rattle.mdb_follow.specs.declared.report.Report.{Report}
 use Rattle.mdb_follow.specs.Limits.{IsAccountWithin}
@@ -13,4 +15,5 @@ use Rattle.mdb_follow.specs.AccountNames.{account_of}
 pub record IsReportWithin (limit : ℕ) (report : Report) : Type 0 where
   pub accounts : (account : AccountName) → IsAccountWithin limit (account_of account report)
   pub asks : (device : Device) → AreAtMost limit (device_report device report).asks
+  pub untimely : ForSome report.untimely (AreFew limit)
   pub unvalued : (device : Device) → device_unvalued device report ≤ limit

@@ -9,14 +9,16 @@ ghost use Rattle.mdb_words.specs.declared.event.Event.{Event};
 ghost use Rattle.mdb_bus.specs.declared.act.Act.{Act};
 ghost use Rattle.mdb_follow.specs.Senders as spec;
 ghost use Rattle.mdb_follow.specs.inner.SideSteps.{AreStanding, AreWithin};
+ghost use Rattle.mdb_bus.specs.Untimely as times;
 ghost use Rattle.mdb_follow.specs.SilenceSteps.{AreFew};
 
 use crate::sides::Sides;
 use crate::silence::Silences;
+use crate::untimely::{note_untimely, untimely_sender};
 use crate::{Offence, Report, laws};
-use mdb_bus::{Act, Blame, Bus, LinkFault, Scope, laws as bus_laws};
+use mdb_bus::{Act, Blame, Bus, LinkFault, Scope, Untimely, laws as bus_laws};
 use mdb_msgs::{DeviceSet, Setups};
-use mdb_words::{Event, Time};
+use mdb_words::Event;
 
 /// The most rows that a recording may have (this profile).
 pub const ROWS_MAX: u64 = 100_000_000;
@@ -31,6 +33,7 @@ pub struct Follower {
     bus: Bus,
     sides: Sides,
     silences: Silences,
+    untimely: Option<Untimely>,
     rows: u64,
     offence: Option<Offence>,
     /// Room for the act that a row ends. Between rows its content is irrelevant.
@@ -39,6 +42,7 @@ pub struct Follower {
     ghost standing: { ∥ AreStanding sides ∥₁ },
     ghost within: { AreWithin (rows * 2 ^ 32) sides },
     ghost few_silences: { AreFew rows silences },
+    ghost few_untimely: { ForSome untimely (times.AreFew rows) },
     ghost numbered: { ForSome offence (λ offence. offence.row ≡ rows + 1) },
 }
 
@@ -84,6 +88,7 @@ impl Follower {
             bus: Bus::scoped(scope),
             sides: Sides::start(&scope.begins),
             silences: Silences::NONE,
+            untimely: Untimely::start(scope.begins.profile()),
             rows: 0,
             offence: None,
             act: Act::Foreign,
@@ -225,17 +230,20 @@ impl Follower {
         laws::ways_join();
         laws::sales_follow_their_approvals();
         bus_laws::transcripts_have_one_act_list();
+        let sender = untimely_sender(&self.untimely, &self.bus, &event);
         match self.bus.feed_into(event, &mut self.act) {
             Err(fault) => {
                 stop(&mut self.offence, self.rows, fault);
                 None
             }
             Ok(false) => {
+                note_untimely(&mut self.untimely, sender);
                 self.rows += 1;
                 Some(false)
             }
             Ok(true) => {
-                if self.follow(event.start()) {
+                if self.follow(&event) {
+                    note_untimely(&mut self.untimely, sender);
                     Some(true)
                 } else {
                     None
@@ -244,15 +252,16 @@ impl Follower {
         }
     }
 
-    /// Follows the act that was ended by a row that started at a time. Answers whether each side
-    /// has a step by it: where one hasn't, the offence is noted.
+    /// Follows the act that a row has ended. Answers whether each side has a step by it: where one
+    /// hasn't, the offence is noted.
     #[inline(always)]
-    fn follow(&mut self, at: Time) -> bool
+    fn follow(&mut self, event: &Event) -> bool
         requires room { rows_of self.old < ROWS_MAX }
         requires going { offence_of self.old ≡ None }
-        ensures followed { OnTrue result (HasFollowedAct self.old self.old.act at self.new) }
-        ensures stopped { OnFalse result
-            (IsSomeAnd (offence_of self.new) (HasStopped self.old self.old.act self.new)) }
+        ensures followed { OnTrue result
+            (HasFollowedAct self.old self.old.act event.now self.new) }
+        ensures stopped { OnFalse result (IsSomeAnd (offence_of self.new)
+            (HasStopped self.old self.old.act event.now self.new)) }
         ensures scope { scope_of self.new ≡ scope_of self.old }
         ensures act { self.new.act ≡ self.old.act }
     {
@@ -260,15 +269,14 @@ impl Follower {
             Ok(()) => {
                 let first = &self.sides.first_reader.facts;
                 let second = &self.sides.second_reader.facts;
-                self.silences.follow(&self.act, at, first, second);
+                self.silences
+                    .follow(&self.act, event.start(), first, second);
                 self.rows += 1;
                 true
             }
             Err(rule) => {
-                let fault = LinkFault {
-                    rule,
-                    blame: sender_of(&self.act),
-                };
+                let blame = sender_of(&self.act);
+                let fault = self.bus.counted_in_haste(event, LinkFault { rule, blame });
                 stop(&mut self.offence, self.rows, fault);
                 false
             }
@@ -322,7 +330,7 @@ impl Follower {
         bus_laws::transcripts_have_one_act_list();
         let cells = self.sides.cells();
         let facts = self.sides.facts();
-        Report::of(self.rows, &cells, &facts, &self.silences)
+        Report::of(self.rows, &cells, &facts, &self.silences, self.untimely)
     }
 }
 

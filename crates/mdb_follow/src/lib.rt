@@ -25,6 +25,7 @@ mod side;
 mod sides;
 mod silence;
 mod table;
+mod untimely;
 
 pub use account::Account;
 pub use account_name::{ACCOUNTS, AccountName};
@@ -41,3 +42,4 @@ pub use silence::{
     Silences,
 };
 pub use table::Table;
+pub use untimely::{note_untimely, untimely_sender};

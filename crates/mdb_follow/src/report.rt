@@ -8,6 +8,7 @@ use crate::account_name::{ACCOUNTS, accounts_of};
 use crate::devices::device_place;
 use crate::silence::{AskCounts, Silences};
 use crate::{Account, AccountName, Cell};
+use mdb_bus::Untimely;
 use mdb_msgs::{Device, ReaderUnit};
 
 /// What the acts of a recording show of a device, or what is known of it from elsewhere, beside the
@@ -38,6 +39,9 @@ pub struct Report {
     pub rows: u64,
     /// What is reported of each of `Report::DEVICES`, beside its accounts.
     pub devices: [DeviceReport; 4],
+    /// How many rows came out of the base profile's times. `None` by the base profile, where such a
+    /// row is an offence.
+    pub untimely: Option<Untimely>,
     /// The bounds of each of `AccountName::ALL`, in the smallest unit of money.
     pub accounts: [Account; ACCOUNTS],
 }
@@ -46,7 +50,8 @@ impl Report {
     ghost use Rattle.std.specs.Prelude.{◌≡◌, List, map};
     ghost use Rattle.mdb_msgs.specs.declared.command.Device.{Device};
     ghost use Rattle.mdb_bus.specs.ActLists.{Piece, acts_of};
-    ghost use Rattle.mdb_bus.specs.declared.scope.Beginning.{Beginning};
+    ghost use Rattle.mdb_bus.specs.declared.scope.Scope.{Scope};
+    ghost use Rattle.mdb_bus.specs.Untimely.{times_of};
     ghost use Rattle.mdb_follow.specs.declared.account_name.TheConstants.AccountName.{ALL};
     ghost use Rattle.mdb_follow.specs.declared.report.TheConstants.Report.{DEVICES};
     ghost use Rattle.mdb_follow.specs.AccountNames.{account_of};
@@ -65,20 +70,29 @@ impl Report {
     ];
 
     /// The report of so many rows: with the accounts of the devices' cells, what their acts show,
-    /// and what was counted of their asks. All are in the order of `DEVICES`.
-    pub fn of(rows: u64, cells: &[Cell; 4], facts: &[DeviceFacts; 4], silences: &Silences) -> Report
+    /// and what was counted of their asks, all in the order of `DEVICES`, and of the rows' times.
+    pub fn of(
+        rows: u64,
+        cells: &[Cell; 4],
+        facts: &[DeviceFacts; 4],
+        silences: &Silences,
+        untimely: Option<Untimely>,
+    ) -> Report
         ensures has { result ≡ record {
           rows = rows;
           devices = map (λ device. record {
             facts = device_facts_in facts.now device;
             asks = (silence_in silences.now device).counts;
           }) DEVICES;
+          untimely = untimely;
           accounts = map (account_by (cell_in cells.now)) ALL;
         } }
-        ensures telling { (begins : Beginning) (pieces : List Piece)
-            → facts.now ≡ map (λ device. device_facts_of begins device (acts_of pieces)) DEVICES
-            → AllStandForAsks silences.now (λ device. asks_of begins device pieces)
-            → result ≡ report_of begins rows pieces (account_by (cell_in cells.now)) }
+        ensures telling { (scope : Scope) (pieces : List Piece)
+            → facts.now
+            ≡ map (λ device. device_facts_of scope.begins device (acts_of pieces)) DEVICES
+            → AllStandForAsks silences.now (λ device. asks_of scope.begins device pieces)
+            → untimely ≡ times_of scope pieces
+            → result ≡ report_of scope rows pieces (account_by (cell_in cells.now)) }
     {
         let [changer, bill, first, second] = Report::DEVICES;
         Report {
@@ -89,6 +103,7 @@ impl Report {
                 reported(facts, silences, first),
                 reported(facts, silences, second),
             ],
+            untimely,
             accounts: accounts_of(cells),
         }
     }

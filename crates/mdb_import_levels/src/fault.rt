@@ -29,7 +29,7 @@ impl From<Line> for Wire {
 /// What is wrong with the levels of a line, where nothing damaged is left out.
 #[derive(Clone, Copy, PartialEq, Eq, Debug)]
 pub enum LineFault {
-    /// The line is low at the middle of a stop bit, and it isn't low for 100 milliseconds from the
+    /// The line is low at the middle of a stop bit, and it isn't low for 95 milliseconds from the
     /// start bit on.
     Framing,
     /// A break on the line of the peripherals.
@@ -45,7 +45,7 @@ impl LineFault {
     fn text(self) -> &'static str {
         match self {
             LineFault::Framing => {
-                "wanted a high stop bit, or a break of 100 ms or more, and the stop bit is low; \
+                "wanted a high stop bit, or a break of 95 ms or more, and the stop bit is low; \
                  --skip-damaged leaves out what is damaged"
             }
             LineFault::DeviceBreak => {

@@ -17,8 +17,8 @@ const HALF_BIT: u128 = 156_250_000_000_000_000_000;
 /// The bit of a frame that is its last: the stop bit. The start bit is bit 0.
 const STOP_BIT: u8 = 10;
 
-/// The least length of what is 100 milliseconds in whole microseconds, in parts of an instant.
-const BREAK_LEAST: u128 = 299_998_500_000_000_000_000_000;
+/// The least length of what is 95 milliseconds in whole microseconds, in parts of an instant.
+const BREAK_LEAST: u128 = 284_998_500_000_000_000_000_000;
 
 /// A frame of which the first bits were read, each at its middle.
 #[derive(Clone, Copy)]

@@ -7,6 +7,7 @@ use Rattle.mdb_msgs.specs.declared.command.Device.{Device}
 use Rattle.mdb_bus.specs.declared.scope.Profile.{Profile}
 use Rattle.mdb_bus.specs.declared.scope.Profile.TheVariants.{Base, Extended}
 use Rattle.mdb_bus.specs.declared.scope.Scope.{Scope}
+use Rattle.mdb_bus.specs.declared.untimely.Untimely.{Untimely}
 use Rattle.mdb_bus.specs.Scopes.{profile_of}
 use Rattle.mdb_follow.specs.declared.account.Account.{Account}
 use Rattle.mdb_follow.specs.declared.account_name.TheConstants.AccountName.{ALL}
@@ -15,7 +16,7 @@ use Rattle.mdb_follow.specs.declared.report.TheConstants.Report.{DEVICES}
 use Rattle.mdb_follow.specs.Report.{device_decimals}
 use Rattle.mdb_text.specs.declared.outcome.Outcome.{Outcome}
 use Rattle.mdb_text.specs.declared.outcome.Outcome.TheVariants.{Yes, No}
-use Rattle.mdb_json.specs.Reports.{account_member, accounts_data, device_data, device_member, devices_data, keeps, offence_data, outcome_data, places_data, yes_by}
+use Rattle.mdb_json.specs.Reports.{account_member, accounts_data, device_data, device_member, devices_data, keeps, offence_data, outcome_data, places_data, untimely_data, yes_by}
 use Rattle.mdb_json.proofs.Objects.{one_deeper}
 
 of_places : (places : Option ℕ) → depth (places_data places) ≡ 0
@@ -37,10 +38,15 @@ of_devices : (scope : Scope) (report : Report) → depth (devices_data scope rep
 of_devices scope report =
     one_deeper 4 (device_member scope report) DEVICES (of_device scope report)
 
+of_untimely : (counts : Option Untimely) → depth (untimely_data counts) ≤ 1
+of_untimely (Some counts) = omega arith
+of_untimely None = omega arith
+
 of_yes : (profile : Profile) (scope : Scope) (report : Report)
     → depth (yes_by profile scope report) ≤ max_depth
 of_yes Base scope report = omega (arith, of_devices scope report)
-of_yes Extended scope report = omega (arith, of_devices scope report)
+of_yes Extended scope report =
+    omega (arith, of_devices scope report, of_untimely report.untimely)
 
 pub of_outcome : (scope : Scope) (outcome : Outcome)
     → depth (outcome_data scope outcome) ≤ max_depth

@@ -7,6 +7,7 @@ use Rattle.mdb_msgs.specs.declared.command.Device.{Device}
 use Rattle.mdb_bus.specs.declared.scope.Profile.{Profile}
 use Rattle.mdb_bus.specs.declared.scope.Profile.TheVariants.{Base, Extended}
 use Rattle.mdb_bus.specs.declared.scope.Scope.{Scope}
+use Rattle.mdb_bus.specs.declared.untimely.Untimely.{Untimely}
 use Rattle.mdb_bus.specs.Scopes.{profile_of}
 use Rattle.mdb_follow.specs.declared.account.Account.{Account}
 use Rattle.mdb_follow.specs.declared.account_name.TheConstants.AccountName.{ALL}
@@ -19,7 +20,7 @@ use Rattle.mdb_follow.specs.Report.{device_decimals}
 use Rattle.mdb_follow.specs.AccountNames.{account_in}
 use Rattle.mdb_text.specs.declared.outcome.Outcome.{Outcome}
 use Rattle.mdb_text.specs.declared.outcome.Outcome.TheVariants.{Yes, No}
-use Rattle.mdb_json.specs.Reports.{account_data, account_member, accounts_data, device_data, device_member, devices_data, keeps, outcome_data, places_data, range_data, yes_by, yes_data}
+use Rattle.mdb_json.specs.Reports.{account_data, account_member, accounts_data, device_data, device_member, devices_data, keeps, outcome_data, places_data, range_data, untimely_data, yes_by, yes_data}
 use Rattle.mdb_json.proofs.Objects.{without_float}
 
 no_float : (n : ℤ) → is_float (of_integer n) ≡ false
@@ -54,10 +55,15 @@ of_devices : (scope : Scope) (report : Report) → has_float (devices_data scope
 of_devices scope report =
     without_float (device_member scope report) DEVICES (of_device scope report)
 
+pub of_untimely : (counts : Option Untimely) → has_float (untimely_data counts) ≡ false
+of_untimely (Some counts) = refl
+of_untimely None = refl
+
 of_yes_by : (profile : Profile) (scope : Scope) (report : Report)
     → has_float (yes_by profile scope report) ≡ false
 of_yes_by Base scope report = rw (of_devices scope report) refl
-of_yes_by Extended scope report = rw (of_devices scope report) refl
+of_yes_by Extended scope report =
+    rw (of_untimely report.untimely) (rw (of_devices scope report) refl)
 
 pub of_yes : (scope : Scope) (report : Report) → has_float (yes_data scope report) ≡ false
 of_yes scope report = of_yes_by (profile_of scope.begins) scope report

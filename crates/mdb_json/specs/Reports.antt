@@ -13,6 +13,7 @@ use Rattle.mdb_bus.specs.declared.scope.Beginning.TheVariants.{PowerOn, Joined}
 use Rattle.mdb_bus.specs.declared.scope.Profile.{Profile}
 use Rattle.mdb_bus.specs.declared.scope.Profile.TheVariants.{Base, Extended}
 use Rattle.mdb_bus.specs.declared.scope.Scope.{Scope}
+use Rattle.mdb_bus.specs.declared.untimely.Untimely.{Untimely}
 use Rattle.mdb_bus.specs.Scopes.{profile_of}
 use Rattle.mdb_bus.specs.FaultWords.{blame_word, rule_word}
 use Rattle.mdb_follow.specs.declared.account.Account.{Account}
@@ -111,19 +112,35 @@ abbrev pub is_joined : Beginning → Bool
 is_joined (PowerOn profile) = false
 is_joined (Joined setups profile) = true
 
+-- how many rows of each sender came out of their time; null where they aren't counted
+abbrev pub counts_data : Untimely → Data
+counts_data counts =
+    object (members (
+    (codes "bill", number (unsigned counts.bill))
+    ∷ (codes "cashless", number (unsigned counts.cashless))
+    ∷ (codes "cashless-2", number (unsigned counts.cashless2))
+    ∷ (codes "changer", number (unsigned counts.changer))
+    ∷ (codes "controller", number (unsigned counts.controller)) ∷ []
+    ))
+
+abbrev pub untimely_data : Option Untimely → Data
+untimely_data (Some counts) = counts_data counts
+untimely_data None = null
+
 -- the version of the form, and what a yes has of the profile: nothing by the base profile
 abbrev pub version_of : Profile → ℕ
 version_of Base = 1
-version_of Extended = 2
+version_of Extended = 3
 
-abbrev pub profile_members : Profile → List (List ℕ × Data)
-profile_members Base = []
-profile_members Extended = (codes "extended", boolean true) ∷ []
+abbrev pub profile_members : Profile → Report → List (List ℕ × Data)
+profile_members Base report = []
+profile_members Extended report =
+    (codes "extended", boolean true) ∷ (codes "untimely", untimely_data report.untimely) ∷ []
 
 -- a yes by a profile
 abbrev pub yes_by : Profile → Scope → Report → Data
 yes_by profile scope report =
-    object (members (profile_members profile ++
+    object (members (profile_members profile report ++
     (codes "devices", devices_data scope report)
     ∷ (codes "joined", boolean (is_joined scope.begins))
     ∷ (codes "rows", number (unsigned report.rows))

@@ -10,7 +10,9 @@ mod account;
 mod device;
 mod line;
 mod outcome;
+mod untimely;
 
 pub use account::accounts_of;
 pub use line::line_of;
 pub use outcome::{VERSION, json_of, report_value, version_by};
+pub use untimely::untimely_value;

@@ -9,6 +9,7 @@ ghost use Rattle.mdb_json.specs.Reports.{is_joined, offence_data, outcome_data};
 ghost use Rattle.mdb_json.specs.Reports.{version_of, yes_by, yes_data};
 
 use super::device::devices;
+use super::untimely::untimely_value;
 use mdb_bus::{Beginning, Profile, Scope};
 use mdb_follow::{Offence, Report};
 use mdb_text::Outcome;
@@ -20,7 +21,7 @@ use std::alloc::{AllocError, Global};
 pub const VERSION: u64 = 1;
 
 /// The version of the form by the extended profile.
-const EXTENDED_VERSION: u64 = 2;
+const EXTENDED_VERSION: u64 = 3;
 
 /// The answer to a recording that is taken as `scope` says, as JSON on one line, without the line
 /// feed. It is the text of one value, and reads as that value again.
@@ -85,6 +86,7 @@ fn extended_value(alloc: Global, scope: &Scope, report: &Report) -> Result<Value
         "extended": true,
         "rows": report.rows,
         "joined": joins(&scope.begins),
+        "untimely": untimely_value(alloc, &report.untimely)?,
         "devices": devices(alloc, scope, report)?
     })
 }

@@ -14,10 +14,11 @@ use Rattle.mdb_bus.specs.declared.scope.Beginning.TheVariants.{PowerOn, Joined}
 use Rattle.mdb_bus.specs.Scopes.{profile_of}
 use Rattle.mdb_machine.specs.declared.kept.Part.{Part}
 use Rattle.mdb_machine.specs.declared.past.Effect.{Effect}
+use Rattle.mdb_machine.specs.Enabled.{disables, enabled_of, enables, known_enabled}
 use Rattle.mdb_machine.specs.Kept.{has_reset, kept_of}
 use Rattle.mdb_machine.specs.Keeper.{KnownFacts, Tables, asked_by, effect_of, known_of, parts_by, setup_by}
 use Rattle.mdb_machine.specs.Known.{Known, Unknown, Is, known_before, known_by}
-use Rattle.mdb_machine.specs.Past.{acts_from, effect_by, enables, known_past, last_list, last_told, or_else, powers_on, runs_on, unless_empty}
+use Rattle.mdb_machine.specs.Past.{acts_from, effect_by, known_past, last_list, last_told, or_else, powers_on, runs_on, unless_empty}
 use Rattle.mdb_late_start.specs.MidSession.{IsNothingOr}
 
 -- what one knows, the other knows too
@@ -78,12 +79,11 @@ from_end powers (act ∷ later) front some =
     at_act false any more = ap (λ acts. act ∷ acts) (more any)
 
 -- after a boundary in the end, the device of the whole runs on no longer
-runs_no_more : (begins : Beginning) (effect : Command → Effect) (later front : List Act)
-    → list_any (powers_on effect) later ≡ true → runs_on begins effect (later ++ front) ≡ false
-runs_no_more (PowerOn profile) effect later front some = refl
-runs_no_more (Joined setups profile) effect later front some =
-    ap not (list_any-append (powers_on effect) later front
-    ∙ ap (λ b. b || list_any (powers_on effect) front) some)
+runs_no_more : (begins : Beginning) (ends : Act → Bool) (later front : List Act)
+    → list_any ends later ≡ true → runs_on begins ends (later ++ front) ≡ false
+runs_no_more (PowerOn profile) ends later front some = refl
+runs_no_more (Joined setups profile) ends later front some =
+    ap not (list_any-append ends later front ∙ ap (λ b. b || list_any ends front) some)
 
 -- whatever the first is
 or_true : (b : Bool) → (b || true) ≡ true
@@ -114,19 +114,18 @@ end_owes true true false runs same stops is = let no : true ≡ false = same ref
 end_owes true false end true same stops is = let no : true ≡ false = stops refl in absurd cc
 
 -- a type that is enabled in the whole is enabled in the end
-enabled_end : {M : Type 0} (begins : Beginning) (setups : Setups) (effect : Command → Effect)
-    (parts : Act → List (Part M)) (later front : List Act) (kind : ℕ) → kind < 16
-    → (known_past begins effect parts (later ++ front)).enabled kind ≡ true
-    → (known_past (Joined setups (profile_of begins)) effect parts later).enabled kind ≡ true
-enabled_end begins setups effect parts later front kind few =
-    let powers = powers_on effect in
-    end_enables (list_any powers later)
-    (list_any (λ act. enables kind (effect_by effect act)) (acts_from powers (later ++ front)))
-    (list_any (λ act. enables kind (effect_by effect act)) (acts_from powers later))
-    (runs_on begins effect (later ++ front)) (ltb kind 16)
+enabled_end : (begins : Beginning) (setups : Setups) (effect : Command → Effect)
+    (later front : List Act) (kind : ℕ) → kind < 16
+    → known_enabled begins effect (later ++ front) kind ≡ true
+    → known_enabled (Joined setups (profile_of begins)) effect later kind ≡ true
+enabled_end begins setups effect later front kind few =
+    let profile = profile_of begins in
+    let ends = disables profile effect in
+    end_enables (list_any ends later) (enabled_of profile effect (later ++ front) kind)
+    (enabled_of profile effect later kind) (runs_on begins ends (later ++ front)) (ltb kind 16)
     (λ some. ap (list_any (λ act. enables kind (effect_by effect act)))
-    (from_end powers later front some))
-    (runs_no_more begins effect later front) (lt-ltb kind 16 few)
+    (from_end ends later front some))
+    (runs_no_more begins ends later front) (lt-ltb kind 16 few)
 
 -- where a reset message is owed in the end, it is in the whole
 owed_end : {M : Type 0} (begins : Beginning) (setups : Setups) (effect : Command → Effect)
@@ -138,9 +137,9 @@ owed_end begins setups effect parts later front =
     end_owes (list_any powers later)
     (list_any (λ act. has_reset (parts act)) (acts_from powers (later ++ front)))
     (list_any (λ act. has_reset (parts act)) (acts_from powers later))
-    (runs_on begins effect (later ++ front))
+    (runs_on begins powers (later ++ front))
     (λ some. ap (list_any (λ act. has_reset (parts act))) (from_end powers later front some))
-    (runs_no_more begins effect later front)
+    (runs_no_more begins powers later front)
 
 -- what of a setup table is told in the end, or known in front of it
 setup_end : {X : Type 0} (told elsewhere here : Option X) (setup : X) → IsNothingOr elsewhere here
@@ -157,8 +156,7 @@ pub record IsKnownInEnd {Setup Asked M : Type 0} (whole end : KnownFacts Setup A
   pub asked : Covers end.last_asked whole.last_asked
   pub kept : Covers end.past.last_kept whole.past.last_kept
   pub owed : end.past.reset_owed ≡ true → whole.past.reset_owed ≡ true
-  pub enabled : (kind : ℕ) → kind < 16 → whole.past.enabled kind ≡ true
-      → end.past.enabled kind ≡ true
+  pub enabled : (kind : ℕ) → kind < 16 → whole.enabled kind ≡ true → end.enabled kind ≡ true
 
 -- so it is with what is known of the end of a recording
 pub known_in_end : {Own Setup Asked M : Type 0} (tables : Tables Own Setup Asked M)
@@ -175,7 +173,7 @@ known_in_end {Asked = Asked} tables begins setups later front = record {
       (last_list (parts_by tables) front) _
       (told_over (λ act. unless_empty (kept_of (parts_by tables act))) later front);
   owed = owed_end begins setups (effect_of tables) (parts_by tables) later front;
-  enabled = enabled_end begins setups (effect_of tables) (parts_by tables) later front;
+  enabled = enabled_end begins setups (effect_of tables) later front;
 }
 
 -- how the device is set up by the end, so it is by the whole, where what was told from elsewhere is

@@ -17,8 +17,11 @@ use Rattle.mdb_bus.specs.Acts.{IsBlockWord, IsForeign, IsForeignWord, Say, reply
 use Rattle.mdb_bus.specs.ActLists.{Piece, Whole, AskTail, ReplyTail, RepeatTail, Position, InForeign, ForeignMayCome, IsSaid, MayCome, NotBefore, piece_events}
 use Rattle.mdb_late_start.specs.Cuts.{IsBreakEvent}
 use Rattle.mdb_msgs.proofs.CommandBytes.{begun_low, whole_low}
-use Rattle.mdb_bus.proofs.LeftOutWords.{AreForeignWords, low_words, peripheral_foreign, answer_foreign}
+use Rattle.mdb_bus.proofs.LeftOutWords.{AreForeignWords, low_words, peripheral_foreign, answer_foreign, word_waits}
 use Rattle.mdb_bus.proofs.LeftOutOrder.{block_waits}
+use Rattle.mdb_bus.specs.declared.scope.Profile.{Profile}
+use Rattle.mdb_bus.specs.Scopes.{profile_of}
+use Rattle.mdb_bus.specs.Times.{rest_after}
 
 -- so are those of two lists together
 pub foreign_both : (events others : List Event) → AreForeignWords events → AreForeignWords others
@@ -86,35 +89,37 @@ block_begins (byte ∷ bytes) first others says =
 
 -- How a piece may go on from a cut: all its events but the first are foreign words, and the first
 -- is one, too, or the piece may come in foreign traffic, and begins anew.
-pub record Kind (piece : Piece) (from : Option Event) (first : Event) (others : List Event)
+pub record Kind (profile : Profile) (piece : Piece) (from : Option Event) (first : Event)
+    (others : List Event)
     : Type 0 where
   pub words : AreForeignWords others
-  pub way : (IsForeignWord first × NotBefore WORD_GAP_MIN from first)
-      ⊎ ((IsBlockWord first ⊎ IsBreakEvent first) × MayCome piece InForeign from first)
+  pub way : (IsForeignWord first × NotBefore (rest_after from) from first)
+      ⊎ ((IsBlockWord first ⊎ IsBreakEvent first) × MayCome profile piece InForeign from first)
 
 -- a piece of foreign words goes on as these
-plain : (piece : Piece) (from : Option Event) (first : Event) (others : List Event)
-    → AreForeignWords (first ∷ others) → NotBefore WORD_GAP_MIN from first
-    → Kind piece from first others
-plain piece from first others words late = record {
+plain : (profile : Profile) (piece : Piece) (from : Option Event) (first : Event)
+    (others : List Event) → AreForeignWords (first ∷ others) → NotBefore WORD_GAP_MIN from first
+    → Kind profile piece from first others
+plain profile piece from first others words late = record {
   words = words.1;
-  way = inl (words.0, late);
+  way = inl (words.0, word_waits from first late);
 }
 
 -- a foreign act may come in foreign traffic where it opens a block, and is a foreign word else
-foreign_way : (position : Position) (from : Option Event) (first : Event)
-    → ForeignMayCome position from first
-    → (IsForeignWord first × NotBefore WORD_GAP_MIN from first)
-    ⊎ ((IsBlockWord first ⊎ IsBreakEvent first) × ForeignMayCome InForeign from first)
-foreign_way position from first (inl opens) =
-    inr (inl opens.0, inl (opens.0, block_waits position from first opens.1))
-foreign_way position from first (inr further) = inl (further.0, further.2)
+foreign_way : (profile : Profile) (position : Position) (from : Option Event) (first : Event)
+    → ForeignMayCome profile position from first
+    → (IsForeignWord first × NotBefore (rest_after from) from first)
+    ⊎ ((IsBlockWord first ⊎ IsBreakEvent first) × ForeignMayCome profile InForeign from first)
+foreign_way profile position from first (inl opens) =
+    inr (inl opens.0, inl (opens.0, block_waits profile position from first opens.1))
+foreign_way profile position from first (inr further) = inl (further.0, further.2)
 
 -- each piece is of such a kind
 pub kind_of : (scope : Scope) (piece : Piece) (position : Position) (from : Option Event)
     (first : Event) (others : List Event)
-    → IsSaid scope piece → piece_events piece ≡ first ∷ others → MayCome piece position from first
-    → Kind piece from first others
+    → IsSaid scope piece → piece_events piece ≡ first ∷ others
+    → MayCome (profile_of scope.begins) piece position from first
+    → Kind (profile_of scope.begins) piece from first others
 kind_of scope (Whole (acts.Ask command) events) position from first others said are comes =
     let block = block_of (command_bytes command) in
     record {
@@ -123,38 +128,38 @@ kind_of scope (Whole (acts.Ask command) events) position from first others said 
       way = inr (
         inl (block_begins block first others
             (subst (Say Controller (controller_words block)) are said.1)),
-        block_waits position from first comes,
+        block_waits (profile_of scope.begins) position from first comes,
       );
     }
 kind_of scope (Whole (acts.Ack command) events) position from first others said are comes =
-    plain (Whole (acts.Ack command) events) from first others
+    plain (profile_of scope.begins) (Whole (acts.Ack command) events) from first others
     (subst AreForeignWords are
     (peripheral_foreign (answer_word Peripheral answers.Ack ∷ []) events said)) comes.1.0
 kind_of scope (Whole (acts.Nak command) events) position from first others said are comes =
-    plain (Whole (acts.Nak command) events) from first others
+    plain (profile_of scope.begins) (Whole (acts.Nak command) events) from first others
     (subst AreForeignWords are
     (peripheral_foreign (answer_word Peripheral answers.Nak ∷ []) events said)) comes.1.0
 kind_of scope (Whole (acts.Reply command reply) events) position from first others said are comes =
-    plain (Whole (acts.Reply command reply) events) from first others
+    plain (profile_of scope.begins) (Whole (acts.Reply command reply) events) from first others
     (subst AreForeignWords are (peripheral_foreign (reply_words reply) events said.1)) comes.1.0
 kind_of scope (Whole (acts.VmcAck command reply) events) position from first others said are comes =
-    plain (Whole (acts.VmcAck command reply) events) from first others
+    plain (profile_of scope.begins) (Whole (acts.VmcAck command reply) events) from first others
     (subst AreForeignWords are
     (answer_foreign (answer_word Controller answers.Ack) events (omega arith) said)) comes.1.0
 kind_of scope (Whole (acts.VmcNak command reply) events) position from first others said are comes =
-    plain (Whole (acts.VmcNak command reply) events) from first others
+    plain (profile_of scope.begins) (Whole (acts.VmcNak command reply) events) from first others
     (subst AreForeignWords are
     (answer_foreign (answer_word Controller answers.Nak) events (omega arith) said)) comes.1.0
 kind_of scope (Whole (acts.VmcRet command reply) events) position from first others said are comes =
-    plain (Whole (acts.VmcRet command reply) events) from first others
+    plain (profile_of scope.begins) (Whole (acts.VmcRet command reply) events) from first others
     (subst AreForeignWords are
     (answer_foreign (answer_word Controller answers.Ret) events (omega arith) said)) comes.1.0
 kind_of scope (Whole (acts.Repeat command reply) events) position from first others said are comes =
-    plain (Whole (acts.Repeat command reply) events) from first others
+    plain (profile_of scope.begins) (Whole (acts.Repeat command reply) events) from first others
     (subst AreForeignWords are (peripheral_foreign (reply_words reply) events said)) comes.1.0
 kind_of scope (Whole acts.Foreign events) position from first others said are comes = record {
   words = foreign_others scope first others (subst (IsForeign scope) are said);
-  way = foreign_way position from first comes;
+  way = foreign_way (profile_of scope.begins) position from first comes;
 }
 kind_of scope (Whole (acts.Break length) events) position from first others said are comes =
     let is : first ∷ others ≡ Break said.0 length ∷ [] = sym are ∙ said.1 in
@@ -173,12 +178,12 @@ kind_of scope (AskTail bytes events) position from first others said are comes =
       way = inr (
         inl (block_begins bytes first others
             (subst (Say Controller (controller_words bytes)) are said.1)),
-        block_waits position from first comes,
+        block_waits (profile_of scope.begins) position from first comes,
       );
     }
 kind_of scope (ReplyTail command bytes events) position from first others said are comes =
-    plain (ReplyTail command bytes events) from first others
+    plain (profile_of scope.begins) (ReplyTail command bytes events) from first others
     (subst AreForeignWords are (peripheral_foreign bytes events said.1)) comes.1.0
 kind_of scope (RepeatTail command reply words events) position from first others said are comes =
-    plain (RepeatTail command reply words events) from first others
+    plain (profile_of scope.begins) (RepeatTail command reply words events) from first others
     (subst AreForeignWords are (peripheral_foreign words events said.1)) comes.1.0

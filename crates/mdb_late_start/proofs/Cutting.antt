@@ -1,11 +1,10 @@
 -- The end of a transcript has an act list of its own, as a recording that begins in mid-session:
 -- the pieces that begin in it stand there as they stood, and what is left of the others stands as
 -- foreign words.
-use Rattle.std.proofs.Common.{ap, refl, sym, subst, ◌∙◌, ◌≡◌, ◌≢◌, ◌++◌, ◌⊎◌, arith, inl, inr, List, [], ◌∷◌, All, Option, Some, None, append_assoc}
+use Rattle.std.proofs.Common.{ap, refl, sym, subst, ◌∙◌, ◌≡◌, ◌≢◌, ◌++◌, ◌⊎◌, arith, inl, inr, List, [], ◌∷◌, All, Option, Some, None, append_assoc, ℕ}
 use Rattle.std.proofs.lemmas.List.{append-nil}
 use Rattle.std.specs.List.{AllByRecursion}
 use Rattle.std.proofs.lemmas.List.Elements.{All-from_recursion}
-use Rattle.mdb_words.specs.declared.limits.TheConstants.{WORD_GAP_MIN}
 use Rattle.mdb_words.specs.declared.event.Event.{Event}
 use Rattle.mdb_words.specs.declared.event.Event.TheVariants.{Word, Break}
 use Rattle.mdb_words.specs.declared.word.Line.TheVariants.{Controller, Peripheral}
@@ -14,7 +13,7 @@ use Rattle.mdb_bus.specs.declared.act.Act.TheVariants as acts
 use Rattle.mdb_bus.specs.declared.scope.Beginning.TheVariants.{Joined}
 use Rattle.mdb_bus.specs.declared.scope.Scope.{Scope}
 use Rattle.mdb_bus.specs.Acts.{IsBlockWord, IsForeignWord}
-use Rattle.mdb_bus.specs.ActLists.{Piece, Whole, AskTail, ReplyTail, RepeatTail, Position, Quiet, InAsk, Asked, InReply, Replied, Returned, InRepeat, InForeign, ArePieces, AreSpaced, BlockMayCome, ForeignMayCome, IsActList, IsPiece, MayCome, MayStand, NotBefore, PieceFits, events_of, last_of, left_by, levels_of, piece_events, position_of}
+use Rattle.mdb_bus.specs.ActLists.{Piece, Whole, AskTail, Position, InAsk, InReply, InRepeat, InForeign, ArePieces, AreSpaced, BlockMayCome, ForeignMayCome, IsActList, IsPiece, MayCome, MayStand, NotBefore, PieceFits, events_of, last_of, left_by, levels_of, piece_events, position_of, NotPast}
 use Rattle.mdb_bus.specs.LeavingOut.{with_foreign}
 use Rattle.mdb_bus.specs.Scopes.{levels_before, no_levels, profile_of}
 use Rattle.mdb_late_start.specs.Cuts.{BeginAnew, IsBreakEvent, joined_with}
@@ -24,7 +23,9 @@ use Rattle.mdb_late_start.proofs.CutWords.{Kind, foreign_both, foreign_end, kind
 use Rattle.mdb_late_start.proofs.Said.{said_stays}
 use Rattle.mdb_bus.proofs.Lists.{last_push}
 use Rattle.mdb_bus.proofs.LeftOutOrder.{foreign_rows}
-use Rattle.mdb_bus.proofs.LeftOutWords.{AreForeignWords}
+use Rattle.mdb_bus.proofs.LeftOutWords.{AreForeignWords, word_waits}
+use Rattle.mdb_bus.specs.Times.{answer_most, rest_after}
+use Rattle.mdb_bus.specs.declared.scope.Profile.{Profile}
 
 -- A list of two parts is divided at another place: in the first part, or after an element of the
 -- second.
@@ -67,72 +68,67 @@ last_in_end (x ∷ []) (e ∷ end) = none_or_same (last_of (e ∷ end)) (last_of
 last_in_end (x ∷ y ∷ front) end = last_in_end (y ∷ front) end
 
 -- where no row stands before it, a block that may come may come all the more
-block_first : (position : Position) (from : Option Event) (to : Event)
-    → BlockMayCome position from to → BlockMayCome position None to
-block_first Quiet from to comes = tt
-block_first (InAsk bytes) from to comes = comes
-block_first (Asked command) from to comes = tt
-block_first (InReply command bytes) from to comes = comes
-block_first (Replied command reply) from to comes = tt
-block_first (Returned command reply) from to comes = tt
-block_first (InRepeat command reply words) from to comes = comes
-block_first InForeign from to comes = tt
+block_first : (profile : Profile) (position : Position) (from : Option Event) (to : Event)
+    → BlockMayCome profile position from to → BlockMayCome profile position None to
+block_first profile (InAsk bytes) from to comes = comes
+block_first profile (InReply command bytes) from to comes = comes
+block_first profile (InRepeat command reply words) from to comes = comes
+block_first profile position from to comes = tt
+
+-- a word in time is in time where none stands before it
+none_late : (most : Option ℕ) (to : Event) → NotPast most None to
+none_late None to = tt
+none_late (Some most) to = tt
 
 -- so may a foreign act
-foreign_first : (position : Position) (from : Option Event) (to : Event)
-    → ForeignMayCome position from to → ForeignMayCome position None to
-foreign_first position from to (inl opens) =
-    inl (opens.0, block_first position from to opens.1)
-foreign_first position from to (inr further) = inr (further.0, further.1, tt)
+foreign_first : (profile : Profile) (position : Position) (from : Option Event) (to : Event)
+    → ForeignMayCome profile position from to → ForeignMayCome profile position None to
+foreign_first profile position from to (inl opens) =
+    inl (opens.0, block_first profile position from to opens.1)
+foreign_first profile position from to (inr further) = inr (further.0, further.1, tt)
 
 -- and each piece
-comes_first : (piece : Piece) (position : Position) (from : Option Event) (to : Event)
-    → MayCome piece position from to → MayCome piece position None to
-comes_first (Whole (acts.Ask command) events) position from to comes =
-    block_first position from to comes
-comes_first (Whole (acts.Ack command) events) position from to comes = (comes.0, (tt, tt))
-comes_first (Whole (acts.Nak command) events) position from to comes = (comes.0, (tt, tt))
-comes_first (Whole (acts.Reply command reply) events) position from to comes =
-    (comes.0, (tt, tt))
-comes_first (Whole (acts.VmcAck command reply) events) position from to comes =
-    (comes.0, (tt, tt))
-comes_first (Whole (acts.VmcNak command reply) events) position from to comes =
-    (comes.0, (tt, tt))
-comes_first (Whole (acts.VmcRet command reply) events) position from to comes =
-    (comes.0, (tt, tt))
-comes_first (Whole (acts.Repeat command reply) events) position from to comes =
-    (comes.0, (tt, tt))
-comes_first (Whole acts.Foreign events) position from to comes =
-    foreign_first position from to comes
-comes_first (Whole (acts.Break length) events) position from to comes = tt
-comes_first (AskTail bytes events) position from to comes = block_first position from to comes
-comes_first (ReplyTail command bytes events) position from to comes = (comes.0, (tt, tt))
-comes_first (RepeatTail command reply words events) position from to comes = (comes.0, (tt, tt))
+comes_first : (profile : Profile) (piece : Piece) (position : Position) (from : Option Event)
+    (to : Event) → MayCome profile piece position from to → MayCome profile piece position None to
+comes_first profile (Whole (acts.Ask command) events) position from to comes =
+    block_first profile position from to comes
+comes_first profile (Whole acts.Foreign events) position from to comes =
+    foreign_first profile position from to comes
+comes_first profile (Whole (acts.Break length) events) position from to comes = tt
+comes_first profile (Whole act events) position from to comes =
+    (comes.0, (tt, none_late (answer_most profile) to))
+comes_first profile (AskTail bytes events) position from to comes =
+    block_first profile position from to comes
+comes_first profile piece position from to comes =
+    (comes.0, (tt, none_late (answer_most profile) to))
 
 -- so it may come after no row, or the same
-comes_after : (piece : Piece) (position : Position) (here there : Option Event) (to : Event)
-    → IsNothingOr here there → MayCome piece position there to → MayCome piece position here to
-comes_after piece position None there to less comes = comes_first piece position there to comes
-comes_after piece position (Some here) there to less comes =
-    subst (λ (from : Option Event). MayCome piece position from to) less comes
+comes_after : (profile : Profile) (piece : Piece) (position : Position) (here there : Option Event)
+    (to : Event) → IsNothingOr here there → MayCome profile piece position there to
+    → MayCome profile piece position here to
+comes_after profile piece position None there to less comes =
+    comes_first profile piece position there to comes
+comes_after profile piece position (Some here) there to less comes =
+    subst (λ (from : Option Event). MayCome profile piece position from to) less comes
 
 -- and a word in time is in time after no row, or the same
 late_after : (here there : Option Event) (to : Event) → IsNothingOr here there
-    → NotBefore WORD_GAP_MIN there to → NotBefore WORD_GAP_MIN here to
+    → NotBefore (rest_after there) there to → NotBefore (rest_after here) here to
 late_after None there to less late = tt
 late_after (Some here) there to less late =
-    subst (λ (from : Option Event). NotBefore WORD_GAP_MIN from to) less late
+    subst (λ (from : Option Event). NotBefore (rest_after from) from to) less late
 
--- each row comes a word's length after the one before it
+-- each row rests after the one before it
 abbrev AreLate : Option Event → List Event → Type 0
 AreLate from [] = Unit {0}
-AreLate from (event ∷ events) = NotBefore WORD_GAP_MIN from event × AreLate (Some event) events
+AreLate from (event ∷ events) = NotBefore (rest_after from) from event × AreLate (Some event) events
 
 -- the events of a piece do
-late_others : (first : Event) (others : List Event) → AreSpaced (first ∷ others)
-    → AreLate (Some first) others
-late_others first [] spaced = tt
-late_others first (next ∷ others) spaced = (spaced.0, late_others next others spaced.2)
+late_others : (profile : Profile) (first : Event) (others : List Event)
+    → AreSpaced profile (first ∷ others) → AreLate (Some first) others
+late_others profile first [] spaced = tt
+late_others profile first (next ∷ others) spaced =
+    (word_waits (Some first) next spaced.0.0, late_others profile next others spaced.1)
 
 -- and so do those of an end
 late_end : (from : Option Event) (front end : List Event) → AreLate from (front ++ end)
@@ -205,7 +201,8 @@ alone later words = later ++ with_foreign words []
 -- a piece may come after pieces of the end
 abbrev pub ComesAlone : Scope → Setups → List Piece → Piece → Event → Type 0
 ComesAlone scope setups pieces piece first =
-    MayCome piece (position_of (joined_with setups scope) pieces) (last_of (events_of pieces)) first
+    MayCome (profile_of scope.begins) piece (position_of (joined_with setups scope) pieces)
+    (last_of (events_of pieces)) first
 
 -- what it says of levels fits there
 abbrev pub FitsAlone : Scope → Setups → List Piece → Piece → Type 0
@@ -347,14 +344,16 @@ stands_first : (scope : Scope) (setups : Setups) (front middle end : List Event)
     → end ≡ middle ++ piece_events piece → (cut : Cutting scope setups front middle pieces)
     → cut.later ≡ [] → AreForeignWords others
     → IsNothingOr (last_of middle) (last_of (events_of pieces))
-    → (IsForeignWord first × NotBefore WORD_GAP_MIN (last_of (events_of pieces)) first)
+    → (IsForeignWord first
+    × NotBefore (rest_after (last_of (events_of pieces))) (last_of (events_of pieces)) first)
     → Cutting scope setups front end (piece ∷ pieces)
 stands_first scope setups front middle end piece pieces are first others begins ends cut none words
     less way =
     stands_as_words scope setups front middle end piece pieces are first others begins ends cut none
     (way.0, words) (
       late_after (last_of middle) (last_of (events_of pieces)) first less way.1,
-      late_others first others (subst AreSpaced begins are.0.spaced),
+      late_others (profile_of scope.begins) first others
+          (subst (AreSpaced (profile_of scope.begins)) begins are.0.spaced),
     )
 
 -- a piece in the end
@@ -373,7 +372,8 @@ stands_in_end scope setups front middle end piece pieces are rows ends cut fits 
     let there : position_of new (alone cut.later cut.words) ≡ left_by top =
     ap (λ ps. position_of new (alone ps cut.words)) is in
     let At : Position → Type 0 =
-    λ position. MayCome piece position (last_of (events_of (alone cut.later cut.words)))
+    λ position. MayCome (profile_of scope.begins) piece position
+    (last_of (events_of (alone cut.later cut.words)))
     stands.first in
     let Stand : List Piece → Type 0 = λ ps. ArePieces new (alone ps cut.words) in
     let Anew : List Piece → Type 0 = λ ps. AreNoneOrBeginAnew (events_of ps) in
@@ -381,7 +381,7 @@ stands_in_end scope setups front middle end piece pieces are rows ends cut fits 
     λ ps. AreNoneOrBeginAnew (events_of ps ++ piece_events piece) in
     let comes : ComesAlone scope setups (alone cut.later cut.words) piece stands.first =
     subst At (here ∙ sym there)
-    (comes_after piece (position_of scope pieces)
+    (comes_after (profile_of scope.begins) piece (position_of scope pieces)
     (last_of (events_of (alone cut.later cut.words))) (last_of (events_of pieces))
     stands.first (last_before scope setups front middle pieces rows cut) stands.comes) in
     let anew : AreNoneOrBeginAnew (events_of cut.later ++ piece_events piece) =
@@ -396,14 +396,16 @@ stands_in_end scope setups front middle end piece pieces are rows ends cut fits 
 stands_in_end scope setups front middle end piece pieces are rows ends cut fits [] none =
     let new = joined_with setups scope in
     let stands = are.1 in
-    let kind : Kind piece (last_of (events_of pieces)) stands.first stands.others =
+    let kind : Kind (profile_of scope.begins) piece (last_of (events_of pieces)) stands.first
+    stands.others =
     kind_of scope piece (position_of scope pieces) (last_of (events_of pieces)) stands.first
     stands.others are.0.said stands.begins stands.comes in
     let there : position_of new (alone cut.later cut.words) ≡ InForeign =
     ap (λ ps. position_of new (alone ps cut.words)) none
     ∙ foreign_position new cut.words [] refl in
     let At : Position → Type 0 =
-    λ position. MayCome piece position (last_of (events_of (alone cut.later cut.words)))
+    λ position. MayCome (profile_of scope.begins) piece position
+    (last_of (events_of (alone cut.later cut.words)))
     stands.first in
     let less = last_before scope setups front middle pieces rows cut in
     let Less : List Event → Type 0 =
@@ -416,7 +418,8 @@ stands_in_end scope setups front middle end piece pieces are rows ends cut fits 
       | inr way ↦
           let comes : ComesAlone scope setups (alone cut.later cut.words) piece stands.first =
           subst At (sym there)
-          (comes_after piece InForeign (last_of (events_of (alone cut.later cut.words)))
+          (comes_after (profile_of scope.begins) piece InForeign
+          (last_of (events_of (alone cut.later cut.words)))
           (last_of (events_of pieces)) stands.first less way.1) in
           stands_on scope setups front middle end piece pieces are.0 stands ends cut comes
           (fits comes)
@@ -434,13 +437,15 @@ cut_inside scope setups front end piece pieces are whole event middle is =
     let stands = are.1 in
     let both : stands.first ∷ stands.others ≡ event ∷ (middle ++ end) = sym stands.begins ∙ is in
     let rest : stands.others ≡ middle ++ end = cc in
-    let kind : Kind piece (last_of (events_of pieces)) stands.first stands.others =
+    let kind : Kind (profile_of scope.begins) piece (last_of (events_of pieces)) stands.first
+    stands.others =
     kind_of scope piece (position_of scope pieces) (last_of (events_of pieces)) stands.first
     stands.others are.0.said stands.begins stands.comes in
     let words : AreForeignWords end =
     foreign_end middle end (subst AreForeignWords rest kind.words) in
     let late : AreLate (Some stands.first) stands.others =
-    late_others stands.first stands.others (subst AreSpaced stands.begins are.0.spaced) in
+    late_others (profile_of scope.begins) stands.first stands.others
+    (subst (AreSpaced (profile_of scope.begins)) stands.begins are.0.spaced) in
     record {
       later = [];
       words = end;
@@ -564,7 +569,8 @@ pass_on scope front end piece pieces are anew earlier (inr (event, middle, rows,
     let stands = are.1 in
     let both : stands.first ∷ stands.others ≡ event ∷ (middle ++ end) = sym stands.begins ∙ ends in
     let rest : stands.others ≡ middle ++ end = cc in
-    let kind : Kind piece (last_of (events_of pieces)) stands.first stands.others =
+    let kind : Kind (profile_of scope.begins) piece (last_of (events_of pieces)) stands.first
+    stands.others =
     kind_of scope piece (position_of scope pieces) (last_of (events_of pieces)) stands.first
     stands.others are.0.said stands.begins stands.comes in
     absurd (goes_on middle end (subst AreForeignWords rest kind.words) anew)

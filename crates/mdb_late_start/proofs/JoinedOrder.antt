@@ -16,7 +16,7 @@ use Rattle.mdb_bus.specs.declared.scope.Scope.{Scope}
 use Rattle.mdb_bus.specs.Acts.{IsBlockWord, IsForeignWord, Say}
 use Rattle.mdb_bus.specs.ActLists.{Piece, Whole, AskTail, ReplyTail, RepeatTail, Position, Quiet, InForeign, ArePieces, IsActList, IsSaid, MayCome, events_of, first_position, piece_events}
 use Rattle.mdb_bus.specs.LeavingOut.{with_foreign}
-use Rattle.mdb_bus.specs.Scopes.{from_power_on, joined_by}
+use Rattle.mdb_bus.specs.Scopes.{from_power_on, joined_by, profile_of}
 use Rattle.mdb_late_start.specs.Alone.{MayBeReadAlone}
 use Rattle.mdb_late_start.specs.Cuts.{BeginAnew, IsBreakEvent}
 use Rattle.mdb_late_start.specs.inner.Splits.{MayBeLinkedAlone, Splits}
@@ -27,7 +27,8 @@ use Rattle.mdb_late_start.proofs.KnownLevels.{may_be_linked}
 -- a piece that may come where nothing is open, and no row stands before it, begins anew
 first_anew : (scope : Scope) (piece : Piece) (position : Position) (first : Event)
     (others : List Event) → IsSaid scope piece → piece_events piece ≡ first ∷ others
-    → position ≡ Quiet → MayCome piece position None first → IsBlockWord first ⊎ IsBreakEvent first
+    → position ≡ Quiet → MayCome (profile_of scope.begins) piece position None first
+    → IsBlockWord first ⊎ IsBreakEvent first
 first_anew scope (Whole (acts.Ask command) events) position first others said are quiet comes =
     let block = block_of (command_bytes command) in
     inl (block_begins block first others (subst (Say Controller (controller_words block)) are

@@ -38,11 +38,8 @@ abbrev pub in_end : {Setup Asked M : Type 0} → KnownFacts Setup Asked M → Fa
 in_end known facts = record {
   setup = known.setup;
   last_asked = facts.last_asked;
-  past = record {
-    enabled = known.past.enabled;
-    reset_owed = known.past.reset_owed;
-    last_kept = facts.past.last_kept;
-  };
+  enabled = known.enabled;
+  past = record { reset_owed = known.past.reset_owed; last_kept = facts.past.last_kept };
 }
 
 -- a step with some gains, the same as these where that holds
@@ -54,8 +51,8 @@ pub record AlsoSteps (Step : Gains → Type 0) (Same : Type 0) (gains : Gains) :
 -- Each type that is enabled by the facts is in the end, too.
 abbrev pub IsEnabledIn : {Setup Asked M : Type 0} → KnownFacts Setup Asked M
     → Facts Setup Asked M → Type 0
-IsEnabledIn known facts = (kind : ℕ) → kind < 16 → facts.past.enabled kind ≡ true
-    → known.past.enabled kind ≡ true
+IsEnabledIn known facts = (kind : ℕ) → kind < 16 → facts.enabled kind ≡ true
+    → known.enabled kind ≡ true
 
 -- What is so of the conduct of a device, where its kept messages are of some form (`Fits`): what it
 -- does may be done with the facts of the end, for the same gains where no money is asked for or
@@ -440,7 +437,7 @@ step_in_end {Setup = Setup} tables conduct Fits steady begins setups later front
     let past = step.allowed.past in
     let also = keeper_in_end tables conduct Fits steady end facts act choice before after gains
     names
-    (λ kind few is. knows.enabled kind few (sym (ap (λ e. e kind) past.enabled) ∙ is))
+    (λ kind few is. knows.enabled kind few (sym (ap (λ e. e kind) step.allowed.enabled) ∙ is))
     (λ is. past.reset_owed ∙ knows.owed is) step.step in
     record {
       other = also.other;
@@ -450,8 +447,8 @@ step_in_end {Setup = Setup} tables conduct Fits steady begins setups later front
           setup = refl;
           last_asked = allowed_end end.last_asked whole.last_asked facts.last_asked knows.asked
               step.allowed.last_asked;
+          enabled = refl;
           past = record {
-            enabled = refl;
             reset_owed = refl;
             last_kept = kept_end end.past.last_kept whole.past.last_kept (conduct.holds before)
                 facts.past.last_kept knows.kept told past.last_kept;

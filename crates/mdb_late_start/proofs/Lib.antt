@@ -15,7 +15,6 @@ pub mod Keepers
 pub mod KnownLevels
 pub mod LessTold
 pub mod Middles
-pub mod NoOptions
 pub mod Onward
 pub mod OpenEnds
 pub mod OpenFaults
@@ -25,8 +24,6 @@ pub mod ReaderOtherwise
 pub mod ReaderPrices
 pub mod Readers
 pub mod Said
-pub mod SameReports
-pub mod SameWays
 pub mod ToldCuts
 pub mod Truth
 pub mod Validator

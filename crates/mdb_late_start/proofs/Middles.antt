@@ -72,7 +72,8 @@ begins_marked (byte ∷ bytes) first others says low =
 -- a piece that begins with a foreign word in foreign traffic is a foreign act
 one_foreign : (scope : Scope) (piece : Piece) (position : Position) (from : Option Event)
     (first : Event) (others : List Event) → IsSaid scope piece
-    → piece_events piece ≡ first ∷ others → MayCome piece position from first
+    → piece_events piece ≡ first ∷ others
+    → MayCome (profile_of scope.begins) piece position from first
     → position ≡ InForeign → IsForeignWord first → (pieces : List Piece) → AreForeign pieces
     → AreForeign (piece ∷ pieces)
 one_foreign scope (Whole (acts.Ask command) events) position from first others said are comes here

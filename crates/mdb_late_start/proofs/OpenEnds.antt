@@ -221,8 +221,10 @@ pub record Tail (scope : Scope) (pieces : List Piece) (command : Command) (reply
 pub reply_tail : (scope : Scope) (pieces : List Piece) → ArePieces scope pieces
     → (command : Command) (reply : Reply) (front : List Event) (row : Event) (first : Event)
     (others : List Event) → front ++ row ∷ [] ≡ first ∷ others → IsReply command reply
-    → Say Peripheral (reply_words reply) (front ++ row ∷ []) → AreSpaced (front ++ row ∷ [])
-    → AnswerMayCome command (position_of scope pieces) (last_of (events_of pieces)) first
+    → Say Peripheral (reply_words reply) (front ++ row ∷ [])
+    → AreSpaced (profile_of scope.begins) (front ++ row ∷ [])
+    → AnswerMayCome (profile_of scope.begins) command (position_of scope pieces)
+    (last_of (events_of pieces)) first
     → Tail scope pieces command reply front row
 reply_tail scope pieces are command reply front row first others begins is says spaced comes =
     let bytes = reply_bytes reply in
@@ -241,7 +243,7 @@ reply_tail scope pieces are command reply front row first others begins is says 
       say_length Peripheral last.0 front last.3,
       ap length none,
     ) in
-    let gaps = inside (events_of pieces) front row some spaced in
+    let gaps = inside (profile_of scope.begins) (events_of pieces) front row some spaced in
     let kept = first_stays front row first others some begins in
     let begun : IsReplyFront command bytes = record {
       allowed = subst May (sym is.answers.answer.form) refl;
@@ -269,8 +271,10 @@ reply_tail scope pieces are command reply front row first others begins is says 
 found_at : LinkLaws → (scope : Scope) (pieces : List Piece) → ArePieces scope pieces
     → (command : Command) (reply : Reply) (front : List Event) (row : Event) (first : Event)
     (others : List Event) → front ++ row ∷ [] ≡ first ∷ others → IsReply command reply
-    → Say Peripheral (reply_words reply) (front ++ row ∷ []) → AreSpaced (front ++ row ∷ [])
-    → AnswerMayCome command (position_of scope pieces) (last_of (events_of pieces)) first
+    → Say Peripheral (reply_words reply) (front ++ row ∷ [])
+    → AreSpaced (profile_of scope.begins) (front ++ row ∷ [])
+    → AnswerMayCome (profile_of scope.begins) command (position_of scope pieces)
+    (last_of (events_of pieces)) first
     → HasActList scope (events_of pieces ++ (front ++ row ∷ []))
     → Found scope pieces command reply
 found_at laws scope pieces are command reply front row first others begins is says spaced comes
@@ -291,8 +295,9 @@ found_at laws scope pieces are command reply front row first others begins is sa
 found_there : LinkLaws → (scope : Scope) (pieces : List Piece) → ArePieces scope pieces
     → (command : Command) (reply : Reply) (events : List Event) (first : Event)
     (others : List Event) → events ≡ first ∷ others → IsReply command reply
-    → Say Peripheral (reply_words reply) events → AreSpaced events
-    → AnswerMayCome command (position_of scope pieces) (last_of (events_of pieces)) first
+    → Say Peripheral (reply_words reply) events → AreSpaced (profile_of scope.begins) events
+    → AnswerMayCome (profile_of scope.begins) command (position_of scope pieces)
+    (last_of (events_of pieces)) first
     → HasActList scope (events_of pieces ++ events) → Found scope pieces command reply
 found_there laws scope pieces are command reply events first others begins is says spaced comes
     has =
@@ -301,7 +306,8 @@ found_there laws scope pieces are command reply events first others begins is sa
     let Says : List Event → Type 0 = λ es. Say Peripheral (reply_words reply) es in
     let Has : List Event → Type 0 = λ es. HasActList scope (events_of pieces ++ es) in
     found_at laws scope pieces are command reply split.0 split.1 first others
-    (sym split.2 ∙ begins) is (subst Says split.2 says) (subst AreSpaced split.2 spaced) comes
+    (sym split.2 ∙ begins) is (subst Says split.2 says)
+    (subst (AreSpaced (profile_of scope.begins)) split.2 spaced) comes
     (subst Has split.2 has)
 
 -- ---- the pieces of the end

@@ -1,6 +1,6 @@
 -- Where the end of a transcript has no act list by itself, by the extended profile, its first fault
 -- on the link is that a reply is left out: one that open doesn't read.
-use Rattle.std.proofs.Common.{ap, refl, sym, subst, ◌∙◌, ◌≡◌, ◌≢◌, ◌++◌, ◌⊎◌, inl, inr, ℕ, List, [], ◌∷◌, Some, append_assoc}
+use Rattle.std.proofs.Common.{ap, refl, sym, subst, ◌∙◌, ◌≡◌, ◌≢◌, ◌++◌, ◌⊎◌, inl, inr, ℕ, Bool, true, false, List, [], ◌∷◌, Some, append_assoc}
 use Rattle.std.proofs.lemmas.List.{append-nil, same_from_push}
 use Rattle.mdb_words.specs.declared.event.Event.{Event}
 use Rattle.mdb_words.specs.declared.event.Event.TheVariants.{Word, Break}
@@ -25,10 +25,9 @@ use Rattle.mdb_bus.specs.declared.scope.Profile.TheVariants.{Base, Extended}
 use Rattle.mdb_bus.specs.declared.scope.Scope.{Scope}
 use Rattle.mdb_bus.specs.ActLists.{ArePieces, HasActList, InReply, IsActList, Piece, ReplyFits, ReplyTail, Whole, events_of, last_of, levels_of, position_of}
 use Rattle.mdb_bus.specs.Formats.{HasFault, IsReadAs, format_by, format_for}
-use Rattle.mdb_bus.specs.LinkFaults.{HasBadMessage, IsLinkFault, OutOfOrder, RowBreaks, TooEarly, TooFarApart, TooLate, WrongAnswer, WrongSpeaker, WrongSum, situation_of}
+use Rattle.mdb_bus.specs.LinkFaults.{HasBadMessage, IsLinkFault, OutOfOrder, RowBreaks, TooEarly, TooFarApart, TooLate, WrongAnswer, WrongSpeaker, WrongSum, situation_of, asked_device, blame_of, fault_of}
 use Rattle.mdb_bus.specs.OpenReplies.{OpenLeavesOut}
 use Rattle.mdb_bus.specs.Scopes.{levels_before, profile_of}
-use Rattle.mdb_bus.specs.WideMoney.{counted_as, wide_of}
 use Rattle.mdb_late_start.specs.Alone.{TellsLevelsOfFront}
 use Rattle.mdb_late_start.specs.Cuts.{joined_with}
 use Rattle.mdb_late_start.specs.inner.Splits.{IsLessKnown, KnowsLevelsOfFront, Splits}
@@ -37,6 +36,7 @@ use Rattle.mdb_late_start.proofs.KnownLevels.{knows_too}
 use Rattle.mdb_late_start.proofs.LessTold.{by_profile}
 use Rattle.mdb_late_start.proofs.OpenEnds.{LinkLaws, Tail, fit_by_base, format_alone, known_in_reply, not_base, reply_fits_there, reply_tail}
 use Rattle.mdb_bus.proofs.Lists.{front_and_last, last_push}
+use Rattle.mdb_bus.specs.Haste.{counted_in, haste_of}
 
 -- what mdb_bus says of faults
 pub record FaultLaws : Type 0 where
@@ -174,11 +174,14 @@ breaks_there laws scope setups extended here there command reply front row some 
         subst (λ from. WrongSpeaker (InReply command bytes) from row) last breaks
     by_rule rule.Mode other breaks = breaks
     by_rule rule.Early other breaks =
-        subst (λ from. TooEarly (InReply command bytes) from row) last breaks
+        subst (λ from. TooEarly (profile_of scope.begins) (InReply command bytes) from row) last
+        breaks
     by_rule rule.Late other breaks =
-        subst (λ from. TooLate (InReply command bytes) from row) last breaks
+        subst (λ from. TooLate (profile_of scope.begins) (InReply command bytes) from row) last
+        breaks
     by_rule rule.Spacing other breaks =
-        subst (λ from. TooFarApart (InReply command bytes) from row) last breaks
+        subst (λ from. TooFarApart (profile_of scope.begins) (InReply command bytes) from row) last
+        breaks
     by_rule rule.Length other breaks = breaks
     by_rule rule.Sum other breaks =
         sum_there (joined_with setups scope) scope command bytes row breaks
@@ -338,6 +341,14 @@ first_rows scope setups front end more tells words rest before parts foreign ane
     (ap (λ rows. rows ++ more) parts ∙ append_assoc words rest more) foreign
     (anew_still rest more anew) list
 
+-- haste excuses nothing that isn't followed
+still_left_out : (haste : Bool) (row : Event) (blamed : Blame)
+    → (counted_in haste row (record { rule = rule.Profile; blame = blamed })).rule ≡ rule.Profile
+still_left_out false row blamed = refl
+still_left_out true (Word at Peripheral word) blamed = refl
+still_left_out true (Word at Controller word) blamed = refl
+still_left_out true (Break at length) blamed = refl
+
 -- and so is the rule of its fault
 fault_left_out : LinkLaws → FaultLaws → (scope : Scope) (setups : Setups)
     (front rows : List Event) (row : Event) (here : List Piece) (broken : Rule) (blamed : Blame)
@@ -350,7 +361,9 @@ fault_left_out laws faults scope setups front rows row here broken blamed has kn
     let first : fault.first ≡ rule.Profile =
     only_left_out laws faults scope setups front rows row has knows here list fault.first
     fault.rule.breaks in
-    fault.counts ∙ ap (λ r. counted_as r (position_of new here) (wide_of new here)) first
+    fault.counts ∙ (ap (λ r. (fault_of new here row r).rule) first
+    ∙ still_left_out (haste_of new here) row
+    (blame_of (position_of new here) (asked_device here) row rule.Profile))
 
 -- so it is of rows that go on
 pub left_out_alone : LinkLaws → FaultLaws → (scope : Scope) (setups : Setups)

@@ -43,11 +43,7 @@ otherwise facts known = record {
   refused = is_refused known.extended;
   always_idle = facts.always_idle;
   requested = facts.requested;
-  past = record {
-    enabled = known.past.enabled;
-    reset_owed = known.past.reset_owed;
-    last_kept = facts.past.last_kept;
-  };
+  past = record { reset_owed = known.past.reset_owed; last_kept = facts.past.last_kept };
 }
 
 -- how many messages 05 there are

@@ -35,7 +35,6 @@ allowed_otherwise here there holds facts covers idle told allowed = record {
       allowed.request idle.requested allowed.is_request;
   requested = allowed.requested;
   past = record {
-    enabled = refl;
     reset_owed = refl;
     last_kept = allows_kept_too here.past.last_kept there.past.last_kept holds
         facts.past.last_kept covers.last_kept told allowed.past.last_kept;

@@ -1,6 +1,6 @@
 -- What is said in a recording is said where that begins otherwise, and where other levels were told
 -- before it: only the profile and the devices that are left out count.
-use Rattle.std.proofs.Common.{ap, subst, sym, ◌∙◌, ◌≡◌, inl, inr, ℕ, List, [], ◌∷◌, slice_index, if◌then◌else◌}
+use Rattle.std.proofs.Common.{ap, subst, sym, ◌∙◌, ◌≡◌, ◌≤◌, inl, inr, ℕ, List, [], ◌∷◌, slice_index, if◌then◌else◌}
 use Rattle.mdb_words.specs.declared.event.Event.{Event}
 use Rattle.mdb_msgs.specs.declared.need.Need.{Need}
 use Rattle.mdb_msgs.specs.declared.need.Need.TheVariants.{Foreign}
@@ -13,6 +13,7 @@ use Rattle.mdb_bus.specs.declared.scope.Scope.{Scope}
 use Rattle.mdb_bus.specs.Acts.{IsForeign, IsForeignOpening}
 use Rattle.mdb_bus.specs.ActLists.{Piece, Whole, AskTail, IsSaid}
 use Rattle.mdb_bus.specs.Scopes.{HasCommand, needed_by, profile_of}
+use Rattle.mdb_bus.specs.Times.{break_least}
 
 -- a recording that begins so, with these levels told before, and with the same devices left out
 abbrev pub begun_so : Beginning → Levels → Scope → Scope
@@ -64,6 +65,8 @@ said_stays begins levels scope (Whole (acts.Ask command) events) same said = (
 )
 said_stays begins levels scope (Whole acts.Foreign events) same said =
     foreign_stays begins levels scope events same said
+said_stays begins levels scope (Whole (acts.Break length) events) same said =
+    (said.0, said.1, subst (λ profile. break_least profile ≤ length) (sym same) said.2)
 said_stays begins levels scope (AskTail bytes events) same said =
     let front = said.0 in (
       record {

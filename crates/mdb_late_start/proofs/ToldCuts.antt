@@ -67,7 +67,8 @@ told_order levels scope [] are fit = tt
 told_order levels scope (piece ∷ pieces) are fit =
     let stands = are.1 in
     let Comes : Position → Type 0 =
-    λ position. MayCome piece position (last_of (events_of pieces)) stands.first in (
+    λ position. MayCome (profile_of scope.begins) piece position (last_of (events_of pieces))
+    stands.first in (
       record {
         said = said_stays scope.begins levels scope piece refl are.0.said;
         spaced = are.0.spaced;

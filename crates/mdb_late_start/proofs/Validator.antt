@@ -31,8 +31,8 @@ all_fit (message ∷ kept) = (tt, all_fit kept)
 
 -- a type that is enabled is so in the end
 type_enabled : (known : KnownFacts) (facts : Facts) (type : BillType) (number : ℕ)
-    → IsEnabledIn known facts → type.number ≡ number → facts.past.enabled number ≡ true
-    → known.past.enabled number ≡ true
+    → IsEnabledIn known facts → type.number ≡ number → facts.enabled number ≡ true
+    → known.enabled number ≡ true
 type_enabled known facts type number enabled is on =
     enabled number (subst (λ n. n < 16) is type.few) on
 

@@ -3,6 +3,5 @@ pub mod Cuts
 pub mod Ends
 pub mod MidSession
 pub mod Middle
-pub mod NeverLong
 pub mod Told
 pub mod inner

@@ -3,11 +3,7 @@
 //!
 //! Nobody is blamed because the recording begins late, and the true sums lie within its bounds. By
 //! the extended profile an end may instead have no act list, since it doesn't show feature levels:
-//! then it ends at `Profile`. The laws are in [`laws`].
-//!
-//! [`profiles`] has what is promised of recordings from power-on that both profiles can follow.
-//! This crate has no code that runs.
+//! then it ends at `Profile`. The laws are in [`laws`]. This crate has no code that runs.
 #![tactic(auto)]
 
 pub mod laws;
-pub mod profiles;

@@ -4,9 +4,9 @@ pub mod KeptLists
 pub mod Knowing
 pub mod Masks
 pub mod MidSession
-pub mod PastAfter
 pub mod PowerOn
 pub mod Sizes
 pub mod Slots
 pub mod StepCodes
 pub mod Ways
+pub mod Wider

@@ -55,27 +55,28 @@ asked_by_none tables so_far none = All-from_recursion (λ act. asked_by tables a
 as_guess : {Own Setup Asked M : Type 0} (tables : Tables Own Setup Asked M) (setups : Setups)
     (profile : Profile) (so_far : List Act) (holds : Bool) (facts : Facts Setup Asked M)
     → AllowsFacts (known_of tables (Joined setups profile) so_far) holds facts
-    → facts ≡ guessing (facts_recorded tables setups so_far) facts.last_asked facts.past.last_kept
+    → facts ≡ guessing (facts_recorded tables setups profile so_far) facts.last_asked
+    facts.past.last_kept
 as_guess tables setups profile so_far holds facts allowed =
     let powered_on = list_any (powers_on (effect_of tables)) so_far in
-    as_guessing (facts_recorded tables setups so_far) facts allowed.setup
-    allowed.past.enabled
-    (allowed.past.reset_owed ∙ not_not (facts_of tables so_far).past.reset_owed powered_on)
+    as_guessing (facts_recorded tables setups profile so_far) facts allowed.setup
+    allowed.enabled
+    (allowed.past.reset_owed ∙ not_not (facts_of tables profile so_far).past.reset_owed powered_on)
 
 guess_allowed : {Own Setup Asked M : Type 0} (tables : Tables Own Setup Asked M) (setups : Setups)
     (profile : Profile) (so_far : List Act) (holds : Bool) (asked : Option Asked) (kept : List M)
     → Allows (known_of tables (Joined setups profile) so_far).last_asked asked
     → AllowsKept (known_of tables (Joined setups profile) so_far).past.last_kept holds kept
     → AllowsFacts (known_of tables (Joined setups profile) so_far) holds
-    (guessing (facts_recorded tables setups so_far) asked kept)
+    (guessing (facts_recorded tables setups profile so_far) asked kept)
 guess_allowed tables setups profile so_far holds asked kept asks keeps =
     let powered_on = list_any (powers_on (effect_of tables)) so_far in
     record {
       setup = refl;
       last_asked = asks;
+      enabled = refl;
       past = record {
-        enabled = refl;
-        reset_owed = sym (not_not (facts_of tables so_far).past.reset_owed powered_on);
+        reset_owed = sym (not_not (facts_of tables profile so_far).past.reset_owed powered_on);
         last_kept = keeps;
       };
     }
@@ -127,9 +128,10 @@ pub settled_steps : {Own Setup Asked M State : Type 0} → M → (tables : Table
     (before after : State) (gains : Gains) → IsSettled tables conduct so_far act choice before
     → StepKnowing tables conduct (known_of tables (Joined setups profile) so_far) act choice before
     after gains
-    ↔ KeeperStep tables conduct (facts_recorded tables setups so_far) act choice before after gains
+    ↔ KeeperStep tables conduct (facts_recorded tables setups profile so_far) act choice before
+    after gains
 settled_steps some tables conduct overlooks setups profile so_far act choice before after gains is =
-    let told = facts_recorded tables setups so_far in
+    let told = facts_recorded tables setups profile so_far in
     let holds = conduct.holds before in
     let asked = last_told (asked_by tables) so_far in
     let list = last_list (parts_by tables) so_far in
@@ -233,13 +235,13 @@ pub held_ways : {Own Setup Asked M State : Type 0} (tables : Tables Own Setup As
     (parts : List (Part M)) (before after : State) (gains : Gains) → TellsNone tables so_far
     → conduct.holds before ≡ true → kept_of parts ≢ []
     → RepliesKnowing tables conduct setups profile so_far poll parts before after gains
-    ↔ ((count : ℕ) × TellsHeldFirst conduct (facts_recorded tables setups so_far) parts count before
-    after gains)
+    ↔ ((count : ℕ) × TellsHeldFirst conduct (facts_recorded tables setups profile so_far) parts
+    count before after gains)
 held_ways {Setup = Setup} {Asked = Asked} {M = M} tables conduct overlooks setups profile so_far
     poll parts before after gains none holds more = (forth, back)
   where
     told : Facts Setup Asked M
-    told = facts_recorded tables setups so_far
+    told = facts_recorded tables setups profile so_far
 
     kept : List M
     kept = kept_of parts
@@ -360,7 +362,7 @@ silent_way {Setup = Setup} {Asked = Asked} {M = M} some tables conduct setups pr
             step.gained ∙ ap (λ n. device_gains (worth conduct facts n)) left.1,
           ),
       λ same.
-          let told = facts_recorded tables setups so_far in
+          let told = facts_recorded tables setups profile so_far in
           let facts = guessing told told.last_asked (some ∷ []) in (
             facts,
             guess_allowed tables setups profile so_far (conduct.holds before) told.last_asked
@@ -386,10 +388,11 @@ pub any_asked : {Own Setup Asked M : Type 0} → M → (tables : Tables Own Setu
     (setups : Setups) (profile : Profile) (so_far : List Act) (holds : Bool) (asked : Option Asked)
     → AsksNone tables so_far → (facts : Facts Setup Asked M)
     × AllowsFacts (known_of tables (Joined setups profile) so_far) holds facts
-    × (facts.setup ≡ (facts_recorded tables setups so_far).setup) × (facts.last_asked ≡ asked)
+    × (facts.setup ≡ (facts_recorded tables setups profile so_far).setup)
+    × (facts.last_asked ≡ asked)
 any_asked {Asked = Asked} some tables setups profile so_far holds asked none =
     let chosen = kept_told some setups profile holds (last_list (parts_by tables) so_far) in (
-      guessing (facts_recorded tables setups so_far) asked chosen.0,
+      guessing (facts_recorded tables setups profile so_far) asked chosen.0,
       guess_allowed tables setups profile so_far holds asked chosen.0
           (subst (λ o. Allows (known_by (Joined setups profile) None
           (option_map (λ (a : Asked). Some a) o)) asked) (sym (none_asked tables so_far none)) tt)
@@ -403,9 +406,9 @@ pub some_told : {Own Setup Asked M : Type 0} → M → (tables : Tables Own Setu
     (setups : Setups) (profile : Profile) (so_far : List Act) (holds : Bool)
     → (facts : Facts Setup Asked M)
     × AllowsFacts (known_of tables (Joined setups profile) so_far) holds facts
-    × (facts.setup ≡ (facts_recorded tables setups so_far).setup)
+    × (facts.setup ≡ (facts_recorded tables setups profile so_far).setup)
 some_told some tables setups profile so_far holds =
-    let told = facts_recorded tables setups so_far in
+    let told = facts_recorded tables setups profile so_far in
     let chosen = kept_told some setups profile holds (last_list (parts_by tables) so_far) in (
       guessing told told.last_asked chosen.0,
       guess_allowed tables setups profile so_far holds told.last_asked chosen.0

@@ -6,6 +6,7 @@ use Rattle.mdb_bus.specs.declared.scope.Beginning.TheVariants.{PowerOn}
 use Rattle.mdb_bus.specs.declared.scope.Profile.{Profile}
 use Rattle.mdb_machine.specs.declared.choice.Choice.{Choice}
 use Rattle.mdb_machine.specs.declared.gains.Gains.{Gains}
+use Rattle.mdb_machine.specs.Enabled.{enabled_of, known_enabled}
 use Rattle.mdb_machine.specs.Keeper.{AllowsFacts, Facts, Tables, asked_by, effect_of, facts_of, known_of, parts_by, setup_by}
 use Rattle.mdb_machine.specs.KeeperSteps.{Conduct, KeeperStep, StepKnowing}
 use Rattle.mdb_machine.specs.Known.{Allows, AllowsKept, known_by}
@@ -14,11 +15,11 @@ use Rattle.mdb_machine.specs.shared.PastWays.{same_past}
 
 -- the facts are the same where their fields are
 pub same_facts : {Setup Asked M : Type 0} {one other : Facts Setup Asked M}
-    → one.setup ≡ other.setup → one.last_asked ≡ other.last_asked → one.past ≡ other.past
-    → one ≡ other
-same_facts {Setup} {Asked} {M} {one} {other} setup asked past =
+    → one.setup ≡ other.setup → one.last_asked ≡ other.last_asked → one.enabled ≡ other.enabled
+    → one.past ≡ other.past → one ≡ other
+same_facts {Setup} {Asked} {M} {one} {other} setup asked enabled past =
     let same : record one { setup = one.setup } ≡ record other { setup = other.setup } =
-    cc (setup, asked, past) in
+    cc (setup, asked, enabled, past) in
     same
 
 or_none : {X : Type 0} (told : Option X) → or_else told None ≡ told
@@ -48,24 +49,25 @@ owed_so false = refl
 pub power_on_known : {Own Setup Asked M : Type 0} (tables : Tables Own Setup Asked M)
     (profile : Profile) (so_far : List Act) (holds : Bool) (facts : Facts Setup Asked M)
     → AllowsFacts (known_of tables (PowerOn profile) so_far) holds facts
-    ↔ (facts ≡ facts_of tables so_far)
+    ↔ (facts ≡ facts_of tables profile so_far)
 power_on_known {Setup = Setup} {Asked = Asked} {M = M} tables profile so_far holds facts =
     let setup = or_none (last_told (setup_by tables) so_far) in
     let asked = asked_known profile (last_told (asked_by tables) so_far) in
     let past = past_of (effect_of tables) (parts_by tables) so_far in
+    let enabled : known_enabled (PowerOn profile) (effect_of tables) so_far
+    ≡ enabled_of profile (effect_of tables) so_far =
+    fun_ext (λ kind. no_more (enabled_of profile (effect_of tables) so_far kind) (ltb kind 16)) in
     let kept = kept_known profile (last_list (parts_by tables) so_far) holds in (
       λ is. same_facts (is.setup ∙ setup) ((asked facts.last_asked).0 is.last_asked)
-          (same_past
-          (λ kind. ap (λ e. e kind) is.past.enabled ∙ no_more (past.enabled kind) (ltb kind 16))
-          (is.past.reset_owed ∙ owed_so past.reset_owed)
+          (is.enabled ∙ enabled)
+          (same_past (is.past.reset_owed ∙ owed_so past.reset_owed)
           ((kept facts.past.last_kept).0 is.past.last_kept)),
       λ same. record {
         setup = ap (λ (f : Facts Setup Asked M). f.setup) same ∙ sym setup;
         last_asked = (asked facts.last_asked).1
             (ap (λ (f : Facts Setup Asked M). f.last_asked) same);
+        enabled = ap (λ (f : Facts Setup Asked M). f.enabled) same ∙ sym enabled;
         past = record {
-          enabled = fun_ext (λ kind. ap (λ (f : Facts Setup Asked M). f.past.enabled kind) same
-              ∙ sym (no_more (past.enabled kind) (ltb kind 16)));
           reset_owed = ap (λ (f : Facts Setup Asked M). f.past.reset_owed) same
               ∙ sym (owed_so past.reset_owed);
           last_kept = (kept facts.past.last_kept).1
@@ -80,10 +82,10 @@ pub power_on_steps : {Own Setup Asked M State : Type 0} (tables : Tables Own Set
     (choice : Choice) (before after : State) (gains : Gains)
     → StepKnowing tables conduct (known_of tables (PowerOn profile) so_far) act choice before after
     gains
-    ↔ KeeperStep tables conduct (facts_of tables so_far) act choice before after gains
+    ↔ KeeperStep tables conduct (facts_of tables profile so_far) act choice before after gains
 power_on_steps tables conduct profile so_far act choice before after gains =
     let holds = conduct.holds before in
-    let facts = facts_of tables so_far in (
+    let facts = facts_of tables profile so_far in (
       λ step. subst (λ f. KeeperStep tables conduct f act choice before after gains)
           ((power_on_known tables profile so_far holds step.facts).0 step.allowed) step.step,
       λ step. record {

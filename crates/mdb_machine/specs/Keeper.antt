@@ -8,8 +8,11 @@ use Rattle.mdb_msgs.specs.declared.setups.Setups.{Setups}
 use Rattle.mdb_bus.specs.declared.act.Act.{Act}
 use Rattle.mdb_bus.specs.declared.act.Act.TheVariants as acts
 use Rattle.mdb_bus.specs.declared.scope.Beginning.{Beginning}
+use Rattle.mdb_bus.specs.declared.scope.Profile.{Profile}
+use Rattle.mdb_bus.specs.Scopes.{profile_of}
 use Rattle.mdb_machine.specs.declared.kept.Part.{Part}
 use Rattle.mdb_machine.specs.declared.past.Effect.{Effect}
+use Rattle.mdb_machine.specs.Enabled.{enabled_of, known_enabled}
 use Rattle.mdb_machine.specs.Known.{Allows, Known, known_before, known_by}
 use Rattle.mdb_machine.specs.Past.{AllowsPast, KnownPast, PastFacts, effect_taken, known_past, last_told, or_else, past_of}
 
@@ -62,16 +65,19 @@ pub record Facts (Setup Asked M : Type 0) : Type 0 where
   pub setup : Option Setup
   -- what was asked last of what counts
   pub last_asked : Option Asked
-  -- the types that are enabled, the reset message, and the last kept list
+  -- whether a type is enabled
+  pub enabled : ℕ → Bool
+  -- the reset message, and the last kept list
   pub past : PastFacts M
 
 -- the facts after acts
-abbrev pub facts_of : {Own Setup Asked M : Type 0} → Tables Own Setup Asked M → List Act
+abbrev pub facts_of : {Own Setup Asked M : Type 0} → Tables Own Setup Asked M → Profile → List Act
     → Facts Setup Asked M
-facts_of tables acts =
+facts_of tables profile acts =
     record {
       setup = last_told (setup_by tables) acts;
       last_asked = last_told (asked_by tables) acts;
+      enabled = enabled_of profile (effect_of tables) acts;
       past = past_of (effect_of tables) (parts_by tables) acts;
     }
 
@@ -79,6 +85,8 @@ facts_of tables acts =
 pub record KnownFacts (Setup Asked M : Type 0) : Type 0 where
   pub setup : Option Setup
   pub last_asked : Known (Option Asked)
+  pub profile : Profile
+  pub enabled : ℕ → Bool
   pub past : KnownPast M
 
 -- what is known of them after acts: the setup table may be known from elsewhere
@@ -89,6 +97,8 @@ known_of tables begins acts =
       setup = or_else (last_told (setup_by tables) acts) (known_before tables.setup_known begins);
       last_asked = known_by begins None
           (option_map (λ asked. Some asked) (last_told (asked_by tables) acts));
+      profile = profile_of begins;
+      enabled = known_enabled begins (effect_of tables) acts;
       past = known_past begins (effect_of tables) (parts_by tables) acts;
     }
 
@@ -97,4 +107,5 @@ pub record AllowsFacts {Setup Asked M : Type 0} (known : KnownFacts Setup Asked 
     (facts : Facts Setup Asked M) : Type 0 where
   pub setup : facts.setup ≡ known.setup
   pub last_asked : Allows known.last_asked facts.last_asked
+  pub enabled : facts.enabled ≡ known.enabled
   pub past : AllowsPast known.past holds facts.past

@@ -1,4 +1,5 @@
 pub mod Choices
+pub mod Enabled
 pub mod Gains
 pub mod Keeper
 pub mod KeeperSteps

@@ -1,17 +1,20 @@
 -- What a recording that begins in mid-session leaves open of a device that keeps messages (this
 -- profile): the ways that an act may go where something isn't known, listed one by one. The laws of
 -- each device say that these ways are there, and no other. Acts so far stand newest first.
-use Rattle.std.specs.Prelude.{◌≡◌, ◌⊎◌, ℕ, ◌≤◌, false, not, ◌&&◌, ◌||◌, List, [], None, drop, length, ltb}
+use Rattle.std.specs.Prelude.{◌≡◌, ◌⊎◌, ℕ, ◌≤◌, false, ◌&&◌, List, [], None, drop, length}
 use Rattle.std.specs.List.{All, list_any}
 use Rattle.mdb_msgs.specs.declared.command.Command.{Command}
 use Rattle.mdb_msgs.specs.declared.setups.Setups.{Setups}
 use Rattle.mdb_bus.specs.declared.act.Act.{Act}
 use Rattle.mdb_bus.specs.declared.act.Act.TheVariants as acts
+use Rattle.mdb_bus.specs.declared.scope.Beginning.TheVariants.{Joined}
+use Rattle.mdb_bus.specs.declared.scope.Profile.{Profile}
 use Rattle.mdb_machine.specs.declared.choice.Choice.{Choice}
 use Rattle.mdb_machine.specs.declared.choice.Choice.TheVariants.{Plain}
 use Rattle.mdb_machine.specs.declared.gains.Gains.{Gains}
 use Rattle.mdb_machine.specs.declared.kept.Part.{Part}
 use Rattle.mdb_machine.specs.declared.past.Effect.{Effect}
+use Rattle.mdb_machine.specs.Enabled.{known_enabled}
 use Rattle.mdb_machine.specs.Gains.{device_gains}
 use Rattle.mdb_machine.specs.Keeper.{Facts, Tables, asked_by, effect_of, parts_by, setup_by}
 use Rattle.mdb_machine.specs.KeeperSteps.{Conduct, worth}
@@ -29,27 +32,25 @@ abbrev pub AsksNone : {Own Setup Asked M : Type 0} → Tables Own Setup Asked M 
 AsksNone tables so_far = All (λ act. asked_by tables act ≡ None) so_far
 
 -- What counts of acts, as the acts of the recording tell it. It is as from power-on, with one
--- change: until a break, or a RESET that the device takes, each of its 16 types is enabled, and no
--- reset message is owed.
+-- change: until a break, or a RESET that the device takes, no reset message is owed.
 abbrev pub past_recorded : {M : Type 0} → (Command → Effect) → (Act → List (Part M)) → List Act
     → PastFacts M
 past_recorded effect_of parts_by so_far =
     let past = past_of effect_of parts_by so_far in
-    let powered_on = list_any (powers_on effect_of) so_far in
     record {
-      enabled = λ kind. past.enabled kind || (not powered_on && ltb kind 16);
-      reset_owed = past.reset_owed && powered_on;
+      reset_owed = past.reset_owed && list_any (powers_on effect_of) so_far;
       last_kept = past.last_kept;
     }
 
 -- The facts after acts, as the acts of the recording tell them; the setup table may be known from
--- elsewhere.
+-- elsewhere, and all types are enabled until an act ends this.
 abbrev pub facts_recorded : {Own Setup Asked M : Type 0} → Tables Own Setup Asked M → Setups
-    → List Act → Facts Setup Asked M
-facts_recorded tables setups so_far =
+    → Profile → List Act → Facts Setup Asked M
+facts_recorded tables setups profile so_far =
     record {
       setup = or_else (last_told (setup_by tables) so_far) (tables.setup_known setups);
       last_asked = last_told (asked_by tables) so_far;
+      enabled = known_enabled (Joined setups profile) (effect_of tables) so_far;
       past = past_recorded (effect_of tables) (parts_by tables) so_far;
     }
 

@@ -1,7 +1,6 @@
 -- What counts of the acts so far, for every device (this profile). Lists of acts are written newest
 -- first.
-use Rattle.std.specs.Prelude.{◌≡◌, ℕ, Bool, true, false, not, ◌==◌, ◌&&◌, ◌||◌, List, [], ◌∷◌, Option, Some, None, if◌then◌else◌, ltb, unwrap_or}
-use Rattle.std.specs.Int.{bit_at}
+use Rattle.std.specs.Prelude.{◌≡◌, Bool, true, false, not, ◌&&◌, List, [], ◌∷◌, Option, Some, None, if◌then◌else◌, unwrap_or}
 use Rattle.std.specs.List.{list_any}
 use Rattle.mdb_msgs.specs.declared.command.Command.{Command}
 use Rattle.mdb_msgs.specs.declared.reply.Reply.{Reply}
@@ -71,11 +70,6 @@ abbrev pub resets : Effect → Bool
 resets effects.Reset = true
 resets _ = false
 
--- whether it enables a type: its mask has the type's bit
-abbrev pub enables : ℕ → Effect → Bool
-enables kind (effects.Enable mask) = bit_at mask kind == 1
-enables kind _ = false
-
 -- whether an act puts a device into its power-on state: a break, or a RESET that it takes
 abbrev pub powers_on : (Command → Effect) → Act → Bool
 powers_on effect_of (acts.Break length) = true
@@ -89,10 +83,8 @@ unless_empty (x ∷ xs) = Some (x ∷ xs)
 -- What counts of the acts so far for a device that keeps messages. Breaks and RESETs leave the kept
 -- list.
 pub record PastFacts (M : Type 0) : Type 0 where
-  -- a type is enabled where the device took a command with its bit since the last break or RESET
-  -- that it took; a restart that a message tells leaves this
-  pub enabled : ℕ → Bool
-  -- a reset message is owed where no reply has had one since then
+  -- a reset message is owed where no reply has had one since the last break, or the last RESET that
+  -- the device took
   pub reset_owed : Bool
   -- the last kept list that wasn't empty; empty where there was none
   pub last_kept : List M
@@ -102,8 +94,6 @@ abbrev pub past_of : {M : Type 0} → (Command → Effect) → (Act → List (Pa
     → PastFacts M
 past_of effect_of parts_by acts =
     record {
-      enabled = λ kind. list_any (λ act. enables kind (effect_by effect_of act))
-          (acts_from (powers_on effect_of) acts);
       reset_owed = not (list_any (λ act. has_reset (parts_by act))
           (acts_from (powers_on effect_of) acts));
       last_kept = unwrap_or (last_told (λ act. unless_empty (kept_of (parts_by act))) acts) [];
@@ -115,32 +105,28 @@ last_list parts_by acts = last_told (λ act. unless_empty (kept_of (parts_by act
 
 -- What is known of what counts, where a recording may begin in mid-session.
 pub record KnownPast (M : Type 0) : Type 0 where
-  pub enabled : ℕ → Bool
   pub reset_owed : Bool
   pub last_kept : Known (List M)
 
--- whether a device runs on as it did before a recording in mid-session: no act has put it into its
--- power-on state since
-abbrev pub runs_on : Beginning → (Command → Effect) → List Act → Bool
-runs_on (PowerOn profile) effect_of acts = false
-runs_on (Joined setups profile) effect_of acts = not (list_any (powers_on effect_of) acts)
+-- whether a device runs on as it did before a recording in mid-session: no act that passes a test
+-- has ended this since
+abbrev pub runs_on : Beginning → (Act → Bool) → List Act → Bool
+runs_on (PowerOn profile) ends acts = false
+runs_on (Joined setups profile) ends acts = not (list_any ends acts)
 
--- While the device runs on, all 16 types are enabled, and no reset message is owed. Its last kept
--- list is known once it has told one.
+-- While the device runs on, no reset message is owed. Its last kept list is known once it has told
+-- one.
 abbrev pub known_past : {M : Type 0} → Beginning → (Command → Effect) → (Act → List (Part M))
     → List Act → KnownPast M
 known_past begins effect_of parts_by acts =
     record {
-      enabled = λ kind. (past_of effect_of parts_by acts).enabled kind
-          || (runs_on begins effect_of acts && ltb kind 16);
       reset_owed = (past_of effect_of parts_by acts).reset_owed
-          && not (runs_on begins effect_of acts);
+          && not (runs_on begins (powers_on effect_of) acts);
       last_kept = known_by begins [] (last_list parts_by acts);
     }
 
 -- what may count, where this is known and the device holds messages or holds none
 pub record AllowsPast {M : Type 0} (known : KnownPast M) (holds : Bool) (past : PastFacts M)
     : Type 0 where
-  pub enabled : past.enabled ≡ known.enabled
   pub reset_owed : past.reset_owed ≡ known.reset_owed
   pub last_kept : AllowsKept known.last_kept holds past.last_kept

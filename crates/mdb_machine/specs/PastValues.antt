@@ -1,7 +1,6 @@
 -- What counts of the acts so far, act by act: of no act, and after one act more; and what of it a
 -- value of `Past` stands for. The public functions of `Past` say by this what they do.
-use Rattle.std.specs.Prelude.{ℕ, ◌==◌, Bool, true, false, not, ◌&&◌, ◌||◌, List, [], Option, Some, None, ltb, unwrap_or, if◌then◌else◌}
-use Rattle.std.specs.Int.{bit_at}
+use Rattle.std.specs.Prelude.{ℕ, Bool, true, false, not, ◌&&◌, ◌||◌, List, [], Option, Some, None, unwrap_or}
 use Rattle.mdb_msgs.specs.declared.command.Command.{Command}
 use Rattle.mdb_bus.specs.declared.act.Act.{Act}
 use Rattle.mdb_bus.specs.declared.scope.Beginning.{Beginning}
@@ -11,19 +10,15 @@ use Rattle.mdb_machine.specs.declared.past.Effect.{Effect}
 use Rattle.mdb_machine.specs.declared.past.Past.{Past}
 use Rattle.mdb_machine.specs.Kept.{has_reset, kept_of}
 use Rattle.mdb_machine.specs.Known.{Known, Unknown, Is}
-use Rattle.mdb_machine.specs.Past.{KnownPast, PastFacts, effect_by, enables, powers_on, unless_empty}
+use Rattle.mdb_machine.specs.Past.{KnownPast, PastFacts, powers_on, unless_empty}
 
 -- what counts of no act
 abbrev pub no_past : {M : Type 0} → PastFacts M
-no_past = record { enabled = λ kind. false; reset_owed = true; last_kept = [] }
+no_past = record { reset_owed = true; last_kept = [] }
 
 -- what is known of no act of a device that runs on: its last kept list isn't, and is irrelevant
 abbrev pub running_past : {M : Type 0} → PastFacts M
-running_past = record {
-  enabled = λ kind. ltb kind 16;
-  reset_owed = false;
-  last_kept = [];
-}
+running_past = record { reset_owed = false; last_kept = [] }
 
 -- and of no act, where a recording begins so
 abbrev pub first_past : {M : Type 0} → Beginning → PastFacts M
@@ -32,20 +27,13 @@ first_past (Joined setups profile) = running_past
 
 -- what is kept
 abbrev pub past_in : {M : Type 0} {CAP : ℕ} → Past M CAP → PastFacts M
-past_in past =
-    record {
-      enabled = λ kind. bit_at past.enabled kind == 1;
-      reset_owed = past.reset_owed;
-      last_kept = past.last_kept.items;
-    }
+past_in past = record { reset_owed = past.reset_owed; last_kept = past.last_kept.items }
 
--- what counts after one act more, which puts the device into its power-on state or doesn't, by
--- which it takes a command or doesn't, and which tells messages or doesn't
-abbrev pub past_after : {M : Type 0} → Bool → Effect → List (Part M) → PastFacts M
-    → PastFacts M
-past_after powers effect parts past =
+-- what counts after one act more, which puts the device into its power-on state or doesn't, and
+-- which tells messages or doesn't
+abbrev pub past_after : {M : Type 0} → Bool → List (Part M) → PastFacts M → PastFacts M
+past_after powers parts past =
     record {
-      enabled = λ kind. enables kind effect || (if powers then false else past.enabled kind);
       reset_owed = not (has_reset parts) && (powers || past.reset_owed);
       last_kept = unwrap_or (unless_empty (kept_of parts)) past.last_kept;
     }
@@ -54,7 +42,7 @@ past_after powers effect parts past =
 abbrev pub past_with : {M : Type 0} → (Command → Effect) → (Act → List (Part M)) → Act
     → PastFacts M → PastFacts M
 past_with effect_of parts_by act past =
-    past_after (powers_on effect_of act) (effect_by effect_of act) (parts_by act) past
+    past_after (powers_on effect_of act) (parts_by act) past
 
 -- whether all is known of no act
 abbrev pub from_power_on : Beginning → Bool
@@ -75,17 +63,14 @@ known_more None known = known
 abbrev pub past_known : {M : Type 0} {CAP : ℕ} → Bool → Past M CAP → KnownPast M
 past_known knows past =
     record {
-      enabled = λ kind. bit_at past.enabled kind == 1;
       reset_owed = past.reset_owed;
       last_kept = if_known knows past.last_kept.items;
     }
 
 -- what is known after one act more, as `past_after` has what counts
-abbrev pub known_past_after : {M : Type 0} → Bool → Effect → List (Part M) → KnownPast M
-    → KnownPast M
-known_past_after powers effect parts past =
+abbrev pub known_past_after : {M : Type 0} → Bool → List (Part M) → KnownPast M → KnownPast M
+known_past_after powers parts past =
     record {
-      enabled = λ kind. enables kind effect || (if powers then false else past.enabled kind);
       reset_owed = not (has_reset parts) && (powers || past.reset_owed);
       last_kept = known_more (unless_empty (kept_of parts)) past.last_kept;
     }
@@ -93,4 +78,4 @@ known_past_after powers effect parts past =
 abbrev pub known_past_with : {M : Type 0} → (Command → Effect) → (Act → List (Part M)) → Act
     → KnownPast M → KnownPast M
 known_past_with effect_of parts_by act past =
-    known_past_after (powers_on effect_of act) (effect_by effect_of act) (parts_by act) past
+    known_past_after (powers_on effect_of act) (parts_by act) past

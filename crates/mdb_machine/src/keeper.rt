@@ -2,7 +2,8 @@
 
 ghost use Rattle.std.specs.Prelude.{◌≡◌, ◌≤◌, ◌||◌, List, [], ◌∷◌, None, length, map, option_map};
 ghost use Rattle.std.specs.Option.{is_some};
-ghost use Rattle.mdb_machine.specs.Keeper.{Tables, asked_by, parts_by};
+ghost use Rattle.mdb_machine.specs.Enabled.{known_enabled};
+ghost use Rattle.mdb_machine.specs.Keeper.{Tables, asked_by, effect_of, parts_by};
 ghost use Rattle.mdb_machine.specs.Past.{unless_empty};
 ghost use Rattle.mdb_machine.specs.PastValues.{from_power_on};
 ghost use Rattle.mdb_machine.specs.Kept.{IsSummary, kept_of};
@@ -10,7 +11,7 @@ ghost use Rattle.mdb_machine.specs.inner.Sizes.{TakesFewBytes};
 
 use crate::kept::{KeptAmong, Summary, summary_of};
 use crate::past::{Effect, Past, effect_answered};
-use mdb_bus::{Act, Beginning};
+use mdb_bus::{Act, Beginning, Profile};
 use mdb_msgs::{Command, Reply, Setups};
 
 /// A device that keeps messages, by its tables (this profile).
@@ -93,7 +94,9 @@ pub struct KeeperFacts<K: Keeper> {
     pub setup: Option<K::Setup>,
     /// What was asked last of what counts.
     pub last_asked: Option<K::Asked>,
-    /// The types that are enabled, the reset message, and the last kept list.
+    /// The types that are enabled, the lowest bit type 0.
+    pub enabled: u16,
+    /// The reset message, and the last kept list.
     pub past: Past<K::Kept, 16>,
 }
 
@@ -101,7 +104,7 @@ impl<K: Keeper> KeeperFacts<K> {
     ghost use Rattle.mdb_bus.specs.declared.act.Act.{Act};
     ghost use Rattle.mdb_bus.specs.declared.act.Act.TheVariants as acts;
     ghost use Rattle.mdb_machine.specs.Known.{known_before};
-    ghost use Rattle.mdb_machine.specs.KeeperValues.{facts_in, facts_with, facts_told};
+    ghost use Rattle.mdb_machine.specs.KeeperValues.{facts_in, facts_taken, facts_told, facts_with};
     ghost use Rattle.mdb_machine.specs.PastValues.{first_past, past_in};
     ghost use Rattle.mdb_machine.specs.shared.Guesses.{guessing};
     ghost use Rattle.mdb_machine.specs.Past.{or_else};
@@ -111,17 +114,21 @@ impl<K: Keeper> KeeperFacts<K> {
     pub(crate) fn start(begins: &Beginning) -> Self
         ensures setup { result.setup ≡ known_before K.tables.setup_known begins.now }
         ensures asked { result.last_asked ≡ None }
+        ensures enabled { (facts_in result).enabled
+            ≡ known_enabled begins.now (effect_of K.tables) [] }
         ensures past { past_in result.past ≡ first_past begins.now }
     {
         match begins {
             Beginning::PowerOn(_) => KeeperFacts {
                 setup: None,
                 last_asked: None,
+                enabled: 0,
                 past: Past::start(),
             },
             Beginning::Joined(setups, _) => KeeperFacts {
                 setup: K::setup_known(setups),
                 last_asked: None,
+                enabled: u16::MAX,
                 past: Past::running(),
             },
         }
@@ -135,6 +142,7 @@ impl<K: Keeper> KeeperFacts<K> {
         KeeperFacts {
             setup: self.setup.as_ref().map(|setup| K::setup_copy(setup)),
             last_asked: asked,
+            enabled: self.enabled,
             past: self.past.copy(),
         }
     }
@@ -147,6 +155,7 @@ impl<K: Keeper> KeeperFacts<K> {
         KeeperFacts {
             setup: self.setup.as_ref().map(|setup| K::setup_copy(setup)),
             last_asked: self.last_asked,
+            enabled: self.enabled,
             past: self.past.keeping(kept),
         }
     }
@@ -158,6 +167,7 @@ impl<K: Keeper> KeeperFacts<K> {
         KeeperFacts {
             setup: self.setup.as_ref().map(|setup| K::setup_copy(setup)),
             last_asked: self.last_asked,
+            enabled: self.enabled,
             past: self.past.copy(),
         }
     }
@@ -170,17 +180,25 @@ impl<K: Keeper> KeeperFacts<K> {
         self.setup.as_ref().map(|setup| K::decimals_of(setup))
     }
 
-    /// Notes what an act tells.
+    /// Whether a type is enabled.
+    pub fn is_enabled(&self, kind: u8) -> bool
+        ensures { result ≡ (facts_in self.now).enabled kind }
+    {
+        let mask = self.enabled;
+        kind < 16 && (mask >> kind) & 1 == 1
+    }
+
+    /// Notes what an act tells, by a profile.
     // Inlined, so that an act of another device costs little more than the look at whose it is.
     #[inline(always)]
-    fn note(&mut self, act: &Act)
-        ensures { facts_in self.new ≡ facts_with K.tables act.now (facts_in self.old) }
+    fn note(&mut self, profile: Profile, act: &Act)
+        ensures { facts_in self.new ≡ facts_with K.tables profile act.now (facts_in self.old) }
     {
         match act {
             Act::Ask(command) => self.ask(command),
-            Act::Ack(command) => self.acknowledge(command),
-            Act::Reply(command, reply) => self.reply(command, reply),
-            Act::Break(_) => self.past.power_on(),
+            Act::Ack(command) => self.acknowledge(profile, command),
+            Act::Reply(command, reply) => self.reply(profile, command, reply),
+            Act::Break(_) => self.take(profile, Effect::Reset),
             _ => {}
         }
     }
@@ -188,8 +206,9 @@ impl<K: Keeper> KeeperFacts<K> {
     /// The controller asks.
     #[inline(always)]
     fn ask(&mut self, command: &Command)
-        ensures { facts_in self.new
-            ≡ facts_with K.tables (acts.Ask command.now) (facts_in self.old) }
+        ensures { facts_in self.new ≡ record (facts_in self.old) {
+          last_asked = or_else (asked_by K.tables (acts.Ask command.now)) self.old.last_asked;
+        } }
     {
         if let Some(own) = K::own(command) {
             if let Some(asked) = K::asked_of(own) {
@@ -200,36 +219,47 @@ impl<K: Keeper> KeeperFacts<K> {
 
     /// A device acknowledges.
     #[inline(always)]
-    fn acknowledge(&mut self, command: &Command)
+    fn acknowledge(&mut self, profile: Profile, command: &Command)
         ensures { facts_in self.new
-            ≡ facts_with K.tables (acts.Ack command.now) (facts_in self.old) }
+            ≡ facts_with K.tables profile (acts.Ack command.now) (facts_in self.old) }
     {
         if let Some(own) = K::own(command) {
-            self.past.take(K::effect_of(own));
+            self.take(profile, K::effect_of(own));
         }
     }
 
     /// A device replies.
     #[inline(always)]
-    fn reply(&mut self, command: &Command, reply: &Reply)
+    fn reply(&mut self, profile: Profile, command: &Command, reply: &Reply)
         ensures { facts_in self.new
-            ≡ facts_with K.tables (acts.Reply command.now reply.now) (facts_in self.old) }
+            ≡ facts_with K.tables profile (acts.Reply command.now reply.now) (facts_in self.old) }
     {
         if let Some(own) = K::own(command) {
-            self.note_reply(own, reply);
+            self.note_reply(profile, own, reply);
         }
     }
 
     /// The device replies.
     #[inline(never)]
-    fn note_reply(&mut self, command: K::Own, reply: &Reply)
+    fn note_reply(&mut self, profile: Profile, command: K::Own, reply: &Reply)
         ensures { facts_in self.new
-            ≡ facts_told K.tables command reply.now (facts_in self.old) }
+            ≡ facts_told K.tables profile command reply.now (facts_in self.old) }
     {
         self.note_setup(reply);
-        self.past
-            .take(effect_answered(K::effect_of(command), reply));
+        self.take(profile, effect_answered(K::effect_of(command), reply));
         self.past.keep(K::summary_of(reply));
+    }
+
+    /// The device takes a command, or a break puts it into its power-on state as RESET does.
+    fn take(&mut self, profile: Profile, effect: Effect)
+        ensures { facts_in self.new ≡ facts_taken profile effect (facts_in self.old) }
+    {
+        self.past.take(effect);
+        match (effect, profile) {
+            (Effect::Reset, Profile::Base) => self.enabled = 0,
+            (Effect::Enable(mask), _) => self.enabled |= mask,
+            _ => {}
+        }
     }
 
     /// Notes the setup table of a reply.
@@ -249,6 +279,8 @@ impl<K: Keeper> KeeperFacts<K> {
 pub struct KeeperKnown<K: Keeper> {
     /// The facts.
     pub(crate) facts: KeeperFacts<K>,
+    /// The profile that is followed.
+    pub profile: Profile,
     /// Whether it is known what was asked last of what counts.
     pub knows_asked: bool,
     /// Whether the last kept list is known.
@@ -268,6 +300,7 @@ impl<K: Keeper> KeeperKnown<K> {
         let knows = is_power_on(begins);
         KeeperKnown {
             facts: KeeperFacts::start(begins),
+            profile: begins.profile(),
             knows_asked: knows,
             knows_kept: knows,
         }
@@ -279,6 +312,7 @@ impl<K: Keeper> KeeperKnown<K> {
     {
         KeeperKnown {
             facts: self.facts.copy(),
+            profile: self.profile,
             knows_asked: self.knows_asked,
             knows_kept: self.knows_kept,
         }
@@ -308,7 +342,7 @@ impl<K: Keeper> KeeperKnown<K> {
         ensures { known_in self.new ≡ known_with K.tables act.now (known_in self.old) }
     {
         let (knows_asked, knows_kept) = self.knows_after(act);
-        self.facts.note(act);
+        self.facts.note(self.profile, act);
         self.knows_asked = knows_asked;
         self.knows_kept = knows_kept;
     }

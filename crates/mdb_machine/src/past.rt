@@ -1,7 +1,6 @@
 //! What counts of the acts so far, for every device.
 
-ghost use Rattle.std.specs.Prelude.{◌≡◌, ◌==◌, ◌≤◌, List, [], length, true, false};
-ghost use Rattle.std.specs.Int.{bit_at};
+ghost use Rattle.std.specs.Prelude.{◌≡◌, ◌≤◌, List, [], length, true, false};
 ghost use Rattle.std.specs.List.{list_any};
 ghost use Rattle.mdb_machine.specs.Past as spec;
 ghost use Rattle.mdb_machine.specs.declared.kept.Part.{Part};
@@ -26,8 +25,6 @@ pub enum Effect {
 /// grow with them.
 #[derive(Drop)]
 pub struct Past<M: Drop, const CAP: usize> {
-    /// The types that are enabled, the lowest bit type 0.
-    pub enabled: u16,
     /// Whether a reset message is owed.
     pub reset_owed: bool,
     /// The last kept list that wasn't empty.
@@ -35,7 +32,6 @@ pub struct Past<M: Drop, const CAP: usize> {
 }
 
 impl<M: KeptMessage + Drop, const CAP: usize> Past<M, CAP> {
-    ghost use Rattle.mdb_machine.specs.declared.past.Effect.TheVariants as effects;
     ghost use Rattle.mdb_machine.specs.PastValues.{no_past, past_after, past_in, running_past};
 
     /// What counts of no act.
@@ -43,19 +39,17 @@ impl<M: KeptMessage + Drop, const CAP: usize> Past<M, CAP> {
         ensures { past_in result ≡ no_past }
     {
         Past {
-            enabled: 0,
             reset_owed: true,
             last_kept: ArrayVec::new(),
         }
     }
 
-    /// What is known of no act of a device that runs on as it did before the recording: all types
-    /// are enabled, and no reset message is owed. Its last kept list is unknown and irrelevant.
+    /// What is known of no act of a device that runs on as it did before the recording: no reset
+    /// message is owed. Its last kept list is unknown and irrelevant.
     pub fn running() -> Self
         ensures { past_in result ≡ running_past }
     {
         Past {
-            enabled: u16::MAX,
             reset_owed: false,
             last_kept: ArrayVec::new(),
         }
@@ -68,7 +62,6 @@ impl<M: KeptMessage + Drop, const CAP: usize> Past<M, CAP> {
         let mut last_kept = ArrayVec::new();
         let _ = last_kept.try_extend_from_slice(self.last_kept.as_slice());
         Past {
-            enabled: self.enabled,
             reset_owed: self.reset_owed,
             last_kept,
         }
@@ -82,7 +75,6 @@ impl<M: KeptMessage + Drop, const CAP: usize> Past<M, CAP> {
         let mut last_kept = ArrayVec::new();
         let _ = last_kept.try_extend_from_slice(kept);
         Past {
-            enabled: self.enabled,
             reset_owed: self.reset_owed,
             last_kept,
         }
@@ -90,21 +82,18 @@ impl<M: KeptMessage + Drop, const CAP: usize> Past<M, CAP> {
 
     /// The device is put into its power-on state.
     pub fn power_on(&mut self)
-        ensures { past_in self.new ≡ past_after true effects.Other [] (past_in self.old) }
+        ensures { past_in self.new ≡ past_after true [] (past_in self.old) }
     {
-        self.enabled = 0;
         self.reset_owed = true;
     }
 
     /// The device takes a command.
     pub fn take(&mut self, effect: Effect)
         ensures { past_in self.new
-            ≡ past_after (spec.resets effect) effect [] (past_in self.old) }
+            ≡ past_after (spec.resets effect) [] (past_in self.old) }
     {
-        match effect {
-            Effect::Reset => self.power_on(),
-            Effect::Enable(mask) => self.enabled |= mask,
-            Effect::Other => {}
+        if matches!(effect, Effect::Reset) {
+            self.power_on();
         }
     }
 
@@ -112,7 +101,7 @@ impl<M: KeptMessage + Drop, const CAP: usize> Past<M, CAP> {
     pub fn keep(&mut self, summary: Summary<M, CAP>)
         ensures { (parts : List (Part M))
             → IsSummary summary.kept.items summary.reset summary.early parts
-            → past_in self.new ≡ past_after false effects.Other parts (past_in self.old) }
+            → past_in self.new ≡ past_after false parts (past_in self.old) }
     {
         if summary.reset {
             self.reset_owed = false;
@@ -120,14 +109,6 @@ impl<M: KeptMessage + Drop, const CAP: usize> Past<M, CAP> {
         if !summary.kept.is_empty() {
             self.last_kept = summary.kept;
         }
-    }
-
-    /// Whether a type is enabled.
-    pub fn is_enabled(&self, kind: u8) -> bool
-        ensures { result ≡ (bit_at self.now.enabled kind == 1) }
-    {
-        let mask = self.enabled;
-        kind < 16 && (mask >> kind) & 1 == 1
     }
 }
 

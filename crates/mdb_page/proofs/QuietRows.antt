@@ -86,7 +86,7 @@ stays scope laws rows row report is ended =
           ended.shorter (sym acts),
     ) in
     let after : Report =
-    report_of scope.begins (length (rows ++ row ∷ [])) pieces is.accounts in (
+    report_of scope (length (rows ++ row ∷ [])) pieces is.accounts in (
       after,
       record {
         reached = (is.reached.0, same.0 is.reached.0 is.reached.1);

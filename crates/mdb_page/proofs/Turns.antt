@@ -5,6 +5,7 @@ use Rattle.mdb_words.specs.declared.event.Event.{Event}
 use Rattle.mdb_words.specs.Event.{start_of}
 use Rattle.mdb_bus.specs.declared.act.Act.{Act}
 use Rattle.mdb_bus.specs.declared.act.Act.TheVariants as acts
+use Rattle.mdb_bus.specs.declared.scope.Profile.{Profile}
 use Rattle.mdb_bus.specs.declared.scope.Scope.{Scope}
 use Rattle.mdb_bus.specs.ActLists.{Piece, Whole, AskTail, ReplyTail, RepeatTail, Position, InAsk, InReply, InRepeat, ArePieces, BlockMayCome, IsPiece, IsSaid, IsTail, MayCome, MayStand, act_in, events_of, piece_events}
 use Rattle.mdb_bus.specs.Bus.{Grown}
@@ -30,41 +31,42 @@ pub no_break : (act : Act) → ((long : ℕ) → act ≡ acts.Break long → ⊥
 no_break (acts.Break long) not is = not long refl
 no_break act not is = is
 
-no_block : (position : Position) (from : Option Event) (to : Event) → IsInside position
-    → BlockMayCome position from to → ⊥
-no_block (InAsk bytes) from to inside comes = comes
-no_block (InReply command bytes) from to inside comes = comes
-no_block (InRepeat command reply words) from to inside comes = comes
-no_block position from to inside comes = absurd inside
+no_block : (profile : Profile) (position : Position) (from : Option Event) (to : Event)
+    → IsInside position → BlockMayCome profile position from to → ⊥
+no_block profile (InAsk bytes) from to inside comes = comes
+no_block profile (InReply command bytes) from to inside comes = comes
+no_block profile (InRepeat command reply words) from to inside comes = comes
+no_block profile position from to inside comes = absurd inside
 
-only_a_break : (piece : Piece) (position : Position) (from : Option Event) (to : Event)
-    → IsInside position → MayCome piece position from to → IsBreak (act_in piece)
-only_a_break (Whole (acts.Ask command) events) position from to inside comes =
-    absurd (no_block position from to inside comes)
-only_a_break (Whole (acts.Ack command) events) position from to inside comes =
+only_a_break : (profile : Profile) (piece : Piece) (position : Position) (from : Option Event)
+    (to : Event) → IsInside position → MayCome profile piece position from to
+    → IsBreak (act_in piece)
+only_a_break profile (Whole (acts.Ask command) events) position from to inside comes =
+    absurd (no_block profile position from to inside comes)
+only_a_break profile (Whole (acts.Ack command) events) position from to inside comes =
     absurd (subst IsInside comes.0 inside)
-only_a_break (Whole (acts.Nak command) events) position from to inside comes =
+only_a_break profile (Whole (acts.Nak command) events) position from to inside comes =
     absurd (subst IsInside comes.0 inside)
-only_a_break (Whole (acts.Reply command reply) events) position from to inside comes =
+only_a_break profile (Whole (acts.Reply command reply) events) position from to inside comes =
     absurd (subst IsInside comes.0 inside)
-only_a_break (Whole (acts.VmcAck command reply) events) position from to inside comes =
+only_a_break profile (Whole (acts.VmcAck command reply) events) position from to inside comes =
     absurd (subst IsInside comes.0 inside)
-only_a_break (Whole (acts.VmcNak command reply) events) position from to inside comes =
+only_a_break profile (Whole (acts.VmcNak command reply) events) position from to inside comes =
     absurd (subst IsInside comes.0 inside)
-only_a_break (Whole (acts.VmcRet command reply) events) position from to inside comes =
+only_a_break profile (Whole (acts.VmcRet command reply) events) position from to inside comes =
     absurd (subst IsInside comes.0 inside)
-only_a_break (Whole (acts.Repeat command reply) events) position from to inside comes =
+only_a_break profile (Whole (acts.Repeat command reply) events) position from to inside comes =
     absurd (subst IsInside comes.0 inside)
-only_a_break (Whole acts.Foreign events) position from to inside (inl opening) =
-    absurd (no_block position from to inside opening.1)
-only_a_break (Whole acts.Foreign events) position from to inside (inr further) =
+only_a_break profile (Whole acts.Foreign events) position from to inside (inl opening) =
+    absurd (no_block profile position from to inside opening.1)
+only_a_break profile (Whole acts.Foreign events) position from to inside (inr further) =
     absurd (subst IsInside further.1 inside)
-only_a_break (Whole (acts.Break length) events) position from to inside comes = tt
-only_a_break (AskTail bytes events) position from to inside comes =
-    absurd (no_block position from to inside comes)
-only_a_break (ReplyTail command bytes events) position from to inside comes =
+only_a_break profile (Whole (acts.Break length) events) position from to inside comes = tt
+only_a_break profile (AskTail bytes events) position from to inside comes =
+    absurd (no_block profile position from to inside comes)
+only_a_break profile (ReplyTail command bytes events) position from to inside comes =
     absurd (subst IsInside comes.0 inside)
-only_a_break (RepeatTail command reply words events) position from to inside comes =
+only_a_break profile (RepeatTail command reply words events) position from to inside comes =
     absurd (subst IsInside comes.0 inside)
 
 -- what is no break stands on pieces that are closed
@@ -73,11 +75,11 @@ on_closed : (scope : Scope) (pieces : List Piece) (piece : Piece) → MayStand s
 on_closed scope [] piece stands not = (refl, refl)
 on_closed scope (Whole act events ∷ pieces) piece stands not = (refl, refl)
 on_closed scope (AskTail bytes events ∷ pieces) piece stands not =
-    absurd (not (only_a_break piece (InAsk bytes) _ _ tt stands.comes))
+    absurd (not (only_a_break _ piece (InAsk bytes) _ _ tt stands.comes))
 on_closed scope (ReplyTail command bytes events ∷ pieces) piece stands not =
-    absurd (not (only_a_break piece (InReply command bytes) _ _ tt stands.comes))
+    absurd (not (only_a_break _ piece (InReply command bytes) _ _ tt stands.comes))
 on_closed scope (RepeatTail command reply words events ∷ pieces) piece stands not =
-    absurd (not (only_a_break piece (InRepeat command reply words) _ _ tt stands.comes))
+    absurd (not (only_a_break _ piece (InRepeat command reply words) _ _ tt stands.comes))
 
 -- the parts of pieces that end with a tail
 of_tail : (piece : Piece) (pieces : List Piece) → IsTail piece

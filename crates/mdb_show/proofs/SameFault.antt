@@ -1,23 +1,30 @@
 -- A fault of the link that `show` ends with is that of the verdict, unless a machine ends the
 -- verdict before.
-use Rattle.std.proofs.Common.{arith, refl, ap, sym, subst, ◌∙◌, ◌≡◌, ◌+◌, ℕ, List, [], ◌∷◌, ◌++◌, Result, Ok, Err, inl, inr, ◌⊎◌, length, length-append, append_assoc}
+use Rattle.std.proofs.Common.{arith, refl, ap, sym, subst, ◌∙◌, ◌≡◌, ◌&&◌, ◌+◌, ℕ, Bool, true, false, if◌then◌else◌, List, [], ◌∷◌, ◌++◌, Result, Ok, Err, inl, inr, ◌⊎◌, length, length-append, append_assoc}
 use Rattle.std.proofs.lemmas.List.{append-nil}
 use Rattle.mdb_words.specs.declared.event.Event.{Event}
 use Rattle.mdb_words.specs.declared.row.RowFault.{RowFault}
 use Rattle.mdb_words.specs.Row.{IsRow, IsRefusal}
 use Rattle.mdb_bus.specs.declared.fault.LinkFault.{LinkFault}
+use Rattle.mdb_bus.specs.declared.fault.Blame.TheVariants as blame
+use Rattle.mdb_bus.specs.declared.fault.Rule.TheVariants as rules
+use Rattle.mdb_bus.specs.declared.scope.Profile.{Profile}
+use Rattle.mdb_bus.specs.declared.scope.Profile.TheVariants.{Base, Extended}
 use Rattle.mdb_bus.specs.ActLists.{Piece, Whole, ArePieces, HasActList, events_of}
+use Rattle.mdb_bus.specs.Haste.{counted_in, haste_by, is_excused, is_in_haste}
 use Rattle.mdb_bus.specs.LinkFaults.{IsLinkFault}
 use Rattle.mdb_follow.specs.declared.follower.TheConstants.{ROWS_MAX}
 use Rattle.mdb_follow.specs.declared.offence.Offence.{Offence}
 use Rattle.mdb_follow.specs.Offences.{BreaksLink, BreaksMachine, IsOffence}
+use Rattle.mdb_bus.specs.Scopes.{profile_of}
 use Rattle.mdb_follow.specs.Runs.{IsReached}
+use Rattle.mdb_follow.specs.Senders.{sender_of}
 use Rattle.mdb_text.specs.declared.outcome.Outcome.{Outcome}
 use Rattle.mdb_text.specs.declared.outcome.Outcome.TheVariants.{Yes, No}
 use Rattle.mdb_verdict.specs.declared.fault.RunFault.{RunFault}
 use Rattle.mdb_verdict.specs.declared.fault.RunFault.TheVariants.{BadRow, TooLong, Read, Write, Memory}
 use Rattle.mdb_show.specs.Show.{IsShownToFaultIn}
-use Rattle.mdb_show.specs.ShownFault.{IsMachineRule, IsNoUpTo}
+use Rattle.mdb_show.specs.ShownFault.{IsNoUpTo, IsOfMachine}
 use Rattle.mdb_verdict.specs.Verdict.{IsAnswer, IsBadRow, IsImpossible, IsOwnAnswer, IsTooLong}
 use Rattle.mdb_verdict.proofs.OneAnswer.{GoesOn, compared, row_not_refused, row_one}
 use Rattle.mdb_show.proofs.OneShowing.{BusLaws}
@@ -34,19 +41,49 @@ up_to scope laws rows longer more row event same is list =
     let P : Event → Type 0 = λ e. HasActList scope (rows ++ e ∷ []) in
     subst P same (laws.fronts (rows ++ event ∷ []) more (subst (HasActList scope) split list))
 
+-- what counts of a fault is the fault, or by the extended profile that the controller was early
+counted_or_early : (profile : Profile) (haste : Bool) (row : Event) (fault : LinkFault)
+    → (counted_in (haste_by profile haste) row fault ≡ fault)
+    ⊎ ((profile ≡ Extended) × (counted_in (haste_by profile haste) row fault
+    ≡ record { rule = rules.Early; blame = blame.Controller }))
+counted_or_early Base haste row fault = inl refl
+counted_or_early Extended haste row fault = either (haste && is_excused row fault.rule)
+  where
+    early : LinkFault
+    early = record { rule = rules.Early; blame = blame.Controller }
+
+    either : (is : Bool) → ((if is then early else fault) ≡ fault)
+        ⊎ ((Extended ≡ Extended) × ((if is then early else fault) ≡ early))
+    either true = inr (refl, refl)
+    either false = inl refl
+
 -- where rows have an act list with the next row, the offence of that row is a machine's
 earlier_row : (scope : Scope) → BusLaws scope
     → (rows : List Event) (row : Event) (offence : Offence) → HasActList scope (rows ++ row ∷ [])
-    → IsOffence scope rows row offence → IsMachineRule offence.rule
+    → IsOffence scope rows row offence → IsOfMachine (profile_of scope.begins) offence
 earlier_row scope laws rows row offence list why_not = by_why why_not.why
   where
     by_why : BreaksLink scope rows row offence.rule offence.blame
-        ⊎ BreaksMachine scope rows row offence.rule offence.blame → IsMachineRule offence.rule
+        ⊎ BreaksMachine scope rows row offence.rule offence.blame
+        → IsOfMachine (profile_of scope.begins) offence
     by_why (inl link) =
         let P : List Event → Type 0 = λ es. HasActList scope (es ++ row ∷ []) in
         absurd (laws.stops link.pieces row link.fault.first link.act_list.in_order
         link.fault.rule.breaks (subst P (sym link.act_list.whole) list))
-    by_why (inr machine) = (machine.no_step.device, machine.no_step.rule)
+    by_why (inr machine) =
+        let longer = Whole machine.act (machine.begun ++ row ∷ []) ∷ machine.earlier in
+        elim (counted_or_early (profile_of scope.begins) (is_in_haste scope longer) row
+        (record { rule = machine.own; blame = sender_of machine.act })) [
+          | inl own ↦ inl (
+            machine.no_step.device,
+            machine.counts ∙ (ap (λ (it : LinkFault). it.rule) own ∙ machine.no_step.rule),
+          )
+          | inr early ↦ inr (
+            early.0,
+            machine.counts ∙ ap (λ (it : LinkFault). it.rule) early.1,
+            machine.blame ∙ ap (λ (it : LinkFault). it.blame) early.1,
+          )
+        ]
 
 -- at the row of a fault, an offence has its rule and its blame
 at_the_row : (scope : Scope) → BusLaws scope
@@ -123,7 +160,8 @@ no_up_to : (form : LineForm) (scope : Scope) → BusLaws scope
     → ((is.rows ≡ events_of shown.pieces) × (is.fields ∷ is.stops.rest ≡ shown.fields ∷ shown.rest))
     ⊎ (GoesOn is.rows (events_of shown.pieces) (is.fields ∷ is.stops.rest)
     ⊎ GoesOn (events_of shown.pieces) is.rows (shown.fields ∷ shown.rest))
-    → IsNoUpTo (length (events_of shown.pieces) + 1) fault (Ok (No offence))
+    → IsNoUpTo (profile_of scope.begins) (length (events_of shown.pieces) + 1) fault
+    (Ok (No offence))
 no_up_to form scope laws records fault text shown offence is (inl same) =
     let event : shown.row ≡ is.row =
     same_row is.fields shown.fields is.stops.rest shown.rest is.row shown.row same.1 is.told
@@ -204,7 +242,8 @@ pub same_fault : (form : LineForm) (scope : Scope) → BusLaws scope
     (answer : Result Outcome RunFault)
     → (shown : IsShownToFaultIn form scope records fault text)
     → IsAnswer scope ROWS_MAX records answer
-    → IsOwnAnswer answer → IsNoUpTo (length (events_of shown.pieces) + 1) fault answer
+    → IsOwnAnswer answer → IsNoUpTo (profile_of scope.begins) (length (events_of shown.pieces) + 1)
+    fault answer
 same_fault form scope laws records fault text (Ok (Yes report)) shown is own =
     no_yes form scope laws records fault text shown is.rows is.is.reached
     (compared records shown.shown.done [] (shown.fields ∷ shown.rest) is.rows

@@ -12,6 +12,7 @@ use Rattle.mdb_bus.specs.Bus.{Grown}
 use Rattle.mdb_show.specs.inner.ShowSteps.{cut_text, ended_text}
 use Rattle.mdb_show.specs.Lines.{LineForm, closed_pieces, lines_of, piece_line}
 use Rattle.mdb_show.specs.ShowText.{bytes_text}
+use Rattle.mdb_bus.specs.declared.scope.Profile.{Profile}
 use Rattle.mdb_bus.specs.declared.scope.Scope.{Scope}
 
 -- one byte more
@@ -62,46 +63,46 @@ abbrev pub IsBreakPiece : Piece → Type 0
 IsBreakPiece (Whole act events) = IsBreakAct act
 IsBreakPiece _ = ⊥
 
-no_block : (position : Position) (from : Option Event) (to : Event) → IsInside position
-    → BlockMayCome position from to → ⊥
-no_block Quiet from to inside comes = absurd inside
-no_block (InAsk bytes) from to inside comes = comes
-no_block (Asked command) from to inside comes = absurd inside
-no_block (InReply command bytes) from to inside comes = comes
-no_block (Replied command reply) from to inside comes = absurd inside
-no_block (Returned command reply) from to inside comes = absurd inside
-no_block (InRepeat command reply words) from to inside comes = comes
-no_block InForeign from to inside comes = absurd inside
+no_block : (profile : Profile) (position : Position) (from : Option Event) (to : Event)
+    → IsInside position → BlockMayCome profile position from to → ⊥
+no_block profile Quiet from to inside comes = absurd inside
+no_block profile (InAsk bytes) from to inside comes = comes
+no_block profile (Asked command) from to inside comes = absurd inside
+no_block profile (InReply command bytes) from to inside comes = comes
+no_block profile (Replied command reply) from to inside comes = absurd inside
+no_block profile (Returned command reply) from to inside comes = absurd inside
+no_block profile (InRepeat command reply words) from to inside comes = comes
+no_block profile InForeign from to inside comes = absurd inside
 
 -- inside a block nothing comes but a break
-only_a_break : (piece : Piece) (position : Position) (from : Option Event) (to : Event)
-    → IsInside position → MayCome piece position from to → IsBreakPiece piece
-only_a_break (Whole (acts.Ask command) events) position from to inside comes =
-    absurd (no_block position from to inside comes)
-only_a_break (Whole (acts.Ack command) events) position from to inside comes =
+only_a_break : (profile : Profile) (piece : Piece) (position : Position) (from : Option Event)
+    (to : Event) → IsInside position → MayCome profile piece position from to → IsBreakPiece piece
+only_a_break profile (Whole (acts.Ask command) events) position from to inside comes =
+    absurd (no_block profile position from to inside comes)
+only_a_break profile (Whole (acts.Ack command) events) position from to inside comes =
     absurd (subst IsInside comes.0 inside)
-only_a_break (Whole (acts.Nak command) events) position from to inside comes =
+only_a_break profile (Whole (acts.Nak command) events) position from to inside comes =
     absurd (subst IsInside comes.0 inside)
-only_a_break (Whole (acts.Reply command reply) events) position from to inside comes =
+only_a_break profile (Whole (acts.Reply command reply) events) position from to inside comes =
     absurd (subst IsInside comes.0 inside)
-only_a_break (Whole (acts.VmcAck command reply) events) position from to inside comes =
+only_a_break profile (Whole (acts.VmcAck command reply) events) position from to inside comes =
     absurd (subst IsInside comes.0 inside)
-only_a_break (Whole (acts.VmcNak command reply) events) position from to inside comes =
+only_a_break profile (Whole (acts.VmcNak command reply) events) position from to inside comes =
     absurd (subst IsInside comes.0 inside)
-only_a_break (Whole (acts.VmcRet command reply) events) position from to inside comes =
+only_a_break profile (Whole (acts.VmcRet command reply) events) position from to inside comes =
     absurd (subst IsInside comes.0 inside)
-only_a_break (Whole (acts.Repeat command reply) events) position from to inside comes =
+only_a_break profile (Whole (acts.Repeat command reply) events) position from to inside comes =
     absurd (subst IsInside comes.0 inside)
-only_a_break (Whole acts.Foreign events) position from to inside (inl opening) =
-    absurd (no_block position from to inside opening.1)
-only_a_break (Whole acts.Foreign events) position from to inside (inr further) =
+only_a_break profile (Whole acts.Foreign events) position from to inside (inl opening) =
+    absurd (no_block profile position from to inside opening.1)
+only_a_break profile (Whole acts.Foreign events) position from to inside (inr further) =
     absurd (subst IsInside further.1 inside)
-only_a_break (Whole (acts.Break length) events) position from to inside comes = tt
-only_a_break (AskTail bytes events) position from to inside comes =
-    absurd (no_block position from to inside comes)
-only_a_break (ReplyTail command bytes events) position from to inside comes =
+only_a_break profile (Whole (acts.Break length) events) position from to inside comes = tt
+only_a_break profile (AskTail bytes events) position from to inside comes =
+    absurd (no_block profile position from to inside comes)
+only_a_break profile (ReplyTail command bytes events) position from to inside comes =
     absurd (subst IsInside comes.0 inside)
-only_a_break (RepeatTail command reply words events) position from to inside comes =
+only_a_break profile (RepeatTail command reply words events) position from to inside comes =
     absurd (subst IsInside comes.0 inside)
 
 -- so what is no break stands on pieces that are closed
@@ -110,11 +111,11 @@ on_closed : (scope : Scope) (pieces : List Piece) (piece : Piece) → MayStand s
 on_closed scope [] piece stands not = refl
 on_closed scope (Whole act events ∷ pieces) piece stands not = refl
 on_closed scope (AskTail bytes events ∷ pieces) piece stands not =
-    absurd (not (only_a_break piece (InAsk bytes) _ _ tt stands.comes))
+    absurd (not (only_a_break _ piece (InAsk bytes) _ _ tt stands.comes))
 on_closed scope (ReplyTail command bytes events ∷ pieces) piece stands not =
-    absurd (not (only_a_break piece (InReply command bytes) _ _ tt stands.comes))
+    absurd (not (only_a_break _ piece (InReply command bytes) _ _ tt stands.comes))
 on_closed scope (RepeatTail command reply words events ∷ pieces) piece stands not =
-    absurd (not (only_a_break piece (InRepeat command reply words) _ _ tt stands.comes))
+    absurd (not (only_a_break _ piece (InRepeat command reply words) _ _ tt stands.comes))
 
 tail_no_break : (piece : Piece) → act_in piece ≡ None → IsBreakPiece piece → ⊥
 tail_no_break (Whole act events) none is = cc

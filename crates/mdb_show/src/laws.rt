@@ -7,7 +7,7 @@ ghost use Rattle.mdb_bus.specs.ActLists.{events_of};
 ghost use Rattle.mdb_bus.specs.declared.fault.LinkFault.{LinkFault};
 ghost use Rattle.mdb_bus.specs.LeavingOut.{LeavesOutMore};
 ghost use Rattle.mdb_bus.specs.LinkFaults.{blame_on};
-ghost use Rattle.mdb_bus.specs.Scopes.{IsFollowed};
+ghost use Rattle.mdb_bus.specs.Scopes.{IsFollowed, profile_of};
 ghost use Rattle.mdb_bus.specs.declared.scope.Scope.{Scope};
 ghost use Rattle.mdb_follow.specs.declared.follower.TheConstants.{ROWS_MAX};
 ghost use Rattle.mdb_text.specs.declared.outcome.Outcome.{Outcome};
@@ -43,14 +43,15 @@ pub fn texts_are_shown_alike_in_all_forms()
 {}
 
 /// Where the records of a text are shown up to a fault of the link, their verdict is a no: with the
-/// row, the rule and the blame of that fault, or with an earlier row, where it is a device or the
-/// controller that did what it can't have done.
+/// row, the rule and the blame of that fault, or with an earlier row, where a device or the
+/// controller did what it can't have done: by its rule, or `Early` where the controller was in
+/// haste.
 pub fn shown_faults_are_those_of_verdicts()
     ensures { (form : LineForm) (scope : Scope) (records : List (List (List ℕ))) (fault : LinkFault)
         (text : List ℕ) (answer : Result Outcome RunFault)
         → (shown : IsShownToFaultIn form scope records fault text)
         → IsAnswer scope ROWS_MAX records answer → IsOwnAnswer answer
-        → IsNoUpTo (length (events_of shown.pieces) + 1) fault answer }
+        → IsNoUpTo (profile_of scope.begins) (length (events_of shown.pieces) + 1) fault answer }
 {
     links::fronts_of_act_lists_have_act_lists();
     links::transcripts_have_one_act_list();

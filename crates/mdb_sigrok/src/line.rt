@@ -4,11 +4,8 @@ use super::fault::{FaultLine, OrderFault, SigrokFault};
 use super::moment::Moment;
 use super::pair::{Pair, What};
 use mdb_exports::{Imported, Place};
-use mdb_words::{Event, Line, Span, Time, Word};
+use mdb_words::{Event, Line, SHORT_BREAK_MIN, Span, Time, Word};
 use std::alloc::Global;
-
-/// How many microseconds a break lasts at least, where shorter ones can be left out.
-const LEAST_BREAK: u64 = 100_000;
 
 /// The records of a line that tell nothing yet, by their moments.
 #[derive(Clone, Copy)]
@@ -209,7 +206,7 @@ impl Reading {
             return None;
         }
         let length = pair.from.until(pair.to)?;
-        if skip && length.value() < LEAST_BREAK {
+        if skip && length.value() < SHORT_BREAK_MIN {
             None
         } else {
             Some(length)

@@ -1,7 +1,11 @@
 -- What totals come to with a report more.
-use Rattle.std.proofs.Common.{arith, ◌≡◌, ◌+◌, ◌≤◌, ℕ}
+use Rattle.std.proofs.Common.{arith, refl, subst, ◌≡◌, ◌+◌, ◌≤◌, ℕ, Option, Some, None}
 use Rattle.std.proofs.lemmas.Int.{ints}
+use Rattle.std.proofs.lemmas.Option.{same_Some}
+use Rattle.std.specs.Option.{ForSome}
 use Rattle.mdb_msgs.specs.declared.command.Device.{Device}
+use Rattle.mdb_bus.specs.declared.untimely.Untimely.{Untimely}
+use Rattle.mdb_bus.specs.Untimely.{AreFew}
 use Rattle.mdb_follow.specs.declared.account.Account.{Account}
 use Rattle.mdb_follow.specs.declared.account_name.AccountName.{AccountName}
 use Rattle.mdb_follow.specs.declared.range.Range.{Range}
@@ -11,9 +15,10 @@ use Rattle.mdb_follow.specs.ReportLimits.{IsReportWithin}
 use Rattle.mdb_follow.specs.Report.{device_silences, device_unvalued}
 use Rattle.mdb_follow.specs.AccountNames.{account_of}
 use Rattle.mdb_follow.proofs.Accounts.{listed}
+use Rattle.mdb_follow.proofs.Following.{few-times}
 use Rattle.mdb_follow.proofs.Told.{listed as by-device}
 use Rattle.mdb_stretches.specs.declared.totals.Totals.{Totals}
-use Rattle.mdb_stretches.specs.Totals.{AreWithin, added_account, added_range, total_of, total_silences, total_unvalued, with_report}
+use Rattle.mdb_stretches.specs.Totals.{AreWithin, added_account, added_range, added_untimely, total_of, total_silences, total_unvalued, untimely_of_both, with_report}
 
 -- by account, and by device
 pub account_sums : (totals : Totals) (report : Report) (account : AccountName)
@@ -54,6 +59,27 @@ account_within limit more one other first second = record {
       second.difference;
 }
 
+-- and how many rows came out of their time
+few_added : (limit more : ℕ) (one other : Untimely) → AreFew limit one → AreFew more other
+    → AreFew (limit + more) (added_untimely one other)
+few_added limit more one other first second = record {
+  controller = omega (arith, first.controller, second.controller);
+  changer = omega (arith, first.changer, second.changer);
+  bill = omega (arith, first.bill, second.bill);
+  cashless = omega (arith, first.cashless, second.cashless);
+  cashless2 = omega (arith, first.cashless2, second.cashless2);
+}
+
+few_of_both : (limit more : ℕ) (one other : Option Untimely) → ForSome one (AreFew limit)
+    → ForSome other (AreFew more) → ForSome (untimely_of_both one other) (AreFew (limit + more))
+few_of_both limit more (Some one) (Some other) first second counts is =
+    subst (AreFew (limit + more)) (same_Some (added_untimely one other) counts is)
+    (few_added limit more one other (first one refl) (second other refl))
+few_of_both limit more (Some one) None first second counts is =
+    few-times refl limit (limit + more) (omega arith) first counts is
+few_of_both limit more None other first second counts is =
+    few-times refl more (limit + more) (omega arith) second counts is
+
 pub with_within : (limit more : ℕ) (totals : Totals) (report : Report) → AreWithin limit totals
     → IsReportWithin more report → report.rows ≤ more
     → AreWithin (limit + more) (with_report totals report)
@@ -64,6 +90,8 @@ with_within limit more totals report within is few = record {
       (within.accounts account) (is.accounts account));
   silences = λ device. rw (silence_sums totals report device)
       (omega (arith, within.silences device, (is.asks device).0));
+  untimely =
+      few_of_both limit more totals.untimely report.untimely within.untimely is.untimely;
   unvalued = λ device. rw (unvalued_sums totals report device)
       (omega (arith, within.unvalued device, is.unvalued device));
 }

@@ -1,5 +1,5 @@
 -- Numbers far from the limits of their types.
-use Rattle.std.proofs.Common.{arith, ◌≡◌, ◌+◌, ◌*◌, ◌^◌, ◌≤◌, ℕ}
+use Rattle.std.proofs.Common.{arith, refl, ◌≡◌, ◌+◌, ◌*◌, ◌^◌, ◌≤◌, ℕ}
 use Rattle.std.proofs.lemmas.Int.{ints}
 use Rattle.mdb_follow.specs.declared.account.Account.{Account}
 use Rattle.mdb_follow.specs.declared.range.Range.{Range}
@@ -8,6 +8,7 @@ use Rattle.mdb_follow.specs.Limits.{IsAccountWithin, IsRangeWithin}
 use Rattle.mdb_follow.specs.AccountNames.{account_of}
 use Rattle.mdb_follow.specs.Report.{device_report}
 use Rattle.mdb_follow.specs.ReportLimits.{IsReportWithin}
+use Rattle.mdb_follow.proofs.Following.{few-times}
 use Rattle.mdb_follow.proofs.Kept.{at-most-weaker}
 use Rattle.mdb_stretches.specs.declared.counts.FaultCounts.{FaultCounts}
 use Rattle.mdb_stretches.specs.declared.totals.Totals.{Totals}
@@ -39,6 +40,7 @@ totals_weaker limit more totals le is = record {
   accounts =
       λ account. account_weaker limit more (total_of account totals) le (is.accounts account);
   silences = λ device. omega (arith, le, is.silences device);
+  untimely = few-times refl limit more le is.untimely;
   unvalued = λ device. omega (arith, le, is.unvalued device);
 }
 
@@ -49,6 +51,7 @@ report_weaker limit more report le is = record {
       λ account. account_weaker limit more (account_of account report) le (is.accounts account);
   asks = λ device. at-most-weaker (device_report device report).asks limit more le
       (is.asks device);
+  untimely = few-times refl limit more le is.untimely;
   unvalued = λ device. omega (arith, le, is.unvalued device);
 }
 

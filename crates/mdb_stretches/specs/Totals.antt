@@ -1,6 +1,9 @@
 -- The sums of the stretches' ranges and counts (this profile).
-use Rattle.std.specs.Prelude.{◌+◌, ◌^◌, ◌≤◌, ◌+ℤ◌, ℕ, List, [], ◌∷◌, get_or, map}
+use Rattle.std.specs.Prelude.{◌+◌, ◌^◌, ◌≤◌, ◌+ℤ◌, ℕ, List, [], ◌∷◌, Option, Some, None, get_or, map}
+use Rattle.std.specs.Option.{ForSome}
 use Rattle.mdb_msgs.specs.declared.command.Device.{Device}
+use Rattle.mdb_bus.specs.declared.untimely.Untimely.{Untimely}
+use Rattle.mdb_bus.specs.Untimely.{AreFew}
 use Rattle.mdb_follow.specs.declared.account.Account.{Account}
 use Rattle.mdb_follow.specs.declared.account_name.AccountName.{AccountName}
 use Rattle.mdb_follow.specs.declared.account_name.TheConstants.AccountName.{ALL}
@@ -30,6 +33,22 @@ added_account one other = record {
   difference = added_range one.difference other.difference;
 }
 
+-- counts of rows out of their time and further ones
+abbrev pub added_untimely : Untimely → Untimely → Untimely
+added_untimely one other = record {
+  controller = one.controller + other.controller;
+  changer = one.changer + other.changer;
+  bill = one.bill + other.bill;
+  cashless = one.cashless + other.cashless;
+  cashless2 = one.cashless2 + other.cashless2;
+}
+
+-- the same of two parts, of which each may count such rows or not
+abbrev pub untimely_of_both : Option Untimely → Option Untimely → Option Untimely
+untimely_of_both (Some one) (Some other) = Some (added_untimely one other)
+untimely_of_both (Some one) None = Some one
+untimely_of_both None counts = counts
+
 -- what totals have of an account, and of a device
 abbrev pub total_of : AccountName → Totals → Account
 total_of account totals = account_in account totals.accounts
@@ -48,6 +67,7 @@ with_report totals report = record {
       map (λ account. added_account (total_of account totals) (account_of account report)) ALL;
   silences =
       map (λ device. total_silences device totals + device_silences device report) DEVICES;
+  untimely = untimely_of_both totals.untimely report.untimely;
   unvalued =
       map (λ device. total_unvalued device totals + device_unvalued device report) DEVICES;
 }
@@ -58,6 +78,7 @@ no_totals = record {
   rows = 0;
   accounts = map (λ account. no_account) ALL;
   silences = map (λ device. 0) DEVICES;
+  untimely = None;
   unvalued = map (λ device. 0) DEVICES;
 }
 
@@ -71,6 +92,7 @@ pub record AreWithin (limit : ℕ) (totals : Totals) : Type 0 where
   pub rows : totals.rows ≤ limit
   pub accounts : (account : AccountName) → IsAccountWithin limit (total_of account totals)
   pub silences : (device : Device) → total_silences device totals ≤ limit
+  pub untimely : ForSome totals.untimely (AreFew limit)
   pub unvalued : (device : Device) → total_unvalued device totals ≤ limit
 
 -- Totals and a report can be added. This serves private functions too.

@@ -1,12 +1,15 @@
 //! The sums of the stretches' ranges.
 
 ghost use Rattle.std.specs.Prelude.{◌≡◌, ◌+◌, ◌^◌, ◌+ℤ◌, ◌≤ℤ◌, neg_ℤ, pos};
+ghost use Rattle.std.specs.Option.{ForSome};
+ghost use Rattle.mdb_bus.specs.Untimely.{AreFew};
 ghost use Rattle.mdb_follow.specs.Limits.{IsAccountWithin, IsRangeWithin};
 ghost use Rattle.mdb_follow.specs.Report.{device_silences, device_unvalued};
 ghost use Rattle.mdb_follow.specs.AccountNames.{account_of};
 ghost use Rattle.mdb_stretches.specs.Totals as spec;
 ghost use Rattle.mdb_stretches.specs.Totals.{CanBeAdded, added_account, total_of, total_silences, total_unvalued, with_report};
 
+use mdb_bus::Untimely;
 use mdb_follow::{ACCOUNTS, Account, AccountName, Range, Report, device_place};
 use mdb_msgs::{Device, ReaderUnit};
 
@@ -23,6 +26,8 @@ pub struct Totals {
     pub accounts: [Account; ACCOUNTS],
     /// How often each of `Report::DEVICES` left the controller's commands unanswered for too long.
     pub silences: [u64; 4],
+    /// How many rows came out of the base profile's times. `None` if no stretch counts them.
+    pub untimely: Option<Untimely>,
     /// How many amounts without a value each of `Report::DEVICES` reported, or was asked for.
     pub unvalued: [u64; 4],
 }
@@ -33,6 +38,7 @@ impl Totals {
         rows: 0,
         accounts: [Account::NOTHING; ACCOUNTS],
         silences: [0; 4],
+        untimely: None,
         unvalued: [0; 4],
     };
 
@@ -79,6 +85,7 @@ impl Totals {
                 self.silences_with(report, Device::Reader(ReaderUnit::First)),
                 self.silences_with(report, Device::Reader(ReaderUnit::Second)),
             ],
+            untimely: untimely_of_both(self.untimely, report.untimely),
             unvalued: [
                 self.unvalued_with(report, Device::Changer),
                 self.unvalued_with(report, Device::Bill),
@@ -112,6 +119,34 @@ impl Totals {
             ≡ total_unvalued device self.now + device_unvalued device report.now }
     {
         self.device_unvalued(device) + report.device_unvalued(device)
+    }
+}
+
+/// How many rows came out of their time in two parts, if either counts them.
+fn untimely_of_both(one: Option<Untimely>, other: Option<Untimely>) -> Option<Untimely>
+    requires one { ForSome one (AreFew (2 ^ 61)) }
+    requires other { ForSome other (AreFew (2 ^ 61)) }
+    ensures { result ≡ spec.untimely_of_both one other }
+{
+    match (one, other) {
+        (Some(one), Some(other)) => Some(added_untimely(one, other)),
+        (Some(one), None) => Some(one),
+        (None, counts) => counts,
+    }
+}
+
+/// The counts of rows out of their time with further ones.
+fn added_untimely(one: Untimely, other: Untimely) -> Untimely
+    requires one { AreFew (2 ^ 61) one }
+    requires other { AreFew (2 ^ 61) other }
+    ensures { result ≡ spec.added_untimely one other }
+{
+    Untimely {
+        controller: one.controller + other.controller,
+        changer: one.changer + other.changer,
+        bill: one.bill + other.bill,
+        cashless: one.cashless + other.cashless,
+        cashless2: one.cashless2 + other.cashless2,
     }
 }
 

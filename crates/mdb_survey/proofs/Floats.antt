@@ -1,16 +1,16 @@
 -- The lines of a survey have no float.
-use Rattle.std.proofs.Common.{[], ◌∷◌, refl, ◌≡◌, ◌==◌, Bool, true, false, codes, if◌then◌else◌}
-use Rattle.serde_json.specs.Data.{Data, null, object}
+use Rattle.std.proofs.Common.{refl, ◌≡◌, ◌==◌, Bool, true, false, if◌then◌else◌}
+use Rattle.serde_json.specs.Data.{Data, null}
 use Rattle.serde_json.specs.Written.{has_float}
 use Rattle.mdb_msgs.specs.declared.command.Device.{Device}
 use Rattle.mdb_bus.specs.declared.scope.Profile.{Profile}
+use Rattle.mdb_bus.specs.declared.scope.Profile.TheVariants.{Base, Extended}
 use Rattle.mdb_follow.specs.declared.report.TheConstants.Report.{DEVICES}
-use Rattle.mdb_json.specs.Reports.{members}
-use Rattle.mdb_json.proofs.Floats.{of_accounts, of_yes}
+use Rattle.mdb_json.proofs.Floats.{of_accounts, of_untimely, of_yes}
 use Rattle.mdb_json.proofs.Objects.{without_float}
 use Rattle.mdb_stretches.specs.declared.stretch.Stretch.{Stretch}
 use Rattle.mdb_stretches.specs.declared.summary.Summary.{Summary}
-use Rattle.mdb_survey.specs.SurveyJson.{device_member, device_total, devices_total, stretch_data, summary_data, total_data}
+use Rattle.mdb_survey.specs.SurveyJson.{device_member, device_total, devices_total, some_total, stretch_data, summary_data, total_data}
 
 pub of_stretch : (stretch : Stretch) → has_float (stretch_data stretch) ≡ false
 of_stretch stretch = rw (of_yes stretch.scope stretch.report) refl
@@ -26,12 +26,17 @@ or_null : (is_null : Bool) (given : Data) → has_float given ≡ false
 or_null true given none = refl
 or_null false given none = none
 
-of_total : (summary : Summary) → has_float (total_data summary) ≡ false
-of_total summary =
-    or_null (summary.totals.rows == 0)
-    (object (members ((codes "devices", devices_total summary) ∷ [])))
-    (rw (of_devices summary) refl)
+of_some_total : (profile : Profile) (summary : Summary)
+    → has_float (some_total profile summary) ≡ false
+of_some_total Base summary = rw (of_devices summary) refl
+of_some_total Extended summary =
+    rw (of_devices summary) (rw (of_untimely summary.totals.untimely) refl)
+
+of_total : (profile : Profile) (summary : Summary)
+    → has_float (total_data profile summary) ≡ false
+of_total profile summary =
+    or_null (summary.totals.rows == 0) (some_total profile summary) (of_some_total profile summary)
 
 pub of_summary : (profile : Profile) (summary : Summary)
     → has_float (summary_data profile summary) ≡ false
-of_summary profile summary = rw (of_total summary) refl
+of_summary profile summary = rw (of_total profile summary) refl

@@ -82,7 +82,7 @@ accounts_still scope reached account = record {
 }
 
 abbrev pub report_on_none : Scope → Report
-report_on_none scope = report_of scope.begins 0 [] (λ account. no_account)
+report_on_none scope = report_of scope 0 [] (λ account. no_account)
 
 pub is_report_on_none : (scope : Scope) → IsReached scope []
     → IsReport scope [] (report_on_none scope)

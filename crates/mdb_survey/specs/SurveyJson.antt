@@ -1,16 +1,17 @@
 -- The lines of a survey, as JSON: each is an object (this profile).
-use Rattle.std.specs.Prelude.{◌==◌, ℕ, List, [], ◌∷◌, codes, if◌then◌else◌, map}
+use Rattle.std.specs.Prelude.{◌==◌, ℕ, List, [], ◌∷◌, ◌++◌, codes, if◌then◌else◌, map}
 use Rattle.serde_json.specs.Data.{Data, null, boolean, number, string, object, unsigned}
 use Rattle.serde_json.specs.Written.{compact_text}
 use Rattle.mdb_msgs.specs.declared.command.Device.{Device}
 use Rattle.mdb_msgs.specs.DeviceSets.{has}
 use Rattle.mdb_msgs.specs.Devices.{device_word}
 use Rattle.mdb_bus.specs.declared.scope.Profile.{Profile}
+use Rattle.mdb_bus.specs.declared.scope.Profile.TheVariants.{Base, Extended}
 use Rattle.mdb_bus.specs.FaultWords.{blame_word, rule_word}
 use Rattle.mdb_bus.specs.Scopes.{profile_of}
 use Rattle.mdb_follow.specs.declared.offence.Offence.{Offence}
 use Rattle.mdb_follow.specs.declared.report.TheConstants.Report.{DEVICES}
-use Rattle.mdb_json.specs.Reports.{accounts_data, members, version_of, yes_data}
+use Rattle.mdb_json.specs.Reports.{accounts_data, members, untimely_data, version_of, yes_data}
 use Rattle.mdb_stretches.specs.declared.counts.FaultCounts.{FaultCounts}
 use Rattle.mdb_stretches.specs.declared.stretch.Stretch.{Stretch}
 use Rattle.mdb_stretches.specs.Totals.{total_silences, total_unvalued}
@@ -70,10 +71,21 @@ device_member summary device = (device_word device, device_total summary device)
 abbrev pub devices_total : Summary → Data
 devices_total summary = object (members (map (device_member summary) DEVICES))
 
--- the totals; null where no stretch has a row
-abbrev pub total_data : Summary → Data
-total_data summary = if summary.totals.rows == 0 then null
-    else object (members ((codes "devices", devices_total summary) ∷ []))
+-- what the totals have of the profile: nothing by the base profile
+abbrev pub profile_totals : Profile → Summary → List (List ℕ × Data)
+profile_totals Base summary = []
+profile_totals Extended summary =
+    (codes "untimely", untimely_data summary.totals.untimely) ∷ []
+
+-- the totals by a profile; null where no stretch has a row
+abbrev pub some_total : Profile → Summary → Data
+some_total profile summary =
+    object (members (profile_totals profile summary ++
+    (codes "devices", devices_total summary) ∷ []))
+
+abbrev pub total_data : Profile → Summary → Data
+total_data profile summary =
+    if summary.totals.rows == 0 then null else some_total profile summary
 
 -- how many faults there are: all, those that count for each, and those that count for nobody
 abbrev pub faults_data : FaultCounts → Data
@@ -94,7 +106,7 @@ abbrev pub summary_data : Profile → Summary → Data
 summary_data profile summary =
     object (members (
     (codes "faults", faults_data summary.faults)
-    ∷ (codes "total", total_data summary)
+    ∷ (codes "total", total_data profile summary)
     ∷ (codes "version", number (unsigned (version_of profile))) ∷ []
     ))
 

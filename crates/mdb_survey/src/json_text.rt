@@ -4,12 +4,12 @@ ghost use Rattle.std.specs.Prelude.{◌≡◌, ◌++◌, IfOk, OnOk, false};
 ghost use Rattle.serde_json.specs.Data.{Data};
 ghost use Rattle.serde_json.specs.View.{view};
 ghost use Rattle.serde_json.specs.Written.{compact_text, has_float};
-ghost use Rattle.mdb_survey.specs.SurveyJson.{device_total, devices_total, fault_data, faults_data, offence_data, stretch_data, stretch_json, summary_data, total_data};
+ghost use Rattle.mdb_survey.specs.SurveyJson.{device_total, devices_total, fault_data, faults_data, offence_data, some_total, stretch_data, stretch_json, summary_data, total_data};
 ghost use Rattle.mdb_text.specs.Text.{line};
 
 use mdb_bus::Profile;
 use mdb_follow::{Offence, Report};
-use mdb_json::{accounts_of, report_value, version_by};
+use mdb_json::{accounts_of, report_value, untimely_value, version_by};
 use mdb_msgs::Device;
 use mdb_stretches::{FaultCounts, Stretch, Summary};
 use serde_json::{Map, Value, json, put};
@@ -95,7 +95,7 @@ fn summary_value(alloc: Global, profile: Profile, summary: &Summary) -> Result<V
     ensures { IfOk result (λ value. view value ≡ summary_data profile summary.now) }
 {
     let faults = faults_value(alloc, &summary.faults)?;
-    let total = total_value(alloc, summary)?;
+    let total = total_value(alloc, profile, summary)?;
     json!(in alloc; {"version": version_by(profile), "total": total, "faults": faults})
 }
 
@@ -116,14 +116,27 @@ fn faults_value(alloc: Global, faults: &FaultCounts) -> Result<Value, AllocError
 }
 
 /// The totals as a value; null where no stretch has a row.
-fn total_value(alloc: Global, summary: &Summary) -> Result<Value, AllocError>
-    ensures { IfOk result (λ value. view value ≡ total_data summary.now) }
+fn total_value(alloc: Global, profile: Profile, summary: &Summary) -> Result<Value, AllocError>
+    ensures { IfOk result (λ value. view value ≡ total_data profile summary.now) }
 {
     if summary.totals.rows == 0 {
         return Ok(Value::Null);
     }
+    some_total(alloc, profile, summary)
+}
+
+/// The totals of stretches that have rows, as a value.
+fn some_total(alloc: Global, profile: Profile, summary: &Summary) -> Result<Value, AllocError>
+    ensures { IfOk result (λ value. view value ≡ some_total profile summary.now) }
+{
     let devices = devices_value(alloc, summary)?;
-    json!(in alloc; {"devices": devices})
+    match profile {
+        Profile::Base => json!(in alloc; {"devices": devices}),
+        Profile::Extended => {
+            let untimely = untimely_value(alloc, &summary.totals.untimely)?;
+            json!(in alloc; {"devices": devices, "untimely": untimely})
+        }
+    }
 }
 
 /// What all stretches have of each device, by its word.

@@ -13,7 +13,7 @@ use Rattle.mdb_stretches.specs.Told.{setups_of}
 use Rattle.mdb_stretches.specs.Totals.{total_of}
 use Rattle.mdb_stretches.specs.declared.summary.Summary.{Summary}
 use Rattle.mdb_survey_text.specs.Lines.{LineForm}
-use Rattle.mdb_text.specs.Text.{account_line, counts_line, devices_text, line, line_of_devices, report_lines}
+use Rattle.mdb_text.specs.Text.{account_line, counts_line, devices_text, line, line_of_devices, report_lines, untimely_line}
 
 -- the first line of a stretch: its number, its first row and its last
 abbrev pub stretch_line : Stretch → List ℕ
@@ -46,7 +46,11 @@ total_accounts_text totals =
 abbrev pub total_silences_line : Totals → List ℕ
 total_silences_line totals = counts_line (codes "total silences") totals.silences
 
--- those of its amounts without a value
+-- those of the rows out of their time, where they are counted
+abbrev pub total_untimely_line : Totals → List ℕ
+total_untimely_line totals = untimely_line (codes "total untimely") totals.untimely
+
+-- those of each device's amounts without a value
 abbrev pub total_unvalued_line : Totals → List ℕ
 total_unvalued_line totals = counts_line (codes "total unvalued") totals.unvalued
 
@@ -54,7 +58,7 @@ total_unvalued_line totals = counts_line (codes "total unvalued") totals.unvalue
 abbrev pub totals_text : Summary → List ℕ
 totals_text summary =
     total_accounts_text summary.totals ++ total_silences_line summary.totals
-    ++ total_unvalued_line summary.totals
+    ++ total_untimely_line summary.totals ++ total_unvalued_line summary.totals
     ++ line_of_devices (codes "total without") (devices_text summary.without)
 
 -- the number of the faults, of those that count for each, and of those that count for nobody

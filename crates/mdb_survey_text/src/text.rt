@@ -7,7 +7,7 @@ ghost use Rattle.mdb_survey_text.specs.SurveyText.{fault_line, faults_line, rows
 use mdb_bus::Scope;
 use mdb_follow::{AccountName, Offence};
 use mdb_stretches::{FaultCounts, Stretch, Summary, Totals, setups_of};
-use mdb_text::{write_account, write_counts, write_devices, write_report_lines};
+use mdb_text::{write_account, write_counts, write_devices, write_report_lines, write_untimely};
 use std::io;
 use std::io::Write;
 
@@ -74,6 +74,7 @@ fn write_totals<W: Write>(writer: &mut W, summary: &Summary) -> io::Result<()>
     } = summary;
     write_total_accounts(writer, totals)?;
     write_counts(writer, "total silences", &totals.silences)?;
+    write_untimely(writer, "total untimely", &totals.untimely)?;
     write_counts(writer, "total unvalued", &totals.unvalued)?;
     write_devices(writer, "total without", *without)
 }

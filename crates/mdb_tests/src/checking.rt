@@ -2,7 +2,7 @@
 
 use super::asserts::{check_gives, same, same_at};
 use super::streams::{ENDED, POLLS, Pieces, ROWS, Sheet, WRONG_SUM, polls};
-use mdb_bus::{Blame, Rule, Scope};
+use mdb_bus::{Blame, Rule, Scope, Untimely};
 use mdb_follow::{Account, AskCounts, DeviceFacts, DeviceReport, Offence, Range, Report};
 use mdb_msgs::{Device, DeviceSet, ReaderConfig, ReaderSetup, Setups};
 use mdb_text::Outcome;
@@ -113,6 +113,13 @@ fn each_number() -> Outcome {
             device(Some(0), 0, 4_294_967_297),
             device(Some(255), 4_294_967_296, 55),
         ],
+        untimely: Some(Untimely {
+            controller: 6,
+            changer: 77,
+            bill: 888,
+            cashless: 9_999,
+            cashless2: 10_000_000_001,
+        }),
         accounts: [
             account([-100, -91, -99, -90, -98, -89]),
             account([-9, 0, -8, 1, -7, 2]),
@@ -135,7 +142,8 @@ approved device 10..19 controller 11..20 difference 12..21\n\
 sold device 20..29 controller 21..30 difference 22..31\n\
 approved-2 device 30..39 controller 31..40 difference 32..41\n\
 sold-2 device 40..49 controller 41..50 difference 42..51\n\
-silences changer 1 bill 22 cashless 0 cashless-2 4294967296\n";
+silences changer 1 bill 22 cashless 0 cashless-2 4294967296\n\
+untimely controller 6 changer 77 bill 888 cashless 9999 cashless-2 10000000001\n";
 
 /// Each number of a report stands in its place of the text.
 #[test]

@@ -1,13 +1,15 @@
 -- Texts that are written in parts.
-use Rattle.std.proofs.Common.{[], Bool, true, false, refl, ap, sym, ◌∙◌, ◌≡◌, ℕ, List, ◌++◌, Option, Result, Ok, Err, get_or, length, ◌+◌, ◌<◌, ◌≤◌, subst, take}
+use Rattle.std.proofs.Common.{[], Bool, true, false, refl, ap, sym, ◌∙◌, ◌≡◌, ℕ, List, ◌++◌, append_assoc, codes, Option, Result, Ok, Err, get_or, length, ◌+◌, ◌<◌, ◌≤◌, subst, take}
 use Rattle.std.proofs.KnownBytes.{Appends-trans}
 use Rattle.std.proofs.lemmas.List.{flat_map_more, take_all, take_more}
+use Rattle.std.specs.Fmt.{decimal}
 use Rattle.std.specs.List.{flat_map}
 use Rattle.std.specs.Prelude.{OnOk}
 use Rattle.std.specs.Io.KnownBytes.{Appends}
 use Rattle.mdb_msgs.specs.declared.device_set.DeviceSet.{DeviceSet}
 use Rattle.mdb_msgs.specs.declared.device_set.TheConstants.DeviceSet.{NONE}
-use Rattle.mdb_text.specs.Text.{devices_text, line, line_of_devices}
+use Rattle.mdb_bus.specs.declared.untimely.Untimely.{Untimely}
+use Rattle.mdb_text.specs.Text.{devices_text, line, line_of_devices, untimely_counts}
 
 -- a part after what was written, where it was
 pub on_ok : {T E : Type 0} (r : Result T E) (P Q : Type 0) → (P → Q) → OnOk r P → OnOk r Q
@@ -60,3 +62,19 @@ with_line word set some =
 pub without_line : (word : List ℕ) (set : DeviceSet) → set ≡ NONE
     → line_of_devices word (devices_text set) ≡ []
 without_line word set none = ap (λ s. line_of_devices word (devices_text s)) none
+
+-- the line of rows out of their time is written in two parts
+abbrev pub untimely_first : List ℕ → Untimely → List ℕ
+untimely_first word counts =
+    word ++ (codes " controller " ++ (decimal counts.controller
+    ++ (codes " changer " ++ (decimal counts.changer
+    ++ (codes " bill " ++ decimal counts.bill)))))
+
+abbrev pub untimely_second : Untimely → List ℕ
+untimely_second counts =
+    codes " cashless " ++ (decimal counts.cashless
+    ++ (codes " cashless-2 " ++ (decimal counts.cashless2 ++ codes "\n")))
+
+pub untimely_parts : (word : List ℕ) (counts : Untimely)
+    → untimely_first word counts ++ untimely_second counts ≡ untimely_counts word counts
+untimely_parts word counts = simp append_assoc

@@ -7,6 +7,7 @@ use Rattle.mdb_msgs.specs.declared.command.Device.{Device}
 use Rattle.mdb_msgs.specs.declared.device_set.DeviceSet.{DeviceSet}
 use Rattle.mdb_msgs.specs.DeviceSets.{has}
 use Rattle.mdb_msgs.specs.Devices.{device_word}
+use Rattle.mdb_bus.specs.declared.untimely.Untimely.{Untimely}
 use Rattle.mdb_bus.specs.FaultWords.{blame_word, rule_word}
 use Rattle.mdb_follow.specs.declared.account_name.AccountName.{AccountName}
 use Rattle.mdb_follow.specs.declared.account_name.TheConstants.AccountName.{ALL}
@@ -58,6 +59,19 @@ counts_line word counts =
 abbrev pub silences_line : Report → List ℕ
 silences_line report =
     counts_line (codes "silences") (map (λ device. device_silences device report) DEVICES)
+
+-- a word, and after it how many rows of each sender came out of their time
+abbrev pub untimely_counts : List ℕ → Untimely → List ℕ
+untimely_counts word counts =
+    line (word ++ codes " controller " ++ decimal counts.controller
+    ++ codes " changer " ++ decimal counts.changer ++ codes " bill " ++ decimal counts.bill
+    ++ codes " cashless " ++ decimal counts.cashless
+    ++ codes " cashless-2 " ++ decimal counts.cashless2)
+
+-- the same, where such rows are counted; else there is no line
+abbrev pub untimely_line : List ℕ → Option Untimely → List ℕ
+untimely_line word None = []
+untimely_line word (Some counts) = untimely_counts word counts
 
 -- how many amounts each device told, or was asked for, that have no value
 abbrev pub unvalued_line : Report → List ℕ
@@ -120,6 +134,7 @@ offence_text offence =
 abbrev pub report_lines : Scope → Report → List ℕ
 report_lines scope report =
     decimals_line report ++ accounts_text report ++ silences_line report
+    ++ untimely_line (codes "untimely") report.untimely
     ++ beginning_text scope.begins report ++ without_line scope
 
 -- what is written for an outcome

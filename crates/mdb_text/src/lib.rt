@@ -14,4 +14,6 @@ pub use digits::hex_digit;
 pub use form::Form;
 pub use known::known_devices;
 pub use outcome::Outcome;
-pub use text::{write_account, write_counts, write_devices, write_outcome, write_report_lines};
+pub use text::{
+    write_account, write_counts, write_devices, write_outcome, write_report_lines, write_untimely,
+};

@@ -2,11 +2,11 @@
 
 ghost use Rattle.std.specs.Prelude.{OnOk};
 ghost use Rattle.std.specs.Io.KnownBytes.{Appends};
-ghost use Rattle.mdb_text.specs.Text.{account_line, accounts_text, beginning_text, count_text, counts_line, decimals_line, head_text, devices_text, line_of_devices, offence_text, places_text, report_lines, report_text, side_text, word_in};
+ghost use Rattle.mdb_text.specs.Text.{account_line, accounts_text, beginning_text, count_text, counts_line, decimals_line, head_text, devices_text, line_of_devices, offence_text, places_text, report_lines, report_text, side_text, untimely_counts, untimely_line, word_in};
 
 use super::known::known_devices;
 use super::outcome::Outcome;
-use mdb_bus::{Beginning, Scope};
+use mdb_bus::{Beginning, Scope, Untimely};
 use mdb_follow::{Account, AccountName, Offence, Range, Report, device_place};
 use mdb_msgs::{Device, DeviceSet};
 use std::io;
@@ -48,6 +48,7 @@ pub fn write_report_lines<W: Write>(
     write_decimals(writer, report)?;
     write_accounts(writer, report)?;
     write_counts(writer, "silences", &report.silences())?;
+    write_untimely(writer, "untimely", &report.untimely)?;
     write_beginning(writer, &scope.begins, report)?;
     write_devices(writer, "without", scope.without)
 }
@@ -144,6 +145,43 @@ fn write_count<W: Write>(writer: &mut W, device: Device, count: u64) -> io::Resu
         (W.contents writer.new) (count_text device count)) }
 {
     write!(writer, " {device} {count}")
+}
+
+/// Writes a word, and after it how many rows of each sender came out of their time, if these are
+/// counted.
+pub fn write_untimely<W: Write>(
+    writer: &mut W,
+    word: &str,
+    counts: &Option<Untimely>,
+) -> io::Result<()>
+    ensures { OnOk result
+        (Appends (W.contents writer.old)
+        (W.contents writer.new) (untimely_line word.now counts.now)) }
+{
+    match counts {
+        Some(counts) => write_untimely_counts(writer, word, counts),
+        None => Ok(()),
+    }
+}
+
+/// Writes a word, and after it how many rows of each sender came out of their time.
+fn write_untimely_counts<W: Write>(writer: &mut W, word: &str, counts: &Untimely) -> io::Result<()>
+    ensures { OnOk result
+        (Appends (W.contents writer.old)
+        (W.contents writer.new) (untimely_counts word.now counts.now)) }
+{
+    let Untimely {
+        controller,
+        changer,
+        bill,
+        cashless,
+        cashless2,
+    } = *counts;
+    write!(
+        writer,
+        "{word} controller {controller} changer {changer} bill {bill}"
+    )?;
+    write!(writer, " cashless {cashless} cashless-2 {cashless2}\n")
 }
 
 /// Writes what a yes says of a recording that begins in mid-session: what has no value, and of

@@ -23,7 +23,8 @@ mod word;
 
 pub use event::{Event, gap_of, is_at_least, is_at_most};
 pub use limits::{
-    ANSWER_GAP_MAX, BLOCK_GAP_MAX, BREAK_LENGTH_MIN, NEW_BLOCK_GAP_MIN, SETUP_GAP_MIN, WORD_GAP_MIN,
+    ANSWER_GAP_MAX, BLOCK_GAP_MAX, BREAK_LENGTH_MIN, NEW_BLOCK_GAP_MIN, SETUP_GAP_MIN,
+    SHORT_BREAK_MIN, WORD_GAP_MIN,
 };
 pub use row::RowFault;
 pub use time::{Span, Time};

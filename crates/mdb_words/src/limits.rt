@@ -20,5 +20,9 @@ pub const NEW_BLOCK_GAP_MIN: u64 = 5_996;
 /// The least length of a break.
 pub const BREAK_LENGTH_MIN: u64 = 100_000;
 
+/// The least length of a break that receivers may take for one (this profile): the standard's
+/// 100 ms, sent a little short.
+pub const SHORT_BREAK_MIN: u64 = 95_000;
+
 /// The least time from the end of a break to the next word.
 pub const SETUP_GAP_MIN: u64 = 200_000;

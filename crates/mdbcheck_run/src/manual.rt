@@ -230,6 +230,9 @@ THE REPORT
                      counted differently, no matter what was lost on the way.
     silences         How often a device that was asked again and again didn't
                      answer for too long.
+    untimely         With --extended: how many rows of each side came at other
+                     times than the standard wants. They were read all the
+                     same.
     unvalued         With --joined: how many reported amounts have no value,
                      and are in no sum.
     setup, without   Which devices have a --setup, and which devices are left

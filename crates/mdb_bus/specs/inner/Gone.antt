@@ -5,6 +5,7 @@ use Rattle.mdb_bus.specs.declared.act.Act.{Act}
 use Rattle.mdb_bus.specs.declared.bus.Bus.{Bus}
 use Rattle.mdb_bus.specs.ActLists.{levels_if}
 use Rattle.mdb_bus.specs.Bus.{position_at}
+use Rattle.mdb_bus.specs.Haste.{haste_after, haste_by}
 use Rattle.mdb_bus.specs.Scopes.{profile_of}
 use Rattle.mdb_bus.specs.WideMoney.{known_if}
 use Rattle.mdb_bus.specs.shared.Step.{Step}
@@ -19,3 +20,5 @@ pub record HasGone (old : Bus) (next : Step) (row : Event) (new : Bus)
   pub levels : new.levels ≡ levels_if (profile_of old.scope.begins) act old.levels
   pub options : new.options ≡ known_if act old.options
   pub asked : new.asked ≡ asked_after old.asked next
+  pub haste : new.haste ≡ haste_by (profile_of old.scope.begins)
+      (haste_after (position_at old.place) old.last row old.haste)

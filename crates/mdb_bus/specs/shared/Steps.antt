@@ -1,6 +1,6 @@
 -- How a row leads from one situation to the next.
 use Rattle.std.specs.Prelude.{◌≡◌, ◌≢◌, ◌+◌, ◌%◌, ◌<◌, ◌≤◌, ◌⊎◌, ℕ, List, [], ◌∷◌, ◌++◌, length, slice_get, sum, Option, Some, None, Result, Ok, Err}
-use Rattle.mdb_words.specs.declared.limits.TheConstants.{WORD_GAP_MIN, BLOCK_GAP_MAX, ANSWER_GAP_MAX, BREAK_LENGTH_MIN}
+use Rattle.mdb_words.specs.declared.limits.TheConstants.{WORD_GAP_MIN}
 use Rattle.mdb_words.specs.declared.event.Event.{Event}
 use Rattle.mdb_words.specs.declared.event.Event.TheVariants.{Word, Break}
 use Rattle.mdb_words.specs.declared.word.Line.{Line}
@@ -33,91 +33,95 @@ use Rattle.mdb_bus.specs.declared.scope.Beginning.{Beginning}
 use Rattle.mdb_bus.specs.declared.scope.Profile.{Profile}
 use Rattle.mdb_bus.specs.declared.scope.Scope.{Scope}
 use Rattle.mdb_bus.specs.Formats.{HasFault, format_for}
-use Rattle.mdb_bus.specs.Scopes.{Asks, HasCommand, needed_by}
+use Rattle.mdb_bus.specs.Scopes.{Asks, HasCommand, needed_by, profile_of}
+use Rattle.mdb_bus.specs.Times.{break_least, rest_after}
 use Rattle.mdb_bus.specs.Acts.{IsForeignOpening, IsReply, reply_words}
-use Rattle.mdb_bus.specs.ActLists.{Piece, Whole, AskTail, ReplyTail, RepeatTail, Position, Quiet, InAsk, Asked, InReply, Replied, Returned, InRepeat, InForeign, BlockMayCome, BreakMayCome, Within, IsAskFront, IsRepeatFront, IsReplyFront, NotBefore, ReplyFits, act_in, left_by, position_of}
-use Rattle.mdb_bus.specs.LinkFaults.{LeavesProfile, IsBefore, IsAfter, IsOutside, Situation}
+use Rattle.mdb_bus.specs.ActLists.{Piece, Whole, AskTail, ReplyTail, RepeatTail, Position, Quiet, InAsk, Asked, InReply, Replied, Returned, InRepeat, InForeign, BlockMayCome, BreakMayCome, InAnswerTime, InBlockTime, IsAskFront, IsRepeatFront, IsReplyFront, NotBefore, ReplyFits, act_in, left_by, position_of}
+use Rattle.mdb_bus.specs.LinkFaults.{LeavesProfile, IsBefore, IsPast, IsOutside, Situation}
 use Rattle.mdb_bus.specs.shared.RulePlaces.{IsFirstByPlace}
 
 -- the rule of time that a row breaks which doesn't come in time: it is early, or it is late by this
 -- rule
-abbrev pub IsUntimely : Rule → ℕ → Option Event → Event → Rule → Type 0
+abbrev pub IsUntimely : Rule → Option ℕ → Option Event → Event → Rule → Type 0
 IsUntimely late most from to broken =
     ((broken ≡ rule.Early) × IsBefore WORD_GAP_MIN from to)
-    ⊎ ((broken ≡ late) × ¬ IsBefore WORD_GAP_MIN from to × IsAfter most from to)
+    ⊎ ((broken ≡ late) × ¬ IsBefore WORD_GAP_MIN from to × IsPast most from to)
 
 -- a marked word of the controller begins a block
 abbrev pub Opens : Scope → Position → Option Event → Event → ℕ → Step → Type 0
 Opens scope position from to word (step.AskByte byte) =
-    (word ≡ 256 + byte) × IsAskFront scope (byte ∷ []) × BlockMayCome position from to
+    (word ≡ 256 + byte) × IsAskFront scope (byte ∷ [])
+    × BlockMayCome (profile_of scope.begins) position from to
 Opens scope position from to word step.Foreign =
     (byte : ℕ) × (word ≡ 256 + byte) × IsForeignOpening scope (byte ∷ [])
-    × BlockMayCome position from to
+    × BlockMayCome (profile_of scope.begins) position from to
 Opens scope position from to word _ = ⊥
 
 -- a word goes on with a block of the controller, or ends it
 abbrev pub GoesOnAsking : Scope → List ℕ → Option Event → Event → ℕ → Step → Type 0
 GoesOnAsking scope bytes from to word (step.AskByte byte) =
     (word ≡ byte) × (word < 256) × IsAskFront scope (bytes ++ byte ∷ [])
-    × Within WORD_GAP_MIN BLOCK_GAP_MAX from to
+    × InBlockTime (profile_of scope.begins) from to
 GoesOnAsking scope bytes from to word (step.Ask command) =
     (word < 256) × Asks scope command (bytes ++ word ∷ []) × ¬ EnablesMore command
-    × Within WORD_GAP_MIN BLOCK_GAP_MAX from to
+    × InBlockTime (profile_of scope.begins) from to
 GoesOnAsking scope bytes from to word step.Foreign =
     (word < 256) × IsForeignOpening scope (bytes ++ word ∷ [])
-    × Within WORD_GAP_MIN BLOCK_GAP_MAX from to
+    × InBlockTime (profile_of scope.begins) from to
 GoesOnAsking scope bytes from to word _ = ⊥
 
 -- a word answers a command, or begins to
-abbrev pub Answers : Command → Option Event → Event → ℕ → Step → Type 0
-Answers command from to word step.Ack =
-    (word ≡ answer_word Peripheral answers.Ack) × Within WORD_GAP_MIN ANSWER_GAP_MAX from to
-Answers command from to word step.Nak =
-    (word ≡ answer_word Peripheral answers.Nak) × Within WORD_GAP_MIN ANSWER_GAP_MAX from to
-Answers command from to word (step.ReplyByte byte) =
-    (word ≡ byte) × (word < 256) × MayHaveData command × Within WORD_GAP_MIN ANSWER_GAP_MAX from to
-Answers command from to word _ = ⊥
+abbrev pub Answers : Scope → Command → Option Event → Event → ℕ → Step → Type 0
+Answers scope command from to word step.Ack =
+    (word ≡ answer_word Peripheral answers.Ack) × InAnswerTime (profile_of scope.begins) from to
+Answers scope command from to word step.Nak =
+    (word ≡ answer_word Peripheral answers.Nak) × InAnswerTime (profile_of scope.begins) from to
+Answers scope command from to word (step.ReplyByte byte) =
+    (word ≡ byte) × (word < 256) × MayHaveData command
+    × InAnswerTime (profile_of scope.begins) from to
+Answers scope command from to word _ = ⊥
 
 -- a word goes on with a reply, or ends it
-abbrev pub GoesOnReplying : Beginning → Command → List ℕ → Option Event → Levels → Event → ℕ → Step
+abbrev pub GoesOnReplying : Scope → Command → List ℕ → Option Event → Levels → Event → ℕ → Step
     → Type 0
-GoesOnReplying begins command bytes from levels to word (step.ReplyByte byte) =
-    (word ≡ byte) × (word < 256) × (length bytes < 35) × Within WORD_GAP_MIN BLOCK_GAP_MAX from to
-GoesOnReplying begins command bytes from levels to word (step.Reply reply) =
+GoesOnReplying scope command bytes from levels to word (step.ReplyByte byte) =
+    (word ≡ byte) × (word < 256) × (length bytes < 35)
+    × InBlockTime (profile_of scope.begins) from to
+GoesOnReplying scope command bytes from levels to word (step.Reply reply) =
     (word ≡ 256 + sum bytes % 256) × IsReply command reply × (bytes ≡ reply_bytes reply)
-    × ReplyFits begins levels command reply
-    × Within WORD_GAP_MIN BLOCK_GAP_MAX from to
-GoesOnReplying begins command bytes from levels to word _ = ⊥
+    × ReplyFits scope.begins levels command reply
+    × InBlockTime (profile_of scope.begins) from to
+GoesOnReplying scope command bytes from levels to word _ = ⊥
 
 -- a word of the controller answers a reply, or begins a block
 abbrev pub AnswersReply : Scope → Command → Reply → Option Event → Event → ℕ → Step → Type 0
 AnswersReply scope command reply from to word step.VmcAck =
-    (word ≡ answer_word Controller answers.Ack) × Within WORD_GAP_MIN ANSWER_GAP_MAX from to
+    (word ≡ answer_word Controller answers.Ack) × InAnswerTime (profile_of scope.begins) from to
 AnswersReply scope command reply from to word step.VmcNak =
-    (word ≡ answer_word Controller answers.Nak) × Within WORD_GAP_MIN ANSWER_GAP_MAX from to
+    (word ≡ answer_word Controller answers.Nak) × InAnswerTime (profile_of scope.begins) from to
 AnswersReply scope command reply from to word step.VmcRet =
-    (word ≡ answer_word Controller answers.Ret) × Within WORD_GAP_MIN ANSWER_GAP_MAX from to
+    (word ≡ answer_word Controller answers.Ret) × InAnswerTime (profile_of scope.begins) from to
 AnswersReply scope command reply from to word next =
     Opens scope (Replied command reply) from to word next
 
 -- a word begins a repeat
-abbrev pub BeginsRepeat : Reply → Option Event → Event → ℕ → Step → Type 0
-BeginsRepeat reply from to word (step.RepeatWord said) =
-    (word ≡ said) × IsRepeatFront reply (word ∷ []) × Within WORD_GAP_MIN ANSWER_GAP_MAX from to
-BeginsRepeat reply from to word _ = ⊥
+abbrev pub BeginsRepeat : Scope → Reply → Option Event → Event → ℕ → Step → Type 0
+BeginsRepeat scope reply from to word (step.RepeatWord said) =
+    (word ≡ said) × IsRepeatFront reply (word ∷ []) × InAnswerTime (profile_of scope.begins) from to
+BeginsRepeat scope reply from to word _ = ⊥
 
 -- a word goes on with a repeat, or ends it
-abbrev pub GoesOnRepeating : Reply → List ℕ → Option Event → Event → ℕ → Step → Type 0
-GoesOnRepeating reply words from to word (step.RepeatWord said) =
+abbrev pub GoesOnRepeating : Scope → Reply → List ℕ → Option Event → Event → ℕ → Step → Type 0
+GoesOnRepeating scope reply words from to word (step.RepeatWord said) =
     (word ≡ said) × IsRepeatFront reply (words ++ word ∷ [])
-    × Within WORD_GAP_MIN BLOCK_GAP_MAX from to
-GoesOnRepeating reply words from to word step.Repeat =
-    (words ++ word ∷ [] ≡ reply_words reply) × Within WORD_GAP_MIN BLOCK_GAP_MAX from to
-GoesOnRepeating reply words from to word _ = ⊥
+    × InBlockTime (profile_of scope.begins) from to
+GoesOnRepeating scope reply words from to word step.Repeat =
+    (words ++ word ∷ [] ≡ reply_words reply) × InBlockTime (profile_of scope.begins) from to
+GoesOnRepeating scope reply words from to word _ = ⊥
 
 -- a further word of foreign traffic
 abbrev pub GoesOnForeign : Option Event → Event → Step → Type 0
-GoesOnForeign from to step.Foreign = NotBefore WORD_GAP_MIN from to
+GoesOnForeign from to step.Foreign = NotBefore (rest_after from) from to
 GoesOnForeign from to _ = ⊥
 
 -- where a word leads
@@ -130,20 +134,20 @@ WordLeads scope (InAsk bytes) from levels to Peripheral word next = ⊥
 WordLeads scope (Asked command) from levels to Controller word next =
     Opens scope (Asked command) from to word next
 WordLeads scope (Asked command) from levels to Peripheral word next =
-    Answers command from to word next
+    Answers scope command from to word next
 WordLeads scope (InReply command bytes) from levels to Controller word next = ⊥
 WordLeads scope (InReply command bytes) from levels to Peripheral word next =
-    GoesOnReplying scope.begins command bytes from levels to word next
+    GoesOnReplying scope command bytes from levels to word next
 WordLeads scope (Replied command reply) from levels to Controller word next =
     AnswersReply scope command reply from to word next
 WordLeads scope (Replied command reply) from levels to Peripheral word next = ⊥
 WordLeads scope (Returned command reply) from levels to Controller word next =
     Opens scope (Returned command reply) from to word next
 WordLeads scope (Returned command reply) from levels to Peripheral word next =
-    BeginsRepeat reply from to word next
+    BeginsRepeat scope reply from to word next
 WordLeads scope (InRepeat command reply words) from levels to Controller word next = ⊥
 WordLeads scope (InRepeat command reply words) from levels to Peripheral word next =
-    GoesOnRepeating reply words from to word next
+    GoesOnRepeating scope reply words from to word next
 WordLeads scope InForeign from levels to Controller word next =
     Opens scope InForeign from to word next ⊎ ((word < 256) × GoesOnForeign from to next)
 WordLeads scope InForeign from levels to Peripheral word next = GoesOnForeign from to next
@@ -153,7 +157,8 @@ abbrev pub Leads : Situation → Event → Step → Type 0
 Leads s (Word at line word) next =
     WordLeads s.scope s.position s.last s.levels (Word at line word) line word next
 Leads s (Break at length) (step.Break lasted) =
-    (lasted ≡ length) × (BREAK_LENGTH_MIN ≤ length) × BreakMayCome s.last (Break at length)
+    (lasted ≡ length) × (break_least (profile_of s.scope.begins) ≤ length)
+    × BreakMayCome s.last (Break at length)
 Leads s (Break at length) _ = ⊥
 
 -- what is made of the data bytes of a reply to a command, in a recording that begins so, at these

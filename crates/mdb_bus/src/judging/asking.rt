@@ -85,7 +85,7 @@ pub(crate) fn go_on_asking(
     if word.marked() {
         return Err(Rule::Mode);
     }
-    in_block_time(last, &row)?;
+    in_block_time(profile, last, &row)?;
     laws::front_of_a_command_is_open();
     laws::first_byte_tells_the_device();
     match bytes.as_slice() {

@@ -1,11 +1,12 @@
 //! Words inside a peripheral's block.
 
-ghost use Rattle.std.specs.Prelude.{◌<◌, ◌≤◌, ℕ, List, IfOk, IsErr};
+ghost use Rattle.std.specs.Prelude.{◌≡◌, ◌<◌, ◌≤◌, ℕ, List, IfOk, IsErr};
 ghost use Rattle.mdb_words.specs.declared.event.Event.{Event};
 ghost use Rattle.mdb_msgs.specs.declared.command.Command.{Command};
 ghost use Rattle.mdb_msgs.specs.declared.reply.Reply.{Reply};
 ghost use Rattle.mdb_bus.specs.declared.levels.Levels.{Levels};
 ghost use Rattle.mdb_bus.specs.declared.scope.Scope.{Scope};
+ghost use Rattle.mdb_bus.specs.Scopes.{profile_of};
 ghost use Rattle.mdb_bus.specs.ActLists as lists;
 ghost use Rattle.mdb_bus.specs.LinkFaults.{OutOfOrder};
 ghost use Rattle.mdb_bus.specs.shared.Steps.{Belongs, IsJudged, IsReplyEnd};
@@ -15,12 +16,14 @@ use crate::fault::Rule;
 use crate::gaps::{in_block_time, is_later_than, word_row};
 use crate::judged::Judged;
 use crate::phase::Phase;
+use crate::scope::Profile;
 use mdb_blocks::sum_of;
 use mdb_msgs::{Command, laws};
 use mdb_words::{BLOCK_GAP_MAX, Event, Line, Time, Word};
 
 /// A peripheral's word inside its reply.
 pub(crate) fn go_on_replying(
+    profile: Profile,
     command: &Command,
     bytes: &Begun,
     last: &Option<Event>,
@@ -28,18 +31,19 @@ pub(crate) fn go_on_replying(
     word: Word,
 ) -> Result<Judged, Rule>
     requires { OutOfOrder last.now (Event.Word at Line.Peripheral word) → ⊥ }
-    ensures judged { (scope : Scope) (levels : Levels) → IsJudged (record {
-      scope = scope;
-      position = lists.InReply command.now bytes.now;
-      last = last.now;
-      levels = levels;
-    })
+    ensures judged { (scope : Scope) (levels : Levels)
+        → profile ≡ profile_of scope.begins → IsJudged (record {
+          scope = scope;
+          position = lists.InReply command.now bytes.now;
+          last = last.now;
+          levels = levels;
+        })
         (Event.Word at Line.Peripheral word) result }
     ensures belongs { IfOk result
         (Belongs Phase.InReply bytes.now (Event.Word at Line.Peripheral word)) }
 {
     let row = word_row(at, Line::Peripheral, word);
-    in_block_time(last, &row)?;
+    in_block_time(profile, last, &row)?;
     laws::bytes_have_one_fault();
     laws::reply_has_no_fault();
     if word.marked() {

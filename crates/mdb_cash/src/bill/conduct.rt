@@ -113,7 +113,7 @@ fn move_bill(facts: &BillFacts, message: BillActivity, escrow: Escrow) -> Option
         }
         BillActivity::Escrow(number) => {
             let bill = BillType::new(number)?;
-            if facts.past.is_enabled(number) && escrow.is_empty() {
+            if facts.is_enabled(number) && escrow.is_empty() {
                 Some(Escrow::Waiting(bill))
             } else {
                 None
@@ -136,7 +136,7 @@ fn stack_bill(facts: &BillFacts, number: u8, escrow: Escrow) -> Option<Escrow>
     ensures { IsOnly (spec.StacksBill (facts_in facts.now) number escrow) result }
 {
     let bill = BillType::new(number)?;
-    if facts.past.is_enabled(number) && escrow.may_stack(bill) {
+    if facts.is_enabled(number) && escrow.may_stack(bill) {
         Some(Escrow::Empty)
     } else {
         None

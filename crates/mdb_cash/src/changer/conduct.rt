@@ -172,7 +172,7 @@ fn may_be_new(facts: &ChangerFacts, message: ChangerActivity) -> bool
     ensures { IsTrue result ↔ spec.MayBeNew (facts_in facts.now) message }
 {
     match message {
-        ChangerActivity::CashBox(coin) | ChangerActivity::Tube(coin) => facts.past.is_enabled(coin),
+        ChangerActivity::CashBox(coin) | ChangerActivity::Tube(coin) => facts.is_enabled(coin),
         ChangerActivity::Dispensed { .. } => true,
     }
 }

@@ -59,11 +59,7 @@ some_facts known holds =
         refused = is_refused known.extended;
         always_idle = idle.0;
         requested = request.0 && idle.0;
-        past = record {
-          enabled = known.past.enabled;
-          reset_owed = known.past.reset_owed;
-          last_kept = kept.0;
-        };
+        past = record { reset_owed = known.past.reset_owed; last_kept = kept.0 };
       },
       record {
         config = refl;
@@ -75,7 +71,7 @@ some_facts known holds =
         request = request.0;
         is_request = request.1;
         requested = refl;
-        past = record { enabled = refl; reset_owed = refl; last_kept = kept.1 };
+        past = record { reset_owed = refl; last_kept = kept.1 };
       },
     )
 

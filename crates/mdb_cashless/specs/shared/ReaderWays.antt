@@ -24,12 +24,11 @@ use Rattle.mdb_bus.specs.declared.scope.Profile.TheVariants.{Base, Extended}
 use Rattle.mdb_machine.specs.declared.choice.Choice.{Choice}
 use Rattle.mdb_machine.specs.declared.choice.Choice.TheVariants.{Plain}
 use Rattle.mdb_machine.specs.declared.gains.Gains.{Gains}
-use Rattle.mdb_machine.specs.declared.past.Effect.{Effect}
 use Rattle.mdb_machine.specs.declared.past.Effect.TheVariants as effects
 use Rattle.mdb_machine.specs.Gains.{no_gains}
 use Rattle.mdb_machine.specs.Known.{known_before, known_by}
 use Rattle.mdb_machine.specs.Pair.{IsActOf, IsBreak, IsMachineOf, own_acts}
-use Rattle.mdb_machine.specs.Past.{effect_by, last_told, or_else, powers_on, resets, taken_by, tells_out_of_sequence}
+use Rattle.mdb_machine.specs.Past.{last_told, or_else, powers_on, resets, taken_by, tells_out_of_sequence}
 use Rattle.mdb_machine.specs.PastValues.{known_more, known_past_after}
 use Rattle.mdb_machine.specs.Unvalued as amounts
 use Rattle.mdb_machine.specs.Unvalued.{one_if}
@@ -70,8 +69,8 @@ elsewhere unit facts = step_ways.elsewhere (own unit) _ (no_own unit)
 
 -- what is known after one act more, by what that act is to the reader
 abbrev more : KnownFacts → List ReaderMsg → Option Transaction → Option ℕ → Option Bool
-    → Option ReaderCommand → Effect → Bool → KnownFacts
-more known messages asked level refused taken effect powers =
+    → Option ReaderCommand → Bool → KnownFacts
+more known messages asked level refused taken powers =
     record {
       config = or_else (last_said config_in messages) known.config;
       asked = known_more (option_map (λ transaction. Some transaction) asked) known.asked;
@@ -81,30 +80,25 @@ more known messages asked level refused taken effect powers =
       extended =
           extended_after level (last_said level_in messages) refused
           (extended_taking powers taken known.extended);
-      past = known_past_after powers effect (map part_of messages) known.past;
+      past = known_past_after powers (map part_of messages) known.past;
     }
 
 -- an act that is nothing to the reader leaves it
 still_known : (unit : ReaderUnit) (act : Act) (known : KnownFacts) → messages_by unit act ≡ []
     → asked_by unit act ≡ None → level_asked_by unit act ≡ None → refusal_by unit act ≡ None
     → own_of unit (taken_by act) ≡ None
-    → effect_by (effect_of unit) act ≡ effects.Other → powers_on (effect_of unit) act ≡ false
-    → known ≡ known_with unit act known
-still_known unit act known messages asked level refused taken effect powers =
+    → powers_on (effect_of unit) act ≡ false → known ≡ known_with unit act known
+still_known unit act known messages asked level refused taken powers =
     sym (ap (λ m. more known m (asked_by unit act) (level_asked_by unit act) (refusal_by unit act)
-    (own_of unit (taken_by act)) (effect_by (effect_of unit) act)
-    (powers_on (effect_of unit) act)) messages
+    (own_of unit (taken_by act)) (powers_on (effect_of unit) act)) messages
     ∙ ap (λ a. more known [] a (level_asked_by unit act) (refusal_by unit act)
-    (own_of unit (taken_by act)) (effect_by (effect_of unit) act)
-    (powers_on (effect_of unit) act)) asked
+    (own_of unit (taken_by act)) (powers_on (effect_of unit) act)) asked
     ∙ ap (λ l. more known [] None l (refusal_by unit act) (own_of unit (taken_by act))
-    (effect_by (effect_of unit) act) (powers_on (effect_of unit) act)) level
+    (powers_on (effect_of unit) act)) level
     ∙ ap (λ r. more known [] None None r (own_of unit (taken_by act))
-    (effect_by (effect_of unit) act) (powers_on (effect_of unit) act)) refused
-    ∙ ap (λ t. more known [] None None None t (effect_by (effect_of unit) act)
-    (powers_on (effect_of unit) act)) taken
-    ∙ ap (λ e. more known [] None None None None e (powers_on (effect_of unit) act)) effect
-    ∙ ap (λ b. more known [] None None None None effects.Other b) powers)
+    (powers_on (effect_of unit) act)) refused
+    ∙ ap (λ t. more known [] None None None t (powers_on (effect_of unit) act)) taken
+    ∙ ap (λ b. more known [] None None None None b) powers)
 
 -- the reader takes no command to another device, whatever the answer tells
 answered_none : (unit : ReaderUnit) (command : Command) (reply : Reply) → own unit command ≡ None
@@ -120,29 +114,28 @@ known_still : (unit : ReaderUnit) (known : KnownFacts) (act : Act)
 known_still unit known (acts.Ask c) other =
     let none = no_own unit c other in
     still_known unit (acts.Ask c) known refl (ap own_transaction none) (ap level_of none)
-    (ap (λ o. option_map (λ t. false) (own_transaction o)) none) refl refl refl
+    (ap (λ o. option_map (λ t. false) (own_transaction o)) none) refl refl
 known_still unit known (acts.Ack c) other =
     let none = no_own unit c other in
-    let effect : effect_of unit c ≡ effects.Other = ap effect_of_own none in
-    still_known unit (acts.Ack c) known refl refl refl refl none effect
-    (ap resets effect)
+    still_known unit (acts.Ack c) known refl refl refl refl none
+    (ap (λ o. resets (effect_of_own o)) none)
 known_still unit known (acts.Nak c) other =
     let none = no_own unit c other in
     still_known unit (acts.Nak c) known refl refl refl
-    (ap (λ o. option_map (λ t. true) (own_transaction o)) none) refl refl refl
+    (ap (λ o. option_map (λ t. true) (own_transaction o)) none) refl refl
 known_still unit known (acts.Reply c r) other =
     let none = no_own unit c other in
     let effect = past_ways.answered_still (effect_of unit) c r (ap effect_of_own none) in
     still_known unit (acts.Reply c r) known
     (ap (λ found. elim found [ Some c ↦ messages_of r | None ↦ [] ]) none) refl refl refl
-    (answered_none unit c r none) effect (ap resets effect)
+    (answered_none unit c r none) (ap resets effect)
 known_still unit known (acts.VmcAck c r) other =
     let none = no_own unit c other in
     still_known unit (acts.VmcAck c r) known refl refl refl
     (ap (λ found. if list_any refuses (elim found [ Some c ↦ messages_of r | None ↦ [] ])
-    then Some true else None) none) refl refl refl
+    then Some true else None) none) refl refl
 known_still unit known (acts.Break n) other = absurd (other tt)
-known_still unit known act other = still_known unit act known refl refl refl refl refl refl refl
+known_still unit known act other = still_known unit act known refl refl refl refl refl refl
 
 -- what is known is the same where its fields are
 pub same_fields : {one other : KnownFacts} → one.config ≡ other.config → one.asked ≡ other.asked

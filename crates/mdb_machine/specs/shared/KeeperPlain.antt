@@ -26,7 +26,7 @@ pub record LooksAway {Own Setup Asked M State : Type 0}
       → conduct.TellsNews facts Plain news before after
 
 -- a step by a command of the device as another, where each of its commands has both
-as_for_own : {Own State : Type 0} (command : Option Own)
+pub as_for_own : {Own State : Type 0} (command : Option Own)
     (One Other : Own → State → State → Gains → Type 0) (before after : State) (gains : Gains)
     → ((own : Own) → One own before after gains → Other own before after gains)
     → ForOwn command One before after gains → ForOwn command Other before after gains

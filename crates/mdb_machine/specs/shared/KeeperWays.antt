@@ -16,14 +16,14 @@ use Rattle.mdb_bus.specs.declared.scope.Beginning.{Beginning}
 use Rattle.mdb_machine.specs.Keeper.{KnownFacts, Tables, asked_by, effect_of, known_of, parts_by, setup_by}
 use Rattle.mdb_machine.specs.Known.{known_before, known_by}
 use Rattle.mdb_machine.specs.KeeperSteps.{Conduct, StepKnowing}
-use Rattle.mdb_machine.specs.KeeperValues.{known_with}
+use Rattle.mdb_machine.specs.KeeperValues.{enabled_after, known_with}
 use Rattle.mdb_machine.specs.PastValues.{known_more, known_past_after}
 use Rattle.mdb_machine.specs.Pair.{IsActOf, IsBreak, own_acts}
 use Rattle.mdb_machine.specs.Past.{effect_taken, last_told, or_else, resets}
 use Rattle.mdb_machine.specs.Kept.{kept_of}
 use Rattle.mdb_machine.specs.Unvalued.{amounts_in, one_if, unvalued, unvalued_by}
 use Rattle.mdb_machine.specs.shared.OwnWays.{IsOfOwn, part_of_none, same_known}
-use Rattle.mdb_machine.specs.shared.PastWays.{answered_still, known_by_more, known_past_more}
+use Rattle.mdb_machine.specs.shared.PastWays.{answered_still, known_by_more, known_enabled_more, known_past_more}
 use Rattle.mdb_machine.specs.shared.StepWays.{IsOwnOf}
 
 -- what is known after one act more, by what it asks, what the device takes by it, and its reply
@@ -32,7 +32,9 @@ abbrev more : {Own Setup Asked M : Type 0} → Tables Own Setup Asked M → Know
 more tables known asked effect reply = record {
   setup = or_else (option_and_then tables.setup_of reply) known.setup;
   last_asked = known_more (option_map (λ a. Some a) asked) known.last_asked;
-  past = known_past_after (resets effect) effect (option_map_or tables.parts_of reply [])
+  profile = known.profile;
+  enabled = enabled_after known.profile (resets effect) effect known.enabled;
+  past = known_past_after (resets effect) (option_map_or tables.parts_of reply [])
       known.past;
 }
 
@@ -55,11 +57,11 @@ still tables own known act other = refl
 
 -- what is known is the same where its fields are
 pub same_fields : {Setup Asked M : Type 0} {one other : KnownFacts Setup Asked M}
-    → one.setup ≡ other.setup → one.last_asked ≡ other.last_asked → one.past ≡ other.past
-    → one ≡ other
-same_fields {Setup} {Asked} {M} {one} {other} setup asked past =
+    → one.setup ≡ other.setup → one.last_asked ≡ other.last_asked → one.profile ≡ other.profile
+    → one.enabled ≡ other.enabled → one.past ≡ other.past → one ≡ other
+same_fields {Setup} {Asked} {M} {one} {other} setup asked profile enabled past =
     let same : record one { setup = one.setup } ≡ record other { setup = other.setup } =
-    cc (setup, asked, past) in
+    cc (setup, asked, profile, enabled, past) in
     same
 
 first_of_three : {X : Type 0} (first second third : Option X)
@@ -84,6 +86,7 @@ known_more_of {Asked = Asked} tables begins act acts =
     (option_map (λ (a : Asked). Some a) (last_told (asked_by tables) acts))
     ∙ ap (λ o. known_by begins None o)
     (asked_more (asked_by tables act) (last_told (asked_by tables) acts)))
+    refl (known_enabled_more begins (effect_of tables) act acts)
     (known_past_more begins (effect_of tables) (parts_by tables) act acts)
 
 pub unmoved : {Own Setup Asked M : Type 0} {device : Device} (tables : Tables Own Setup Asked M)

@@ -61,16 +61,14 @@ some_facts message known holds =
       record {
         setup = known.setup;
         last_asked = asked.0;
-        past = record {
-          enabled = known.past.enabled;
-          reset_owed = known.past.reset_owed;
-          last_kept = kept.0;
-        };
+        enabled = known.enabled;
+        past = record { reset_owed = known.past.reset_owed; last_kept = kept.0 };
       },
       record {
         setup = refl;
         last_asked = asked.1;
-        past = record { enabled = refl; reset_owed = refl; last_kept = kept.1 };
+        enabled = refl;
+        past = record { reset_owed = refl; last_kept = kept.1 };
       },
     )
 

@@ -15,7 +15,8 @@ returns-in-Break-clause-judged c =
     })
     c.args.row.now _
     c.judge_break.result c.in-Break.is
-    (c.judge_break.ensures.judged c.args.scope.now (position_at c.args.place.now) levels)
+    (c.judge_break.ensures.judged c.args.scope.now (position_at c.args.place.now) levels
+    c.profile-profile.ensures)
 
 pub returns-in-Controller-clause-judged : goal.returns-in-Controller-clause-judged
 returns-in-Controller-clause-judged c =
@@ -41,7 +42,7 @@ returns-in-Peripheral-clause-judged c =
     c.args.row.now _
     c.judge_peripheral.result
     (c.in-Word.is ∙ ap (λ (line : Line). Word c.in-Word.at line c.in-Word.word) c.in-Peripheral.is)
-    (c.judge_peripheral.ensures.judged c.args.scope.now levels)
+    (c.judge_peripheral.ensures.judged c.args.scope.now levels c.profile-profile.ensures)
 
 pub returns-in-Break-clause-belongs : goal.returns-in-Break-clause-belongs
 returns-in-Break-clause-belongs c =

@@ -13,8 +13,8 @@ returns-in-InAsk-clause-judged c =
     λ levels sound. judged_at c.args.scope.now c.args.place.now _ c.args.last.now levels
     (Word c.args.at Controller c.args.word)
     c.go_on_asking.result c.in-InAsk.is
-    (c.go_on_asking.ensures.judged c.args.scope.now levels c.profile.ensures
-    (subst Known (sym c.profile.ensures)
+    (c.go_on_asking.ensures.judged c.args.scope.now levels c.profile-profile.ensures
+    (subst Known (sym c.profile-profile.ensures)
     (asking_known c.first_two_bytes_tell_enable_options.ensures c.args.scope.now c.args.place.now
     c.in-InAsk.is sound))
     (asking_followed c.first_byte_tells_the_device.ensures c.args.scope.now c.args.place.now
@@ -41,7 +41,7 @@ returns-in-Replied-2-clause-judged c =
     (Word c.args.at Controller c.args.word)
     c.answer_reply.result c.in-Replied-2.is
     (c.answer_reply.ensures.judged c.args.scope.now levels c.args.place.now.command
-    c.args.place.now.last_reply.reply)
+    c.args.place.now.last_reply.reply c.profile-profile.ensures)
 
 pub returns-in-InForeign-2-clause-judged : goal.returns-in-InForeign-2-clause-judged
 returns-in-InForeign-2-clause-judged c =

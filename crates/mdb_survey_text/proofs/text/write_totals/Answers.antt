@@ -6,6 +6,6 @@ pub returns : goal.returns
 returns g c =
     on_ok c.write_devices.result _ _
     (λ last. Appends-trans _ _ _ _ _ (Appends-trans _ _ _ _ _ (Appends-trans _ _ _ _ _
-    c.in_ok-write_total_accounts.ensures c.in_ok-write_counts.ensures)
-    c.in_ok-write_counts-2.ensures) last)
+    (Appends-trans _ _ _ _ _ c.in_ok-write_total_accounts.ensures c.in_ok-write_counts.ensures)
+    c.in_ok-write_untimely.ensures) c.in_ok-write_counts-2.ensures) last)
     c.write_devices.ensures

@@ -12,6 +12,7 @@ returns g c =
     c.silences.ensures c.in_ok-write_counts.ensures in
     on_ok c.write_devices.result _ _
     (λ last. Appends-trans _ _ _ _ _ (Appends-trans _ _ _ _ _ (Appends-trans _ _ _ _ _
-    (Appends-trans _ _ _ _ _ c.in_ok-write_decimals.ensures c.in_ok-write_accounts.ensures)
-    silences) c.in_ok-write_beginning.ensures) last)
+    (Appends-trans _ _ _ _ _ (Appends-trans _ _ _ _ _ c.in_ok-write_decimals.ensures
+    c.in_ok-write_accounts.ensures) silences) c.in_ok-write_untimely.ensures)
+    c.in_ok-write_beginning.ensures) last)
     c.write_devices.ensures

@@ -1,4 +1,4 @@
-use Rattle.mdb_bus.proofs.Feed.{ended_by, fault_ends, fault_of, read_goes_on, read_has_fault, sound_at, stands_on}
+use Rattle.mdb_bus.proofs.Feed.{ended_by, fault_ends, has_fault, read_goes_on, read_has_fault, sound_at, stands_on}
 use Rattle.mdb_bus.specs.Bus.{ended_act}
 use Rattle.mdb_bus.proofs.bus.Bus.feed_into.Goals as goal
 
@@ -15,7 +15,7 @@ returns-in-Reply-clause-faults c pieces stands =
     let ended = ended_by c.args.self.now c.args.event c.in-Ok.judged c.in-Reply.is
     (c.in-Ok.ensures.judged c.args.self.now.levels (sound_at c.args.self.now pieces stands)) in
     read_has_fault c.args.self.now pieces c.args.event c.take_reply.result stands ended
-    c.take_reply.ensures.rule c.take_reply.ensures.blame
+    c.take_reply.ensures.fault
 
 pub returns-in-Reply-clause-impossible : goal.returns-in-Reply-clause-impossible
 returns-in-Reply-clause-impossible c pieces stands =
@@ -24,7 +24,7 @@ returns-in-Reply-clause-impossible c pieces stands =
     fault_ends c.rows_that_break_a_rule_end_the_act_list.ensures c.args.self.now pieces c.args.event
     c.take_reply.result stands
     (read_has_fault c.args.self.now pieces c.args.event c.take_reply.result stands ended
-    c.take_reply.ensures.rule c.take_reply.ensures.blame)
+    c.take_reply.ensures.fault)
 
 pub returns-in_default-clause-goes_on : goal.returns-in_default-clause-goes_on
 returns-in_default-clause-goes_on c pieces stands =
@@ -36,17 +36,14 @@ returns-in_default-clause-goes_on c pieces stands =
 
 pub returns-in-Err-clause-faults : goal.returns-in-Err-clause-faults
 returns-in-Err-clause-faults c pieces stands =
-    fault_of c.args.self.now pieces c.args.event c.in-Err.rule c.fault.result.rule
-    c.fault.result.blame stands
+    has_fault c.args.self.now pieces c.args.event c.in-Err.rule c.fault.result stands
     (c.in-Err.ensures.judged c.args.self.now.levels (sound_at c.args.self.now pieces stands))
-    c.fault.ensures.rule c.fault.ensures.blame
+    c.fault.ensures
 
 pub returns-in-Err-clause-impossible : goal.returns-in-Err-clause-impossible
 returns-in-Err-clause-impossible c pieces stands has =
-    let faulty = fault_of c.args.self.now pieces c.args.event c.in-Err.rule c.fault.result.rule
-    c.fault.result.blame
-    stands (c.in-Err.ensures.judged c.args.self.now.levels (sound_at c.args.self.now pieces stands))
-    c.fault.ensures.rule
-    c.fault.ensures.blame in
+    let faulty = has_fault c.args.self.now pieces c.args.event c.in-Err.rule c.fault.result stands
+    (c.in-Err.ensures.judged c.args.self.now.levels (sound_at c.args.self.now pieces stands))
+    c.fault.ensures in
     c.rows_that_break_a_rule_end_the_act_list.ensures c.args.self.now.scope pieces c.args.event
     faulty.first stands.in_order faulty.rule.breaks has

@@ -4,7 +4,7 @@ use Rattle.mdb_bus.proofs.judging.answering.answer.Goals as goal
 
 pub returns-in-None-clause-judged : goal.returns-in-None-clause-judged
 returns-in-None-clause-judged c =
-    λ scope levels. no_answer scope c.args.command.now c.args.last.now c.args.at
+    λ scope levels by. no_answer scope c.args.command.now c.args.last.now c.args.at
     c.args.word c.byte.result levels
     c.requires (search rules) (search rules) (search rules) c.marked.ensures.range
     c.byte.ensures.value

@@ -1,5 +1,11 @@
+use Rattle.std.proofs.Common.{subst, sym, ◌≡◌}
+use Rattle.std.specs.Prelude.{map}
+use Rattle.mdb_follow.specs.declared.report.TheConstants.Report.{DEVICES}
+use Rattle.mdb_follow.specs.Report.{device_facts_of}
+use Rattle.mdb_follow.specs.Silences.{asks_of}
+use Rattle.mdb_follow.specs.SilencesKept.{AllStandForAsks}
+use Rattle.mdb_explained_runs.specs.Replays.{scope_of}
 use Rattle.mdb_bus.specs.ActLists.{acts_of}
-use Rattle.mdb_bus.specs.declared.scope.Beginning.TheVariants.{PowerOn}
 use Rattle.mdb_follow.specs.Cells.{cell_in}
 use Rattle.mdb_explained_runs.proofs.Replaying.{reported}
 use Rattle.mdb_explained_runs.proofs.replay.Replay.report.Goals as goal
@@ -9,5 +15,9 @@ returns-clause-report c events marks on =
     reported c.ways_with_choices_join.ensures c.ways_split_with_choices.ensures
     c.marks_tell_what_is_chosen.ensures c.transcripts_have_one_act_list.ensures c.args.self.now
     events marks c.of.result on (cell_in c.cells-cells.result) c.cells-cells.ensures
-    (c.of.ensures.telling (PowerOn on.profile) on.pieces
-    (c.facts-facts.ensures on.profile (acts_of on.pieces) on.chosen on.tracks) on.silences)
+    (c.of.ensures.telling (scope_of c.args.self.now) on.pieces
+    (subst (λ begins. c.facts-facts.result
+    ≡ map (λ device. device_facts_of begins device (acts_of on.pieces)) DEVICES) (sym on.begins)
+    (c.facts-facts.ensures on.profile (acts_of on.pieces) on.chosen on.tracks))
+    (subst (λ begins. AllStandForAsks c.args.self.now.silences
+    (λ device. asks_of begins device on.pieces)) (sym on.begins) on.silences) on.untimely)

@@ -1,10 +1,11 @@
-use Rattle.std.proofs.Common.{List, ◌+◌, ◌*◌, ◌^◌, ◌∷◌, ◌++◌, [], ℕ, arith, refl, subst, sym}
+use Rattle.std.proofs.Common.{List, ◌+◌, ◌*◌, ◌^◌, ◌∷◌, ◌++◌, [], ℕ, Some, None, ap, arith, refl, subst, sym, ◌∙◌}
 use Rattle.mdb_words.specs.declared.event.Event.{Event}
 use Rattle.mdb_bus.specs.Bus.{ended_act}
 use Rattle.mdb_explained_runs.specs.declared.mark.Mark.{Mark}
 use Rattle.mdb_explained_runs.specs.ReplayFaults.{IsReplayFault}
 use Rattle.mdb_explained_runs.specs.Replays.{StandsFor, scope_of}
-use Rattle.mdb_follow.proofs.Following.{on-false-some, on-true}
+use Rattle.mdb_follow.specs.Counted.{counted_with}
+use Rattle.mdb_follow.proofs.Following.{is-some-weaker, times-on}
 use Rattle.mdb_explained_runs.proofs.Replaying.{by-act, by-none, link-offence, machine-offence}
 use Rattle.mdb_explained_runs.proofs.Replaying.{mark-fault, may-then, none-then, not-may}
 use Rattle.mdb_explained_runs.proofs.Replaying.{stands-on, stands-still}
@@ -34,7 +35,12 @@ returns-then-not-ended-clause-reached c events marks on =
     (c.args.self.now.rows + 1) marks c.may_stand_at.ensures c.if-not-may_stand_at.false
     c.if-not-ended.true))
     (stands-still c.args.self.now _ events marks c.args.event on goes c.feed_into.ensures.scope refl
-    refl refl refl)
+    refl refl refl
+    (times-on (scope_of c.args.self.now) _ on.pieces c.args.event c.feed_into.new.self None goes
+    c.args.self.now.untimely c.note_untimely.new.counts
+    c.untimely_sender-sender.result
+    c.feed_into.ensures.scope c.feed_into.ensures.scope on.untimely
+    (c.untimely_sender-sender.ensures on.pieces on.on_bus) c.note_untimely.ensures))
 
 pub returns-in-Err-clause-fault : goal.returns-in-Err-clause-fault
 returns-in-Err-clause-fault c events marks on =
@@ -44,22 +50,43 @@ returns-in-Err-clause-fault c events marks on =
     c.args.mark on c.in-Err.fault _ (c.in-Err.ensures.faults on.pieces on.on_bus)
     (c.in-Err.ensures.impossible on.pieces on.on_bus) refl)
 
-pub returns-else-not-ended-clause-reached : goal.returns-else-not-ended-clause-reached
-returns-else-not-ended-clause-reached c =
-    on-true c.follow.result _ _
-    (λ has events marks on.
+pub returns-then-follow-clause-reached : goal.returns-then-follow-clause-reached
+returns-then-follow-clause-reached c events marks on =
+    let has = c.if-follow.ensures.followed in
     let goes = by-act c.feed_into.new.self on.pieces c.args.event c.in-Ok.ended
     c.feed_into.new.act c.if-not-ended.false (c.in-Ok.ensures.goes_on on.pieces on.on_bus) in
-    stands-on c.args.self.now _ c.follow.new.self events marks c.args.event c.feed_into.new.act
+    let stands = stands-on c.args.self.now _ c.follow.new.self events marks c.args.event
+    c.feed_into.new.act
     c.args.mark on goes c.feed_into.ensures.scope refl refl refl refl
     (may-then c.may_stand_at.result c.args.mark c.in-Ok.ended c.feed_into.new.act
     c.may_stand_at.ensures c.if-not-may_stand_at.false c.if-not-ended.false)
-    c.start.result c.start.ensures c.choice_by.result c.choice_by.ensures has)
-    c.follow.ensures.followed
+    c.choice_by.result c.choice_by.ensures has
+    c.note_untimely-then-follow.new.counts c.self-then-follow-1.given.1.1.1.0
+    (times-on (scope_of c.args.self.now) (scope_of c.follow.new.self) on.pieces c.args.event
+    c.feed_into.new.self (Some c.feed_into.new.act) goes c.args.self.now.untimely
+    c.note_untimely-then-follow.new.counts c.untimely_sender-sender.result c.feed_into.ensures.scope
+    (c.follow.ensures.scope ∙ c.feed_into.ensures.scope) on.untimely
+    (c.untimely_sender-sender.ensures on.pieces on.on_bus)
+    (c.note_untimely-then-follow.ensures
+    ∙ ap (counted_with c.untimely_sender-sender.result) has.untimely)) in
+    record {
+      begins = stands.begins;
+      profile = stands.profile;
+      pieces = stands.pieces;
+      on_bus = stands.on_bus;
+      whole = stands.whole;
+      rows = stands.rows;
+      going = stands.going;
+      chosen = stands.chosen;
+      marked = stands.marked;
+      tracks = stands.tracks;
+      silences = stands.silences;
+      untimely = stands.untimely;
+    }
 
-pub returns-else-not-ended-clause-fault : goal.returns-else-not-ended-clause-fault
-returns-else-not-ended-clause-fault c =
-    on-false-some c.follow.result _ _
+pub returns-else-follow-clause-fault : goal.returns-else-follow-clause-fault
+returns-else-follow-clause-fault c =
+    is-some-weaker c.follow.new.self.fault _
     (λ fault. (events : List Event) (marks : List (ℕ × Mark))
     → StandsFor c.args.self.now events marks
     → IsReplayFault (scope_of c.args.self.now) events marks c.args.event c.args.mark fault)
@@ -73,4 +100,4 @@ returns-else-not-ended-clause-fault c =
     (may-then c.may_stand_at.result c.args.mark c.in-Ok.ended c.feed_into.new.act
     c.may_stand_at.ensures c.if-not-may_stand_at.false c.if-not-ended.false)
     c.choice_by.result c.choice_by.ensures has)
-    c.follow.ensures.stopped
+    c.if-follow.ensures.stopped

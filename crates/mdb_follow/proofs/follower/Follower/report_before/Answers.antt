@@ -6,20 +6,21 @@ use Rattle.mdb_follow.specs.Cells.{cell_in}
 use Rattle.mdb_follow.specs.Follower.{scope_of}
 use Rattle.mdb_follow.specs.Report.{device_report, device_facts_in}
 use Rattle.mdb_follow.specs.SilencesKept.{AreAtMost, silence_in}
-use Rattle.mdb_follow.proofs.Following.{accepted, accounts-within, reported}
+use Rattle.mdb_follow.proofs.Following.{accepted, accounts-within, few-times, reported}
 use Rattle.mdb_follow.proofs.Kept.{at-most-weaker}
 use Rattle.mdb_follow.proofs.Told.{listed}
 use Rattle.mdb_follow.proofs.follower.Follower.report_before.Goals as goal
 
 pub returns-clause-before : goal.returns-clause-before
 returns-clause-before c events has =
-    let begins = (scope_of c.args.self.now).begins in
+    let scope = scope_of c.args.self.now in
+    let begins = scope.begins in
     let acts = acts_of has.pieces in
     reported c.transcripts_have_one_act_list.ensures c.ways_join.ensures c.args.self.now events
     c.of.result (cell_in c.cells-cells.result) has
     (c.cells-cells.ensures.exact begins acts has.sides)
-    (c.of.ensures.telling begins has.pieces (c.facts-facts.ensures.facts begins acts has.sides)
-    has.silences)
+    (c.of.ensures.telling scope has.pieces (c.facts-facts.ensures.facts begins acts has.sides)
+    has.silences has.untimely)
 
 pub returns-clause-going : goal.returns-clause-going
 returns-clause-going c events on =
@@ -42,6 +43,8 @@ returns-clause-within c =
       asks = λ device. subst (AreAtMost limit) (sym (ap (λ r. r.asks) (has device)))
           (at-most-weaker (silence_in c.args.self.now.silences device).counts
           c.args.self.now.rows limit (omega arith) (c.args.self.now.few_silences device));
+      untimely = few-times (ap (λ report. report.untimely) c.of.ensures.has)
+          (c.args.self.now.rows) limit (omega arith) c.args.self.now.few_untimely;
       unvalued = λ device.
           let is = ap (λ r. r.facts.unvalued) (has device) in
           let kept = c.facts-facts.ensures.kept device in

@@ -3,6 +3,7 @@ use Rattle.mdb_follow.specs.declared.account_name.TheConstants.AccountName.{ALL}
 use Rattle.mdb_follow.specs.declared.report.DeviceReport.{DeviceReport}
 use Rattle.mdb_follow.specs.declared.report.Report.{Report}
 use Rattle.mdb_follow.specs.Cells.{account_by, cell_in}
+use Rattle.mdb_follow.specs.Report.{report_of}
 use Rattle.mdb_follow.proofs.Told.{reports-are}
 use Rattle.mdb_follow.proofs.report.Report.of.Goals as goal
 
@@ -17,11 +18,14 @@ returns-clause-has c =
     ) refl
 
 pub returns-clause-telling : goal.returns-clause-telling
-returns-clause-telling c begins pieces are stand =
+returns-clause-telling c scope pieces are stand times =
     let with : List DeviceReport → Report = λ devices. record {
       rows = c.args.rows;
       devices = devices;
+      untimely = c.args.untimely;
       accounts = map (account_by (cell_in c.args.cells.now)) ALL;
     } in
     returns-clause-has c
-    ∙ ap with (reports-are begins pieces c.args.facts.now c.args.silences.now are stand)
+    ∙ (ap with (reports-are scope.begins pieces c.args.facts.now c.args.silences.now are stand)
+    ∙ ap (λ untimely. record (report_of scope c.args.rows pieces
+    (account_by (cell_in c.args.cells.now))) { untimely = untimely }) times)

@@ -1,3 +1,4 @@
+use Rattle.std.proofs.Common.{refl}
 use Rattle.mdb_machine.proofs.Knowing.{noted}
 use Rattle.mdb_machine.proofs.keeper.KeeperKnown.note.Goals as goal
 
@@ -5,5 +6,10 @@ pub returns : goal.returns
 returns g c =
     let knows = c.knows_after-knows_asked in
     noted g.K.Keeper.tables c.args.act.now c.args.self.now
-    (record { facts = c.note.new.self; knows_asked = knows.result.0; knows_kept = knows.result.1 })
-    c.note.ensures knows.ensures.asked knows.ensures.kept
+    (record {
+      facts = c.note.new.self;
+      profile = c.args.self.now.profile;
+      knows_asked = knows.result.0;
+      knows_kept = knows.result.1;
+    })
+    c.note.ensures refl knows.ensures.asked knows.ensures.kept

@@ -1,0 +1,4 @@
+use Rattle.mdb_bus.proofs.bus.Bus.blame_for.Goals as goal
+
+pub returns-in-Word : goal.returns-in-Word
+returns-in-Word c = rw c.in-Word.is (c.blame.ensures c.in-Word.at c.in-Word.word)

@@ -1,0 +1,11 @@
+use Rattle.std.proofs.Common.{◌≡◌, [], subst, sym}
+use Rattle.mdb_bus.specs.declared.scope.Beginning.{Beginning}
+use Rattle.mdb_machine.specs.Enabled.{known_enabled}
+use Rattle.mdb_machine.specs.Keeper.{effect_of}
+use Rattle.mdb_machine.proofs.Masks.{all_types, in_mask}
+use Rattle.mdb_machine.proofs.keeper.KeeperFacts.start.Goals as goal
+
+pub returns-in-Joined-clause-enabled : goal.returns-in-Joined-clause-enabled
+returns-in-Joined-clause-enabled g c =
+    subst (λ (b : Beginning). in_mask 65535 ≡ known_enabled b (effect_of g.K.Keeper.tables) [])
+    (sym c.in-Joined.is) all_types
