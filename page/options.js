@@ -58,8 +58,8 @@ function askIn(field, device) {
 const ASK_LENGTH = 7;
 const toReader = (first) => DEVICES[READERS_BY_BLOCK[first >> 3]];
 const isOptionsAsk = ([first, second]) => (first & 7) === 7 && second === ENABLE_OPTIONS;
-// The option bits of money of 32 bits and several currencies, and that of always idle.
-const OTHER_MONEY_BITS = 6, ALWAYS_IDLE_BIT = 0x20;
+// The option bits of money of 32 bits and several currencies.
+const OTHER_MONEY_BITS = 6;
 
 // Takes what the fields say of a reader's level and options, with the program's words.
 function takeReader(bytes, i, tell) {

@@ -20,11 +20,9 @@ function wasAccepted(acts, k) {
 }
 
 const OUT_OF_SEQUENCE = 0x0B;
-const isIdleOn = (asked) => Boolean(asked) && (asked[OPTIONS_END - 1] & ALWAYS_IDLE_BIT) > 0;
 
 // What the controller last sent to each reader: SETUP, and ENABLE OPTIONS if the reader accepted it and no break and no
-// accepted RESET came after it. One without always idle leaves that as it was, so one with it goes before it. Acts from
-// `hole` on stand after others that aren't listed.
+// accepted RESET came after it. Acts from `hole` on stand after others that aren't listed.
 function findAsks(acts, hole) {
   const found = DEVICES.map(() => ({isThere: false, config: null, options: null}));
   for (let i = 0; i < acts.count; i++) {
@@ -37,7 +35,7 @@ function findAsks(acts, hole) {
     if (isConfigAsk(bytes)) it.config = bytes;
     if (!wasAccepted(acts, i)) continue;
     if ((bytes[0] & 7) === 0) it.options = null;
-    if (isOptionsAsk(bytes) && !(isIdleOn(it.options) && !isIdleOn(bytes))) it.options = bytes;
+    if (isOptionsAsk(bytes)) it.options = bytes;
   }
   return found;
 }

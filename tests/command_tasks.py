@@ -266,7 +266,7 @@ class Checks:
         if task.command == "survey":
             return status, out
         if task.command == "explain":
-            marks, rows = re.fullmatch(r"((?:\d+,[LR],-\n)*)(.*)", out, re.S).groups()
+            marks, rows = re.fullmatch(r"((?:\d+,[LRC],-\n)*)(.*)", out, re.S).groups()
             if rows != text:
                 return status, out
             without, is_extended = frozenset(task.options.get("--without", ())), "--extended" in task.options

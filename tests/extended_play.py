@@ -1,10 +1,13 @@
 """Recordings with readers of feature levels 1 to 3 and with recyclers, for tests/replayed.
 
-played(dice) plays whole honest machines, as tests/joined does it; a coin or a bill that is on its way
-as a device is reset is told after that; and mostly they have other times (tests/other_times.py).
-talked(dice) puts single talks together, as tests/without does it, with each message and each refusal
-that docs/bench/extended-profile.md has, and with many that it doesn't allow.
+played(dice) plays whole honest machines, as tests/joined does it, some of whose readers need no session;
+a coin or a bill that is on its way as a device is reset is told after that; and mostly they have other
+times (tests/other_times.py). habitual(dice) plays the readers of tests/honest. talked(dice) puts single
+talks together, as tests/without does it, with each message that docs/bench/extended-profile.md has, and
+sales in which all comes at any time, some of it where that page doesn't allow it.
 """
+
+import honest_play
 
 import other_times
 from programs import load
@@ -15,7 +18,6 @@ joined, without = load("joined"), load("without")
 STATUSES = {"inactive": 1, "disabled": 2, "enabled": 3}
 STATUSES |= {"idle": 4, "vend": 5, "approved": 5, "ending": 4}
 MEDIA = (0xFF, 0xFF, 0xFF, 0xFF, 0, 0, 0)
-ALWAYS_IDLE = 0x20  # in the last byte of ENABLE OPTIONS
 
 
 # Whole machines.
@@ -32,18 +34,13 @@ class Reader(joined.Reader):
             self.setup[1] = self.asked_level = 3
         self.is_long = self.setup[1] >= 2 and self.asked_level >= 2
         self.has_id_options = bus.dice.random() < 0.5
+        self.needs_no_session = bus.dice.random() < 0.4
 
     def power_on(self):
         super().power_on()
         self.refuses = False  # at the next POLL a request that it acknowledged
-        self.idles = False  # whether always idle is on
         self.latest = None  # the last command of a sale that it took, whatever it told since
         self.owed = []  # what it still tells of commands for which it had no session
-
-    def restart(self):
-        idles = self.idles
-        super().restart()
-        self.idles = idles and self.dice.random() < 0.5
 
     def media(self):
         return MEDIA if self.is_long else ()
@@ -65,13 +62,11 @@ class Reader(joined.Reader):
             self.latest = command
         if low == 3 and second == 0 and self.state == "idle" and self.dice.random() < 0.05:
             self.refuses = True
-        elif (low, second) == (7, 4) and command[5] & ALWAYS_IDLE and self.setup[1] == self.asked_level == 3:
-            self.idles = True
-        elif self.idles and (low, second) == (3, 0) and self.state == "enabled":
+        elif self.needs_no_session and (low, second) == (3, 0) and self.state == "enabled":
             self.state, self.comes_back = "vend", "enabled"
-        elif self.idles and (low, second) == (3, 1) and self.state in ("enabled", "idle"):
+        elif self.needs_no_session and (low, second) == (3, 1) and self.state in ("enabled", "idle"):
             self.owed.append((6,))
-        elif self.idles and (low, second) == (3, 4) and self.state == "enabled":
+        elif self.needs_no_session and (low, second) == (3, 4) and self.state == "enabled":
             self.owed.append((7,))
         else:
             super().obeys(low, command)
@@ -88,7 +83,7 @@ class Reader(joined.Reader):
             self.refuses = False
             # (a status, since other messages may come after it)
             others = [(0x0B, *[STATUSES[self.state]] * self.is_long)]
-        if not (is_poll and self.idles and not self.has_told_setup):
+        if not (is_poll and self.needs_no_session and not self.has_told_setup):
             return super().tells(others, is_poll)
         # It decides nothing before that.
         answer = super().tells([tuple(self.setup)], is_poll)
@@ -96,7 +91,7 @@ class Reader(joined.Reader):
         return answer
 
     def news(self, is_poll):
-        if not self.idles:
+        if not self.needs_no_session:
             return super().news(is_poll)
         fresh = []
         while self.dice.random() < 0.6 and self.room() > sum(map(len, fresh)) + 10:
@@ -107,7 +102,7 @@ class Reader(joined.Reader):
         return fresh
 
     def event(self, is_poll):
-        """What it tells next, with always idle: now and then what nobody asked for."""
+        """What it tells next, which now and then is what nobody asked for."""
         draw, state = self.dice.random(), self.state
         if not self.has_told_setup:
             return None
@@ -147,7 +142,6 @@ class ReaderController(joined.ReaderController):
 
     UNDECIDED = ("asked", "waiting", "success owed", "failure owed", "ending")
     is_refused = False
-    needs_no_session = False  # always idle, by what it has heard
 
     def split(self, answer):
         """In the long format each 0B of these readers has a status, or is alone."""
@@ -170,7 +164,7 @@ class ReaderController(joined.ReaderController):
             yield from self.enables_options()
 
     def enables_options(self):
-        options = self.dice.choice((0, 1, 8, 0x10, 0xC0, *(ALWAYS_IDLE, ALWAYS_IDLE | 0x19) * 4))
+        options = self.dice.choice((0, 1, 8, 0x10, 0xC0, 0x20, 0x39))
         yield from self.insists(self.base + 7, 4, 0, 0, 0, options)
 
     def works(self):
@@ -181,14 +175,14 @@ class ReaderController(joined.ReaderController):
 
     def goes_on(self, vend):
         draw = self.dice.random()
-        if self.needs_no_session and self.view == "none" and draw < 0.65:
+        if self.device.needs_no_session and self.view == "none" and draw < 0.65:
             if draw < 0.05:
                 self.say(vend, 4)
             else:
                 self.sale = (vend, 0, 0, self.dice.choice((10, 25)), 0, self.dice.randrange(9))
                 self.say(*self.sale)
             return
-        if self.needs_no_session and self.view == "asked" and draw < 0.2:
+        if self.device.needs_no_session and self.view == "asked" and draw < 0.2:
             self.say(vend, 1)
             return
         may_go_on = self.is_refused and self.device.is_long and self.view in self.UNDECIDED
@@ -199,14 +193,7 @@ class ReaderController(joined.ReaderController):
     def says(self, command):
         if command[0] == self.base + 3 and command[1] < 5:
             self.is_refused = False
-        if command[0] == self.base:
-            self.needs_no_session = False
         super().says(command)
-
-    def hears_ack(self, command):
-        super().hears_ack(command)
-        if command[:2] == (self.base + 7, 4) and self.device.setup[1] == self.device.asked_level == 3:
-            self.needs_no_session = bool(command[5] & ALWAYS_IDLE)
 
     def hears_nak(self, command):
         self.is_refused = command[0] == self.base + 3 and command[1] < 5
@@ -214,8 +201,6 @@ class ReaderController(joined.ReaderController):
     def hears(self, command, heard):
         super().hears(command, heard)
         for message in heard.messages:
-            if message[0] == 0:
-                self.needs_no_session = False
             if message[0] == 0x0B and (len(message) == 1 or 1 <= message[1] <= 4):
                 self.is_refused = True
 
@@ -314,10 +299,15 @@ def played(dice):
     return other_times.played(dice, joined.recording(dice, MACHINES))
 
 
+def habitual(dice):
+    """The rows of a machine with readers of all habits."""
+    kind = dice.choice(("readers", "readers", "whole"))
+    return honest_play.recording_of(dice.random(), 0, kind, set())[0].rows
+
+
 # Single talks.
 
 HEADS = (*range(0x12), 0x03, 0x05, 0x0B, 0x12, 0xFF)
-REVALUES = (0x0D, 0x0E, 0x0F, 0x0F)
 LENGTHS = {0x01: 8, 0x05: 3, 0x0A: 2, 0x0F: 3}
 
 
@@ -341,8 +331,7 @@ def message(dice, is_long, heads=HEADS):
 
 def messages(dice, is_long):
     """A list of messages that fits into a block."""
-    heads = HEADS if dice.random() < 0.8 else REVALUES
-    content = message(dice, is_long, heads)
+    content = message(dice, is_long)
     while len(content) < 35 and dice.random() < 0.4:
         more = message(dice, is_long)
         content = content + more if dice.random() < 0.5 else more + content
@@ -363,32 +352,6 @@ def other_command(dice, base):
     setup = (base + 1, 0, dice.choice((1, 3)), 0, 0, 0)
     others = (base + 4, 1), (base + 4, 2), setup, (base + 7, 4, 0, 0, 0, 1)
     return dice.choice(((base + 2,),) * 3 + others)
-
-
-def refuses(bus, base, command, is_long):
-    """A transaction that the reader refuses, in one of the ways that there are, or nearly so."""
-    dice = bus.dice
-    status = [dice.choice((0, 1, 2, 3, 4, 4, 5, 5, 6, 7, 0xFF))]
-    if dice.random() < (0.2 if is_long else 0.9):
-        status.clear()
-    way = dice.choice(("nak", "reply", "ack", "ack", "ack", "ack, nak", "silence"))
-    bus.ask(*command)
-    if way == "nak":
-        bus.nak()
-    elif way == "reply":
-        bus.reply(0x0B, *status)
-        bus.vmc(dice.choice((0x00, 0x00, 0x00, 0xFF)))
-    else:
-        if way != "silence":
-            bus.ack()
-        yield
-        other = other_command(dice, base)
-        if way == "ack, nak":
-            bus.ask(*other)
-            bus.nak()
-        else:
-            yield from without.told(bus, other, 0x0B, *status)
-    yield
 
 
 def config(dice, level):
@@ -425,7 +388,7 @@ def options(bus, base):
     dice = bus.dice
     options = [0, 0, 0, dice.choice((0x01, 0x08, 0x10, 0x40, 0x80))]
     if dice.random() < 0.5:
-        options[dice.choice((0, 1, 2, 3, 3))] |= dice.choice((0x02, 0x04, ALWAYS_IDLE, ALWAYS_IDLE))
+        options[dice.choice((0, 1, 2, 3, 3))] |= dice.choice((0x02, 0x04, 0x20, 0x20))
     command = (base + 7, 4, *options)
     if dice.random() < 0.8:
         yield from without.taken(bus, *command)
@@ -466,41 +429,8 @@ def reader(bus, base, careless):
             bus.ask(base + 1, 0, asked, 16, 2, 0)
         elif draw < 0.4:
             yield from without.taken(bus, base + 2)
-        elif draw < 0.75:
-            yield from crossroads(bus, base, is_long)
         else:
             yield from session(bus, base, is_long, careless)
-
-
-def crossroads(bus, base, is_long):
-    """A session that comes to any place; there its last transaction is refused, and any is next."""
-    dice = bus.dice
-    request, cancel, success, failure, complete = transactions(dice, base)
-    ways = (request,), (request, cancel), (request, success), (request, failure), (complete,)
-    way = dice.choice(ways)
-    yield from without.tells(bus, base, 3, 0, 100, *(MEDIA if is_long else ()))
-    yield
-    for transaction in way[:-1]:
-        yield from without.taken(bus, *transaction)
-    if way[-1] in (success, failure):
-        yield from without.tells(bus, base, 5, 0, 10)
-    yield
-    yield from refuses(bus, base, way[-1], is_long)
-    if way == (request,) and dice.random() < 0.5:
-        yield from without.tells(bus, base, 5, 0, 10)
-        yield
-    count = dice.choice((1, 1, 2))
-    for transaction in dice.choices(transactions(dice, base), (4, 2, 1, 1, 4), k=count):
-        bus.ask(*transaction)
-        draw = dice.random()
-        if draw < 0.6:
-            bus.ack()
-        elif draw < 0.8:
-            bus.reply(*dice.choice(((5, 0, 10), (6,), (7,))))
-            bus.vmc(0x00)
-        yield
-    if dice.random() < 0.5:
-        yield from without.tells(bus, base, *dice.choice(((5, 0, 10), (6,), (7,))))
 
 
 def session(bus, base, is_long, careless):
@@ -532,297 +462,130 @@ def session(bus, base, is_long, careless):
 
 
 class Seller:
-    """A reader that mostly sells without a session, and what may come in each of its states.
-
-    It is known here what the switch, the levels and the controller's view mostly are, so that most
-    of what is asked may be asked. What may be told it isn't: that is for each state alike.
-    """
-
-    LEVELS = ((3, 3),) * 5 + ((2, 3), (3, 2), (2, 2), (1, 3), (3, 1))
+    """A controller and a reader that ask and tell anything at any time. What they may is known here, so that
+    most of it is possible: what the reader may approve, what it may tell again, and the controller's sale."""
 
     def __init__(self, bus, base, careless):
         self.bus, self.dice, self.base, self.careless = bus, bus.dice, base, careless
-        self.levels, self.switch, self.view = (3, 3), False, "none"
-        if self.dice.random() < 0.2:
-            self.levels = self.dice.choice(self.LEVELS)
-
-    def is_on(self):
-        return self.switch and min(self.levels) == 3
-
-    # Commands and messages.
-
-    def request(self):
-        return self.base + 3, 0, 0, self.dice.choice((10, 25)), 0, 5
-
-    def low(self, second):
-        return self.base + 3, second, *((0, 5) if second == 2 else ())
-
-    def begin(self):
-        return 3, 0, 100, *(MEDIA if min(self.levels) >= 2 else ())
-
-    def part(self, word):
-        """A command, or a message."""
-        words = {"cancel": 1, "success": 2, "failure": 3, "complete": 4}
-        if word in words:
-            return self.low(words[word])
-        ables = {"disable": (self.base + 4, 0), "enable": (self.base + 4, 1)}
-        told = {"approval": (5, 0, 10), "denial": (6,), "end": (7,), "reset": (0,)}
-        return (ables | told).get(word) or {"request": self.request, "begin": self.begin}[word]()
-
-    def sees(self, *words):
-        """What the controller makes of these."""
-        for word in words:
-            view = self.view
-            if word in ("request", "lost", "cancel"):
-                self.view = "waiting"
-            elif word in ("success", "failure"):
-                self.view = "idle"
-            elif word == "complete":
-                self.view = "ending"
-            elif word == "reset" or (word, view) == ("end", "ending"):
-                self.view = "none"
-            elif (word, view) in (("begin", "none"), ("denial", "waiting")):
-                self.view = "idle"
-            elif (word, view) == ("approval", "waiting"):
-                self.view = "approved"
-
-    def each(self, words):
-        """Commands that the reader takes, and messages that it tells, one after the other; a request
-        that it doesn't hear; and a level below 3."""
-        for word in words:
-            yield
-            if word == "lost":
-                self.bus.ask(*self.request())
-            elif word == "lower":
-                yield from self.shows_levels(self.dice.choice(((2, 3), (3, 2), (2, 2))))
-            elif self.part(word)[0] >= self.base:
-                yield from without.taken(self.bus, *self.part(word))
-            else:
-                yield from without.tells(self.bus, self.base, *self.part(word))
-            self.sees(word)
-
-    # What is said.
+        self.levels = self.dice.choice(((3, 3), (3, 3), (2, 3), (1, 1), (3, 1), (1, 3)))
+        self.is_asked, self.may_repeat, self.told = False, False, []
+        self.sale, self.sold = "none", ()
+        self.price = self.dice.choice((10, 25))
 
     def talk(self):
         dice = self.dice
-        yield from self.starts(dice.random() < 0.5)
-        yield from self.enables_options()
+        if dice.random() < 0.6:
+            yield from sets_up(self.bus, self.base, *self.levels, dice.random() < 0.1)
         while True:
-            yield
-            draw = dice.random()
             if dice.random() < self.careless:
                 without.anything(self.bus, self.base)
-            elif draw < 0.05 or not self.switch and draw < 0.4:
-                yield from self.enables_options()
-            elif draw < 0.08 or min(self.levels) < 3 and draw < 0.6:
-                yield from self.shows_levels()
-            elif draw < 0.11:
-                yield from self.starts(dice.random() < 0.6)
-            elif draw < 0.15:
-                yield from without.taken(self.bus, self.base + 2)
-            elif not self.is_on() and dice.random() < 0.85:
-                yield from self.sells_in_a_session()
-            elif draw < 0.6:
-                yield from self.places()
-            elif draw < 0.7:
-                yield from self.goes_back()
-                yield from self.each(dice.choice(self.LOWERED))
-            elif draw < 0.76:
-                yield from self.tells_again()
+            elif dice.random() < 0.03:
+                yield from options(self.bus, self.base)
+            elif dice.random() < 0.03:
+                yield from sets_up(self.bus, self.base, *self.levels, False)
             else:
-                yield from self.sells()
-
-    def starts(self, has_reset):
-        """RESET, or a restart, and what sets the reader up."""
-        if has_reset:
-            yield from without.taken(self.bus, self.base)
-            self.switch = False
-        yield from without.tells(self.bus, self.base, 0x00)
-        self.view = "none"
-        yield from sets_up(self.bus, self.base, *self.levels, self.dice.random() < 0.1)
-
-    def enables_options(self):
-        """ENABLE OPTIONS with always idle, in one of many ways: it may be refused, or unanswered."""
-        bus, dice = self.bus, self.dice
-        command = (self.base + 7, 4, 0, 0, 0, dice.choice((ALWAYS_IDLE, ALWAYS_IDLE, 0xF9, 0x39)))
-        way = dice.randrange(20)
-        is_taken = way < 14
-        if way < 12:
-            yield from without.taken(bus, *command)
-        elif way == 12:
-            told = config(dice, dice.choice((self.levels[1], self.levels[1], 2, 3)))
-            yield from without.told(bus, command, *told)
-            self.levels = (self.levels[0], told[1])
-        elif way == 13:
-            yield from without.told(bus, command, *dice.choice(((4,), (8,), (0x0A, 0x30))))
-        elif way < 16:
-            yield from without.told(bus, command, *dice.choice(((0x0B,), (0x0B, 3), (4, 0x0B, 2))))
-        elif way < 18:
-            option = dice.choice((0, 1, 0xD9))
-            yield from without.taken(bus, self.base + 7, 4, 0, ALWAYS_IDLE, 0, option)
-        else:
-            bus.ask(*command)
-            if way == 18:
-                bus.nak()
-        self.switch |= is_taken and min(self.levels) == 3
-        yield
-
-    def shows_levels(self, levels=None):
-        """A level that changes, of the controller or of the reader, or of both."""
-        bus, dice = self.bus, self.dice
-        asked, own = levels or dice.choice(self.LEVELS)
-        setup = (self.base + 1, 0, asked, 16, 2, 0)
-        way = dice.randrange(4)
-        if way == 0:
-            yield from without.told(bus, setup, *config(dice, own))
-        elif way == 1:
-            yield from without.taken(bus, *setup)
-        elif way == 2:
-            bus.ask(*setup)
-        else:
-            yield from without.tells(bus, self.base, *config(dice, own))
-        self.levels = (asked if way < 3 else self.levels[0], own if way in (0, 3) else self.levels[1])
-        yield
-
-    def sells_in_a_session(self):
-        yield from self.goes_back()
-        yield from session(self.bus, self.base, min(self.levels) >= 2, self.careless)
-
-    WAYS = (
-        (), ("disable",), ("begin",), ("request",), ("request", "denial"), ("complete",), ("begin", "complete"),
-        ("request", "approval"), ("request", "approval", "success", "complete"), ("begin", "request"),
-        ("begin", "request", "approval"), ("request", "begin"), ("begin", "disable"), ("request", "disable"),
-        ("request", "approval", "failure"), ("request", "approval", "disable"), ("request", "cancel"),
-        ("request", "approval", "end"), ("request", "denial", "complete"), ("begin", "end"), ("reset",),
-    )
-    RIGHT = {
-        "none": ("request", "complete"),
-        "idle": ("request", "complete"),
-        "waiting": ("cancel",),
-        "approved": ("success", "failure"),
-        "ending": ("complete",),
-    }
-    SHOWS = {
-        "none": (("request", "approval"), ("request", "denial"), ("begin", "request"), ("complete", "end")),
-        "idle": (("request", "approval", "success"), ("request", "approval"), ("complete", "end")),
-        "waiting": (("approval",), ("approval", "success"), ("cancel", "denial"), ("begin", "approval")),
-        "approved": (("success",), ("success", "complete", "end"), ("failure",), ("end", "success")),
-        "ending": (("end",), ("end", "request", "approval"), ("complete", "end"), ("begin", "end")),
-    }
-    # What shows where a reader is once always idle is off.
-    LOWERED = (
-        ("begin", "lost", "cancel", "lower", "denial"), ("begin", "lost", "cancel", "lower", "complete", "end"),
-        ("request", "denial", "lost", "cancel", "lower", "denial"), ("lost", "cancel", "lower", "begin"),
-        ("request", "lower", "approval", "success"), ("request", "lower", "denial", "complete", "end"),
-        ("request", "begin", "lower", "approval"), ("request", "begin", "lower", "denial"),
-        ("request", "approval", "denial", "lower", "success", "complete", "end"), ("lower", "begin", "request", "approval"),
-        ("request", "approval", "begin", "lower", "failure"), ("request", "denial", "end", "lower", "complete", "end"),
-        ("complete", "end", "lower", "begin"), ("complete", "lower", "end"), ("lower", "request"), ("lower", "complete"),
-        ("disable", "begin", "lower", "enable", "begin"), ("disable", "denial", "lower", "end"),
-        ("request", "disable", "denial", "complete", "end", "lower", "begin"), ("begin", "end", "lower", "begin"),
-        ("request", "approval", "success", "complete", "begin", "lower", "end"), ("begin", "lower", "end"),
-        ("request", "approval", "success", "complete", "denial", "end", "lower", "begin"), ("request", "lower", "cancel"),
-    )
-    MESSAGES = ("begin", "denial", "end")
-    COMMANDS = ("request", "cancel", "success", "failure", "complete")
-
-    def places(self):
-        """A reader and its controller come to any place with always idle. There something is told or
-        asked, and what comes then shows where they are."""
-        dice = self.dice
-        if dice.random() < 0.8:
-            yield from self.goes_back()
-        yield from self.each(dice.choice(self.WAYS))
-        for _ in range(dice.choice((0, 1, 1, 2))):
-            if dice.random() < 0.6:
-                told = self.MESSAGES if dice.random() < 0.95 else ("approval",)
-                yield from self.each((dice.choice(told),))
-            else:
-                yield from self.asks()
-        if dice.random() < 0.1:
-            yield from self.each(("lower",))
-        view = self.view if dice.random() < 0.9 else dice.choice(list(self.SHOWS))
-        yield from self.each(dice.choice(self.SHOWS[view]))
-        if dice.random() < 0.8:
-            yield from self.goes_back()
-
-    def asks(self):
-        """A transaction, and any answer."""
-        bus, dice = self.bus, self.dice
-        words = self.RIGHT[self.view] if dice.random() < 0.9 else self.COMMANDS
-        word = dice.choice(words)
-        draw = dice.random()
-        if draw < 0.4:
-            yield from self.each((word,))
-        elif draw < 0.8:
-            told = [dice.choice(self.MESSAGES)]
-            if word == "request":
-                told = dice.choice((told, ["approval"], ["begin", "approval"], ["denial", "end"]))
-            content = [byte for message in told for byte in self.part(message)]
-            yield from without.told(bus, self.part(word), *content)
-            self.sees(word, *told)
-        else:
-            # It is lost, and mostly given up.
-            bus.ask(*self.part(word))
-            if draw > 0.95:
-                bus.nak()
-            self.sees(word)
+                self.turn()
             yield
-            if word == "request" and dice.random() < 0.8:
-                yield from self.each(("cancel", "denial"))
 
-    def goes_back(self):
-        """To no session, by what the controller may ask and the reader may tell."""
-        if self.view == "waiting":
-            yield from self.each(("denial",))
-        if self.view == "approved":
-            yield from self.each((self.dice.choice(("success", "success", "failure")),))
-        if self.view == "idle":
-            yield from self.each(("complete",))
-        if self.view == "ending":
-            yield from self.each(("end",))
-        if self.dice.random() < 0.3:
-            yield from self.each(("enable",))
-
-    def tells_again(self):
-        """What the controller doesn't acknowledge, between a request and its repeat."""
+    def turn(self):
+        """A command and what comes of it."""
         bus, dice = self.bus, self.dice
-        yield from self.goes_back()
-        request = self.request()
-        bus.ask(*request)
-        if dice.random() < 0.3:
+        command = self.command()
+        bus.ask(*command)
+        self.asks(command)
+        draw = dice.random()
+        if draw < 0.06:
+            return
+        if draw < 0.1:
+            return bus.nak()
+        tells = dice.random() < (0.75 if len(command) == 1 and command[0] != self.base else 0.35)
+        told = self.messages() if tells else []
+        if not told:
             bus.ack()
-        yield
-        bus.ask(self.base + 2)
-        bus.reply(*self.part(dice.choice(("begin", "begin", "denial", "end"))))
-        yield
-        yield from without.taken(bus, *request)
-        yield
-        self.sees("request")
-        if dice.random() < 0.5:
-            yield from without.taken(bus, self.base + 2)
-        yield from self.each(dice.choice((("approval",), ("begin", "approval"), ("denial",))))
+            self.takes(command)
+            if command == (self.base + 2,):
+                self.may_repeat = False
+            return
+        if all(message[0] != 0x0B for message in told):
+            self.takes(command)
+        self.answers([byte for message in told for byte in message], [m for m in told if m[0] == 5], told)
 
-    def sells(self):
-        """A sale without a session, in which the reader may tell more than it has to."""
-        dice = self.dice
-        yield from self.goes_back()
-        if dice.random() < 0.4:
-            told = dice.choice((["approval"], ["approval"], ["begin", "approval"]))
-            content = [byte for message in told for byte in self.part(message)]
-            yield from without.told(self.bus, self.request(), *content)
-            self.sees("request", *told)
-        else:
-            told = dice.choice((["approval"], ["approval"], ["begin", "approval"], ["end", "approval"]))
-            yield from self.each(["request", *told])
-        if dice.random() < self.careless:
-            without.anything(self.bus, self.base)
+    def answers(self, content, approvals, told):
+        """A reply, and what the controller says to it."""
+        bus, dice = self.bus, self.dice
+        bus.reply(*content)
+        if approvals:
+            self.is_asked = self.is_asked and approvals[: len(self.told)] == self.told and len(approvals) == len(self.told)
+            self.may_repeat, self.told = True, approvals
+        while dice.random() < 0.1:
+            bus.vmc(without.RET)
+            if dice.random() < 0.2:
+                return
+            bus.reply(*content)
+        draw = dice.random()
+        if draw < (0.55 if approvals else 0.8):
+            bus.vmc(without.ACK)
+            self.hears(told)
+            self.may_repeat = self.may_repeat and (not approvals or dice.random() < 0.4)
+        elif draw < 0.9:
+            bus.vmc(without.NAK)
+
+    def command(self):
+        """Mostly one of a sale, or POLL."""
+        dice, vend = self.dice, self.base + 3
         if dice.random() < 0.1:
-            yield from self.each((dice.choice(self.MESSAGES),))
-        if dice.random() < 0.6:
-            yield from self.goes_back()
+            self.price = dice.choice((10, 25))
+        request, success = (vend, 0, 0, self.price, 0, 5), (vend, 2, 0, dice.choice((5, 5, 5, 6)))
+        may_sell = self.sale == "approved" or self.sale == "sold" and success == self.sold
+        if may_sell and dice.random() < 0.5 or dice.random() < self.careless / 4:
+            return success
+        others = (vend, 1), (vend, 1), (vend, 3), (vend, 4), (vend, 5, 0, 25, 0, 7), (self.base,)
+        ables = tuple((self.base + 4, able) for able in range(3))
+        weighed = ((self.base + 2,), 30), (request, 20), (dice.choice(others), 8), (dice.choice(ables), 3)
+        return dice.choices(*zip(*weighed))[0]
+
+    def asks(self, command):
+        """What a command means for the sale."""
+        base, sale = self.base, self.sale
+        if command == (base,):
+            self.sale = "none"
+        if command[0] != base + 3 or command[1] == 5:
+            return
+        if command[1] == 0:
+            self.is_asked, self.sale = True, "awaited"
+        elif command[1] == 1:
+            self.sale = sale if sale in ("awaited", "asked") else "none"
         else:
-            yield from self.each(("success",))
+            self.sale = "sold" if command[1] == 2 else "none"
+            self.sold = command
+
+    def takes(self, command):
+        if command == (self.base,):
+            self.is_asked = self.may_repeat = False
+
+    def hears(self, told):
+        for message in told:
+            if message[0] == 5 and self.sale in ("awaited", "asked"):
+                self.sale = "approved"
+            elif message[0] in (0, 6) and self.sale == "awaited":
+                self.sale = "asked"
+
+    def messages(self):
+        """Messages of all kinds; and perhaps what was approved, or is now."""
+        dice, is_long = self.dice, min(self.levels) >= 2
+        begin = (3, 0, 100, *(MEDIA if is_long != (dice.random() < 0.05) else ()))
+        refusal = (0x0B, dice.choice((1, 2, 3, 4, 5))) if is_long else (0x0B,)
+        others = begin, (6,), (7,), (4,), (8,), (0x0A, 0x30), refusal, (0,), (0x11,) if is_long else (4,)
+        told = [dice.choice(others) for _ in range(dice.choice((0, 0, 1, 1, 2)))]
+        approvals, new = [], (5, 0, dice.choice((self.price, self.price, 10, 25)))
+        if self.may_repeat and dice.random() < 0.6:
+            approvals += self.told
+        if self.is_asked and dice.random() < 0.5 or dice.random() < self.careless / 4:
+            approvals.append(new)
+        places = sorted(dice.randint(0, len(told)) for _ in approvals[:4])
+        for place, approval in reversed([*zip(places, approvals)]):
+            told.insert(place, approval)
+        return told
 
 
 def seller(bus, base, careless):

@@ -83,6 +83,10 @@ class Levels(Formats):
             if kind in ("ask", "reply") and words[0].startswith("cashless"):
                 (self.ask if kind == "ask" else self.reply)(words[0], [int(it, 16) for it in words[1:-1]])
 
+    def crosses_a_fault(self):
+        """It may hide a SETUP, so a low level of the controller is told only beside a low one of the reader."""
+        self.told = {name: level for name, level in self.told.items() if level >= 2 or self.own.get(name, 2) < 2}
+
     def words(self, is_joined, left_out):
         """The words of `show` for what comes then."""
         words = [word for device in left_out for word in ("--without", device)]
@@ -116,6 +120,7 @@ def parts(shown, made, words, most):
         if link is None and not part.halt and last == end:
             return
         first, number, is_joined = faults[cut - 1][0] + 1, cut, True
+        levels.crosses_a_fault()
 
 
 def words_before(shown, made, words, most, number, row):

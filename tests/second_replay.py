@@ -12,8 +12,9 @@ because the pages say so.
 
     replay(text, without, extended) -> (status, out, err)
     check(text, without, extended, setups) -> (status, out, err)
+    fewest_marks(text, without, extended, account, side, end) -> int
 
-are the same as functions; `setups` has the values of `--setup`, and is `None` from power-on. What stands on
+are the same as functions, and how many marks an explanation has; `setups` has the values of `--setup`, and is `None` from power-on. What stands on
 standard error after the word of a row that isn't one (`wanted .., found ..`), and after a fault of the words
 (`usage: ..`), isn't made here. Nor is what `check` says there of a no by which nobody did wrong.
 
@@ -48,6 +49,16 @@ DEVICES = (CHANGER, BILL, CASHLESS, CASHLESS_2)
 READERS = (CASHLESS, CASHLESS_2)
 #: Whose rows can be untimely, in the order of the report.
 SENDERS = (CONTROLLER, *DEVICES)
+#: The accounts in the order of the report: whose each is, and its name in the machine.
+ACCOUNTS = {
+    "coins-in": (CHANGER, "coins_in"),
+    "bills-in": (BILL, "bills_in"),
+    "paid-out": (CHANGER, "paid_out"),
+    "approved": (CASHLESS, "approved"),
+    "sold": (CASHLESS, "sold"),
+    "approved-2": (CASHLESS_2, "approved"),
+    "sold-2": (CASHLESS_2, "sold"),
+}
 
 #: The greatest number of rows, and of marks.
 MOST_ROWS = 100_000_000
@@ -159,7 +170,7 @@ def no_such_mark(row: int) -> NoAnswer:
 
 
 class Marks:
-    """The marks in front of the rows, in their order: `ROW,L,-` and `ROW,R,-`.
+    """The marks in front of the rows, in their order: `ROW,L,-`, `ROW,R,-` and `ROW,C,-`.
 
     They are read before the first row, and then taken off one by one as their rows are read.
     """
@@ -172,7 +183,7 @@ class Marks:
 
     @staticmethod
     def is_mark(fields: list[bytes]) -> bool:
-        return len(fields) == 3 and fields[1] in (b"L", b"R")
+        return len(fields) == 3 and fields[1] in (b"L", b"R", b"C")
 
     def read(self, fields: list[bytes], record: int):
         """Takes a mark that stands before the first row."""
@@ -259,9 +270,8 @@ def _changer_and_bill_openings() -> dict:
     }
 
 
-#: The option bits that aren't followed, in the last byte of ENABLE OPTIONS; and always idle, which is.
+#: The option bits that aren't followed, in the last byte of ENABLE OPTIONS.
 _OPTIONS_OF_PROFILE = 0x02 | 0x04
-_ALWAYS_IDLE = 0x20
 
 
 def _reader_openings(device: str, address: int, extended: bool) -> dict:
@@ -335,16 +345,42 @@ def _bill_message_lengths(extended: bool) -> list:
     return lengths
 
 
-#: By the first byte of a message how long it is, or the rule that it breaks. Of several lengths it is the
-#: first one for which there are bytes enough, or the last. `None` is a display request.
+#: By the first byte of a message how long it is, or the rule that it breaks. Where it depends on the bytes that
+#: are left in the block, that is said of these.
 _CHANGER_MESSAGES = _changer_message_lengths()
 _BILL_MESSAGES = {extended: _bill_message_lengths(extended) for extended in (False, True)}
-_READER_MESSAGES = [1, 8, None, 3, 1, 3, 1, 1, 1, 30, 2, 1] + [PROFILE] * 0xF4
-#: With the extended profile: the formats, and the messages in the formats short and long.
-SHORT, LONG, EARLY, OPEN = "short", "long", "early", "open"
-_ID = (34, 30)
-_SHORT_MESSAGES = [1, 8, None, 3, 1, 3, 1, 1, 1, _ID, 2, 1] + [PROFILE] * 0xF4
-_LONG_MESSAGES = [1, 8, None, 10, 1, 3, 1, 1, 1, _ID, 2, (2, 1), PROFILE, 1, 1, 3, PROFILE, 1] + [PROFILE] * 0xEE
+#: In the place of a length: the rest of the block, a time and up to 32 bytes of text.
+_DISPLAY = len
+READER_MESSAGES = [1, 8, _DISPLAY, 3, 1, 3, 1, 1, 1, 30, 2, 1] + [PROFILE] * 0xF4
+
+
+# With the extended profile.
+
+def _id_with_options(rest: bytes) -> int:
+    """An ID, which has options where there are bytes enough."""
+    return 34 if len(rest) >= 34 else 30
+
+
+def _id_without_options(rest: bytes) -> int:
+    """An ID, which has options only where they begin with 00."""
+    return 34 if len(rest) >= 34 and rest[30] == 0 else 30
+
+
+def _status_if_any(rest: bytes) -> int:
+    return min(len(rest), 2)
+
+
+def _messages_of(is_long: bool, has_options: bool) -> list:
+    """The messages of a reading: a short one or a long one, whose IDs have options or mostly not."""
+    lengths: list = [*READER_MESSAGES]
+    lengths[0x09] = _id_with_options if has_options else _id_without_options
+    if is_long:
+        lengths[0x03], lengths[0x0B], lengths[0x11] = 10, _status_if_any, 1
+        lengths[0x0D], lengths[0x0E], lengths[0x0F] = 1, 1, 3  # of revalue, which isn't followed
+    return lengths
+
+
+READINGS = {(is_long, has): _messages_of(is_long, has) for is_long in (True, False) for has in (True, False)}
 
 
 #: Messages, and the rule that the first one breaks that can't be taken.
@@ -352,19 +388,17 @@ Reading = tuple[list[bytes], Optional[str]]
 
 
 def read_messages(content: bytes, lengths: list) -> Reading:
-    """The messages of a data block."""
+    """The messages of a data block in one reading."""
     messages = []
     at, end = 0, len(content)
     while at < end:
         length = lengths[content[at]]
-        if length is None:  # a display request: the rest of the block, a time and up to 32 bytes of text
-            length = end - at
-            if not 2 <= length <= 34:
-                return messages, NO_MESSAGE
-        elif isinstance(length, str):
+        if isinstance(length, str):
             return messages, length
-        elif isinstance(length, tuple):
-            length = next((one for one in length if at + one <= end), length[-1])
+        if callable(length):
+            is_display, length = length is _DISPLAY, length(content[at:])
+            if is_display and not 2 <= length <= 34:
+                return messages, NO_MESSAGE
         if at + length > end:
             return messages, NO_MESSAGE
         messages.append(content[at:at + length])
@@ -372,21 +406,45 @@ def read_messages(content: bytes, lengths: list) -> Reading:
     return messages, None
 
 
-def open_reading(short: Reading, long: Reading) -> Reading:
-    """How an open reply is read, by its two readings (*Open replies*)."""
-    rules = (short[1], long[1])
-    if rules[0] == rules[1]:
-        return short if rules[0] or short[0] == long[0] else ([], PROFILE)
-    if None in rules:
-        return short if rules[0] is None else long
-    return [], PROFILE if PROFILE in rules else NO_MESSAGE
+def read_reply(content: bytes, sent: Optional[int], own: Optional[int], joined: bool,
+               session_may_be_told: bool = True) -> Reading:
+    """The messages of a reader's reply, by the levels of the controller and of the reader, if they are known."""
+    levels = [level for level in (sent, own) if level is not None]
+    short, long = (read_list(content, READINGS[is_long, True], session_may_be_told) for is_long in (False, True))
+    if any(level < 2 for level in levels):
+        return short
+    if len(levels) == 2:
+        return long
+    return open_reading([short, long]) if joined else first_reading([short, long])
 
 
-#: The messages of a session and a sale; and those of revalue, the first two of which are of a session too.
+def read_list(content: bytes, lengths: list, session_may_be_told: bool) -> Reading:
+    """The messages of a data block in one reading; those of a session stand in answers to some commands alone."""
+    messages, rule = read_messages(content, lengths)
+    if rule is None and not session_may_be_told and any(m[0] in _ONLY_IN_SESSIONS for m in messages):
+        rule = "Answer"
+    return messages, rule
+
+
+def first_reading(readings: list[Reading]) -> Reading:
+    """The first one without a fault; where each has one, the first."""
+    return next((one for one in readings if one[1] is None), readings[0])
+
+
+def open_reading(readings: list[Reading]) -> Reading:
+    """How an open reply is read, by its readings."""
+    held = [one for one in readings if one[1] is None]
+    rules = {rule for _, rule in readings}
+    if not held:
+        return ([], rules.pop()) if len(rules) == 1 else ([], PROFILE if PROFILE in rules else NO_MESSAGE)
+    return ([], PROFILE) if any(one != held[0] for one in held) else held[0]
+
+
+#: The messages of a session and a sale.
 _SESSION_MESSAGES = frozenset((0x03, 0x05, 0x06, 0x07))
 _REVALUE_MESSAGES = frozenset((0x0D, 0x0E, 0x0F))
 _ONLY_IN_SESSIONS = _SESSION_MESSAGES | {0x0D, 0x0E}
-_CONFIG = 0x01
+_RESET, _CONFIG, _APPROVED, _DENIED = 0x00, 0x01, 0x05, 0x06
 _OUT_OF_SEQUENCE = 0x0B
 
 
@@ -420,15 +478,6 @@ class Act(NamedTuple):
     #: Of a reply: its bytes, without the sum, and its messages, if its answer has such.
     content: bytes = b""
     messages: tuple = ()
-    #: Of an ask: whether the format of the reader's messages is long or open.
-    is_long: bool = False
-    #: Of an ask, ack and reply: the level of the reader, if it was known before it.
-    level: Optional[int] = None
-
-    @property
-    def is_low(self) -> bool:
-        """Whether the level is known to be below 3."""
-        return self.level is not None and self.level < 3
 
 
 class Told:
@@ -439,11 +488,11 @@ class Told:
         self.named: set[str] = set()
         #: The setup data: an answer to SETUP, of a reader its config message.
         self.setup: dict[str, bytes] = {}
-        #: Of each reader: the levels of the controller and of the reader, and the last byte of the options.
-        #: (Without `--extended` there are none.)
+        #: Of each reader the levels of the controller and of the reader.
         self.sent_levels: dict[str, int] = {}
         self.told_levels: dict[str, int] = {}
-        self.options: dict[str, int] = {} if extended else dict.fromkeys(READERS, 0)
+        #: The readers whose options are known. (Without `--extended` there are none to know.)
+        self.options: set[str] = set() if extended else set(READERS)
 
 
 class Link:
@@ -478,7 +527,7 @@ class Link:
         self.sent_levels = dict(told.sent_levels) if told else {}
         self.told_levels = dict(told.told_levels) if told else {}
         #: The readers whose options aren't known (*What isn't known*).
-        self.options_unknown = set(READERS) - set(told.options) if told else set()
+        self.options_unknown = set(READERS) - told.options if told else set()
 
     def take(self, time: int, line: bytes, value: int) -> Optional[Act]:
         """The act that the row ends, if one."""
@@ -543,7 +592,8 @@ class Link:
         if position == FOREIGN:
             self._in_time(gap, times.BETWEEN_WORDS, CONTROLLER)
             return None
-        raise Broken("Mode", CONTROLLER)
+        may_go_on = position == ASKED and self._may_be_longer(self.command)
+        raise Broken(PROFILE if may_go_on else "Mode", CONTROLLER)
 
     def _next_block_in_time(self, gap: int):
         awaits = self.position in (ASKED, REPLIED, RETURNED)
@@ -580,17 +630,18 @@ class Link:
             asked.append(byte)
             return None
         if sum(asked) & 0xFF != byte:
-            may_be_longer = command.name in _WITH_AMOUNTS and not self._are_options_known(command.device)
-            raise Broken(PROFILE if may_be_longer else "Sum", CONTROLLER)
+            raise Broken(PROFILE if self._may_be_longer(command) else "Sum", CONTROLLER)
         self.position = ASKED
         self.device = command.device
         if command.name == "ENABLE OPTIONS" and asked[-1] & _OPTIONS_OF_PROFILE:
             raise Broken(PROFILE, CONTROLLER)
-        level = self._level(command.device)
         if command.name == "SETUP config":
             self.sent_levels[command.device] = asked[2]
-        is_long = command.device in READERS and self._format(command.device) in (LONG, OPEN)
-        return Act("ask", command, bytes(asked), is_long=is_long, level=level)
+        return Act("ask", command, bytes(asked))
+
+    def _may_be_longer(self, command: Command) -> bool:
+        """Whether a command may have amounts of 32 bits, by what is known of the reader's options."""
+        return command.name in _WITH_AMOUNTS and not self._are_options_known(command.device)
 
     def _accepted(self, command: Command):
         if command.name in ("RESET", "ENABLE OPTIONS"):
@@ -631,8 +682,7 @@ class Link:
             self.position = QUIET
             if word == _ACK:
                 self._accepted(self.command)
-            kind, level = "ack" if word == _ACK else "nak", self._level(self.device)
-            return Act(kind, self.command, bytes(self.asked), level=level)
+            return Act("ack" if word == _ACK else "nak", self.command, bytes(self.asked))
         if word > 0xFF or self.command.most_data == 0:
             raise Broken("Answer", self.device)
         self.position = IN_DATA
@@ -647,10 +697,9 @@ class Link:
                 raise Broken("Length", self.device)
             return None
         content = bytes(words[:-1])
-        level = self._level(self.device)
         messages = self.judge_data(content, word & 0xFF)
         self.position = REPLIED
-        return Act("reply", self.command, bytes(self.asked), content, tuple(messages), level=level)
+        return Act("reply", self.command, bytes(self.asked), content, tuple(messages))
 
     def judge_data(self, content: bytes, last: int) -> list[bytes]:
         """Judges a whole data block (commands-and-messages.md, *In which order*): its messages."""
@@ -675,15 +724,14 @@ class Link:
     def _judge_list(self, messages: list[bytes]):
         """Judges the messages of a reader that were read."""
         device = self.command.device
-        heads = [m[0] for m in messages]
-        if any(head in _REVALUE_MESSAGES for head in heads):
+        if any(m[0] in _REVALUE_MESSAGES for m in messages):
             raise Broken(PROFILE, device)
         levels = [m[1] for m in messages if m[0] == _CONFIG]
         if not self.extended and self.sent_levels.get(device, 0) >= 2 and any(level >= 2 for level in levels):
             raise Broken(PROFILE, device)
         if levels:
             self.told_levels[device] = levels[-1]
-        if _OUT_OF_SEQUENCE not in heads:
+        if all(m[0] != _OUT_OF_SEQUENCE for m in messages):
             self._accepted(self.command)
 
     def _read_answer(self, content: bytes) -> Reading:
@@ -694,44 +742,22 @@ class Link:
         if device == BILL:
             return read_messages(content, _BILL_MESSAGES[self.extended])
         if not self.extended:
-            return self._read_list(content, _READER_MESSAGES)
-        form = self._format(device)
-        short, long = (self._read_list(content, lengths) for lengths in (_SHORT_MESSAGES, _LONG_MESSAGES))
-        if form == OPEN:
-            return open_reading(short, long)
-        is_long = form == LONG or form == EARLY and short[1] is not None and long[1] is None
-        return long if is_long else short
-
-    def _format(self, device: str) -> str:
-        """The format of a reader's messages; by the base profile that is always short."""
-        levels = self._levels(device)
-        if not self.extended or any(level < 2 for level in levels):
-            return SHORT
-        if len(levels) == 2:
-            return LONG
-        return OPEN if self.joined else EARLY
-
-    def _levels(self, device: str) -> list[int]:
-        """Those of the two levels of a reader that are known."""
-        return [known[device] for known in (self.sent_levels, self.told_levels) if device in known]
-
-    def _level(self, device: str) -> Optional[int]:
-        """The level of a reader, if it is known."""
-        levels = self._levels(device)
-        return min(levels) if len(levels) == 2 else None
+            return self._read_in_base(content)
+        return read_reply(content, self.sent_levels.get(device), self.told_levels.get(device), self.joined,
+                          self._session_may_be_told())
 
     def _are_options_known(self, device: str) -> bool:
-        level = self._level(device)
-        return device not in self.options_unknown or level is not None and level < 3
+        """Whether they are, or the level is below 3."""
+        levels = [known[device] for known in (self.sent_levels, self.told_levels) if device in known]
+        return device not in self.options_unknown or len(levels) == 2 and min(levels) < 3
 
-    def _read_list(self, content: bytes, lengths: list) -> Reading:
-        """A list of a reader in one reading."""
-        messages, rule = read_messages(content, lengths)
-        if rule is None:
-            session_may_be_told = self.command.name == "POLL" or self.command.name in _TRANSACTIONS
-            if not session_may_be_told and any(m[0] in _ONLY_IN_SESSIONS for m in messages):
-                rule = "Answer"
-        return messages, rule
+    def _read_in_base(self, content: bytes) -> Reading:
+        """A list of a reader by the base profile."""
+        return read_list(content, READER_MESSAGES, self._session_may_be_told())
+
+    def _session_may_be_told(self) -> bool:
+        """Whether the answer to the command may have messages of a session."""
+        return self.command.name == "POLL" or self.command.name in _TRANSACTIONS
 
     def _word_of_repeat(self, word: int) -> Optional[Act]:
         if word != self.words[self.repeated]:
@@ -769,14 +795,14 @@ UNKNOWN = object()
 class Guess(NamedTuple):
     """One of the ways in which an act can have gone: what is chosen, and what isn't known."""
 
-    #: Whether the act has its mark.
-    marked: bool = False
+    #: The mark of the act: L, R, C or none.
+    mark: str = ""
     #: Whether the command is the same as the last one of its kind.
     is_same: bool = False
-    #: How many messages the last kept list has.
+    #: How many messages the last kept list has; by the extended profile, how many 05s the last reply with one.
     held: int = 0
-    #: Whether always idle is on.
-    is_idle: bool = False
+    #: Whether the controller awaits the approval that it acknowledges.
+    is_awaited: bool = False
 
 
 class Sum(NamedTuple):
@@ -799,11 +825,11 @@ class Sum(NamedTuple):
         return name + "".join(f" {side} {least}..{greatest}" for side, (least, greatest) in sides)
 
 
-class Device:
-    """A device and the controller's part in its acts (*What was said before*, *What all devices do*).
+class Machine:
+    """A device and the controller's part in its acts.
 
-    `break_off`, `ask`, `ack`, `nak`, `reply` and `vmc_ack` are the acts; `Impossible` is raised where one
-    can't have been. RET, repeats and the controller's NAK change nothing.
+    `break_off`, `ask`, `ack`, `reply` and `vmc_ack` are the acts; `Impossible` is raised where one
+    can't have been. RET, NAK and repeats change nothing.
     """
 
     #: The rule of an act that can't have been, and the first byte of the reset message.
@@ -812,11 +838,91 @@ class Device:
     #: What differs between runs, with all that it may be; and the accounts. All else is the same in all runs.
     varies: dict[str, tuple] = {}
     accounts: tuple = ()
+    #: What is looked for, if anything is: an account, a side, and the sign by which more of it is better. How much
+    #: of that the best run to this state has; and of several such runs, the least marks, below 0.
+    goal: Optional[tuple[str, str, int]] = None
+    best = (0, 0)
 
     def __init__(self, name: str, told: Optional[Told], extended: bool):
         self.joined, self.extended = told is not None, extended
         self.setup = told.setup.get(name) if told else None
         self.unvalued = 0
+
+    def unless_joined(self, known):
+        """What is known from power-on alone."""
+        return UNKNOWN if self.joined else known
+
+    def copy(self, **changes) -> "Machine":
+        other = object.__new__(type(self))
+        other.__dict__.update(self.__dict__, **changes)
+        return other
+
+    def at_start(self) -> list["Machine"]:
+        """The states in which the device can be at the first row."""
+        if not self.joined:
+            return [self]
+        values = itertools.product(*self.varies.values())
+        return [self.copy(**dict(zip(self.varies, one))) for one in values]
+
+    def place(self) -> tuple:
+        """The state: all that varies, as far as it matters."""
+        raise NotImplementedError
+
+    def join(self, other: "Machine"):
+        """Joins the sums of another run that came to the same state to these."""
+        for account in self.accounts:
+            setattr(self, account, getattr(self, account).joined(getattr(other, account)))
+        self.best = max(self.best, other.best)
+
+    def goes_on(self, before: "Machine", mark: str):
+        """This state is the next after another one, by an act with this mark."""
+        value, marks = before.best
+        if self.goal:
+            account, side, sign = self.goal
+            value += sign * (getattr(getattr(self, account), side)[0] - getattr(getattr(before, account), side)[0])
+        self.best = value, marks - bool(mark)
+
+    def is_kept(self, message: bytes) -> bool:
+        raise NotImplementedError
+
+    def letters(self, messages: tuple) -> tuple:
+        """The marks that a reply may have."""
+        return ("R",) if self.may_tell_restart(messages) else ()
+
+    def may_tell_restart(self, messages: tuple) -> bool:
+        """Whether a reply may have the mark `R`: it has a reset message, and no kept one in front of it."""
+        for message in messages:
+            if message[0] == self.reset_message:
+                return True
+            if self.is_kept(message):
+                return False
+        return False
+
+    def guesses(self, act: Act, marks: list[str]) -> list[Guess]:
+        """The ways in which an ask, an ack, a reply or a vmc-ack can have gone, by what was said before it."""
+        raise NotImplementedError
+
+    def break_off(self):
+        raise NotImplementedError
+
+    def ask(self, act: Act, guess: Guess):
+        """The controller sends a command."""
+
+    def ack(self, act: Act, guess: Guess):
+        """The device answers with ACK."""
+
+    def reply(self, act: Act, guess: Guess):
+        """The device answers with data."""
+
+    def vmc_ack(self, act: Act, guess: Guess):
+        """The controller acknowledges the last reply."""
+
+
+class Device(Machine):
+    """*What was said before*, *What all devices do*."""
+
+    def __init__(self, name: str, told: Optional[Told], extended: bool):
+        super().__init__(name, told, extended)
         self.reset_owed = not self.joined
         #: The last kept list, and whether the device holds it.
         self.kept = self.unless_joined([])
@@ -826,33 +932,14 @@ class Device:
         self.told: tuple = ()
         self.told_kept: list[bytes] = []
 
-    def unless_joined(self, known):
-        """What is known from power-on alone."""
-        return UNKNOWN if self.joined else known
-
-    def copy(self, **changes) -> "Device":
-        other = object.__new__(type(self))
-        other.__dict__.update(self.__dict__, **changes)
-        return other
-
-    def at_start(self) -> list["Device"]:
-        """The states in which the device can be at the first row."""
-        if not self.joined:
-            return [self]
-        values = itertools.product(*self.varies.values())
-        return [self.copy(**dict(zip(self.varies, one))) for one in values]
-
-    def guesses(self, act: Act, marks: list[bool]) -> list[Guess]:
-        """The ways in which an ask, an ack or a reply can have gone, by what was said before it."""
+    def guesses(self, act, marks):
+        if act.kind == "vmc-ack":
+            return [Guess(mark) for mark in marks]
         kept = [m for m in act.messages if self.is_kept(m)]
         helds = range(1, max(len(kept), 1) + 1) if self.kept is UNKNOWN else (len(self.kept),)
-        ways = itertools.product(marks, self.sames(act), helds, self.idles(act, kept))
-        return [Guess(*one) for one in ways]
+        return [Guess(*one) for one in itertools.product(marks, self.sames(act), helds)]
 
     # What differs between the devices.
-
-    def is_kept(self, message: bytes) -> bool:
-        raise NotImplementedError
 
     def are_same(self, one: list[bytes], other: list[bytes]) -> bool:
         """Whether two lists of kept messages are the same."""
@@ -873,16 +960,9 @@ class Device:
         """Whether the command is the same as the last one of its kind: all that is possible."""
         return (False,)
 
-    def idles(self, act: Act, kept: list[bytes]) -> tuple:
-        """Whether always idle is on: all that is possible."""
-        return (False,)
-
     def is_unvalued(self, message: bytes) -> bool:
         """Whether a message tells an amount that has no value."""
         raise NotImplementedError
-
-    def ask(self, act: Act, guess: Guess):
-        """The effect of a command that the controller sends."""
 
     def take_command(self, act: Act, guess: Guess):
         """The effect of a command that the device takes, on the device."""
@@ -893,7 +973,7 @@ class Device:
     def learn(self, command: Command, content: bytes, messages: tuple):
         """The setup data that a reply tells."""
 
-    def tell(self, message: bytes, guess: Guess):
+    def tell(self, message: bytes):
         """A new kept message, and its effect."""
         raise NotImplementedError
 
@@ -903,19 +983,7 @@ class Device:
     def acknowledged(self):
         """What the controller makes of the last reply as it acknowledges it."""
 
-    def nak(self, command: Command):
-        """The device answers with NAK."""
-
     # What is the same for all.
-
-    def place(self) -> tuple:
-        """The state: all that varies, as far as it matters."""
-        raise NotImplementedError
-
-    def join(self, other: "Device"):
-        """Joins the sums of another run that came to the same state to these."""
-        for account in self.accounts:
-            setattr(self, account, getattr(self, account).joined(getattr(other, account)))
 
     def takes(self, messages: tuple) -> bool:
         """Whether a reply with these messages takes the command."""
@@ -926,26 +994,17 @@ class Device:
         self.forget()
         self.controller_to_power_on()
 
-    def may_tell_restart(self, messages: tuple) -> bool:
-        """Whether a reply may have the mark `R`: it has a reset message, and no kept one in front of it."""
-        for message in messages:
-            if message[0] == self.reset_message:
-                return True
-            if self.is_kept(message):
-                return False
-        return False
-
     def ack(self, act: Act, guess: Guess):
         command = act.command
         if command.name == "POLL" and self.holds:
             raise Impossible
         self.take_command(act, guess)
-        if not guess.marked:
+        if guess.mark != "L":
             self.answer_heard(command)
 
     def reply(self, act: Act, guess: Guess):
         command, messages = act.command, act.messages
-        if guess.marked:
+        if guess.mark == "R":
             self.to_power_on()
         if self.takes(messages):
             self.take_command(act, guess)
@@ -955,7 +1014,7 @@ class Device:
             raise Impossible
         if kept or command.name == "POLL":
             for message in self.new_ones(kept, guess.held):
-                self.tell(message, guess)
+                self.tell(message)
         if kept:
             self.kept = kept
             self.holds = True
@@ -973,8 +1032,8 @@ class Device:
             raise Impossible
         return kept[held:]
 
-    def vmc_ack(self, lost: bool):
-        if self.told_kept and not lost:
+    def vmc_ack(self, act: Act, guess: Guess):
+        if self.told_kept and guess.mark != "L":
             self.holds = False
         self.acknowledged()
 
@@ -1080,7 +1139,7 @@ class Changer(Device):
         if command.name == "SETUP":
             self.setup = content
 
-    def tell(self, message, guess):
+    def tell(self, message):
         first = message[0]
         if first >= 0x80:
             self.paid_out = self.paid_out.plus(device=self.paid_by_hand(first))
@@ -1164,7 +1223,7 @@ class Validator(Device):
         if command.name == "SETUP":
             self.setup = content
 
-    def tell(self, message, guess):
+    def tell(self, message):
         kind, bill = message[0] & 0xF0, message[0] & 0x0F
         enabled = self.types >> bill & 1
         if self.is_stacked(message):
@@ -1194,43 +1253,13 @@ INACTIVE, DISABLED, ENABLED, IDLE, VEND, APPROVED, ENDING = range(7)
 VIEWS = ("no session", "Idle", "Ending", "Asked", "Waiting", "Approved", "SuccessOwed", "FailureOwed")
 
 
-#: With always idle: where a new message is also possible, and the state stays.
-_STAYS_WITH_ALWAYS_IDLE = {
-    0x03: (DISABLED, IDLE, VEND, APPROVED, ENDING),
-    0x06: (DISABLED, ENABLED, IDLE, APPROVED, ENDING),
-    0x07: (DISABLED, ENABLED, IDLE, VEND, APPROVED),
-}
-
-
-class Reader(Device):
-    """*A reader*, and *What the controller knows of a reader*."""
+class ReaderOfAny:
+    """What the readers of both profiles have in common."""
 
     rule = "Cashless"
-    reset_message = 0x00
-    varies = {"holds": (False, True), "state": tuple(range(7)), "back": (DISABLED, ENABLED), "view": VIEWS}
+    reset_message = _RESET
     accounts = ("approved", "sold")
-
-    def __init__(self, name, told, extended):
-        super().__init__(name, told, extended)
-        self.state = INACTIVE
-        #: In a session: the state that it goes back to.
-        self.back = DISABLED
-        #: The last transaction asked, and the last one taken; and that one, though a 03 came after it.
-        self.last_asked = self.unless_joined(None)
-        self.last_taken = self.last_of_all = self.unless_joined(None)
-        #: The switch of always idle.
-        self.switch = self.unless_joined(False)
-        if told and name in told.options:
-            is_on = told.options[name] & _ALWAYS_IDLE != 0
-            are_levels_told = name in told.sent_levels and name in told.told_levels
-            self.switch = is_on if are_levels_told or not is_on else UNKNOWN
-        #: Whether the last transaction asked is refused, or there may be such a one before the first row.
-        self.refused = self.joined
-        #: The last amount of 05.
-        self.amount = self.unless_joined(0)
-        self.view = "no session"
-        self.approved = Sum()
-        self.sold = Sum()
+    setup: Optional[bytes]
 
     def decimals(self) -> Optional[int]:
         return None if self.setup is None else self.setup[5]
@@ -1239,14 +1268,38 @@ class Reader(Device):
         """The response time that the reader told, in microseconds."""
         return 0 if self.setup is None else self.setup[6] * 1_000_000
 
-    def value(self, amount: int) -> int:
+    def value(self, amount) -> int:
         return 0 if self.setup is None or amount is UNKNOWN else self.setup[4] * amount
 
     def is_kept(self, message: bytes) -> bool:
         return message[0] in _SESSION_MESSAGES
 
-    def takes(self, messages):
+    def takes(self, messages) -> bool:
         return all(m[0] != _OUT_OF_SEQUENCE for m in messages)
+
+    def learn(self, command, content, messages):
+        for message in messages:
+            if message[0] == _CONFIG:
+                self.setup = message
+
+
+class Reader(ReaderOfAny, Device):
+    """*A reader*, and *What the controller knows of a reader*."""
+
+    varies = {"holds": (False, True), "state": tuple(range(7)), "back": (DISABLED, ENABLED), "view": VIEWS}
+
+    def __init__(self, name, told, extended):
+        super().__init__(name, told, extended)
+        self.state = INACTIVE
+        #: In a session: the state that it goes back to.
+        self.back = DISABLED
+        #: The last transaction asked, and the last one taken.
+        self.last_asked = self.last_taken = self.unless_joined(None)
+        #: The last amount of 05.
+        self.amount = self.unless_joined(0)
+        self.view = "no session"
+        self.approved = Sum()
+        self.sold = Sum()
 
     def to_power_on(self):
         super().to_power_on()
@@ -1254,8 +1307,7 @@ class Reader(Device):
 
     def forget(self):
         super().forget()
-        self.last_taken = self.last_of_all = None
-        self.switch = False
+        self.last_taken = None
 
     def controller_to_power_on(self):
         self.view = "no session"
@@ -1268,11 +1320,6 @@ class Reader(Device):
             return (False,)
         return may_be_same(act.asked, self.last_asked if act.kind == "ask" else self.last_taken)
 
-    def idles(self, act, kept):
-        if act.is_low or not kept and act.command.name not in _TRANSACTIONS:
-            return (False,)
-        return (False, True) if self.switch is UNKNOWN else (self.switch,)
-
     def is_unvalued(self, message):
         return self.setup is None and message[0] == 0x05
 
@@ -1282,9 +1329,9 @@ class Reader(Device):
         name = act.command.name
         if name in _TRANSACTIONS:
             if not (guess.is_same and self.holds):
-                self._take_transaction(name, guess.is_idle)
+                self._take_transaction(name)
                 self.holds = False
-            self.last_taken = self.last_of_all = act.asked
+            self.last_taken = act.asked
         elif name == "RESET":
             self.to_power_on()
             self.forget()
@@ -1295,11 +1342,6 @@ class Reader(Device):
             self._enable(DISABLED, ENABLED)
         elif name == "READER DISABLE":
             self._enable(ENABLED, DISABLED)
-        elif name == "ENABLE OPTIONS" and act.asked[-1] & _ALWAYS_IDLE and not act.is_low:
-            if act.level is not None or not self.joined:
-                self.switch = True
-            elif self.switch is False:
-                self.switch = UNKNOWN
 
     def _enable(self, before: int, after: int):
         if self.state == before:
@@ -1307,13 +1349,9 @@ class Reader(Device):
         elif self.state >= IDLE:
             self.back = after
 
-    def _take_transaction(self, name: str, is_idle: bool):
+    def _take_transaction(self, name: str):
         state = self.state
-        if is_idle and name == "VEND REQUEST" and state == ENABLED:
-            self.state, self.back = VEND, ENABLED
-        elif is_idle and name == "VEND CANCEL" and state == IDLE:
-            pass
-        elif name == "VEND REQUEST" or name == "VEND CANCEL":
+        if name == "VEND REQUEST" or name == "VEND CANCEL":
             if state in (IDLE, VEND, APPROVED):
                 self.state = VEND
         elif name == "SESSION COMPLETE":
@@ -1324,20 +1362,13 @@ class Reader(Device):
             if name == "VEND SUCCESS":
                 self.sold = self.sold.plus(device=self.value(self.amount))
 
-    def learn(self, command, content, messages):
-        for message in messages:
-            if message[0] == _CONFIG:
-                self.setup = message
-
-    def tell(self, message, guess):
+    def tell(self, message):
         first = message[0]
-        if guess.is_idle and self.state in _STAYS_WITH_ALWAYS_IDLE.get(first, ()):
-            return
         if first == 0x03:
             self._go(self.state == ENABLED, IDLE)
             self.back = ENABLED
         elif first == 0x05:
-            last = self.last_of_all if guess.is_idle else self.last_taken
+            last = self.last_taken
             requested = last is UNKNOWN or last is not None and last[1] == 0x00
             self._go(self.state == VEND and requested, APPROVED)
             self.approved = self.approved.plus(device=self.value(amount_of(message)))
@@ -1365,21 +1396,14 @@ class Reader(Device):
         if name == "RESET":
             self.view = "no session"
         elif name in _TRANSACTIONS:
-            without_session = {"VEND REQUEST": "Asked", "SESSION COMPLETE": "Ending"}
-            if guess.is_idle and self.view == "no session" and name in without_session:
-                self.view = without_session[name]
-            else:
-                self._ask_transaction(name, self.view, guess.is_same, self.refused and act.is_long)
+            self._ask_transaction(name, self.view, guess.is_same)
             self.last_asked = act.asked
-            self.refused = False
             if name == "VEND SUCCESS" and (self.setup is None or self.amount is UNKNOWN):
                 self.unvalued += 1
 
-    def _ask_transaction(self, name: str, view: str, again: bool, refused: bool):
-        undecided = view in ("Asked", "Waiting", "SuccessOwed", "FailureOwed")
+    def _ask_transaction(self, name: str, view: str, again: bool):
         if name == "VEND REQUEST":
             possible, after = view == "Idle" or view == "Asked" and again, "Asked"
-            possible = possible or refused and (undecided or view == "Ending")
         elif name == "VEND CANCEL":
             possible, after = view in ("Asked", "Waiting"), "Waiting"
         elif name == "VEND SUCCESS":
@@ -1389,14 +1413,10 @@ class Reader(Device):
         elif name == "VEND FAILURE":
             possible, after = view in ("Approved", "FailureOwed"), "FailureOwed"
         else:
-            possible, after = view in ("Idle", "Ending") or refused and undecided, "Ending"
+            possible, after = view in ("Idle", "Ending"), "Ending"
         if not possible:
             raise Impossible
         self.view = after
-
-    def nak(self, command):
-        if command.name in _TRANSACTIONS:
-            self.refused = True
 
     def answer_heard(self, command):
         if command.name in _TRANSACTIONS:
@@ -1408,9 +1428,6 @@ class Reader(Device):
     def acknowledged(self):
         if self.takes(self.told):
             self.answer_heard(self.replied_to)
-        for message in self.told:
-            if message[0] == _OUT_OF_SEQUENCE and (len(message) == 1 or message[1] in (1, 2, 3, 4)):
-                self.refused = True
         for message in self.told:
             first = message[0]
             awaits = self.view in ("Asked", "Waiting")
@@ -1430,6 +1447,165 @@ class Reader(Device):
 def amount_of(message: bytes) -> int:
     """The amount of a message 05."""
     return message[1] << 8 | message[2]
+
+
+class Sale(NamedTuple):
+    """What a controller and a reader are about, as the acts show it."""
+
+    stage: str
+    #: Of an approved one the amount.
+    amount: int = 0
+    #: Of a sold one the VEND SUCCESS.
+    block: bytes = b""
+
+
+NO_SALE, AWAITED, ASKED = Sale("none"), Sale("awaited"), Sale("asked")
+#: Where the first row isn't power-on: nothing is known; and so, but that no approval is awaited.
+ANY_SALE, ANY_BUT_AWAITED = Sale("any"), Sale("any but awaited")
+
+
+class ExtendedReader(ReaderOfAny, Machine):
+    """A reader and its controller by the extended profile (extended-profile.md)."""
+
+    varies = {"is_asked": (False, True), "is_approved": (False, True), "may_repeat": (False, True)}
+
+    def __init__(self, name, told, extended):
+        super().__init__(name, told, extended)
+        #: Whether a request may be approved; an approval stands that no sale used; and what was last
+        #: approved may be told again.
+        self.is_asked = self.is_approved = self.may_repeat = False
+        #: The 05s of the last reply that had one, and all messages of the last reply.
+        self.approvals = self.unless_joined([])
+        self.told: tuple = ()
+        self.sale = ANY_SALE if self.joined else NO_SALE
+        #: Whether each VEND REQUEST that there was is recorded, or the last one is.
+        self.is_request_known = not self.joined
+        self.approved, self.sold = Sum(), Sum()
+
+    def place(self):
+        return self.is_asked, self.is_approved, self.may_repeat
+
+    def amount(self) -> int:
+        """The amount of the last 05 told; 0 where none is known."""
+        return amount_of(self.approvals[-1]) if self.are_approvals_known() and self.approvals else 0
+
+    def are_approvals_known(self) -> bool:
+        return self.approvals is not UNKNOWN
+
+    def letters(self, messages):
+        return super().letters(messages) + ("C",) * any(m[0] == _APPROVED for m in messages)
+
+    def guesses(self, act, marks):
+        told = sum(m[0] == _APPROVED for m in act.messages)
+        helds = (told,) if self.are_approvals_known() or told < 2 else (told, told - 1)
+        sames = (False, True) if self.sale in (ANY_SALE, ANY_BUT_AWAITED) else (False,)
+        awaits = (False, True) if self.sale == ANY_SALE else (False,)
+        return [Guess(*one) for one in itertools.product(marks, sames, helds, awaits)]
+
+    # -- the reader
+
+    def forget(self):
+        self.is_asked = self.is_approved = self.may_repeat = False
+
+    def break_off(self):
+        self.forget()
+        self.sale = NO_SALE
+
+    def ack(self, act, guess):
+        if act.command.name == "POLL":
+            self.may_repeat = False
+        self.take_command(act.command.name)
+
+    def take_command(self, name: str):
+        if name == "RESET":
+            self.forget()
+        elif name == "VEND SUCCESS" and self.is_approved:
+            self.sold = self.sold.plus(device=self.value(self.amount()))
+            self.is_approved = False
+
+    def reply(self, act, guess):
+        if guess.mark == "R":
+            self.forget()
+        if self.takes(act.messages):
+            self.take_command(act.command.name)
+        self.learn(act.command, act.content, act.messages)
+        approvals = [m for m in act.messages if m[0] == _APPROVED]
+        if approvals:
+            for message in self.new_ones(approvals, guess):
+                self.approve(message)
+            self.approvals = approvals
+            self.unvalued += len(approvals) * (self.setup is None)
+        self.told = act.messages
+
+    def new_ones(self, approvals: list[bytes], guess: Guess) -> list[bytes]:
+        """The 05s of a reply that aren't told again."""
+        held = self.approvals if self.are_approvals_known() else approvals[:guess.held]
+        may_repeat = self.may_repeat and approvals[:len(held)] == held
+        may_be_either = may_repeat and len(approvals) == 1 and self.is_asked
+        if guess.mark == "C" and not may_be_either:
+            raise Impossible
+        if may_be_either:
+            may_repeat = guess.mark == "C"
+        return approvals[len(held):] if may_repeat else approvals
+
+    def approve(self, message: bytes):
+        if not self.is_asked:
+            raise Impossible
+        self.is_asked, self.is_approved, self.may_repeat = False, True, True
+        self.approved = self.approved.plus(device=self.value(amount_of(message)))
+
+    # -- the controller
+
+    def ask(self, act, guess):
+        name = act.command.name
+        if name == "VEND REQUEST":
+            self.is_asked = self.is_request_known = True
+            self.sale = AWAITED
+        elif name == "VEND CANCEL":
+            if self.sale not in (AWAITED, ASKED, ANY_SALE):
+                self.sale = NO_SALE
+        elif name == "VEND SUCCESS":
+            self.sell(act.asked, guess)
+        elif name in ("RESET", "VEND FAILURE", "SESSION COMPLETE"):
+            self.sale = NO_SALE
+
+    def sell(self, block: bytes, guess: Guess):
+        """VEND SUCCESS is asked."""
+        is_same = guess.is_same or self.sale == Sale("sold", block=block)
+        if not self.is_request_known:
+            amount = self.amount()
+        elif self.sale.stage == "approved":
+            amount = self.sale.amount
+        elif not is_same:
+            raise Impossible
+        if not is_same:
+            self.sold = self.sold.plus(controller=self.value(amount))
+        has_value = self.setup is not None and self.are_approvals_known() and self.is_request_known
+        self.unvalued += not has_value
+        self.sale = Sale("sold", block=block)
+
+    def vmc_ack(self, act, guess):
+        if guess.mark != "L" and any(m[0] == _APPROVED for m in self.told):
+            self.may_repeat = False
+        for message in self.told:
+            self.hear(message, guess.is_awaited)
+
+    def hear(self, message: bytes, is_awaited: bool):
+        """The controller's part of a message that it acknowledges."""
+        sale, head = self.sale, message[0]
+        if sale == ANY_SALE and head in (_RESET, _APPROVED, _DENIED):
+            self.sale = ANY_BUT_AWAITED
+            if head == _APPROVED and is_awaited:
+                self.approve_by_controller(message)
+        elif sale == AWAITED and head in (_RESET, _DENIED):
+            self.sale = ASKED
+        elif sale in (AWAITED, ASKED) and head == _APPROVED:
+            self.sale = Sale("approved", amount_of(message))
+            if sale == AWAITED:
+                self.approve_by_controller(message)
+
+    def approve_by_controller(self, message: bytes):
+        self.approved = self.approved.plus(controller=self.value(amount_of(message)))
 
 
 # ------------------------------------------------------------------------------------------------------
@@ -1473,7 +1649,8 @@ class Runs:
         #: The marks of the one run; `None` for all runs.
         self.marks = marks
         #: The states that each device can have. The devices don't depend on one another.
-        machines = {CHANGER: Changer, BILL: Validator, CASHLESS: Reader, CASHLESS_2: Reader}
+        reader = ExtendedReader if extended else Reader
+        machines = {CHANGER: Changer, BILL: Validator, CASHLESS: reader, CASHLESS_2: reader}
         self.devices = {name: machine(name, told, extended).at_start() for name, machine in machines.items()}
         self.silences = {device: Silences() for device in DEVICES}
         #: How many rows are untimely, by sender.
@@ -1484,12 +1661,12 @@ class Runs:
         """Judges the next row: the link first, then its mark, and then whether the act is possible."""
         act = self.link.take(time, line, value)
         self.rows += 1
-        letter = None if act is None else self._letter(act)
-        if self.marks is None:
-            choices = [False, True] if letter else [False]
-        else:
-            choices = [self.marks.next_row == self.rows]
-            if choices[0] and self.marks.take_off() != letter:
+        letters = () if act is None else self._letters(act)
+        choices = ["", *letters]
+        if self.marks is not None:
+            is_marked = self.marks.next_row == self.rows
+            choices = [self.marks.take_off() if is_marked else ""]
+            if is_marked and choices[0] not in letters:
                 raise no_such_mark(self.rows)
         if act is not None:
             try:
@@ -1499,20 +1676,18 @@ class Runs:
         if self.link.untimely is not None:
             self.untimely[self.link.untimely] += 1
 
-    def _letter(self, act: Act) -> Optional[str]:
-        """The mark that the act may have (machines.md, *What is chosen*)."""
+    def _letters(self, act: Act) -> tuple:
+        """The marks that the act may have (machines.md, *What is chosen*)."""
         if act.kind in ("ack", "vmc-ack"):
-            return "L"
-        # A restart may be told or not by what was said alone, so by each state of the device alike.
-        if act.kind == "reply" and self.devices[act.command.device][0].may_tell_restart(act.messages):
-            return "R"
-        return None
+            return ("L",)
+        # That goes by what was said alone, so by each state of the device alike.
+        return self.devices[act.command.device][0].letters(act.messages) if act.kind == "reply" else ()
 
-    def _follow(self, act: Act, time: int, marks: list[bool]):
-        """Follows an act, without its mark or with it."""
+    def _follow(self, act: Act, time: int, marks: list[str]):
+        """Follows an act, with each of these marks."""
         if act.kind == "break":
             for device in DEVICES:
-                self._step(device, lambda state, _: state.break_off(), [Guess()])
+                self._step(device, lambda state, _: state.break_off(), [Guess()], device)
                 self.silences[device].end()
             return
         device, kind = act.command.device, act.kind
@@ -1520,19 +1695,14 @@ class Runs:
             self.silences[device].ask(time, self._limit(device))
         elif kind in ("ack", "nak", "reply"):
             self.silences[device].end()
-        if kind in ("ask", "ack", "reply"):
+        if kind in ("ask", "ack", "reply", "vmc-ack"):
             guesses = self.devices[device][0].guesses(act, marks)
-            blame = CONTROLLER if kind == "ask" else device
-            self._step(device, lambda state, guess: getattr(state, kind)(act, guess), guesses, blame)
-        elif kind == "nak":
-            self._step(device, lambda state, _: state.nak(act.command), [Guess()])
-        elif kind == "vmc-ack":
-            guesses = [Guess(marked) for marked in marks]
-            self._step(device, lambda state, guess: state.vmc_ack(guess.marked), guesses)
+            name, blame = kind.replace("-", "_"), CONTROLLER if kind == "ask" else device
+            self._step(device, lambda state, guess: getattr(state, name)(act, guess), guesses, blame)
 
-    def _step(self, device: str, effect, guesses: list[Guess], blame: Optional[str] = None):
+    def _step(self, device: str, effect, guesses: list[Guess], blame: str):
         """All states after an act; what is impossible from every state, in every way, is a no."""
-        after: dict[tuple, Device] = {}
+        after: dict[tuple, Machine] = {}
         for before in self.devices[device]:
             for guess in guesses:
                 state = before.copy()
@@ -1540,11 +1710,12 @@ class Runs:
                     effect(state, guess)
                 except Impossible:
                     continue
+                state.goes_on(before, guess.mark)
                 first = after.setdefault(state.place(), state)
                 if first is not state:
                     first.join(state)
         if not after:
-            raise Broken(self.devices[device][0].rule, blame or device)
+            raise Broken(self.devices[device][0].rule, blame)
         self.devices[device] = list(after.values())
 
     def _limit(self, device: str) -> int:
@@ -1560,7 +1731,8 @@ class Runs:
         def one_line(name, parts):
             return name + "".join(f" {device} {part}" for device, part in parts)
 
-        def account(name, device, attribute):
+        def account(name):
+            device, attribute = ACCOUNTS[name]
             sums = [getattr(state, attribute) for state in self.devices[device]]
             return functools.reduce(Sum.joined, sums).line(name)
 
@@ -1569,13 +1741,7 @@ class Runs:
             "verdict yes",
             f"rows {self.rows}",
             one_line("decimals", ((d, "-" if places is None else places) for d, places in decimals)),
-            account("coins-in", CHANGER, "coins_in"),
-            account("bills-in", BILL, "bills_in"),
-            account("paid-out", CHANGER, "paid_out"),
-            account("approved", CASHLESS, "approved"),
-            account("sold", CASHLESS, "sold"),
-            account("approved-2", CASHLESS_2, "approved"),
-            account("sold-2", CASHLESS_2, "sold"),
+            *map(account, ACCOUNTS),
             one_line("silences", ((d, self.silences[d].number) for d in DEVICES)),
         ]
         if self.link.extended:
@@ -1607,6 +1773,16 @@ def check(
     except NoAnswer as fault:
         return 2, "", f"mdbcheck: {fault}\n"
     return _answer(text, without, extended, None, told)
+
+
+def fewest_marks(text: bytes, without: set[str], extended: bool, account: str, side: str, end: str) -> int:
+    """The fewest marks of a run that comes to an end of a range, of rows that are possible from power-on."""
+    runs = Runs(without, extended, None)
+    device, attribute = ACCOUNTS[account]
+    runs.devices[device][0].goal = attribute, side, 1 if end == "greatest" else -1
+    for row, fields in enumerate(records(text), 1):
+        runs.take_row(*read_row(fields, row))
+    return -sum(max(state.best for state in states)[1] for states in runs.devices.values())
 
 
 def said(text: bytes, without: set[str], extended: bool, setups: Optional[list[str]] = None) -> Iterator[tuple]:
@@ -1700,7 +1876,7 @@ def _read_setup(value: str, extended: bool, told: Told, levels: dict[str, int]) 
         return device, "level"
     if block[-2] & _OPTIONS_OF_PROFILE:
         raise NoAnswer(f"--setup {value!r} has options that aren't followed")
-    told.options[device] = block[-2]
+    told.options.add(device)
     return device, "options"
 
 
@@ -1712,7 +1888,7 @@ def _command_of(block: bytes) -> Optional[Command]:
 
 
 def _learn_answer(device: str, block: bytes, told: Told):
-    """Takes an answer to SETUP, which is read by the base profile."""
+    """Takes an answer to SETUP, which is read by the base profile as if nothing was said before."""
     link = Link(set(), False)
     opening = link.openings[_SETUP_COMMANDS[device][0]]
     link.command = opening[0] if isinstance(opening, dict) else opening

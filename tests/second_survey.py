@@ -75,11 +75,10 @@ LENGTHS = {0: 1, 1: 8, 3: 3, 4: 1, 5: 3, 6: 1, 7: 1, 8: 1, 9: 30, 10: 2, 11: 1}
 CONFIG = 1
 PLACES_IN_CONFIG = 5
 
-#: By the extended profile: how ENABLE OPTIONS begins at each reader, how many rows it has, and the
-#: bit of always idle in its last byte. The message by which a reader doesn't accept a command.
+#: By the extended profile: how ENABLE OPTIONS begins at each reader, and how many rows it has. The
+#: message by which a reader doesn't accept a command.
 OPTIONS_ASKS = {"cashless": (0x117, 0x004), "cashless-2": (0x167, 0x004)}
 OPTIONS_ROWS = 7
-ALWAYS_IDLE = 0x20
 IS_TOLD_OF_READER = re.compile(r"cashless(-2)? (level|[16][17])")
 OUT_OF_SEQUENCE = 0x0B
 
@@ -405,41 +404,17 @@ def added(reports: "list[dict]") -> dict:
 class ReaderKnown:
     """What is known of a reader, after the acts so far."""
 
-    def __init__(self, is_joined: bool):
+    def __init__(self):
         self.sent: Optional[int] = None  # the last level of the controller, and of the reader
         self.own: Optional[int] = None
-        #: The switch of always idle; None where it isn't known.
-        self.is_on: Optional[bool] = None if is_joined else False
         #: Whether it took an ENABLE OPTIONS since the last break or RESET, or one is told.
         self.has_options = False
 
-    def level(self) -> Optional[int]:
-        return None if self.sent is None or self.own is None else min(self.sent, self.own)
-
-    def is_reset(self):
-        """By a break, or by a RESET that it took."""
-        self.is_on, self.has_options = False, False
-
-    def takes_options(self, has_bit: bool, is_joined: bool):
-        """An ENABLE OPTIONS that it took, with always idle or without."""
-        level, self.has_options = self.level(), True
-        if has_bit and (level is None and not is_joined or level is not None and level >= 3):
-            self.is_on = True
-        elif has_bit and level is None and self.is_on is False:
-            self.is_on = None
-
-    def is_told(self, has_bit: bool):
-        """Options before a stretch: always idle without both levels leaves the switch unknown."""
-        self.has_options = True
-        self.is_on = None if has_bit and self.level() is None else has_bit
-
     def crosses_a_fault(self):
-        """The next stretch is told options with the switch. One that isn't known is told as on, unless
-        both levels are known: beside these it would count."""
-        if self.has_options and (self.is_on is not None or self.level() is None):
-            self.is_told(self.is_on is not False)
-        else:
-            self.is_on, self.has_options = None, False
+        """The fault may hide a SETUP that raises a low level of the controller. That serves nothing
+        beside a low level of the reader."""
+        if self.sent is not None and self.sent < 2 and (self.own is None or self.own >= 2):
+            self.sent = None
 
     def is_known(self) -> bool:
         return self.sent is not None or self.own is not None or self.has_options
@@ -447,9 +422,10 @@ class ReaderKnown:
     def told(self) -> "Iterator[str]":
         """What the next stretch is told, by its name."""
         if self.sent is not None or self.own is not None:
-            yield "told both levels" if self.level() is not None else "told one level"
+            both = self.sent is not None and self.own is not None
+            yield "told both levels" if both else "told one level"
         if self.has_options:
-            yield f"told always idle {'off' if self.is_on is False else 'on'}"
+            yield "told that options are known"
 
 
 class ExtendedKnown:
@@ -458,14 +434,13 @@ class ExtendedKnown:
     def __init__(self, options: Options):
         self.is_joined, self.left_out = options.is_joined, set(options.left_out)
         self.setups: "dict[str, bytes]" = {}  # an answer to SETUP; of a reader its config message
-        self.readers = {name: ReaderKnown(options.is_joined) for name in CONFIG_ASKS}
+        self.readers = {name: ReaderKnown() for name in CONFIG_ASKS}
         if options.is_joined:
             told = replay.read_setups(options.values(), self.left_out, True)
             self.setups.update(told.setup)
             for name, reader in self.readers.items():
                 reader.sent, reader.own = told.sent_levels.get(name), told.told_levels.get(name)
-                if name in told.options:
-                    reader.is_told(bool(told.options[name] & ALWAYS_IDLE))
+                reader.has_options = name in told.options
 
     def named(self) -> "list[str]":
         """Who stands in the line `setup`."""
@@ -473,7 +448,7 @@ class ExtendedKnown:
         return [device for device in DEVICES if device in known or device in self.setups]
 
     def told(self) -> "Optional[replay.Told]":
-        """The same in the words of the second replay, but the switches."""
+        """The same in the words of the second replay."""
         if not self.is_joined:
             return None
         told = replay.Told(True)
@@ -484,16 +459,12 @@ class ExtendedKnown:
             if reader.own is not None:
                 told.told_levels[name] = reader.own
             if reader.has_options:
-                told.options[name] = 0
+                told.options.add(name)
         return told
 
     def runs(self) -> replay.Runs:
         """All runs of the next stretch, at its begin."""
-        runs = replay.Runs(self.left_out, True, None, self.told())
-        for name, reader in self.readers.items():
-            for state in runs.devices[name]:
-                state.switch = replay.UNKNOWN if reader.is_on is None else reader.is_on
-        return runs
+        return replay.Runs(self.left_out, True, None, self.told())
 
     def acts(self, rows: "list[tuple]") -> "Iterator[tuple[int, replay.Act]]":
         """The acts of the next stretch, each with the number of its last row, from 0."""
@@ -507,7 +478,7 @@ class ExtendedKnown:
         """What a whole act of the stretch tells."""
         if act.kind == "break":
             for reader in self.readers.values():
-                reader.is_reset()
+                reader.has_options = False
         elif act.command.device in self.readers:
             self.learn_of_reader(act, self.readers[act.command.device])
         elif act.kind == "reply" and act.command.name == "SETUP":
@@ -519,10 +490,8 @@ class ExtendedKnown:
             reader.sent = act.asked[2]
         is_accepted = all(message[0] != OUT_OF_SEQUENCE for message in messages)
         if act.kind == "ack" or act.kind == "reply" and is_accepted:
-            if name == "RESET":
-                reader.is_reset()
-            elif name == "ENABLE OPTIONS":
-                reader.takes_options(bool(act.asked[-1] & ALWAYS_IDLE), self.is_joined)
+            if name in ("RESET", "ENABLE OPTIONS"):
+                reader.has_options = name == "ENABLE OPTIONS"
         for message in messages:
             if message[0] == CONFIG:
                 self.setups[act.command.device], reader.own = message, message[1]
@@ -750,7 +719,7 @@ def survey(text: bytes, options: Options, run: Run) -> "tuple[int, str, str]":
 
 def options_of(words: "list[str]") -> Options:
     """The options of a command line that is right."""
-    parser = argparse.ArgumentParser(usage=__doc__)
+    parser = argparse.ArgumentParser(usage=__doc__, allow_abbrev=False)
     parser.add_argument("command", nargs="?", choices=["survey"])
     parser.add_argument("--joined", action="store_true")
     parser.add_argument("--extended", action="store_true")

@@ -13,9 +13,9 @@ use Rattle.mdb_bus.specs.declared.fault.Rule.TheVariants as rule
 use Rattle.mdb_bus.specs.declared.levels.Levels.{Levels}
 use Rattle.mdb_bus.specs.declared.options.KnownOptions.{KnownOptions}
 use Rattle.mdb_bus.specs.declared.scope.Scope.{Scope}
-use Rattle.mdb_bus.specs.ActLists.{InAsk, InReply, Piece, Position, acts_of, levels_of}
+use Rattle.mdb_bus.specs.ActLists.{Asked, InAsk, InReply, Piece, Position, acts_of, levels_of}
 use Rattle.mdb_bus.specs.Scopes.{levels_before, profile_of}
-use Rattle.mdb_bus.specs.WideMoney.{all_known, asked_with_amounts, counted_as, first_known, is_wide, known_after, known_by, known_of, reader_asked, refuses, wide_at, wide_of}
+use Rattle.mdb_bus.specs.WideMoney.{all_known, amounts_to, asked_with_amounts, counted_as, first_known, is_wide, known_after, known_by, known_of, reader_asked, refuses, wide_at, wide_of}
 
 -- options that are all known stay so
 after_all : (command : Command) → known_after command all_known ≡ all_known
@@ -50,6 +50,8 @@ as_it_is : (broken : Rule) (position : Position) (levels : Levels)
     → counted_as broken position (wide_at all_known levels) ≡ broken
 as_it_is rule.Sum (InAsk bytes) levels =
     plain _ rule.Sum (none_wide levels (asked_with_amounts bytes))
+as_it_is rule.Mode (Asked command) levels = plain _ rule.Mode (none_wide levels (amounts_to
+    command))
 as_it_is rule.Message (InReply command bytes) levels =
     plain _ rule.Message (none_wide levels (reader_asked command))
 as_it_is broken position levels = refl

@@ -24,7 +24,7 @@ use Rattle.mdb_bus.specs.declared.scope.Beginning.{Beginning}
 use Rattle.mdb_bus.specs.declared.scope.Beginning.TheVariants.{Joined}
 use Rattle.mdb_bus.specs.declared.scope.Profile.TheVariants.{Extended}
 use Rattle.mdb_bus.specs.declared.scope.Scope.{Scope}
-use Rattle.mdb_bus.specs.ActLists.{InAsk, InReply, Piece, Position, acts_of, levels_of}
+use Rattle.mdb_bus.specs.ActLists.{Asked, InAsk, InReply, Piece, Position, acts_of, levels_of}
 use Rattle.mdb_bus.specs.Scopes.{levels_before, profile_of}
 
 -- ---- whose options are known
@@ -36,8 +36,8 @@ all_known = record { first = true; second = true }
 -- else all.
 abbrev pub first_known : Beginning → KnownOptions
 first_known (Joined setups Extended) = record {
-  first = is_some (reader_known setups First).always_idle;
-  second = is_some (reader_known setups Second).always_idle;
+  first = (reader_known setups First).options;
+  second = (reader_known setups Second).options;
 }
 first_known begins = all_known
 
@@ -121,12 +121,11 @@ is_wide wide (Some First) = wide.first
 is_wide wide (Some Second) = wide.second
 
 -- whether these two bytes begin a command with amounts to the reader at this address: SETUP prices,
--- VEND REQUEST, CASH SALE and REVALUE REQUEST
+-- VEND REQUEST and CASH SALE
 abbrev pub have_amounts : ℕ → ℕ → ℕ → Bool
 have_amounts address first second =
     ((first == address + 1) && (second == 1))
     || ((first == address + 3) && ((second == 0) || (second == 5)))
-    || ((first == address + 5) && (second == 0))
 
 -- the reader to which bytes begin such a command
 abbrev pub asked_with_amounts : List ℕ → Option ReaderUnit
@@ -135,16 +134,26 @@ asked_with_amounts (first ∷ second ∷ bytes) =
     else if have_amounts 0x60 first second then Some Second else None
 asked_with_amounts bytes = None
 
+-- the reader to which a command with amounts is
+abbrev pub amounts_to : Command → Option ReaderUnit
+amounts_to (commands.Reader unit (readers.SetupPrices maximum minimum)) = Some unit
+amounts_to (commands.Reader unit (readers.VendRequest price item)) = Some unit
+amounts_to (commands.Reader unit (readers.CashSale price item)) = Some unit
+amounts_to command = None
+
 -- the reader to which a command is
 abbrev pub reader_asked : Command → Option ReaderUnit
 reader_asked (commands.Reader unit command) = Some unit
 reader_asked command = None
 
--- The rule that counts where a row breaks this one first: where money may be of 32 bits, the sum of
--- such a command, and a message of a reader's answer, are beyond the profile.
+-- The rule that counts where a row breaks this one first. Where money may be of 32 bits, the sum of
+-- such a command, a word that goes on after it, and a message of a reader's answer are beyond the
+-- profile.
 abbrev pub counted_as : Rule → Position → Wide → Rule
 counted_as rule.Sum (InAsk bytes) wide =
     if is_wide wide (asked_with_amounts bytes) then rule.Profile else rule.Sum
+counted_as rule.Mode (Asked command) wide =
+    if is_wide wide (amounts_to command) then rule.Profile else rule.Mode
 counted_as rule.Message (InReply command bytes) wide =
     if is_wide wide (reader_asked command) then rule.Profile else rule.Message
 counted_as broken position wide = broken

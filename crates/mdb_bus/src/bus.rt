@@ -15,7 +15,7 @@ use super::judged::Judged;
 use super::judging::judge;
 use super::laws;
 use super::levels::Levels;
-use super::options::{KnownOptions, asked_with_amounts, reader_asked};
+use super::options::{KnownOptions, amounts_to, asked_with_amounts, reader_asked};
 use super::phase::Phase;
 use super::place::Place;
 use super::scope::{Beginning, Profile, Scope};
@@ -325,6 +325,7 @@ impl Bus {
     {
         let reader = match (rule, self.place.phase) {
             (Rule::Sum, Phase::InAsk) => asked_with_amounts(self.place.bytes.as_slice()),
+            (Rule::Mode, Phase::Asked) => amounts_to(self.place.command),
             (Rule::Message, Phase::InReply) => reader_asked(self.place.command),
             _ => return rule,
         };

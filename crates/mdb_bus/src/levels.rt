@@ -83,7 +83,7 @@ impl Levels {
     };
 
     /// The levels that setup data tell.
-    pub(crate) fn known(setups: &Setups) -> Levels
+    pub fn known(setups: &Setups) -> Levels
         ensures first { result.first ≡ levels_in setups.now First }
         ensures second { result.second ≡ levels_in setups.now Second }
     {

@@ -33,6 +33,6 @@ pub use bus::Bus;
 pub use fault::{Blame, LinkFault, Rule};
 pub use format::Format;
 pub use levels::{Levels, ReaderLevels};
-pub use options::is_below_3;
+pub use options::{KnownOptions, is_below_3};
 pub use scope::{Beginning, Profile, Scope};
 pub use untimely::Untimely;

@@ -2,7 +2,7 @@
 
 ghost use Rattle.std.specs.Prelude.{◌≡◌, ◌≤◌};
 ghost use Rattle.std.specs.List.{list_any};
-ghost use Rattle.mdb_bus.specs.WideMoney.{all_known, asked_with_amounts, first_known, have_amounts, is_below_3, is_refusal, known_after, known_by, is_wide, may_be_wide, reader_asked, refuses, settles_options, wide_at};
+ghost use Rattle.mdb_bus.specs.WideMoney.{all_known, amounts_to, asked_with_amounts, first_known, have_amounts, is_below_3, is_refusal, known_after, known_by, is_wide, may_be_wide, reader_asked, refuses, settles_options, wide_at};
 
 use super::act::Act;
 use super::levels::{Levels, ReaderLevels};
@@ -33,8 +33,8 @@ impl KnownOptions {
     {
         match begins {
             Beginning::Joined(setups, Profile::Extended) => KnownOptions {
-                first: setups.first_reader.always_idle.is_some(),
-                second: setups.second_reader.always_idle.is_some(),
+                first: setups.first_reader.options,
+                second: setups.second_reader.options,
             },
             _ => KnownOptions::ALL,
         }
@@ -170,14 +170,27 @@ pub(crate) fn asked_with_amounts(bytes: &[u8]) -> Option<ReaderUnit>
 }
 
 /// Whether these two bytes begin a command with amounts to the reader at this address: SETUP
-/// prices, VEND REQUEST, CASH SALE or REVALUE REQUEST (MDB/ICP 4.3, cashless device).
+/// prices, VEND REQUEST or CASH SALE (MDB/ICP 4.3, cashless device).
 fn have_amounts(address: u8, first: u8, second: u8) -> bool
     requires { address ≤ 250 }
     ensures { result ≡ have_amounts address first second }
 {
-    (first == address + 1 && second == 1)
-        || (first == address + 3 && (second == 0 || second == 5))
-        || (first == address + 5 && second == 0)
+    (first == address + 1 && second == 1) || (first == address + 3 && (second == 0 || second == 5))
+}
+
+/// The reader to which a command with amounts is.
+pub(crate) fn amounts_to(command: Command) -> Option<ReaderUnit>
+    ensures { result ≡ amounts_to command }
+{
+    match command {
+        Command::Reader(
+            unit,
+            ReaderCommand::SetupPrices { .. }
+            | ReaderCommand::VendRequest { .. }
+            | ReaderCommand::CashSale { .. },
+        ) => Some(unit),
+        _ => None,
+    }
 }
 
 /// The reader to which a command is.

@@ -48,7 +48,7 @@ pub enum Beginning {
     PowerOn(Profile),
     /// While the machine was running. Nothing is known of what was sent before, and each device may
     /// be in any state. These setup data are known from elsewhere. What they tell of a reader's
-    /// levels and of its always idle counts by the extended profile alone.
+    /// levels and options counts by the extended profile alone.
     Joined(Setups, Profile),
 }
 

@@ -20,7 +20,7 @@ mod values;
 pub use activity::BillActivity;
 use arrayvec::ArrayVec;
 use matters::{concerns, heeds_choice, rests};
-use mdb_bus::{Act, Beginning};
+use mdb_bus::{Act, Beginning, Profile};
 use mdb_machine::conduct::{step_settled, steps, unvalued_by};
 use mdb_machine::{Choice, Gains, HasCode, Pair, coded};
 use mdb_msgs::Device;
@@ -69,6 +69,10 @@ impl Pair for Bill {
             Beginning::PowerOn(_) => state == BillState::power_on(),
             Beginning::Joined(_, _) => true,
         }
+    }
+
+    fn power_on(_: Profile) -> BillState {
+        BillState::power_on()
     }
 
     fn facts_start(begins: &Beginning) -> BillKnown {

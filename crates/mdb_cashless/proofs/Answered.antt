@@ -13,7 +13,8 @@ use Rattle.mdb_msgs.specs.declared.setups.ReaderConfig.{ReaderConfig}
 use Rattle.mdb_cashless.specs.declared.reader.messages.ReaderActivity.{ReaderActivity}
 use Rattle.mdb_cashless.specs.declared.reader.state.ReaderState.{ReaderState}
 use Rattle.mdb_cashless.specs.declared.reader.transaction.Ended.{Ended}
-use Rattle.mdb_cashless.specs.Reader.{ReplyStep, all_approved, before_messages, is_poll, is_requested, owes_reset, read, sold_any, taken}
+use Rattle.mdb_cashless.specs.declared.reader.transaction.Transaction.{Transaction}
+use Rattle.mdb_cashless.specs.Reader.{ReplyStep, all_approved, before_messages, is_poll, last_transaction, owes_reset, read, sold_any, taken}
 use Rattle.mdb_cashless.specs.ReaderDevice.{all_told}
 use Rattle.mdb_cashless.specs.ReaderFacts.{Facts}
 use Rattle.mdb_cashless.specs.ReaderMessages.{config_in, last_said, messages_of, parts_of}
@@ -78,7 +79,7 @@ untold {facts} {command} {reply} looked none after gains step =
 -- a reply that it can tell, and what that is
 pub told : {facts : Facts} {command : ReaderCommand} {reply : Reply} {choice : Choice}
     {before : ReaderState} {poll owed reset early : Bool} {middle : ReaderState}
-    {holding kept news : List ReaderActivity} {always_idle requested : Bool} {device : DeviceState}
+    {holding kept news : List ReaderActivity} {last : Option Transaction} {device : DeviceState}
     {after_holds : Bool} {config : Option ReaderConfig} {approved : ℕ} {sold : Ended}
     {gains : Gains}
     → Looked facts command reply choice before poll owed reset early middle holding kept
@@ -87,8 +88,8 @@ pub told : {facts : Facts} {command : ReaderCommand} {reply : Reply} {choice : C
     → ((parts : List (Part ReaderActivity)) (other : List ReaderActivity)
     → IsSummary kept reset early parts → HasNews poll choice owed holding parts other
     → other ≡ news)
-    → always_idle ≡ facts.always_idle → requested ≡ is_requested facts (taken command reply)
-    → all_told always_idle requested news middle.device ≡ Some device
+    → last ≡ last_transaction facts (taken command reply)
+    → all_told last news middle.device ≡ Some device
     → after_holds ≡ holds_after kept middle.holds
     → config ≡ or_else (last_said config_in (messages_of reply)) facts.config
     → approved ≡ all_approved config news
@@ -97,20 +98,18 @@ pub told : {facts : Facts} {command : ReaderCommand} {reply : Reply} {choice : C
     → IsOnlyStep (ReplyStep facts command reply choice before)
     (Some (record { device = device; view = before.view; holds = after_holds }, gains))
 told {facts} {command} {reply} {choice} {before} {poll} {owed} {reset} {early} {middle} {holding}
-    {kept} {news} {always_idle} {requested} {device} {after_holds} {config} {approved} {sold}
-    {gains} looked found only idle_is requested_is told_is after_holds_is config_is approved_is
-    sold_is gains_are =
+    {kept} {news} {last} {device} {after_holds} {config} {approved} {sold} {gains} looked found only
+    last_is told_is after_holds_is config_is approved_is sold_is gains_are =
     let ready = before_messages facts command reply choice before in
     let own_config = or_else (last_said config_in (messages_of reply)) facts.config in
     let devices : middle.device ≡ ready.device =
     ap (λ (s : ReaderState). s.device) looked.middle_is in
     let holding_on : middle.holds ≡ ready.holds =
     ap (λ (s : ReaderState). s.holds) looked.middle_is in
-    let asks = is_requested facts (taken command reply) in
-    let tells : all_told facts.always_idle asks news ready.device ≡ Some device =
-    ap (λ i. all_told i asks news ready.device) (sym idle_is)
-    ∙ (ap (λ r. all_told always_idle r news ready.device) (sym requested_is)
-    ∙ (ap (all_told always_idle requested news) (sym devices) ∙ told_is)) in
+    let tells : all_told (last_transaction facts (taken command reply)) news ready.device
+    ≡ Some device =
+    ap (λ l. all_told l news ready.device) (sym last_is)
+    ∙ (ap (all_told last news) (sym devices) ∙ told_is) in
     let holds : after_holds ≡ holds_after (kept_of (parts_of reply)) ready.holds =
     after_holds_is
     ∙ (ap (λ ks. holds_after ks middle.holds) looked.summary.kept_is
@@ -136,7 +135,7 @@ told {facts} {command} {reply} {choice} {before} {poll} {owed} {reset} {early} {
           only (parts_of reply) step.news looked.summary (telling looked step.has_news) in
           let both : Some other.device ≡ Some device =
           sym step.told
-          ∙ (ap (λ ns. all_told facts.always_idle asks ns ready.device)
+          ∙ (ap (λ ns. all_told (last_transaction facts (taken command reply)) ns ready.device)
           same ∙ tells) in
           let devices_same : other.device ≡ device = cc in (
             same_state devices_same step.view (step.holds ∙ sym holds),

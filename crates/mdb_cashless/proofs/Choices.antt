@@ -1,5 +1,5 @@
 -- Where it is of no matter what is chosen of an act of a reader.
-use Rattle.std.proofs.Common.{◌≡◌, ◌∙◌, Bool, true, false, Option, Some, None, refl, ap, sym, subst}
+use Rattle.std.proofs.Common.{◌≡◌, ◌∙◌, Bool, true, false, Some, refl, ap, sym, subst}
 use Rattle.std.specs.Bool.{OnFalse}
 use Rattle.std.specs.List.{list_any}
 use Rattle.mdb_msgs.specs.declared.command.Command.{Command}
@@ -11,19 +11,19 @@ use Rattle.mdb_msgs.specs.declared.reply.Reply.{Reply}
 use Rattle.mdb_bus.specs.declared.act.Act.{Act}
 use Rattle.mdb_bus.specs.declared.act.Act.TheVariants as acts
 use Rattle.mdb_machine.specs.declared.choice.Choice.{Choice}
-use Rattle.mdb_machine.specs.declared.choice.Choice.TheVariants.{Plain, Lost, Restart}
+use Rattle.mdb_machine.specs.declared.choice.Choice.TheVariants.{Plain, Lost, Restart, Again}
 use Rattle.mdb_machine.specs.declared.gains.Gains.{Gains}
 use Rattle.mdb_machine.specs.Choices.{CanStand}
 use Rattle.mdb_machine.specs.Kept.{MayBeRead, holds_acked, is_reset, kept_of}
 use Rattle.mdb_machine.proofs.KeptLists.{free_acked}
 use Rattle.mdb_cashless.specs.declared.reader.state.ReaderState.{ReaderState}
 use Rattle.mdb_cashless.specs.declared.reader.view.View.{View}
-use Rattle.mdb_machine.specs.Steps.{ForOwn}
 use Rattle.mdb_cashless.specs.Reader.{AckStep, ReaderStep, ReplyStep, VmcAckStep, take, taken, view_answered, view_heard, view_taken}
 use Rattle.mdb_cashless.specs.ReaderFacts.{Facts}
 use Rattle.mdb_cashless.specs.ReaderMessages.{messages_of, part_of, parts_of}
 use Rattle.mdb_cashless.specs.ReaderView.{all_heard}
 use Rattle.mdb_cashless.specs.Units.{own}
+use Rattle.mdb_cashless.specs.inner.PlainReader.{own_as}
 use Rattle.mdb_cashless.proofs.Resets.{no_restart}
 use Rattle.mdb_cashless.proofs.Steps.{denied}
 
@@ -33,22 +33,12 @@ IsUnheeded act state = (unit : ReaderUnit) (facts : Facts) (choice : Choice) (af
     (gains : Gains) → CanStand act choice → ReaderStep unit facts act choice state after gains
     → ReaderStep unit facts act Plain state after gains
 
--- of a command to this reader, or to another device
-own_still : (found : Option ReaderCommand)
-    (One Other : ReaderCommand → ReaderState → ReaderState → Gains → Type 0)
-    (before after : ReaderState) (gains : Gains)
-    → ((c : ReaderCommand) → found ≡ Some c → One c before after gains → Other c before after gains)
-    → ForOwn found One before after gains → ForOwn found Other before after gains
-own_still None One Other before after gains each step = step
-own_still (Some c) One Other before after gains each step = each c refl step
-
 -- an ACK whose hearing leaves the view
 heard_still : (choice : Choice) (command : ReaderCommand) (before : View)
     → view_taken command before ≡ before
     → view_heard choice command before ≡ view_heard Plain command before
-heard_still Plain command before still = refl
 heard_still Lost command before still = sym still
-heard_still Restart command before still = refl
+heard_still choice command before still = refl
 
 ack_still : (facts : Facts) (command : ReaderCommand) (choice : Choice)
     (before after : ReaderState) (gains : Gains) → view_taken command before.view ≡ before.view
@@ -77,7 +67,7 @@ pub untaken : (state : ReaderState) (act : Act) (of : ReaderUnit) (command : Rea
 untaken state act of command true is still = tt
 untaken state act of command false is still =
     subst (λ (a : Act). IsUnheeded a state) (sym is) (λ unit facts choice after gains stands.
-    own_still (own unit (commands.Reader of command)) (λ c. AckStep facts c choice)
+    own_as (own unit (commands.Reader of command)) (λ c. AckStep facts c choice)
     (λ c. AckStep facts c Plain) state after gains
     (λ c found. ack_still facts c choice state after gains
     (subst (λ (m : ReaderCommand). view_taken m state.view ≡ state.view)
@@ -93,6 +83,8 @@ plain_alone facts its command reply before after gains never Plain stands step =
 plain_alone facts its command reply before after gains never Lost stands step = absurd stands
 plain_alone facts its command reply before after gains never Restart stands step =
     absurd (never step.has_news.read)
+plain_alone facts its command reply before after gains never Again stands step =
+    absurd step.has_news.read
 
 pub unread : (state : ReaderState) (act : Act) (command : Command) (reply : Reply) (tells : Bool)
     → act ≡ acts.Reply command reply
@@ -103,7 +95,7 @@ unread state act command reply false is tells =
     let never : MayBeRead Restart (parts_of reply) → ⊥ =
     no_restart false part_of (messages_of reply) tells in
     subst (λ (a : Act). IsUnheeded a state) (sym is) (λ unit facts choice after gains stands.
-    own_still (own unit command) (λ c. ReplyStep facts c reply choice)
+    own_as (own unit command) (λ c. ReplyStep facts c reply choice)
     (λ c. ReplyStep facts c reply Plain) state after gains
     (λ c found. plain_alone facts c command reply state after gains never choice stands))
 
@@ -129,6 +121,6 @@ pub unheard : (state : ReaderState) (act : Act) (command : Command) (reply : Rep
     → act ≡ acts.VmcAck command reply → OnFalse state.holds (IsUnheeded act state)
 unheard state act command reply is = denied state.holds (λ free.
     subst (λ (a : Act). IsUnheeded a state) (sym is) (λ unit facts choice after gains stands.
-    own_still (own unit command) (λ c. VmcAckStep facts c reply choice)
+    own_as (own unit command) (λ c. VmcAckStep facts c reply choice)
     (λ c. VmcAckStep facts c reply Plain) state after gains
     (λ c found. vmc_ack_still facts c reply choice state after gains free)))

@@ -5,24 +5,22 @@ use Rattle.mdb_msgs.specs.declared.command.ReaderCommand.TheVariants as reader
 use Rattle.mdb_msgs.specs.declared.command.ReaderUnit.{ReaderUnit}
 use Rattle.mdb_msgs.specs.declared.reply.Reply.{Reply}
 use Rattle.mdb_msgs.specs.declared.reply.reader.ReaderMsg.{ReaderMsg}
-use Rattle.mdb_msgs.specs.Reader.{level_in}
 use Rattle.mdb_bus.specs.declared.act.Act.TheVariants as acts
 use Rattle.mdb_machine.specs.Past.{effect_taken, or_else, resets, tells_out_of_sequence}
 use Rattle.mdb_machine.specs.PastValues.{past_after}
 use Rattle.mdb_cashless.specs.declared.reader.transaction.Transaction.{Transaction}
 use Rattle.mdb_cashless.specs.ReaderFacts.{effect_of, effect_of_own, own_messages, own_of, own_transaction}
 use Rattle.mdb_cashless.specs.ReaderMessages.{amount_in, begin_session, config_in, last_said, messages_of, part_of}
-use Rattle.mdb_cashless.specs.ReaderValues.{ToldFacts, extended_after, extended_taking, last_after, taken, told, told_with}
+use Rattle.mdb_cashless.specs.ReaderValues.{ToldFacts, last_after, taken, told, told_with}
 use Rattle.mdb_cashless.specs.Transactions.{transaction_of}
 use Rattle.mdb_cashless.specs.Units.{own}
 
 -- facts are the same where their fields are
 same_fields : {one other : ToldFacts} → one.config ≡ other.config → one.asked ≡ other.asked
-    → one.taken ≡ other.taken → one.amount ≡ other.amount → one.extended ≡ other.extended
-    → one.past ≡ other.past → one ≡ other
-same_fields {one} {other} config asked taken amount extended past =
+    → one.taken ≡ other.taken → one.amount ≡ other.amount → one.past ≡ other.past → one ≡ other
+same_fields {one} {other} config asked taken amount past =
     let same : record one { config = one.config } ≡ record other { config = other.config } =
-    cc (config, asked, taken, amount, extended, past) in
+    cc (config, asked, taken, amount, past) in
     same
 
 -- the facts after a reply, where it is known whether it refuses its command
@@ -38,11 +36,6 @@ answered unit command refused messages old =
           else or_else (own_transaction (own_of unit (if refused then None else Some command)))
           old.taken;
       amount = or_else (last_said amount_in (own_messages unit command messages)) old.amount;
-      extended =
-          extended_after None (last_said level_in (own_messages unit command messages)) None
-          (extended_taking
-          (resets (effect_taken (effect_of unit) (if refused then None else Some command)))
-          (own_of unit (if refused then None else Some command)) old.extended);
       past =
           past_after
           (resets (effect_taken (effect_of unit) (if refused then None else Some command)))
@@ -61,9 +54,6 @@ answered_own found refused messages old =
           if resets (effect_of_own took) || begin_session own_ones then None
           else or_else (own_transaction took) old.taken;
       amount = or_else (last_said amount_in own_ones) old.amount;
-      extended =
-          extended_after None (last_said level_in own_ones) None
-          (extended_taking (resets (effect_of_own took)) took old.extended);
       past =
           past_after (resets (effect_of_own took)) (map part_of own_ones) old.past;
     }
@@ -89,7 +79,7 @@ own_answer : (its : ReaderCommand) (refused : Bool) (messages : List ReaderMsg) 
     ≡ told messages (taken (if refused then None else Some its) old)
 own_answer its true messages old = refl
 own_answer its false messages old =
-    same_fields refl refl (last_is its (begin_session messages) old.taken) refl refl refl
+    same_fields refl refl (last_is its (begin_session messages) old.taken) refl refl
 
 -- the facts after a reply of this reader: it has taken its command or not, and has told messages
 pub replied : (unit : ReaderUnit) (command : Command) (its : ReaderCommand) (reply : Reply)

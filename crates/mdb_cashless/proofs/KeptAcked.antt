@@ -3,7 +3,7 @@ use Rattle.std.proofs.Common.{◌≡◌, ◌⊎◌, inl, inr, ◌&&◌, not, Boo
 use Rattle.mdb_msgs.specs.declared.reply.reader.ReaderMsg.{ReaderMsg}
 use Rattle.mdb_msgs.specs.declared.reply.reader.ReaderMsg.TheVariants.{BeginSession, BeginSessionLong, VendApproved, VendDenied, EndSession}
 use Rattle.mdb_machine.specs.declared.choice.Choice.{Choice}
-use Rattle.mdb_machine.specs.declared.choice.Choice.TheVariants.{Plain, Lost, Restart}
+use Rattle.mdb_machine.specs.declared.choice.Choice.TheVariants.{Plain, Lost, Restart, Again}
 use Rattle.mdb_machine.specs.Kept.{holds_acked, kept_of}
 use Rattle.mdb_cashless.specs.ReaderMessages.{part_of}
 use Rattle.mdb_cashless.specs.inner.ReaderSaid.{keeps_some}
@@ -15,18 +15,14 @@ held_on choice keeps holds = holds && not keeps
 
 none : (choice : Choice) (holds : Bool) → held_on choice false holds ≡ holds
 none Lost holds = refl
-none Plain true = refl
-none Plain false = refl
-none Restart true = refl
-none Restart false = refl
+none choice true = refl
+none choice false = refl
 
 some : {M : Type 0} (choice : Choice) (message : M) (kept : List M) (holds : Bool)
     → held_on choice true holds ≡ holds_acked choice (message ∷ kept) holds
 some Lost message kept holds = refl
-some Plain message kept true = refl
-some Plain message kept false = refl
-some Restart message kept true = refl
-some Restart message kept false = refl
+some choice message kept true = refl
+some choice message kept false = refl
 
 pub acked_is : (messages : List ReaderMsg) (choice : Choice) (holds : Bool)
     → held_on choice (keeps_some messages) holds
@@ -40,9 +36,12 @@ acked_is (VendDenied ∷ messages) choice holds = some choice _ _ holds
 acked_is (EndSession ∷ messages) choice holds = some choice _ _ holds
 acked_is (_ ∷ messages) choice holds = acked_is messages choice holds
 
-pub heard_is : (choice : Choice) → (choice ≡ Plain) ⊎ (choice ≡ Restart)
+pub heard_is : (choice : Choice) → (choice ≡ Plain) ⊎ (choice ≡ Restart) ⊎ (choice ≡ Again)
     → (messages : List ReaderMsg) (holds : Bool) → (holds && not (keeps_some messages))
     ≡ holds_acked choice (kept_of (map part_of messages)) holds
-heard_is Plain heard messages holds = acked_is messages Plain holds
-heard_is Restart heard messages holds = acked_is messages Restart holds
-heard_is Lost heard messages holds = elim heard [ inl is ↦ absurd cc | inr is ↦ absurd cc ]
+heard_is Lost heard messages holds =
+    elim heard [
+      | inl is ↦ absurd cc
+      | inr others ↦ elim others [ inl is ↦ absurd cc | inr is ↦ absurd cc ]
+    ]
+heard_is choice heard messages holds = acked_is messages choice holds

@@ -23,7 +23,7 @@ use Rattle.mdb_cashless.specs.declared.reader.facts.ReaderFacts.{ReaderFacts}
 use Rattle.mdb_cashless.specs.declared.reader.known.ReaderKnown.{ReaderKnown}
 use Rattle.mdb_cashless.specs.declared.reader.transaction.Transaction.{Transaction}
 use Rattle.mdb_cashless.specs.Reader.{drops}
-use Rattle.mdb_cashless.specs.ReaderFacts.{asked_by, effect_of, effect_of_own, ends_transactions, extended_of, known_of, own_messages, own_of, own_transaction, parts_by, taken_told, transaction_taken_by}
+use Rattle.mdb_cashless.specs.ReaderFacts.{asked_by, effect_of, effect_of_own, ends_transactions, known_of, own_messages, own_of, own_transaction, parts_by, taken_told, transaction_taken_by}
 use Rattle.mdb_cashless.specs.ReaderMessages.{begin_session, messages_of}
 use Rattle.mdb_cashless.specs.ReaderValues.{ToldFacts, known_in, known_with, tells_taken, told_in, told_with}
 use Rattle.mdb_cashless.specs.Transactions.{transaction_of}
@@ -88,7 +88,6 @@ known_after unit act old new asked taken kept same = same_fields
     ∙ taken_after old.knows_taken (ends_transactions unit act) (transaction_taken_by unit act)
     old.facts.taken)
     (ap (λ (t : ToldFacts). t.amount) same)
-    (ap (λ (t : ToldFacts). t.extended) same)
     (past_more old.knows_kept new.knows_kept old.facts.past new.facts.past
     (powers_on (effect_of unit) act) (parts_by unit act) kept
     (ap (λ (t : ToldFacts). t.past) same))
@@ -98,7 +97,6 @@ pub known_first : (unit : ReaderUnit) (begins : Beginning) (facts : ReaderFacts)
     → knows ≡ from_power_on begins
     → facts.config ≡ known_before (λ setups. config_known setups unit) begins
     → facts.asked ≡ None → facts.taken ≡ None → facts.amount ≡ None
-    → facts.extended ≡ extended_of begins unit []
     → past_in facts.past ≡ first_past begins
     → known_in (record {
       facts = facts;
@@ -107,19 +105,19 @@ pub known_first : (unit : ReaderUnit) (begins : Beginning) (facts : ReaderFacts)
       knows_kept = knows;
     })
     ≡ known_of begins unit []
-known_first unit (PowerOn profile) facts knows so config asked taken amount extended past =
+known_first unit (PowerOn profile) facts knows so config asked taken amount past =
     same_fields
     config (ap (λ k. if_known k facts.asked) so ∙ ap (λ a. if_known true a) asked)
     (ap (λ k. if_known k facts.taken) so ∙ ap (λ a. if_known true a) taken)
-    amount extended
+    amount
     (same_known_past (ap (λ p. p.reset_owed) past)
     (ap (λ k. if_known k facts.past.last_kept.items) so
     ∙ ap (λ p. if_known true p.last_kept) past))
-known_first unit (Joined setups profile) facts knows so config asked taken amount extended past =
+known_first unit (Joined setups profile) facts knows so config asked taken amount past =
     same_fields
     config (ap (λ k. if_known k facts.asked) so)
     (ap (λ k. if_known k facts.taken) so)
-    amount extended
+    amount
     (same_known_past (ap (λ p. p.reset_owed) past)
     (ap (λ k. if_known k facts.past.last_kept.items) so))
 

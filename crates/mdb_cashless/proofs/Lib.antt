@@ -1,7 +1,12 @@
 pub mod Answered
-pub mod Guesses
+pub mod ApprovalSteps
+pub mod ApprovalWays
+pub mod ApprovedSales
+pub mod ByProfile
+pub mod ByProfileKnown
 pub mod Choices
 pub mod FactsTold
+pub mod Guesses
 pub mod KeptAcked
 pub mod Knowing
 pub mod KnownAfter

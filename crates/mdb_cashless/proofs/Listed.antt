@@ -1,6 +1,5 @@
 -- Lists of steps, to which steps are added one after another.
-use Rattle.std.proofs.Common.{◌≡◌, ◌⊎◌, ◌↔◌, ◌+◌, ℕ, List, [], ◌∷◌, ◌++◌, length, take, Contains, Bool, true, false, Option, Some, None, IfSome, refl, arith, ap, subst, sym, inl, inr}
-use Rattle.std.proofs.lemmas.List.Elements.{Contains-append_cases, Contains-append_left, Contains-append_right}
+use Rattle.std.proofs.Common.{◌≡◌, ◌⊎◌, ◌↔◌, ◌+◌, ℕ, List, [], ◌∷◌, length, take, Contains, Bool, true, false, Option, Some, None, IfSome, refl, arith, ap, subst, inl, inr}
 use Rattle.std.proofs.Math.Nat.{eq-or-lt_of_le}
 use Rattle.mdb_msgs.specs.declared.command.ReaderCommand.{ReaderCommand}
 use Rattle.mdb_msgs.specs.declared.reply.Reply.{Reply}
@@ -21,32 +20,32 @@ use Rattle.mdb_cashless.specs.inner.Guesses.{IsReplyKeeping, keeping}
 use Rattle.mdb_cashless.proofs.Knowing.{OfFront, replies_fronts}
 
 -- a list has these steps besides those of another
-abbrev pub Adds : List (ReaderState × Gains) → List (ReaderState × Gains)
-    → (ReaderState → Gains → Type 0) → Type 0
-Adds old new Step = (after : ReaderState) (gains : Gains)
+abbrev pub Adds : {State : Type 0} → List (State × Gains) → List (State × Gains)
+    → (State → Gains → Type 0) → Type 0
+Adds {State} old new Step = (after : State) (gains : Gains)
     → Contains new (after, gains) ↔ (Contains old (after, gains) ⊎ Step after gains)
 
-abbrev pub AreSmall : List (ReaderState × Gains) → Type 0
-AreSmall steps =
-    (after : ReaderState) (gains : Gains) → Contains steps (after, gains) → IsSmall gains
+abbrev pub AreSmall : {State : Type 0} → List (State × Gains) → Type 0
+AreSmall {State} steps =
+    (after : State) (gains : Gains) → Contains steps (after, gains) → IsSmall gains
 
 -- an answer is the only step, if there is one
-only_is : (Step : ReaderState → Gains → Type 0) (found : Option (ReaderState × Gains))
-    → IsOnlyStep Step found → (after : ReaderState) (gains : Gains)
+only_is : {State : Type 0} (Step : State → Gains → Type 0) (found : Option (State × Gains))
+    → IsOnlyStep Step found → (after : State) (gains : Gains)
     → (found ≡ Some (after, gains)) ↔ Step after gains
 only_is Step None only after gains = (λ e. absurd cc, λ step. absurd (only after gains step))
-only_is Step (Some one) only after gains = (
+only_is {State} Step (Some one) only after gains = (
   λ e.
       let same : one ≡ (after, gains) = cc in
-      subst (λ (s : ReaderState × Gains). Step s.0 s.1) same only.0,
+      subst (λ (s : State × Gains). Step s.0 s.1) same only.0,
   λ step.
       let both = only.1 after gains step in
       let same : (one.0, one.1) ≡ (after, gains) = cc in
-      ap (λ (s : ReaderState × Gains). Some s) same,
+      ap (λ (s : State × Gains). Some s) same,
 )
 
-pub adds_one : (old new : List (ReaderState × Gains)) (Step : ReaderState → Gains → Type 0)
-    (found : Option (ReaderState × Gains)) → IsOnlyStep Step found
+pub adds_one : {State : Type 0} (old new : List (State × Gains)) (Step : State → Gains → Type 0)
+    (found : Option (State × Gains)) → IsOnlyStep Step found
     → Adds old new (λ after gains. found ≡ Some (after, gains)) → Adds old new Step
 adds_one old new Step found only adds = λ after gains.
     let is = only_is Step found only after gains in
@@ -55,28 +54,28 @@ adds_one old new Step found only adds = λ after gains.
       λ either. has.1 (elim either [ inl was ↦ inl was | inr step ↦ inr (is.1 step) ]),
     )
 
-pub small_one : (old new : List (ReaderState × Gains)) (found : Option (ReaderState × Gains))
+pub small_one : {State : Type 0} (old new : List (State × Gains)) (found : Option (State × Gains))
     → AreSmall old → IfSome found (λ step. IsSmall step.1)
     → Adds old new (λ after gains. found ≡ Some (after, gains)) → AreSmall new
-small_one old new found were small adds = λ after gains among.
+small_one {State} old new found were small adds = λ after gains among.
     elim ((adds after gains).0 among) [
       | inl was ↦ were after gains was
       | inr e ↦
-          subst (λ (f : Option (ReaderState × Gains)). IfSome f (λ step. IsSmall step.1)) e small
+          subst (λ (f : Option (State × Gains)). IfSome f (λ step. IsSmall step.1)) e small
     ]
 
 -- nothing is among none
 pub none_among : {X : Type 0} (xs : List X) (x : X) → length xs ≡ 0 → Contains xs x → ⊥
 none_among xs x none among = omega (arith, none, among.1)
 
-pub none_small : (old : List (ReaderState × Gains)) → length old ≡ 0 → AreSmall old
+pub none_small : {State : Type 0} (old : List (State × Gains)) → length old ≡ 0 → AreSmall old
 none_small old none after gains among = absurd (none_among old (after, gains) none among)
 
 -- steps added to none
-pub adds_first : (old new : List (ReaderState × Gains)) (Step Other : ReaderState → Gains → Type 0)
-    → length old ≡ 0 → Adds old new Step
-    → ((after : ReaderState) (gains : Gains) → Step after gains ↔ Other after gains)
-    → (after : ReaderState) (gains : Gains) → Contains new (after, gains) ↔ Other after gains
+pub adds_first : {State : Type 0} (old new : List (State × Gains))
+    (Step Other : State → Gains → Type 0) → length old ≡ 0 → Adds old new Step
+    → ((after : State) (gains : Gains) → Step after gains ↔ Other after gains)
+    → (after : State) (gains : Gains) → Contains new (after, gains) ↔ Other after gains
 adds_first old new Step Other none adds is after gains =
     let has = adds after gains in (
       λ among. elim (has.0 among) [
@@ -87,8 +86,8 @@ adds_first old new Step Other none adds is after gains =
     )
 
 -- steps added to none, and others to these
-pub adds_two : (old mid new : List (ReaderState × Gains))
-    (One Two : ReaderState → Gains → Type 0) → Adds old mid One → Adds mid new Two
+pub adds_two : {State : Type 0} (old mid new : List (State × Gains))
+    (One Two : State → Gains → Type 0) → Adds old mid One → Adds mid new Two
     → Adds old new (λ after gains. One after gains ⊎ Two after gains)
 adds_two old mid new One Two first second after gains =
     let had = first after gains in
@@ -106,9 +105,9 @@ adds_two old mid new One Two first second after gains =
       ],
     )
 
-pub adds_as : (old new : List (ReaderState × Gains)) (Step Other : ReaderState → Gains → Type 0)
-    → Adds old new Step
-    → ((after : ReaderState) (gains : Gains) → Step after gains ↔ Other after gains)
+pub adds_as : {State : Type 0} (old new : List (State × Gains))
+    (Step Other : State → Gains → Type 0) → Adds old new Step
+    → ((after : State) (gains : Gains) → Step after gains ↔ Other after gains)
     → Adds old new Other
 adds_as old new Step Other adds is after gains =
     let has = adds after gains in (
@@ -116,33 +115,6 @@ adds_as old new Step Other adds is after gains =
       λ either.
           has.1 (elim either [ inl was ↦ inl was | inr other ↦ inr ((is after gains).1 other) ]),
     )
-
--- all steps of a list are added
-pub adds_list : (old more new : List (ReaderState × Gains)) (Step : ReaderState → Gains → Type 0)
-    → new ≡ old ++ more
-    → ((after : ReaderState) (gains : Gains) → Contains more (after, gains) ↔ Step after gains)
-    → Adds old new Step
-adds_list old more new Step is each after gains =
-    let step = each after gains in (
-      λ among. elim (Contains-append_cases old more (after, gains)
-          (subst (λ l. Contains l (after, gains)) is among)) [
-            | inl was ↦ inl was
-            | inr has ↦ inr (step.0 has)
-          ],
-      λ either. subst (λ l. Contains l (after, gains)) (sym is) (elim either [
-        | inl was ↦ Contains-append_left old more (after, gains) was
-        | inr has ↦ Contains-append_right old more (after, gains) (step.1 has)
-      ]),
-    )
-
-pub small_list : (old more new : List (ReaderState × Gains)) → new ≡ old ++ more → AreSmall more
-    → AreSmall old → AreSmall new
-small_list old more new is small were after gains among =
-    elim (Contains-append_cases old more (after, gains)
-    (subst (λ l. Contains l (after, gains)) is among)) [
-      | inl was ↦ were after gains was
-      | inr has ↦ small after gains has
-    ]
 
 -- no front is the last kept list, and one more is
 pub no_front : (old : List (ReaderState × Gains)) (facts : Facts) (kept : List ReaderActivity)

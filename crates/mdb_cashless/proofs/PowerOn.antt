@@ -4,17 +4,15 @@ use Rattle.mdb_msgs.specs.declared.command.ReaderUnit.{ReaderUnit}
 use Rattle.mdb_bus.specs.declared.act.Act.{Act}
 use Rattle.mdb_bus.specs.declared.scope.Beginning.TheVariants.{PowerOn}
 use Rattle.mdb_bus.specs.declared.scope.Profile.{Profile}
-use Rattle.mdb_machine.specs.Known.{Allows, AllowsKept, Is, Known, Unknown, known_by}
+use Rattle.mdb_machine.specs.Known.{Allows, AllowsKept, known_by}
 use Rattle.mdb_machine.specs.Past.{last_list, last_told, or_else, past_of}
 use Rattle.mdb_machine.specs.shared.PastWays.{same_past}
 use Rattle.mdb_machine.specs.declared.choice.Choice.{Choice}
 use Rattle.mdb_machine.specs.declared.gains.Gains.{Gains}
 use Rattle.mdb_cashless.specs.declared.reader.state.ReaderState.{ReaderState}
 use Rattle.mdb_cashless.specs.Reader.{ReaderStep, StepKnowing}
-use Rattle.mdb_cashless.specs.ReaderFacts.{AllowsFacts, Facts, asked_by, config_by, effect_of, ends_transactions, extended_of, facts_of, is_so, known_idle, known_of, known_requested, last_taken, parts_by, taken_told, transaction_taken_by}
+use Rattle.mdb_cashless.specs.ReaderFacts.{AllowsFacts, Facts, asked_by, config_by, effect_of, ends_transactions, facts_of, known_of, last_taken, parts_by, taken_told, transaction_taken_by}
 use Rattle.mdb_cashless.specs.declared.reader.transaction.Transaction.{Transaction}
-use Rattle.mdb_cashless.specs.ReaderValues.{is_known}
-use Rattle.mdb_cashless.specs.shared.PowerOnReader.{idle_known, requested_known}
 use Rattle.mdb_cashless.proofs.Knowing.{same_facts}
 use Rattle.mdb_cashless.proofs.Said.{or_none}
 
@@ -57,32 +55,17 @@ owed_so : (a : Bool) → (a && not false) ≡ a
 owed_so true = refl
 owed_so false = refl
 
--- and of always idle
-allows_so : (known : Known Bool) (b : Bool) → is_known known ≡ true
-    → Allows known b ↔ (b ≡ is_so known)
-allows_so Unknown b is = absurd cc
-allows_so (Is so) b is = (λ e. e, λ e. e)
-
 pub power_on_known : (unit : ReaderUnit) (profile : Profile) (acts : List Act) (holds : Bool)
     (facts : Facts)
-    → AllowsFacts (known_of (PowerOn profile) unit acts) holds facts
-    ↔ (facts ≡ facts_of (PowerOn profile) unit acts)
+    → AllowsFacts (known_of (PowerOn profile) unit acts) holds facts ↔ (facts ≡ facts_of unit acts)
 power_on_known unit profile acts holds facts =
     let config = or_none (last_told (config_by unit) acts) in
     let asked = asked_known profile (last_told (asked_by unit) acts) in
     let taken = taken_known profile (last_told (taken_told unit) acts) in
     let past = past_of (effect_of unit) (parts_by unit) acts in
-    let kept = kept_known profile (last_list (parts_by unit) acts) holds in
-    let extended = extended_of (PowerOn profile) unit acts in
-    let idle = λ (b : Bool). allows_so (known_idle extended) b (idle_known unit profile acts) in
-    let request =
-    λ (b : Bool). allows_so (known_requested extended) b (requested_known unit profile acts) in (
+    let kept = kept_known profile (last_list (parts_by unit) acts) holds in (
       λ is. same_facts (is.config ∙ config) ((asked facts.asked).0 is.asked)
           ((taken facts.taken).0 is.taken ∙ sym (last_taken_is unit acts)) is.amount
-          is.refused ((idle facts.always_idle).0 is.always_idle)
-          (is.requested ∙ ap (λ r. r && facts.always_idle) ((request is.request).0 is.is_request)
-          ∙ ap (λ i. is_so (known_requested extended) && i)
-          ((idle facts.always_idle).0 is.always_idle))
           (same_past (is.past.reset_owed ∙ owed_so past.reset_owed)
           ((kept facts.past.last_kept).0 is.past.last_kept)),
       λ same. record {
@@ -90,13 +73,6 @@ power_on_known unit profile acts holds facts =
         asked = (asked facts.asked).1 (ap (λ (f : Facts). f.asked) same);
         taken = (taken facts.taken).1 (ap (λ (f : Facts). f.taken) same ∙ last_taken_is unit acts);
         amount = ap (λ (f : Facts). f.amount) same;
-        refused = ap (λ (f : Facts). f.refused) same;
-        always_idle = (idle facts.always_idle).1 (ap (λ (f : Facts). f.always_idle) same);
-        request = is_so (known_requested extended);
-        is_request = (request (is_so (known_requested extended))).1 refl;
-        requested = ap (λ (f : Facts). f.requested) same
-            ∙ ap (λ i. is_so (known_requested extended) && i)
-            (sym (ap (λ (f : Facts). f.always_idle) same));
         past = record {
           reset_owed = ap (λ (f : Facts). f.past.reset_owed) same ∙ sym (owed_so past.reset_owed);
           last_kept = (kept facts.past.last_kept).1 (ap (λ (f : Facts). f.past.last_kept) same);
@@ -108,14 +84,13 @@ power_on_known unit profile acts holds facts =
 pub power_on_steps : (unit : ReaderUnit) (profile : Profile) (so_far : List Act) (act : Act)
     (choice : Choice) (before after : ReaderState) (gains : Gains)
     → StepKnowing unit (known_of (PowerOn profile) unit so_far) act choice before after gains
-    ↔ ReaderStep unit (facts_of (PowerOn profile) unit so_far) act choice before after gains
+    ↔ ReaderStep unit (facts_of unit so_far) act choice before after gains
 power_on_steps unit profile so_far act choice before after gains = (
   λ step. subst (λ f. ReaderStep unit f act choice before after gains)
       ((power_on_known unit profile so_far before.holds step.facts).0 step.allowed) step.step,
   λ step. record {
-    facts = facts_of (PowerOn profile) unit so_far;
-    allowed = (power_on_known unit profile so_far before.holds
-        (facts_of (PowerOn profile) unit so_far)).1 refl;
+    facts = facts_of unit so_far;
+    allowed = (power_on_known unit profile so_far before.holds (facts_of unit so_far)).1 refl;
     step = step;
   },
 )

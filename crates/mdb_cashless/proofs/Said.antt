@@ -4,7 +4,6 @@ use Rattle.std.specs.Option.{option_or}
 use Rattle.std.proofs.lemmas.List.{map-append}
 use Rattle.std.proofs.lemmas.List.Folds.{list_any-append}
 use Rattle.mdb_msgs.specs.declared.reply.reader.ReaderMsg.{ReaderMsg}
-use Rattle.mdb_msgs.specs.Reader.{level_in}
 use Rattle.mdb_machine.specs.declared.kept.Part.{Part}
 use Rattle.mdb_machine.specs.Kept.{IsSummary}
 use Rattle.mdb_machine.specs.Past.{is_out_of_sequence, or_else}
@@ -55,9 +54,8 @@ pub said_more : (old new : Said) (messages : List ReaderMsg) (m : ReaderMsg) →
     → new.config ≡ or_else (config_in m) old.config → new.amount ≡ or_else (amount_in m) old.amount
     → new.begins ≡ (begins_session m || old.begins)
     → new.refused ≡ (is_out_of_sequence m || old.refused)
-    → new.level ≡ or_else (level_in m) old.level
     → IsSaid new (messages ++ m ∷ [])
-said_more old new messages m said summary config amount begins refused level =
+said_more old new messages m said summary config amount begins refused =
     record {
       summary_is =
           subst (λ (parts : List (Part ReaderActivity)).
@@ -80,8 +78,4 @@ said_more old new messages m said summary config amount begins refused level =
           refused
           ∙ (ap (λ b. is_out_of_sequence m || b) said.refused_is
           ∙ sym (any_last is_out_of_sequence messages m));
-      level_is =
-          level
-          ∙ (ap (or_else (level_in m)) said.level_is
-          ∙ sym (last_said-more level_in messages m));
     }

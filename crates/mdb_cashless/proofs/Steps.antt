@@ -9,12 +9,11 @@ use Rattle.mdb_bus.specs.declared.act.Act.{Act}
 use Rattle.mdb_bus.specs.declared.act.Act.TheVariants as acts
 use Rattle.mdb_bus.specs.declared.scope.Beginning.{Beginning}
 use Rattle.mdb_machine.specs.declared.choice.Choice.{Choice}
-use Rattle.mdb_machine.specs.declared.choice.Choice.TheVariants.{Plain, Lost, Restart}
+use Rattle.mdb_machine.specs.declared.choice.Choice.TheVariants.{Lost}
 use Rattle.mdb_machine.specs.declared.gains.Gains.{Gains}
 use Rattle.mdb_machine.specs.Gains.{Stays, controller_gains, device_gains, in_slots, no_gains}
 use Rattle.mdb_machine.specs.Pair.{IsOnlyStep}
 use Rattle.mdb_cashless.specs.declared.reader.device.DeviceState.{DeviceState}
-use Rattle.mdb_cashless.specs.ReaderDevice.{effect_by}
 use Rattle.mdb_cashless.specs.declared.reader.state.ReaderState.{ReaderState}
 use Rattle.mdb_cashless.specs.declared.reader.view.View.{View}
 use Rattle.mdb_machine.specs.Steps.{ForOwn}
@@ -35,8 +34,9 @@ same_state {one} {other} device view holds =
     same
 
 -- the outcome of a command to this reader
-for_own : (Step : ReaderCommand → ReaderState → ReaderState → Gains → Type 0) (before : ReaderState)
-    (result : Option (ReaderState × Gains)) (found : Option ReaderCommand) (command : ReaderCommand)
+pub for_own : {State : Type 0} (Step : ReaderCommand → State → State → Gains → Type 0)
+    (before : State) (result : Option (State × Gains)) (found : Option ReaderCommand)
+    (command : ReaderCommand)
     → found ≡ Some command → IsOnlyStep (Step command before) result
     → IsOnlyStep (ForOwn found Step before) result
 for_own Step before result None command is outcome = absurd cc
@@ -143,26 +143,8 @@ same_after : (facts : Facts) (choice : Choice) (device : DeviceState) (view : Vi
     → record (take facts reader.Poll (record { device = device; view = view; holds = false })) {
       view = view_heard choice reader.Poll view;
     } ≡ record { device = device; view = view; holds = false }
-same_after facts choice device view = by choice
-  where
-    polled : (always_idle : Bool) → effect_by always_idle reader.Poll device ≡ device
-    polled false = refl
-    polled true = refl
-
-    rested : DeviceState → ReaderState
-    rested state = record { device = state; view = view; holds = false }
-
-    same : rested (effect_by facts.always_idle reader.Poll device) ≡ rested device
-    same = ap rested (polled facts.always_idle)
-
-    by : (choice : Choice)
-        → record (take facts reader.Poll
-        (record { device = device; view = view; holds = false })) {
-          view = view_heard choice reader.Poll view;
-        } ≡ record { device = device; view = view; holds = false }
-    by Plain = same
-    by Lost = same
-    by Restart = same
+same_after facts Lost device view = refl
+same_after facts choice device view = refl
 
 none_gained : (facts : Facts) (device : DeviceState) (view : View)
     → device_gains (in_slots (amounts 0 (sold facts reader.Poll

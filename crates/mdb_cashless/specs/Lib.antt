@@ -1,3 +1,7 @@
+pub mod ByProfile
+pub mod ExtendedFacts
+pub mod ExtendedReader
+pub mod ExtendedSales
 pub mod MidSession
 pub mod Reader
 pub mod ReaderDevice

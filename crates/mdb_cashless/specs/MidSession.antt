@@ -10,23 +10,20 @@ use Rattle.mdb_msgs.specs.declared.reply.Reply.{Reply}
 use Rattle.mdb_msgs.specs.declared.setups.Setups.{Setups}
 use Rattle.mdb_bus.specs.declared.act.Act.{Act}
 use Rattle.mdb_bus.specs.declared.act.Act.TheVariants as acts
-use Rattle.mdb_bus.specs.declared.scope.Beginning.TheVariants.{Joined}
-use Rattle.mdb_bus.specs.declared.scope.Profile.{Profile}
 use Rattle.mdb_machine.specs.declared.choice.Choice.{Choice}
 use Rattle.mdb_machine.specs.declared.gains.Gains.{Gains}
 use Rattle.mdb_machine.specs.Gains.{device_gains, in_slots}
 use Rattle.mdb_machine.specs.Kept.{MayBeKept, MayBeRead, holds_after, kept_of}
-use Rattle.mdb_machine.specs.Known.{Allows}
 use Rattle.mdb_machine.specs.MidSession.{past_recorded}
-use Rattle.mdb_machine.specs.Past.{last_told, or_else, past_of}
+use Rattle.mdb_machine.specs.Past.{or_else}
 use Rattle.mdb_cashless.specs.declared.reader.messages.ReaderActivity.{ReaderActivity}
 use Rattle.mdb_cashless.specs.declared.reader.state.ReaderState.{ReaderState}
 use Rattle.mdb_cashless.specs.declared.reader.transaction.Ended.{Ended}
 use Rattle.mdb_cashless.specs.declared.reader.transaction.Transaction.{Transaction}
-use Rattle.mdb_cashless.specs.Reader.{all_approved, drops, is_poll, is_requested, owes_reset, read, taken, value, view_heard}
+use Rattle.mdb_cashless.specs.Reader.{all_approved, drops, is_poll, owes_reset, read, taken, value, view_heard}
 use Rattle.mdb_cashless.specs.ReaderDevice as reader_device
-use Rattle.mdb_cashless.specs.ReaderDevice.{all_told, effect_by}
-use Rattle.mdb_cashless.specs.ReaderFacts.{Facts, asked_by, config_by, effect_of, ends_transactions, extended_of, facts_of, known_idle, known_requested, last_taken, own_transaction, parts_by, transaction_taken_by}
+use Rattle.mdb_cashless.specs.ReaderDevice.{all_told, effect}
+use Rattle.mdb_cashless.specs.ReaderFacts.{Facts, asked_by, effect_of, ends_transactions, facts_of, own_transaction, parts_by, transaction_taken_by}
 use Rattle.mdb_cashless.specs.Transactions.{amounts, ended_by, no_end}
 use Rattle.mdb_cashless.specs.Units.{own}
 use Rattle.mdb_cashless.specs.ReaderMessages.{config_in, last_said, messages_of, parts_of}
@@ -45,27 +42,13 @@ TakesNone unit so_far =
     All (λ act. (ends_transactions unit act ≡ false) × (transaction_taken_by unit act ≡ None))
     so_far
 
--- What always idle may be after acts: on or off, and its last transaction a VEND REQUEST or not,
--- each as far as it isn't known.
-pub record MayIdle (unit : ReaderUnit) (setups : Setups) (profile : Profile) (so_far : List Act)
-    : Type 0 where
-  pub on : Bool
-  pub may_be_on : Allows (known_idle (extended_of (Joined setups profile) unit so_far)) on
-  pub request : Bool
-  pub may_be_request : Allows (known_requested (extended_of (Joined setups profile) unit so_far))
-      request
-
 -- The facts after acts, as the acts of the recording tell them. They are those from power-on, with
--- four changes: the config message may be known from elsewhere; until a break, or a RESET that the
--- reader takes, no reset message is owed; by the extended profile the controller may do as if it
--- was refused, until it sends a transaction command; and always idle is what it may be.
-abbrev pub facts_recorded : (unit : ReaderUnit) (setups : Setups) (profile : Profile)
-    (so_far : List Act) → MayIdle unit setups profile so_far → Facts
-facts_recorded unit setups profile so_far idle =
-    record (facts_of (Joined setups profile) unit so_far) {
-      config = or_else (last_told (config_by unit) so_far) (config_known setups unit);
-      always_idle = idle.on;
-      requested = idle.request && idle.on;
+-- two changes: the config message may be known from elsewhere, and until a break, or a RESET that
+-- the reader takes, no reset message is owed.
+abbrev pub facts_recorded : ReaderUnit → Setups → List Act → Facts
+facts_recorded unit setups so_far =
+    record (facts_of unit so_far) {
+      config = or_else (facts_of unit so_far).config (config_known setups unit);
       past = past_recorded (effect_of unit) (parts_by unit) so_far;
     }
 
@@ -76,22 +59,22 @@ pub record MayBeAgain (unit : ReaderUnit) (so_far : List Act) (its : Option Read
   pub transaction : Transaction
   pub is : own_transaction its ≡ Some transaction
   pub holds_some : holds ≡ true
-  pub last : (TakesNone unit so_far → ⊥) → last_taken unit so_far ≡ Some transaction
+  pub last : (TakesNone unit so_far → ⊥) → (facts_of unit so_far).taken ≡ Some transaction
 
 -- It may be another, unless the reader holds messages and the acts so far tell that it is the same.
 -- A command that is no transaction is never the last one again.
 abbrev pub MayBeAnother : ReaderUnit → List Act → Option ReaderCommand → Bool → Type 0
 MayBeAnother unit so_far its holds =
     (transaction : Transaction) → own_transaction its ≡ Some transaction → holds ≡ true
-    → (TakesNone unit so_far → ⊥) → last_taken unit so_far ≢ Some transaction
+    → (TakesNone unit so_far → ⊥) → (facts_of unit so_far).taken ≢ Some transaction
 
 -- the state once a command, if one is taken, has had its effect; a transaction and RESET drop what
 -- is held
-abbrev pub effected : Facts → Option ReaderCommand → ReaderState → ReaderState
-effected facts None before = before
-effected facts (Some command) before =
+abbrev pub effected : Option ReaderCommand → ReaderState → ReaderState
+effected None before = before
+effected (Some command) before =
     record before {
-      device = effect_by facts.always_idle command before.device;
+      device = effect command before.device;
       holds = if drops command then false else before.holds;
     }
 
@@ -107,7 +90,7 @@ abbrev pub Takes : ReaderUnit → List Act → Facts → Option ReaderCommand �
     → Ended → Type 0
 Takes unit so_far facts its before after sold =
     (MayBeAgain unit so_far its before.holds × (after ≡ before) × (sold ≡ no_end))
-    ⊎ (MayBeAnother unit so_far its before.holds × (after ≡ effected facts its before)
+    ⊎ (MayBeAnother unit so_far its before.holds × (after ≡ effected its before)
     × (sold ≡ sale facts its before))
 
 -- The first `count` of a reply's kept messages are those that the reader holds. If it holds some,
@@ -117,8 +100,7 @@ Takes unit so_far facts its before after sold =
 abbrev pub AreHeld : ReaderUnit → List Act → Bool → Bool → List ReaderActivity → ℕ → Type 0
 AreHeld unit so_far poll true kept count =
     ((1 ≤ count) × (count ≤ length kept)
-    × ((TellsNone unit so_far → ⊥)
-    → take count kept ≡ (past_of (effect_of unit) (parts_by unit) so_far).last_kept))
+    × ((TellsNone unit so_far → ⊥) → take count kept ≡ (facts_of unit so_far).past.last_kept))
     ⊎ ((poll ≡ false) × (kept ≡ []) × (count ≡ 0))
 AreHeld unit so_far poll false kept count = count ≡ 0
 
@@ -138,8 +120,7 @@ pub record ReplyWay (unit : ReaderUnit) (so_far : List Act) (facts : Facts)
   pub held : AreHeld unit so_far (is_poll command) middle.holds (kept_of (parts_of reply)) count
   pub reset : MayBeKept (owes_reset facts (taken command reply)) (parts_of reply)
   pub known : (TakesNone unit so_far → ⊥) → last ≡ facts.taken
-  pub told : all_told facts.always_idle
-      (is_requested (record facts { taken = last }) (taken command reply))
+  pub told : all_told (or_else (own_transaction (taken command reply)) last)
       (drop count (kept_of (parts_of reply))) middle.device ≡ Some after.device
   pub view : after.view ≡ before.view
   pub holds : after.holds ≡ holds_after (kept_of (parts_of reply)) middle.holds

@@ -15,6 +15,7 @@ use Rattle.mdb_bus.specs.declared.scope.Beginning.{Beginning}
 use Rattle.mdb_machine.specs.declared.choice.Choice.{Choice}
 use Rattle.mdb_machine.specs.declared.choice.Choice.TheVariants.{Lost, Restart}
 use Rattle.mdb_machine.specs.declared.gains.Gains.{Gains}
+use Rattle.mdb_machine.specs.Choices.{is_approval}
 use Rattle.mdb_machine.specs.Gains.{controller_gains, device_gains, in_slots}
 use Rattle.mdb_machine.specs.Kept.{HasNews, held, holds_acked, holds_after, kept_of}
 use Rattle.mdb_machine.specs.Machine.{Machine, StartsIn}
@@ -30,13 +31,14 @@ use Rattle.mdb_cashless.specs.declared.reader.state.ReaderState.{ReaderState}
 use Rattle.mdb_cashless.specs.declared.reader.view.View.{View}
 use Rattle.mdb_cashless.specs.declared.reader.view.View.TheVariants as view
 use Rattle.mdb_cashless.specs.declared.reader.transaction.Ended.{Ended}
+use Rattle.mdb_cashless.specs.declared.reader.transaction.Transaction.{Transaction}
 use Rattle.mdb_cashless.specs.ReaderDevice as reader_device
-use Rattle.mdb_cashless.specs.ReaderDevice.{all_told, effect_by}
+use Rattle.mdb_cashless.specs.ReaderDevice.{all_told, effect}
 use Rattle.mdb_cashless.specs.ReaderFacts.{AllowsFacts, Facts, KnownFacts, config_by, effect_of_own, known_of, messages_by, own_transaction}
 use Rattle.mdb_cashless.specs.ReaderMessages.{config_in, last_said, messages_of, parts_of}
 use Rattle.mdb_cashless.specs.ReaderView as reader_view
-use Rattle.mdb_cashless.specs.ReaderView.{all_heard, awaits, heard, may_as_in_idle, sent}
-use Rattle.mdb_cashless.specs.Transactions.{amounts, ended_by, ends_sale, is_again, is_request, no_end, transaction_of}
+use Rattle.mdb_cashless.specs.ReaderView.{all_heard, awaits, heard, sent}
+use Rattle.mdb_cashless.specs.Transactions.{amounts, ended_by, ends_sale, is_again, no_end, transaction_of}
 use Rattle.mdb_cashless.specs.Units.{own}
 
 -- the power-on state: the reader is Inactive and holds nothing, and the controller knows of no
@@ -95,7 +97,7 @@ abbrev pub take : Facts → ReaderCommand → ReaderState → ReaderState
 take facts command before =
     if is_repeated facts command before.holds then before
     else record {
-      device = effect_by facts.always_idle command before.device;
+      device = effect command before.device;
       view = before.view;
       holds = if drops command then false else before.holds;
     }
@@ -115,9 +117,7 @@ abbrev pub asked : Facts → ReaderCommand → View → Option View
 asked facts reader.Reset before = Some view.NoSession
 asked facts command before =
     elim (transaction_of command) [
-      | Some transaction ↦
-          sent (may_as_in_idle facts.always_idle facts.refused before) facts.asked transaction
-          before
+      | Some transaction ↦ sent facts.asked transaction before
       | None ↦ Some before
     ]
 
@@ -189,13 +189,10 @@ before_messages facts command reply choice before =
 abbrev pub owes_reset : Facts → Option ReaderCommand → Bool
 owes_reset facts command = resets (effect_of_own command) || facts.past.reset_owed
 
--- Whether the last transaction that the reader took is a VEND REQUEST, where a command is taken, if
--- one is. With always idle a session that begins leaves that transaction the last one. (After RESET
--- there is none, but the reader is Inactive then, and no message asks.)
-abbrev pub is_requested : Facts → Option ReaderCommand → Bool
-is_requested facts command =
-    is_request (or_else (own_transaction command) facts.taken)
-    || (is_none (own_transaction command) && facts.requested)
+-- the last transaction that the reader took where a command is taken, if one is (after RESET there
+-- is none, but the reader is Inactive then, and no message asks)
+abbrev pub last_transaction : Facts → Option ReaderCommand → Option Transaction
+last_transaction facts command = or_else (own_transaction command) facts.taken
 
 -- The reader replies with data, which is read as plain or as telling of a restart. If it takes
 -- the command by that, the command has its effect first. Then come the messages: after those that
@@ -208,7 +205,7 @@ pub record ReplyStep (facts : Facts) (command : ReaderCommand) (reply : Reply)
   pub has_news : HasNews (is_poll command) choice (owes_reset facts (taken command reply))
       (held (before_messages facts command reply choice before).holds facts.past.last_kept)
       (parts_of reply) news
-  pub told : all_told facts.always_idle (is_requested facts (taken command reply)) news
+  pub told : all_told (last_transaction facts (taken command reply)) news
       (before_messages facts command reply choice before).device ≡ Some after.device
   pub view : after.view ≡ before.view
   pub holds : after.holds ≡ holds_after (kept_of (parts_of reply))
@@ -262,11 +259,6 @@ machine unit begins = record {
   Starts = StartsIn power_on begins;
   Step = λ acts. StepKnowing unit (known_of begins unit acts);
 }
-
--- whether a message is 05, which tells an amount
-abbrev pub is_approval : ReaderMsg → Bool
-is_approval (messages.VendApproved amount) = true
-is_approval message = false
 
 -- whether the controller tells of an amount by a command to the reader, which ends a sale
 abbrev pub asks_sale : Option ReaderCommand → Bool

@@ -1,6 +1,6 @@
 -- A reader's messages as it keeps them, and what they say of it (MDB/ICP 4.3, cashless device; what
 -- is kept, this profile).
-use Rattle.std.specs.Prelude.{ℕ, Bool, true, false, ◌&&◌, List, [], ◌∷◌, Option, Some, None, ltb, map}
+use Rattle.std.specs.Prelude.{ℕ, Bool, true, false, List, [], ◌∷◌, Option, Some, None, map}
 use Rattle.std.specs.List.{list_any}
 use Rattle.mdb_msgs.specs.declared.reply.Reply.{Reply}
 use Rattle.mdb_msgs.specs.declared.reply.Reply.TheVariants as replies
@@ -53,13 +53,6 @@ begins_session message = false
 
 abbrev pub begin_session : List ReaderMsg → Bool
 begin_session messages = list_any begins_session messages
-
--- whether a message is 0B with a status 01 to 04, or with none, by which a reader refuses what the
--- controller sent before
-abbrev pub refuses : ReaderMsg → Bool
-refuses messages.OutOfSequence = true
-refuses (messages.OutOfSequenceIn status) = ltb 0 status && ltb status 5
-refuses message = false
 
 -- what the last message says that says something of a kind
 abbrev pub last_said : {X : Type 0} → (ReaderMsg → Option X) → List ReaderMsg → Option X

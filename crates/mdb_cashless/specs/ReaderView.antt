@@ -6,41 +6,24 @@ use Rattle.mdb_cashless.specs.declared.reader.transaction.Transaction.{Transacti
 use Rattle.mdb_cashless.specs.declared.reader.transaction.Transaction.TheVariants.{Request, Cancel, Success, Failure, Complete}
 use Rattle.mdb_cashless.specs.declared.reader.view.View.{View}
 use Rattle.mdb_cashless.specs.declared.reader.view.View.TheVariants.{NoSession, Idle, Asked, Waiting, Approved, SuccessOwed, FailureOwed, Ending}
-use Rattle.mdb_machine.specs.Past.{or_else}
 use Rattle.mdb_cashless.specs.Transactions.{is_again}
 
--- The transaction commands that the controller may send in each view, and the view after them,
--- where the reader didn't refuse the last one; the same block is that of the last transaction
--- command sent. Any other it may not send.
-abbrev pub sent_in_turn : Option Transaction → Transaction → View → Option View
-sent_in_turn last (Request price item) Idle = Some Asked
-sent_in_turn last Complete Idle = Some Ending
-sent_in_turn last (Request price item) Asked =
+-- The transaction commands that the controller may send in each view, and the view after them; the
+-- same block is that of the last transaction command sent. Any other it may not send.
+abbrev pub sent : Option Transaction → Transaction → View → Option View
+sent last (Request price item) Idle = Some Asked
+sent last Complete Idle = Some Ending
+sent last (Request price item) Asked =
     if is_again last (Request price item) then Some Asked else None
-sent_in_turn last Cancel Asked = Some Waiting
-sent_in_turn last Cancel Waiting = Some Waiting
-sent_in_turn last (Success item) Approved = Some SuccessOwed
-sent_in_turn last Failure Approved = Some FailureOwed
-sent_in_turn last (Success item) SuccessOwed =
+sent last Cancel Asked = Some Waiting
+sent last Cancel Waiting = Some Waiting
+sent last (Success item) Approved = Some SuccessOwed
+sent last Failure Approved = Some FailureOwed
+sent last (Success item) SuccessOwed =
     if is_again last (Success item) then Some SuccessOwed else None
-sent_in_turn last Failure FailureOwed = Some FailureOwed
-sent_in_turn last Complete Ending = Some Ending
-sent_in_turn last transaction before = None
-
--- Whether the controller may send in a view what it may in Idle, too: where it knows of no session,
--- with always idle, and where it waits for the reader, after that refused the last one.
-abbrev pub may_as_in_idle : (always_idle refused : Bool) → View → Bool
-may_as_in_idle always_idle refused NoSession = always_idle
-may_as_in_idle always_idle refused Idle = false
-may_as_in_idle always_idle refused Approved = false
-may_as_in_idle always_idle refused before = refused
-
--- the view after a transaction command, where the controller may not send what it may in Idle, or
--- may
-abbrev pub sent : Bool → Option Transaction → Transaction → View → Option View
-sent false last transaction before = sent_in_turn last transaction before
-sent true last transaction before =
-    or_else (sent_in_turn last transaction before) (sent_in_turn last transaction Idle)
+sent last Failure FailureOwed = Some FailureOwed
+sent last Complete Ending = Some Ending
+sent last transaction before = None
 
 -- whether the controller has heard the approval of a sale that hasn't ended
 abbrev pub has_approved : View → Bool

@@ -1,3 +1,4 @@
+pub mod Approvals
 pub mod Guesses
 pub mod KnowingReader
 pub mod PlainReader

@@ -18,11 +18,15 @@ ghost use Rattle.mdb_machine.specs.declared.gains.Gains.{Gains};
 ghost use Rattle.mdb_machine.specs.Pair.{IsBreak, own_acts};
 ghost use Rattle.mdb_cashless.specs.declared.reader.state.ReaderState.{ReaderState};
 ghost use Rattle.mdb_cashless.specs.declared.reader.transaction.Transaction.{Transaction};
-ghost use Rattle.mdb_cashless.specs.MidSession.{AckWay, IsSettled, MayIdle, ReplyWay, SendsNone};
+ghost use Rattle.mdb_cashless.specs.declared.approvals.state.ApprovalState.{ApprovalState};
+ghost use Rattle.mdb_cashless.specs.ByProfile as by_profile;
+ghost use Rattle.mdb_cashless.specs.ExtendedReader as extended;
+ghost use Rattle.mdb_cashless.specs.ExtendedSales as sales;
+ghost use Rattle.mdb_cashless.specs.MidSession.{AckWay, IsSettled, ReplyWay, SendsNone};
 ghost use Rattle.mdb_cashless.specs.MidSession.{facts_recorded};
 ghost use Rattle.mdb_cashless.specs.Reader.{AskStep, ReaderStep, machine, unvalued};
 ghost use Rattle.mdb_cashless.specs.ReaderFacts.{AllowsFacts, Facts, facts_of, known_of};
-ghost use Rattle.mdb_cashless.specs.Sales.{IsApproved, MayBeRequestedBefore};
+ghost use Rattle.mdb_cashless.specs.Sales.{IsApproved, MayBeRequestedBefore, SalesAreApproved};
 ghost use Rattle.mdb_cashless.specs.Transactions.{is_same, transaction_of};
 ghost use Rattle.mdb_cashless.specs.shared.SaleViews.{AcksLastReply, MayTellOfSale};
 
@@ -65,33 +69,34 @@ pub fn from_power_on_all_is_known_of_a_reader()
     ensures facts { (unit : ReaderUnit) (profile : Profile) (so_far : List Act) (holds : Bool)
         (facts : Facts)
         → AllowsFacts (known_of (PowerOn profile) unit so_far) holds facts
-        ↔ (facts ≡ facts_of (PowerOn profile) unit so_far) }
+        ↔ (facts ≡ facts_of unit so_far) }
     ensures steps { (unit : ReaderUnit) (profile : Profile) (so_far : List Act) (act : Act)
         (choice : Choice) (before after : ReaderState) (gains : Gains)
         → (machine unit (PowerOn profile)).Step so_far act choice before after gains
-        ↔ ReaderStep unit (facts_of (PowerOn profile) unit so_far) act choice before after gains }
+        ↔ ReaderStep unit (facts_of unit so_far) act choice before after gains }
 {}
 
-/// What is known of a reader after acts, and the amounts without a value that they tell of it,
-/// depend on its own acts among them alone.
+/// By either profile, what is known of a reader after acts, and the amounts without a value that
+/// they tell of it, depend on its own acts among them alone.
 pub fn a_readers_facts_are_of_its_own_acts()
     ensures known { (begins : Beginning) (unit : ReaderUnit) (so_far other : List Act)
         → own_acts (devices.Reader unit) so_far ≡ own_acts (devices.Reader unit) other
-        → known_of begins unit so_far ≡ known_of begins unit other }
+        → by_profile.facts_of begins unit so_far ≡ by_profile.facts_of begins unit other }
     ensures unvalued { (begins : Beginning) (unit : ReaderUnit) (so_far other : List Act)
         → own_acts (devices.Reader unit) so_far ≡ own_acts (devices.Reader unit) other
-        → unvalued unit begins so_far ≡ unvalued unit begins other }
+        → by_profile.unvalued unit begins so_far ≡ by_profile.unvalued unit begins other }
 {}
 
-/// Where a reader has a part in no acts but breaks, its config message is that of no act, and no
-/// amount of it is reported.
+/// By either profile, where a reader has a part in no acts but breaks, its config message is that
+/// of no act, and no amount of it is reported.
 pub fn breaks_tell_nothing_of_a_reader()
     ensures config { (begins : Beginning) (unit : ReaderUnit) (so_far : List Act)
         → All IsBreak (own_acts (devices.Reader unit) so_far)
-        → (known_of begins unit so_far).config ≡ (known_of begins unit []).config }
+        → by_profile.config_of (by_profile.facts_of begins unit so_far)
+        ≡ by_profile.config_of (by_profile.facts_of begins unit []) }
     ensures unvalued { (begins : Beginning) (unit : ReaderUnit) (so_far : List Act)
         → All IsBreak (own_acts (devices.Reader unit) so_far)
-        → unvalued unit begins so_far ≡ 0 }
+        → by_profile.unvalued unit begins so_far ≡ 0 }
 {}
 
 /// Where a recording begins in mid-session, a reader has these ways and no other. As long as the
@@ -100,39 +105,58 @@ pub fn breaks_tell_nothing_of_a_reader()
 /// transaction that the reader takes while it holds messages is the last one again or another, and
 /// of a reply's kept messages some, from the first on, are those that it holds (`acked`,
 /// `replied`). Any other act leads where it does after the facts that the acts tell (`settled`).
-/// Always idle may be what it may, at each act anew, and is the same for both sides at one act.
 pub fn in_mid_session_a_reader_has_these_ways_alone()
     ensures sent { (unit : ReaderUnit) (setups : Setups) (profile : Profile) (so_far : List Act)
         (command : ReaderCommand) (choice : Choice) (before after : ReaderState) (gains : Gains)
         → SendsNone unit so_far
         → (machine unit (Joined setups profile)).Step so_far
         (acts.Ask (commands.Reader unit command)) choice before after gains
-        ↔ (idle : MayIdle unit setups profile so_far)
-        × AskStep (record (facts_recorded unit setups profile so_far idle)
-        { asked = transaction_of command })
+        ↔ AskStep (record (facts_recorded unit setups so_far) { asked = transaction_of command })
         command before after gains }
     ensures acked { (unit : ReaderUnit) (setups : Setups) (profile : Profile) (so_far : List Act)
         (command : ReaderCommand) (choice : Choice) (before after : ReaderState) (gains : Gains)
         → (machine unit (Joined setups profile)).Step so_far
         (acts.Ack (commands.Reader unit command)) choice before after gains
-        ↔ (idle : MayIdle unit setups profile so_far)
-        × AckWay unit so_far (facts_recorded unit setups profile so_far idle) command choice before
-        after gains }
+        ↔ AckWay unit so_far (facts_recorded unit setups so_far) command choice before after
+        gains }
     ensures replied { (unit : ReaderUnit) (setups : Setups) (profile : Profile) (so_far : List Act)
         (command : ReaderCommand) (reply : Reply) (choice : Choice) (before after : ReaderState)
         (gains : Gains)
         → (machine unit (Joined setups profile)).Step so_far
         (acts.Reply (commands.Reader unit command) reply) choice before after gains
-        ↔ (idle : MayIdle unit setups profile so_far)
-        × ReplyWay unit so_far (facts_recorded unit setups profile so_far idle) command reply choice
-        before after gains }
+        ↔ ReplyWay unit so_far (facts_recorded unit setups so_far) command reply choice before
+        after gains }
     ensures settled { (unit : ReaderUnit) (setups : Setups) (profile : Profile) (so_far : List Act)
         (act : Act) (choice : Choice) (before after : ReaderState) (gains : Gains)
         → IsSettled unit so_far act
         → (machine unit (Joined setups profile)).Step so_far act choice before after gains
-        ↔ (idle : MayIdle unit setups profile so_far)
-        × ReaderStep unit (facts_recorded unit setups profile so_far idle) act choice before after
-        gains }
+        ↔ ReaderStep unit (facts_recorded unit setups so_far) act choice before after gains }
 {
     transactions_with_the_same_fields_are_the_same();
 }
+
+/// By the extended profile the controller may ask VEND SUCCESS exactly where its sale is approved,
+/// or
+/// may have been requested before the recording, if each VEND SUCCESS before it was.
+pub fn a_sale_is_told_exactly_where_it_is_approved()
+    ensures only { (unit : ReaderUnit) (begins : Beginning) (so_far : List Act) (item : ℕ)
+        (choice : Choice) (before after : ApprovalState) (gains : Gains)
+        → sales.AcksAreOfReplies so_far → sales.SalesAreApproved begins unit so_far
+        → (extended.machine unit begins).Step so_far
+        (acts.Ask (commands.Reader unit (readers.VendSuccess item))) choice before after gains
+        → sales.IsApproved unit item so_far ⊎ MayBeRequestedBefore begins unit so_far }
+    ensures each { (unit : ReaderUnit) (begins : Beginning) (so_far : List Act) (item : ℕ)
+        (choice : Choice) (before : ApprovalState)
+        → sales.IsApproved unit item so_far ⊎ MayBeRequestedBefore begins unit so_far
+        → (after : ApprovalState) × (gains : Gains) × (extended.machine unit begins).Step so_far
+        (acts.Ask (commands.Reader unit (readers.VendSuccess item))) choice before after gains }
+{}
+
+/// A sale that is approved by the extended profile is approved by the papers' law, too. There the
+/// same VEND REQUEST may come again.
+pub fn sales_of_the_extended_profile_are_approved()
+    ensures one { (unit : ReaderUnit) (item : ℕ) (so_far : List Act)
+        → sales.IsApproved unit item so_far → IsApproved unit item so_far }
+    ensures all { (begins : Beginning) (unit : ReaderUnit) (so_far : List Act)
+        → sales.SalesAreApproved begins unit so_far → SalesAreApproved begins unit so_far }
+{}

@@ -14,7 +14,6 @@ ghost use Rattle.mdb_cashless.specs.Units as units;
 
 mod answers;
 pub(crate) mod device;
-pub(crate) mod extended;
 pub(crate) mod facts;
 mod guesses;
 pub(crate) mod known;
@@ -23,15 +22,15 @@ pub(crate) mod state;
 mod steps;
 mod taking;
 pub(crate) mod transaction;
-mod unit;
-mod unvalued;
-mod values;
+pub(crate) mod unit;
+pub(crate) mod unvalued;
+pub(crate) mod values;
 pub(crate) mod view;
 
 use arrayvec::ArrayVec;
 use guesses::{step_settled, steps};
 use known::ReaderKnown;
-use mdb_bus::{Act, Beginning};
+use mdb_bus::{Act, Beginning, Profile};
 use mdb_machine::{Choice, Gains, HasCode, Pair, coded};
 use mdb_msgs::Device;
 use state::{READER_STATES, ReaderState};
@@ -83,6 +82,10 @@ impl<const UNIT: usize> Pair for Reader<UNIT> {
             Beginning::PowerOn(_) => state == ReaderState::power_on(),
             Beginning::Joined(_, _) => true,
         }
+    }
+
+    fn power_on(_: Profile) -> ReaderState {
+        ReaderState::power_on()
     }
 
     fn facts_start(begins: &Beginning) -> ReaderKnown {

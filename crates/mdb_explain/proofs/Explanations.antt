@@ -8,7 +8,7 @@ use Rattle.mdb_words.specs.Digits.{IsDecimal}
 use Rattle.mdb_words.specs.Row.{row_fields}
 use Rattle.mdb_follow.specs.declared.follower.TheConstants.{ROWS_MAX}
 use Rattle.mdb_explained_runs.specs.declared.mark.Mark.{Mark}
-use Rattle.mdb_explained_runs.specs.declared.mark.Mark.TheVariants.{Lost, Restart}
+use Rattle.mdb_explained_runs.specs.declared.mark.Mark.TheVariants.{Lost}
 use Rattle.mdb_explain.specs.Explain.{explanation_records, explanation_text, mark_fields}
 use Rattle.mdb_explain.specs.Replay.{AreMarkRows, IsMarkRow, dash, mark_letter}
 use Rattle.mdb_verdict.specs.Rows.{AreRows}
@@ -33,7 +33,7 @@ plain_rows (fields ∷ records) [] told = absurd told
 
 letter_plain : (mark : Mark) → IsPlainByte (mark_letter mark)
 letter_plain Lost = (omega arith, omega arith)
-letter_plain Restart = (omega arith, omega arith)
+letter_plain _ = (omega arith, omega arith)
 
 abbrev IsWithin : ℕ × Mark → Type 0
 IsWithin mark = mark.0 ≤ ROWS_MAX

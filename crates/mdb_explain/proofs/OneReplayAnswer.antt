@@ -18,7 +18,7 @@ use Rattle.mdb_words.specs.Row.{IsRow, break_letter, letter_of}
 use Rattle.mdb_bus.specs.declared.scope.Scope.{Scope}
 use Rattle.mdb_bus.specs.ActLists.{ArePieces, Piece, acts_of, events_of}
 use Rattle.mdb_explained_runs.specs.declared.mark.Mark.{Mark}
-use Rattle.mdb_explained_runs.specs.declared.mark.Mark.TheVariants.{Lost, Restart}
+use Rattle.mdb_explained_runs.specs.declared.mark.Mark.TheVariants.{Lost, Restart, Again}
 use Rattle.mdb_follow.specs.declared.offence.Offence.{Offence}
 use Rattle.mdb_explained_runs.specs.declared.replay.ReplayFault.{ReplayFault}
 use Rattle.mdb_explained_runs.specs.declared.replay.ReplayFault.TheVariants as faults
@@ -222,21 +222,20 @@ one_same a b same = cc same
 -- a letter is that of one mark, and of no row
 letter_one : (one other : Mark) → mark_letter one ≡ mark_letter other → one ≡ other
 letter_one Lost Lost same = refl
-letter_one Lost Restart same = absurd (omega (arith, same))
-letter_one Restart Lost same = absurd (omega (arith, same))
 letter_one Restart Restart same = refl
+letter_one Again Again same = refl
+letter_one _ _ same = absurd (omega (arith, same))
 
 line_apart : (line : Line) (mark : Mark) → letter_of line ≡ mark_letter mark → ⊥
 line_apart Controller Lost same = omega (arith, same)
-line_apart Controller Restart same = omega (arith, same)
 line_apart Peripheral Lost same = omega (arith, same)
-line_apart Peripheral Restart same = omega (arith, same)
+line_apart _ _ same = omega (arith, same)
 
 break_apart : (mark : Mark) → break_letter ≡ mark_letter mark → ⊥
 break_apart Lost same = omega (arith, same)
-break_apart Restart same = omega (arith, same)
+break_apart _ same = omega (arith, same)
 
-row_not_mark : (fields : List (List ℕ)) (event : Event) → IsRow fields event → IsForMark fields
+pub row_not_mark : (fields : List (List ℕ)) (event : Event) → IsRow fields event → IsForMark fields
     → ⊥
 row_not_mark fields (Word at line word) row own =
     let same = three_same row.0 (letter_of line ∷ []) row.1 own.number

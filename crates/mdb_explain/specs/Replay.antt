@@ -8,7 +8,7 @@ use Rattle.mdb_words.specs.Digits.{IsDecimal}
 use Rattle.mdb_words.specs.Row.{IsRow, IsRefusal}
 use Rattle.mdb_bus.specs.declared.scope.Scope.{Scope}
 use Rattle.mdb_explained_runs.specs.declared.mark.Mark.{Mark}
-use Rattle.mdb_explained_runs.specs.declared.mark.Mark.TheVariants.{Lost, Restart}
+use Rattle.mdb_explained_runs.specs.declared.mark.Mark.TheVariants.{Lost, Restart, Again}
 use Rattle.mdb_follow.specs.declared.offence.Offence.{Offence}
 use Rattle.mdb_follow.specs.declared.report.Report.{Report}
 use Rattle.mdb_explained_runs.specs.ReplayFaults.{HasMarkedRun, IsMarkFault, IsReplayOffence}
@@ -23,10 +23,12 @@ use Rattle.mdb_verdict.specs.declared.fault.RunFault.TheVariants as run
 use Rattle.mdb_verdict.specs.Verdict.{IsOwnAnswer}
 use Rattle.mdb_verdict.specs.Rows.{AreRows}
 
--- the letter of a mark: `L` where something was lost, `R` for a restart
+-- the letter of a mark: `L` where something was lost, `R` for a restart, and `C` for an approval
+-- that is told again
 abbrev pub mark_letter : Mark → ℕ
 mark_letter Lost = 76
 mark_letter Restart = 82
+mark_letter Again = 67
 
 -- a field that is one dash
 abbrev pub dash : List ℕ

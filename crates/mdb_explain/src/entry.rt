@@ -77,6 +77,7 @@ fn mark_of(letter: &[u8]) -> Option<Mark>
     match letter {
         [b'L'] => Some(Mark::Lost),
         [b'R'] => Some(Mark::Restart),
+        [b'C'] => Some(Mark::Again),
         _ => None,
     }
 }

@@ -58,6 +58,7 @@ fn push_mark(page: &mut Page, mark: &(u64, Mark))
     match mark.1 {
         Mark::Lost => page.push(b",L,-\n"),
         Mark::Restart => page.push(b",R,-\n"),
+        Mark::Again => page.push(b",C,-\n"),
     }
 }
 

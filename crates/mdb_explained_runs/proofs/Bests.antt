@@ -1,5 +1,5 @@
 -- What is as good as what, and entries that are taken in.
-use Rattle.std.proofs.Common.{arith, inl, inr, sym, subst, ap, ◌∙◌, ◌≡◌, ◌⊎◌, ◌+◌, ◌<◌, ◌≤◌, ℕ, ℤ}
+use Rattle.std.proofs.Common.{arith, inl, inr, refl, sym, subst, ap, ◌∙◌, ◌≡◌, ◌≢◌, ◌⊎◌, ◌+◌, ◌<◌, ◌≤◌, ℕ, ℤ}
 use Rattle.std.proofs.Common.{◌+ℤ◌, List, [], ◌∷◌, ◌++◌, length, set, take, get_or, Contains}
 use Rattle.std.proofs.lemmas.Bool.{cases_eq}
 use Rattle.std.proofs.lemmas.Int.{ints}
@@ -9,7 +9,7 @@ use Rattle.std.proofs.lemmas.List.Elements.{Contains-append_left, Contains-push}
 use Rattle.std.proofs.lemmas.List.Elements.{Contains-get_or, Contains-push_cases}
 use Rattle.mdb_explained_runs.specs.declared.explain.best.Best.{Best}
 use Rattle.mdb_machine.specs.declared.choice.Choice.{Choice}
-use Rattle.mdb_machine.specs.declared.choice.Choice.TheVariants.{Plain, Lost, Restart}
+use Rattle.mdb_machine.specs.declared.choice.Choice.TheVariants.{Plain}
 use Rattle.mdb_explained_runs.specs.Marks.{marks_at}
 use Rattle.mdb_explained_runs.specs.inner.Paths.{HasAsGood, HasCodeAt, IsAsGood, IsBestOf, TakesIn}
 use Rattle.mdb_follow.proofs.Listed.{contains-cases, contains-here, contains-there}
@@ -58,6 +58,13 @@ has-weaker entries code a m b n good has = record {
   listed = has.listed;
   good = as_good-then has.best.value has.best.marks a m b n has.good good;
 }
+
+-- and as what has more marks
+pub has-more : (entries : List (ℕ × Best)) (code : ℕ) (value : ℤ) (some more : ℕ) → some ≤ more
+    → HasAsGood entries code value some → HasAsGood entries code value more
+has-more entries code value some more fewer =
+    has-weaker entries code value some value more
+    (record { no_greater = omega (arith, ints); no_more = λ _. fewer })
 
 -- an element in place of another
 
@@ -202,8 +209,13 @@ has-counted entries code a b m n same few has =
 -- a choice has one mark at most
 pub marks-few : (row : ℕ) (choice : Choice) → length (marks_at row choice) ≤ 1
 marks-few row Plain = omega arith
-marks-few row Lost = omega arith
-marks-few row Restart = omega arith
+marks-few row choice = omega arith
+
+-- another than the plain one has as many as any
+pub marks-most : (row : ℕ) (one choice : Choice) → choice ≢ Plain
+    → length (marks_at row one) ≤ length (marks_at row choice)
+marks-most row one Plain not = absurd (not refl)
+marks-most row one choice not = marks-few row one
 
 -- the best so far: the first or one of the rest, and as good as the first and so many of the rest
 pub record IsBestSoFar (rest : List (ℕ × Best)) (first : Best) (i : ℕ) (best : Best)

@@ -9,6 +9,8 @@ pub mod MarkedFronts
 pub mod MarkedRuns
 pub mod Merging
 pub mod NothingLeftOut
+pub mod OneApproval
+pub mod OneKind
 pub mod OneReplayFault
 pub mod OneStep
 pub mod OwnMarks

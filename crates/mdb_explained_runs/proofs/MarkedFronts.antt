@@ -14,12 +14,12 @@ use Rattle.mdb_bus.specs.declared.scope.Beginning.{Beginning}
 use Rattle.mdb_bus.specs.declared.scope.Profile.{Profile}
 use Rattle.mdb_bus.specs.declared.scope.Scope.{Scope}
 use Rattle.mdb_bus.specs.Acts.{IsForeign, IsForeignOpening, Say, said_by}
-use Rattle.mdb_bus.specs.ActLists.{AskTail, ForeignMayCome, IsActList, IsPiece, IsTail, MayStand}
-use Rattle.mdb_bus.specs.ActLists.{Piece, RepeatTail, ReplyTail, Whole, acts_of, events_of, last_of}
+use Rattle.mdb_bus.specs.ActLists.{ForeignMayCome, IsActList, IsPiece, IsTail, MayStand}
+use Rattle.mdb_bus.specs.ActLists.{Piece, Whole, acts_of, events_of, last_of}
 use Rattle.mdb_bus.specs.ActLists.{left_by, piece_events, position_of, with_act}
 use Rattle.mdb_bus.specs.Scopes.{profile_of}
 use Rattle.mdb_machine.specs.declared.choice.Choice.{Choice}
-use Rattle.mdb_machine.specs.declared.choice.Choice.TheVariants.{Plain, Lost, Restart}
+use Rattle.mdb_machine.specs.declared.choice.Choice.TheVariants.{Plain, Again}
 use Rattle.mdb_machine.specs.Choices.{CanStand}
 use Rattle.mdb_explained_runs.specs.declared.mark.Mark.{Mark}
 use Rattle.mdb_follow.specs.Choosing.{AllFollow, Choices, choices_of}
@@ -106,13 +106,8 @@ two_words scope events front last some long (inr word) =
 no_block : (profile : Profile) (tail : Piece) → IsTail tail → (from : Option Event) (to : Event)
     → ForeignMayCome profile (left_by tail) from to → ⊥
 no_block profile (Whole act events) is from to comes = is
-no_block profile (AskTail bytes events) is from to (inl block) = block.1
-no_block profile (AskTail bytes events) is from to (inr word) = absurd (cc word.1)
-no_block profile (ReplyTail command bytes events) is from to (inl block) = block.1
-no_block profile (ReplyTail command bytes events) is from to (inr word) = absurd (cc word.1)
-no_block profile (RepeatTail command reply words events) is from to (inl block) = block.1
-no_block profile (RepeatTail command reply words events) is from to (inr word) =
-    absurd (cc word.1)
+no_block profile tail is from to (inl block) = block.1
+no_block profile tail is from to (inr word) = absurd (cc word.1)
 
 -- acts that go on by one act at most, where both end in one more than others, end in the same
 same_act : (more : Option Act) (one other : Act) (acts : List Act)
@@ -134,18 +129,8 @@ newest_is scope rows events (Whole act shown) rest more list ends =
       list = list;
       from = inr (inr (events, shown, refl, ap (λ a. Whole a shown ∷ rest) (sym same)));
     }
-newest_is scope rows events (AskTail bytes shown) rest more list ends =
-    record { before = AskTail bytes shown ∷ rest; list = list; from = inr (inl (_, tt, refl)) }
-newest_is scope rows events (ReplyTail command bytes shown) rest more list ends = record {
-  before = ReplyTail command bytes shown ∷ rest;
-  list = list;
-  from = inr (inl (_, tt, refl));
-}
-newest_is scope rows events (RepeatTail command reply words shown) rest more list ends = record {
-  before = RepeatTail command reply words shown ∷ rest;
-  list = list;
-  from = inr (inl (_, tt, refl));
-}
+newest_is scope rows events tail rest more list ends =
+    record { before = tail ∷ rest; list = list; from = inr (inl (_, tt, refl)) }
 
 -- a piece has events
 piece_some : (scope : Scope) (rest : List Piece) (piece : Piece) → MayStand scope rest piece
@@ -300,7 +285,7 @@ kept_rest begins number (Whole act events) rest count chosen states sums ways = 
   at = subst (λ n. All (IsAt n) (marks_at (length (events_of rest ++ events)) chosen.choice)) count
       (at_row (length (events_of rest ++ events)) chosen.choice);
 }
-kept_rest begins number (AskTail bytes events) rest count chosen states sums ways = record {
+kept_rest begins number tail rest count chosen states sums ways = record {
   chosen = chosen;
   states = states;
   sums = sums;
@@ -309,52 +294,13 @@ kept_rest begins number (AskTail bytes events) rest count chosen states sums way
   are = sym (append-nil (marks_of rest chosen));
   at = All-nil (IsAt number);
 }
-kept_rest begins number (ReplyTail command bytes events) rest count chosen states sums ways =
-    record {
-      chosen = chosen;
-      states = states;
-      sums = sums;
-      ways = ways;
-      back = [];
-      are = sym (append-nil (marks_of rest chosen));
-      at = All-nil (IsAt number);
-    }
-kept_rest begins number (RepeatTail command reply words events) rest count chosen states sums
-    ways =
-    record {
-      chosen = chosen;
-      states = states;
-      sums = sums;
-      ways = ways;
-      back = [];
-      are = sym (append-nil (marks_of rest chosen));
-      at = All-nil (IsAt number);
-    }
 
 -- a tail adds nothing
 kept_tail : (begins : Beginning) (number : ℕ) (marks : List (ℕ × Mark)) (tail : Piece)
     (rest : List Piece) → IsTail tail → Kept begins number marks rest
     → Kept begins number marks (tail ∷ rest)
 kept_tail begins number marks (Whole act events) rest is kept = absurd is
-kept_tail begins number marks (AskTail bytes events) rest is kept = record {
-  chosen = kept.chosen;
-  states = kept.states;
-  sums = kept.sums;
-  ways = kept.ways;
-  back = kept.back;
-  are = kept.are;
-  at = kept.at;
-}
-kept_tail begins number marks (ReplyTail command bytes events) rest is kept = record {
-  chosen = kept.chosen;
-  states = kept.states;
-  sums = kept.sums;
-  ways = kept.ways;
-  back = kept.back;
-  are = kept.are;
-  at = kept.at;
-}
-kept_tail begins number marks (RepeatTail command reply words events) rest is kept = record {
+kept_tail begins number marks tail rest is kept = record {
   chosen = kept.chosen;
   states = kept.states;
   sums = kept.sums;
@@ -368,8 +314,8 @@ kept_tail begins number marks (RepeatTail command reply words events) rest is ke
 foreign_alike : (choice : Choice) → CanStand acts.Foreign choice → (one other : ℕ)
     → marks_at one choice ≡ marks_at other choice
 foreign_alike Plain stands one other = refl
-foreign_alike Lost stands one other = absurd stands
-foreign_alike Restart stands one other = absurd stands
+foreign_alike Again stands one other = absurd cc
+foreign_alike _ stands one other = absurd stands
 
 kept_foreign : (begins : Beginning) (number : ℕ) (events shown : List Event) (rest : List Piece)
     (chosen : Choices (acts_of (Whole acts.Foreign events ∷ rest))) (states : States)

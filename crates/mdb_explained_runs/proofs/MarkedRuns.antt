@@ -2,6 +2,8 @@
 use Rattle.std.proofs.Common.{arith, refl, sym, ap, subst, ◌∙◌, ◌≡◌, ◌⊎◌, ◌↔◌, inl, inr}
 use Rattle.std.proofs.Common.{ℕ, zero, suc, ◌+◌, ◌<◌, List, [], ◌∷◌, ◌++◌, length}
 use Rattle.std.proofs.Common.{get_or, length-append, All, Contains}
+use Rattle.std.proofs.Common.{Option, Some, None, true}
+use Rattle.std.proofs.Math.Bool.{Bool-set}
 use Rattle.std.proofs.lemmas.List.{append-nil, same_from_push}
 use Rattle.std.proofs.lemmas.List.Elements.{All-append, All-contains, All-nil, All-tail, All-weaker}
 use Rattle.std.proofs.lemmas.List.Elements.{All-push, Contains-append_right, Contains-push}
@@ -9,15 +11,15 @@ use Rattle.mdb_words.specs.declared.event.Event.{Event}
 use Rattle.mdb_bus.specs.declared.act.Act.{Act}
 use Rattle.mdb_bus.specs.declared.act.Act.TheVariants as kinds
 use Rattle.mdb_bus.specs.declared.scope.Scope.{Scope}
-use Rattle.mdb_bus.specs.ActLists.{ArePieces, Piece, Whole, AskTail, ReplyTail, RepeatTail, acts_of}
+use Rattle.mdb_bus.specs.ActLists.{ArePieces, Piece, Whole, acts_of}
 use Rattle.mdb_bus.specs.ActLists.{events_of}
 use Rattle.mdb_machine.specs.declared.choice.Choice.{Choice}
-use Rattle.mdb_machine.specs.declared.choice.Choice.TheVariants.{Plain, Lost, Restart}
-use Rattle.mdb_machine.specs.Choices.{CanStand}
+use Rattle.mdb_machine.specs.declared.choice.Choice.TheVariants.{Plain, Lost, Restart, Again}
+use Rattle.mdb_machine.specs.Choices.{CanStand, approves}
 use Rattle.mdb_explained_runs.specs.declared.mark.Mark.{Mark}
 use Rattle.mdb_explained_runs.specs.declared.mark.Mark.TheVariants as marks
 use Rattle.mdb_follow.specs.Choosing.{Choices, ChoicesBy}
-use Rattle.mdb_explained_runs.specs.Marks.{Rise, StandsWithin, marks_at, marks_of}
+use Rattle.mdb_explained_runs.specs.Marks.{Rise, StandsWithin, choice_by, marks_at, marks_of, with_mark}
 
 -- a mark stands before a row
 abbrev pub IsBefore : ℕ → ℕ × Mark → Type 0
@@ -30,8 +32,7 @@ IsAt row mark = mark.0 ≡ row
 -- the marks of a choice stand at their row
 pub at_row : (row : ℕ) (choice : Choice) → All (IsAt row) (marks_at row choice)
 at_row row Plain = All-nil (IsAt row)
-at_row row Lost = All-push (IsAt row) [] (row, marks.Lost) (All-nil (IsAt row)) refl
-at_row row Restart = All-push (IsAt row) [] (row, marks.Restart) (All-nil (IsAt row)) refl
+at_row row choice = All-push (IsAt row) [] _ (All-nil (IsAt row)) refl
 
 -- marks within some rows are within these and more
 longer : (rows more : List Event) (so_far : List (ℕ × Mark))
@@ -58,12 +59,8 @@ all_within scope (Whole act events ∷ pieces) chosen are =
     (All-weaker (IsAt row) (StandsWithin row)
     (λ mark is. omega (arith, is, rows, some)) (marks_at row chosen.choice)
     (at_row row chosen.choice))
-all_within scope (AskTail bytes events ∷ pieces) chosen are =
-    longer (events_of pieces) events (marks_of pieces chosen) (all_within scope pieces chosen are.2)
-all_within scope (ReplyTail command bytes events ∷ pieces) chosen are =
-    longer (events_of pieces) events (marks_of pieces chosen) (all_within scope pieces chosen are.2)
-all_within scope (RepeatTail command reply words events ∷ pieces) chosen are =
-    longer (events_of pieces) events (marks_of pieces chosen) (all_within scope pieces chosen are.2)
+all_within scope (tail ∷ pieces) chosen are =
+    longer (events_of pieces) _ (marks_of pieces chosen) (all_within scope pieces chosen are.2)
 
 -- and before the row of one that comes after them
 pub all_before : (scope : Scope) (act : Act) (events : List Event) (pieces : List Piece)
@@ -82,8 +79,7 @@ all_before scope act events pieces chosen are =
 pub rise-more : (row : ℕ) (choice : Choice) (so_far : List (ℕ × Mark)) → Rise so_far
     → All (IsBefore row) so_far → Rise (so_far ++ marks_at row choice)
 rise-more row Plain [] rise before = tt
-rise-more row Lost [] rise before = (All-nil _, tt)
-rise-more row Restart [] rise before = (All-nil _, tt)
+rise-more row choice [] rise before = (All-nil _, tt)
 rise-more row choice (mark ∷ so_far) rise before =
     let less : mark.0 < row = before 0 mark (omega arith) in (
       All-append (λ later. mark.0 < later.0) so_far (marks_at row choice) rise.0
@@ -100,11 +96,7 @@ marks_rise scope (Whole act events ∷ pieces) chosen are =
     rise-more (length (events_of pieces ++ events)) chosen.choice (marks_of pieces chosen.before)
     (marks_rise scope pieces chosen.before are.2)
     (all_before scope act events pieces chosen.before are)
-marks_rise scope (AskTail bytes events ∷ pieces) chosen are = marks_rise scope pieces chosen are.2
-marks_rise scope (ReplyTail command bytes events ∷ pieces) chosen are =
-    marks_rise scope pieces chosen are.2
-marks_rise scope (RepeatTail command reply words events ∷ pieces) chosen are =
-    marks_rise scope pieces chosen are.2
+marks_rise scope (tail ∷ pieces) chosen are = marks_rise scope pieces chosen are.2
 
 -- a choice stands on an act in one way
 stands_alike : (act : Act) (choice : Choice) (one other : CanStand act choice) → one ≡ other
@@ -112,6 +104,7 @@ stands_alike act Plain one other = refl
 stands_alike (kinds.Ack command) Lost one other = refl
 stands_alike (kinds.VmcAck command reply) Lost one other = refl
 stands_alike (kinds.Reply command reply) Restart one other = refl
+stands_alike act Again one other = Bool-set (approves act) true one other
 stands_alike _ _ one other = absurd one
 
 -- so what is chosen of an act and of those before it is one by its choices
@@ -126,43 +119,55 @@ same_choices act acts one other same before =
       before = before i;
     }) other.stands
 
+-- each choice is that of a mark, or of none
+mark_of : (choice : Choice) → (mark : Option Mark) × (choice ≡ choice_by mark)
+mark_of Plain = (None, refl)
+mark_of Lost = (Some marks.Lost, refl)
+mark_of Restart = (Some marks.Restart, refl)
+mark_of Again = (Some marks.Again, refl)
+
+-- which has that mark
+pub at-mark : (row : ℕ) (mark : Option Mark) (so_far : List (ℕ × Mark))
+    → so_far ++ marks_at row (choice_by mark) ≡ with_mark row mark so_far
+at-mark row None so_far = append-nil so_far
+at-mark row (Some marks.Lost) so_far = refl
+at-mark row (Some marks.Restart) so_far = refl
+at-mark row (Some marks.Again) so_far = refl
+
 -- a mark at a row is none of those before it
 none_at : (row : ℕ) (mark : Mark) (so_far others : List (ℕ × Mark)) → All (IsBefore row) so_far
-    → so_far ++ [] ≡ others ++ (row, mark) ∷ [] → ⊥
+    → so_far ≡ others ++ (row, mark) ∷ [] → ⊥
 none_at row mark so_far others before same =
     let less : row < row =
     All-contains (IsBefore row) (others ++ (row, mark) ∷ []) (row, mark)
-    (subst (All (IsBefore row)) (sym (append-nil so_far) ∙ same) before)
-    (Contains-push others (row, mark)) in
+    (subst (All (IsBefore row)) same before) (Contains-push others (row, mark)) in
     omega (arith, less)
 
--- marks with those of one choice more at a later row tell of it, and of those before
+-- marks with one more at a later row, or none, tell of it, and of those before
+same_marked : (row : ℕ) (one other : List (ℕ × Mark)) (mark next : Option Mark)
+    → All (IsBefore row) one → All (IsBefore row) other
+    → with_mark row mark one ≡ with_mark row next other → (one ≡ other) × (mark ≡ next)
+same_marked row one other None None before also same = (same, refl)
+same_marked row one other None (Some mark) before also same =
+    absurd (none_at row mark one other before same)
+same_marked row one other (Some mark) None before also same =
+    absurd (none_at row mark other one also (sym same))
+same_marked row one other (Some mark) (Some next) before also same =
+    let both = same_from_push one other (row, mark) (row, next) same in
+    (both.0, ap (λ m. Some m.1) both.1)
+
+-- so do those of a choice
 same_parts : (row : ℕ) (one other : List (ℕ × Mark)) (choice next : Choice)
     → All (IsBefore row) one → All (IsBefore row) other
     → one ++ marks_at row choice ≡ other ++ marks_at row next
     → (one ≡ other) × (choice ≡ next)
-same_parts row one other Plain Plain before also same =
-    (sym (append-nil one) ∙ same ∙ append-nil other, refl)
-same_parts row one other Plain Lost before also same =
-    absurd (none_at row marks.Lost one other before same)
-same_parts row one other Plain Restart before also same =
-    absurd (none_at row marks.Restart one other before same)
-same_parts row one other Lost Plain before also same =
-    absurd (none_at row marks.Lost other one also (sym same))
-same_parts row one other Lost Lost before also same =
-    ((same_from_push one other (row, marks.Lost) (row, marks.Lost) same).0, refl)
-same_parts row one other Lost Restart before also same =
-    let last : marks.Lost ≡ marks.Restart =
-    ap (λ mark. mark.1) (same_from_push one other (row, marks.Lost) (row, marks.Restart) same).1 in
-    absurd cc
-same_parts row one other Restart Plain before also same =
-    absurd (none_at row marks.Restart other one also (sym same))
-same_parts row one other Restart Lost before also same =
-    let last : marks.Restart ≡ marks.Lost =
-    ap (λ mark. mark.1) (same_from_push one other (row, marks.Restart) (row, marks.Lost) same).1 in
-    absurd cc
-same_parts row one other Restart Restart before also same =
-    ((same_from_push one other (row, marks.Restart) (row, marks.Restart) same).0, refl)
+same_parts row one other choice next before also same =
+    let first = mark_of choice in
+    let second = mark_of next in
+    let both = same_marked row one other first.0 second.0 before also
+    (sym (at-mark row first.0 one) ∙ ap (λ c. one ++ marks_at row c) (sym first.1) ∙ same
+    ∙ ap (λ c. other ++ marks_at row c) second.1 ∙ at-mark row second.0 other) in
+    (both.0, first.1 ∙ ap choice_by both.1 ∙ sym second.1)
 
 -- choices with the same marks are the same
 pub marks_tell : (scope : Scope) (pieces : List Piece) (one other : Choices (acts_of pieces))
@@ -175,12 +180,7 @@ marks_tell scope (Whole act events ∷ pieces) one other are same =
     (all_before scope act events pieces other.before are) same in
     same_choices act (acts_of pieces) one other parts.1
     (marks_tell scope pieces one.before other.before are.2 parts.0)
-marks_tell scope (AskTail bytes events ∷ pieces) one other are same =
-    marks_tell scope pieces one other are.2 same
-marks_tell scope (ReplyTail command bytes events ∷ pieces) one other are same =
-    marks_tell scope pieces one other are.2 same
-marks_tell scope (RepeatTail command reply words events ∷ pieces) one other are same =
-    marks_tell scope pieces one other are.2 same
+marks_tell scope (tail ∷ pieces) one other are same = marks_tell scope pieces one other are.2 same
 
 -- an element of a list is its first, or one of the others
 pub in_cons : (first mark : ℕ × Mark) (others : List (ℕ × Mark)) → Contains (first ∷ others) mark

@@ -6,7 +6,9 @@ use Rattle.mdb_msgs.specs.declared.command.Device.{Device}
 use Rattle.mdb_bus.specs.declared.act.Act.{Act}
 use Rattle.mdb_bus.specs.declared.fault.Blame.{Blame}
 use Rattle.mdb_bus.specs.declared.fault.Rule.{Rule}
+use Rattle.mdb_bus.specs.declared.scope.Profile.{Profile}
 use Rattle.mdb_bus.specs.declared.scope.Scope.{Scope}
+use Rattle.mdb_bus.specs.Scopes.{profile_of}
 use Rattle.mdb_bus.specs.ActLists.{IsActList, Piece, Whole, acts_of}
 use Rattle.mdb_bus.specs.LinkFaults.{IsLinkFault}
 use Rattle.mdb_machine.specs.declared.choice.Choice.{Choice}
@@ -128,9 +130,10 @@ one-kind scope laws events marks row mark r a number (inl p) q =
     unlisted scope laws events row r a p q.pieces q.act_list
 one-kind scope laws events marks row mark r a number (inr p) q =
     let one = broken_list scope events marks row mark r a p in
-    let may : MayStandOnNewest q.standing one =
-    subst (λ m. MayStandAt m (Some p.act)) q.is p.may in
-    q.cannot (subst (MayStandOnNewest q.standing)
+    let profile : Profile = profile_of scope.begins in
+    let may : MayStandOnNewest profile q.standing one =
+    subst (λ m. MayStandAt profile m (Some p.act)) q.is p.may in
+    q.cannot (subst (MayStandOnNewest profile q.standing)
     (laws.one (events ++ row ∷ []) one q.pieces p.act_list q.act_list) may)
 
 -- a row has one fault

@@ -1,7 +1,8 @@
 -- From power-on a machine has one step at most by an act under a choice, from a state: so it has
 -- one way through acts with given choices.
-use Rattle.std.proofs.Common.{sym, ap, subst, ◌∙◌, ◌≡◌, ◌↔◌, inl, inr, Bool, true, false}
+use Rattle.std.proofs.Common.{sym, ap, refl, subst, ◌∙◌, ◌≡◌, ◌↔◌, inl, inr, Bool, true, false}
 use Rattle.std.proofs.Common.{List, [], ◌∷◌, ◌++◌, Option, Some, None}
+use Rattle.std.specs.Prelude.{IsSomeAnd}
 use Rattle.std.proofs.lemmas.List.{append_cancel_left}
 use Rattle.mdb_msgs.specs.declared.command.ChangerCommand.{ChangerCommand}
 use Rattle.mdb_msgs.specs.declared.command.ChangerCommand.TheVariants as changer_commands
@@ -16,6 +17,7 @@ use Rattle.mdb_bus.specs.declared.act.Act.{Act}
 use Rattle.mdb_bus.specs.declared.act.Act.TheVariants as acts
 use Rattle.mdb_bus.specs.declared.scope.Beginning.TheVariants.{PowerOn}
 use Rattle.mdb_bus.specs.declared.scope.Profile.{Profile}
+use Rattle.mdb_bus.specs.declared.scope.Profile.TheVariants as profiles
 use Rattle.mdb_cash.specs.declared.bill.activity.BillActivity.{BillActivity}
 use Rattle.mdb_cash.specs.declared.bill.activity.BillActivity.TheVariants as activity
 use Rattle.mdb_cash.specs.declared.bill.state.BillState.{BillState}
@@ -35,11 +37,16 @@ use Rattle.mdb_machine.specs.KeeperSteps.{AckStep, Conduct, KeeperStep, ReplySte
 use Rattle.mdb_machine.specs.Kept.{IsNew}
 use Rattle.mdb_machine.specs.Machine.{Machine}
 use Rattle.mdb_machine.specs.Past.{or_else}
-use Rattle.mdb_machine.specs.Steps.{ForOwn}
 use Rattle.mdb_cash.specs.shared.BillCodes.{same_type}
 use Rattle.mdb_cashless.specs.declared.reader.device.DeviceState.{DeviceState}
 use Rattle.mdb_cashless.specs.declared.reader.messages.ReaderActivity.{ReaderActivity}
 use Rattle.mdb_cashless.specs.declared.reader.state.ReaderState.{ReaderState}
+use Rattle.mdb_cashless.specs.declared.by_profile.state.StateByProfile.{StateByProfile}
+use Rattle.mdb_cashless.specs.declared.by_profile.state.StateByProfile.TheVariants.{Base, Extended}
+use Rattle.mdb_cashless.specs.ByProfile as by_profile
+use Rattle.mdb_cashless.specs.ByProfile.{StepOf, base_state, extended_state, machine_in, strayed}
+use Rattle.mdb_cashless.specs.ExtendedReader as extended
+use Rattle.mdb_cashless.specs.shared.ByProfileWays.{IsPart, base_part, extended_part}
 use Rattle.mdb_cashless.specs.Reader as reader
 use Rattle.mdb_cashless.specs.ReaderDevice.{all_told}
 use Rattle.mdb_cashless.specs.ReaderFacts as reader_facts
@@ -49,23 +56,8 @@ use Rattle.mdb_cashless.specs.Units.{own}
 use Rattle.mdb_follow.specs.Choosing.{Choices, Follows}
 use Rattle.mdb_follow.specs.Machines.{machine_of}
 use Rattle.mdb_follow.specs.Sums.{Sums, added}
-
--- two steps of a kind from one state are the same
-abbrev pub IsOneStep : {State : Type 0} → (State → Gains → Type 0) → Type 0
-IsOneStep {State} Step =
-    (one other : State) (gains more : Gains) → Step one gains → Step other more
-    → (one ≡ other) × (gains ≡ more)
-
--- where nothing changes
-stays_one : {State : Type 0} (before : State) → IsOneStep (Stays before)
-stays_one before one other gains more p q = (p.0 ∙ sym q.0, p.1 ∙ sym q.1)
-
--- by a command of the device, or of another one
-own_one : {Own State : Type 0} (own : Option Own) (Step : Own → State → State → Gains → Type 0)
-    (before : State) → ((command : Own) → IsOneStep (Step command before))
-    → IsOneStep (ForOwn own Step before)
-own_one None Step before each = stays_one before
-own_one (Some command) Step before each = each command
+use Rattle.mdb_explained_runs.proofs.OneApproval.{approval_one}
+use Rattle.mdb_explained_runs.proofs.OneKind.{IsOneStep, own_one, stays_one}
 
 -- Messages that are new.
 
@@ -103,7 +95,7 @@ pub record AllIsKnown : Type 0 where
       bill_facts.facts_of bill.BillStep
   pub reader : (unit : ReaderUnit) → StepsAfterFacts
       (λ profile. reader.machine unit (PowerOn profile))
-      (λ profile. reader_facts.facts_of (PowerOn profile) unit) (reader.ReaderStep unit)
+      (λ profile. reader_facts.facts_of unit) (reader.ReaderStep unit)
 
 -- Then it has one step at most, where there is one after facts.
 one_after : {State Facts : Type 0} (machine : Profile → Machine State)
@@ -261,7 +253,7 @@ reader_asks facts command before one other gains more p q = (
 abbrev reader_told : reader_facts.Facts → ReaderCommand → Reply → Choice → ReaderState
     → List ReaderActivity → Option DeviceState
 reader_told facts command reply choice before news =
-    all_told facts.always_idle (reader.is_requested facts (reader.taken command reply)) news
+    all_told (reader.last_transaction facts (reader.taken command reply)) news
     (reader.before_messages facts command reply choice before).device
 
 abbrev reader_gains : reader_facts.Facts → ReaderCommand → Reply → Choice → ReaderState
@@ -310,6 +302,55 @@ pub record IsOneMachine {State : Type 0} (machine : Machine State) : Type 0 wher
   pub steps : (so_far : List Act) (act : Act) (choice : Choice) (before : State)
       → IsOneStep (machine.Step so_far act choice before)
 
+-- a machine is one where its states are some of others
+module _ {State : Type 0} (its_state : StateByProfile → Option State) (part : IsPart its_state)
+    (machine : Machine State) (is : IsOneMachine machine) where
+  one_start : (one other : StateByProfile) (x y : Option State) → its_state one ≡ x
+      → its_state other ≡ y → IsSomeAnd x machine.Starts → IsSomeAnd y machine.Starts → one ≡ other
+  one_start one other (Some x) (Some y) p q s t =
+      part.only one x p ∙ ap part.into (is.starts x y s t) ∙ sym (part.only other y q)
+  one_start one other None y p q s t = absurd s
+  one_start one other (Some x) None p q s t = absurd t
+
+  one_step : (so_far : List Act) (act : Act) (choice : Choice) (place : StateByProfile)
+      (from to more : Option State) (one other : StateByProfile) (gains further : Gains)
+      → its_state one ≡ to → its_state other ≡ more
+      → StepOf (machine.Step so_far act choice) (Stays place one gains) from to gains
+      → StepOf (machine.Step so_far act choice) (Stays place other further) from more further
+      → (one ≡ other) × (gains ≡ further)
+  one_step so_far act choice place (Some x) (Some y) (Some z) one other gains further p q s t =
+      let same = is.steps so_far act choice x y z gains further s t in
+      (part.only one y p ∙ ap part.into same.0 ∙ sym (part.only other z q), same.1)
+  one_step so_far act choice place (Some x) None more one other gains further p q s t = absurd s
+  one_step so_far act choice place (Some x) (Some y) None one other gains further p q s t = absurd t
+  one_step so_far act choice place None to more one other gains further p q s t =
+      (s.0 ∙ sym t.0, s.1 ∙ sym t.1)
+
+  is_one_in : (power_on : StateByProfile) → IsOneMachine (machine_in its_state power_on machine)
+  is_one_in power_on = record {
+    starts = λ one other. one_start one other _ _ refl refl;
+    steps = λ so_far act choice before one other gains more.
+        one_step so_far act choice (strayed power_on act before) (its_state before) _ _ one other
+        gains more refl refl;
+  }
+
+-- a reader by the one profile and by the other
+reader_is_one : AllIsKnown → (profile : Profile) (unit : ReaderUnit)
+    → IsOneMachine (by_profile.machine unit (PowerOn profile))
+reader_is_one known profiles.Base unit =
+    is_one_in base_state base_part (reader.machine unit (PowerOn profiles.Base)) (record {
+      starts = λ one other p q. p ∙ sym q;
+      steps = one_after (λ profile. reader.machine unit (PowerOn profile))
+          (λ profile. reader_facts.facts_of unit) (reader.ReaderStep unit) (known.reader unit)
+          (reader_one unit) profiles.Base;
+    }) (Base reader.power_on)
+reader_is_one known profiles.Extended unit =
+    is_one_in extended_state extended_part (extended.machine unit (PowerOn profiles.Extended))
+    (record {
+      starts = λ one other p q. p ∙ sym q;
+      steps = approval_one profiles.Extended unit;
+    }) (Extended extended.power_on)
+
 pub machine_is_one : AllIsKnown → (profile : Profile) (device : Device)
     → IsOneMachine (machine_of (PowerOn profile) device)
 machine_is_one known profile devices.Changer = record {
@@ -324,12 +365,7 @@ machine_is_one known profile devices.Bill = record {
       bill_facts.facts_of bill.BillStep known.bill
       (keeper_one bill_facts.tables bill.conduct bill_is_one) profile;
 }
-machine_is_one known profile (devices.Reader unit) = record {
-  starts = λ one other p q. p ∙ sym q;
-  steps = one_after (λ profile. reader.machine unit (PowerOn profile))
-      (λ profile. reader_facts.facts_of (PowerOn profile) unit) (reader.ReaderStep unit)
-      (known.reader unit) (reader_one unit) profile;
-}
+machine_is_one known profile (devices.Reader unit) = reader_is_one known profile unit
 
 -- so it has one way with given choices
 pub one_way : {State : Type 0} (machine : Machine State) → IsOneMachine machine

@@ -16,11 +16,11 @@ use Rattle.mdb_msgs.specs.declared.command.ReaderUnit.TheVariants.{First, Second
 use Rattle.mdb_bus.specs.declared.act.Act.{Act}
 use Rattle.mdb_bus.specs.declared.act.Act.TheVariants as kinds
 use Rattle.mdb_bus.specs.declared.scope.Scope.{Scope}
-use Rattle.mdb_bus.specs.ActLists.{ArePieces, Piece, Whole, AskTail, ReplyTail, RepeatTail, acts_of}
+use Rattle.mdb_bus.specs.ActLists.{ArePieces, Piece, Whole, acts_of}
 use Rattle.mdb_bus.specs.ActLists.{events_of}
 use Rattle.mdb_bus.specs.LeavingOut.{has_part}
 use Rattle.mdb_machine.specs.declared.choice.Choice.{Choice}
-use Rattle.mdb_machine.specs.declared.choice.Choice.TheVariants.{Plain, Lost, Restart}
+use Rattle.mdb_machine.specs.declared.choice.Choice.TheVariants.{Plain, Lost, Again}
 use Rattle.mdb_machine.specs.Choices.{CanStand}
 use Rattle.mdb_machine.specs.Pair.{IsActOf}
 use Rattle.mdb_explained_runs.specs.declared.mark.Mark.{Mark}
@@ -53,12 +53,7 @@ own_alike told device (Whole act events ∷ pieces) one other same =
     let here = kept_alike (has_part device act) (length (events_of pieces ++ events)) one.choice
     other.choice (λ has. same.0 ((told device act).0 has)) in
     λ i. before i ++ here i
-own_alike told device (AskTail bytes events ∷ pieces) one other same =
-    own_alike told device pieces one other same
-own_alike told device (ReplyTail command bytes events ∷ pieces) one other same =
-    own_alike told device pieces one other same
-own_alike told device (RepeatTail command reply words events ∷ pieces) one other same =
-    own_alike told device pieces one other same
+own_alike told device (tail ∷ pieces) one other same = own_alike told device pieces one other same
 
 -- choices of each device, as one list, have of each device the marks of its own
 pub own_of_merged : PartsAreTold → (device : Device) (pieces : List Piece)
@@ -130,8 +125,9 @@ here_together (kinds.Ack command) Lost row stands =
     of_one (device_of command) (marks_at row Lost)
 here_together (kinds.VmcAck command reply) Lost row stands =
     of_one (device_of command) (marks_at row Lost)
-here_together (kinds.Reply command reply) Restart row stands =
-    of_one (device_of command) (marks_at row Restart)
+here_together (kinds.Reply command reply) choice row stands =
+    of_one (device_of command) (marks_at row choice)
+here_together act Again row stands = absurd cc
 here_together _ _ row stands = absurd stands
 
 -- the marks of a run are as many as those of the devices together
@@ -157,9 +153,7 @@ all_together (Whole act events ∷ pieces) chosen =
       longer (devices.Reader First),
       longer (devices.Reader Second),
     )
-all_together (AskTail bytes events ∷ pieces) chosen = all_together pieces chosen
-all_together (ReplyTail command bytes events ∷ pieces) chosen = all_together pieces chosen
-all_together (RepeatTail command reply words events ∷ pieces) chosen = all_together pieces chosen
+all_together (tail ∷ pieces) chosen = all_together pieces chosen
 
 -- what is kept was there
 kept_in : (has : Bool) (here : List (ℕ × Mark)) (mark : ℕ × Mark) → Contains (kept_if has here) mark
@@ -182,11 +176,7 @@ own_in device (Whole act events ∷ pieces) chosen mark is =
       | inr last ↦ Contains-append_right (marks_of pieces chosen.before) here mark
           (kept_in (has_part device act) here mark last)
     ]
-own_in device (AskTail bytes events ∷ pieces) chosen mark is = own_in device pieces chosen mark is
-own_in device (ReplyTail command bytes events ∷ pieces) chosen mark is =
-    own_in device pieces chosen mark is
-own_in device (RepeatTail command reply words events ∷ pieces) chosen mark is =
-    own_in device pieces chosen mark is
+own_in device (tail ∷ pieces) chosen mark is = own_in device pieces chosen mark is
 
 -- a mark of an act is of the device that has a part in it
 kept_of : PartsAreTold → (act : Act) (choice : Choice) (row : ℕ) → CanStand act choice
@@ -203,11 +193,12 @@ kept_of told (kinds.VmcAck command reply) Lost row stands mark is = (
   subst (λ has. Contains (kept_if has (marks_at row Lost)) mark)
       (sym ((told (device_of command) (kinds.VmcAck command reply)).1 refl)) is,
 )
-kept_of told (kinds.Reply command reply) Restart row stands mark is = (
+kept_of told (kinds.Reply command reply) choice row stands mark is = (
   device_of command,
-  subst (λ has. Contains (kept_if has (marks_at row Restart)) mark)
+  subst (λ has. Contains (kept_if has (marks_at row choice)) mark)
       (sym ((told (device_of command) (kinds.Reply command reply)).1 refl)) is,
 )
+kept_of told act Again row stands mark is = absurd cc
 kept_of told _ _ row stands mark is = absurd stands
 
 -- each mark of a run is of some device
@@ -232,11 +223,7 @@ in_own told (Whole act events ∷ pieces) chosen mark is =
                 (kept_if (has_part found.0 act) here) mark found.1,
           )
     ]
-in_own told (AskTail bytes events ∷ pieces) chosen mark is = in_own told pieces chosen mark is
-in_own told (ReplyTail command bytes events ∷ pieces) chosen mark is =
-    in_own told pieces chosen mark is
-in_own told (RepeatTail command reply words events ∷ pieces) chosen mark is =
-    in_own told pieces chosen mark is
+in_own told (tail ∷ pieces) chosen mark is = in_own told pieces chosen mark is
 
 -- what is kept is of a device that has a part
 kept_part : (has : Bool) (here : List (ℕ × Mark)) (mark : ℕ × Mark)
@@ -272,12 +259,7 @@ own_rise scope device (Whole act events ∷ pieces) chosen are =
     rise_kept (has_part device act) (length (events_of pieces ++ events)) chosen.choice
     (own_marks device pieces chosen.before) (own_rise scope device pieces chosen.before are.2)
     (own_before device scope act events pieces chosen.before are)
-own_rise scope device (AskTail bytes events ∷ pieces) chosen are =
-    own_rise scope device pieces chosen are.2
-own_rise scope device (ReplyTail command bytes events ∷ pieces) chosen are =
-    own_rise scope device pieces chosen are.2
-own_rise scope device (RepeatTail command reply words events ∷ pieces) chosen are =
-    own_rise scope device pieces chosen are.2
+own_rise scope device (tail ∷ pieces) chosen are = own_rise scope device pieces chosen are.2
 
 -- an act that has a mark is of no two devices
 part_of_one : PartsAreTold → (act : Act) (choice : Choice) (row : ℕ) → CanStand act choice
@@ -290,9 +272,10 @@ part_of_one told (kinds.Ack command) Lost row stands mark is one other has also 
 part_of_one told (kinds.VmcAck command reply) Lost row stands mark is one other has also =
     same_Some one other (sym ((told one (kinds.VmcAck command reply)).0 has)
     ∙ (told other (kinds.VmcAck command reply)).0 also)
-part_of_one told (kinds.Reply command reply) Restart row stands mark is one other has also =
+part_of_one told (kinds.Reply command reply) choice row stands mark is one other has also =
     same_Some one other (sym ((told one (kinds.Reply command reply)).0 has)
     ∙ (told other (kinds.Reply command reply)).0 also)
+part_of_one told act Again row stands mark is one other has also = absurd cc
 part_of_one told _ _ row stands mark is one other has also = absurd stands
 
 -- a mark of the last act stands at its row
@@ -343,11 +326,5 @@ own_apart told scope (Whole act events ∷ pieces) chosen are one other mark nex
                 (kept_part (has_part other act) here next too)
           ]
     ]
-own_apart told scope (AskTail bytes events ∷ pieces) chosen are one other mark next has also same =
-    own_apart told scope pieces chosen are.2 one other mark next has also same
-own_apart told scope (ReplyTail command bytes events ∷ pieces) chosen are one other mark next has
-    also same =
-    own_apart told scope pieces chosen are.2 one other mark next has also same
-own_apart told scope (RepeatTail command reply words events ∷ pieces) chosen are one other mark next
-    has also same =
+own_apart told scope (tail ∷ pieces) chosen are one other mark next has also same =
     own_apart told scope pieces chosen are.2 one other mark next has also same

@@ -10,7 +10,7 @@ use Rattle.std.proofs.lemmas.List.Elements.{Contains-get_or}
 use Rattle.mdb_words.specs.declared.event.Event.{Event}
 use Rattle.mdb_msgs.specs.declared.command.Device.{Device}
 use Rattle.mdb_bus.specs.declared.act.Act.{Act}
-use Rattle.mdb_bus.specs.ActLists.{Piece, Whole, AskTail, ReplyTail, RepeatTail, IsTail, acts_of, events_of}
+use Rattle.mdb_bus.specs.ActLists.{Piece, Whole, IsTail, acts_of, events_of}
 use Rattle.mdb_bus.specs.LeavingOut.{has_part}
 use Rattle.mdb_machine.specs.declared.choice.Choice.{Choice}
 use Rattle.mdb_machine.specs.declared.choice.Choice.TheVariants.{Plain}
@@ -116,45 +116,11 @@ pub paths-tail : {State : Type 0} (code_of : State → ℕ) (device : Device)
     → IsPaths code_of device machine weight links (piece ∷ pieces) entries
 paths-tail code_of device machine weight links (Whole act events) pieces entries tail are =
     absurd tail
-paths-tail code_of device machine weight links (AskTail bytes events) pieces entries tail are =
+paths-tail code_of device machine weight links piece pieces entries tail are =
     record { sound = λ entry has. same-path (are.sound entry has); whole = are.whole }
   where
     same-path : {entry : ℕ × Best} → IsPath code_of device machine weight links pieces entry
-        → IsPath code_of device machine weight links (AskTail bytes events ∷ pieces) entry
-    same-path path = record {
-      state = path.state;
-      is = path.is;
-      sums = path.sums;
-      choices = path.choices;
-      way = path.way;
-      value = path.value;
-      chain = path.chain;
-      marks = path.marks;
-    }
-paths-tail code_of device machine weight links (ReplyTail command bytes events) pieces entries
-    tail are =
-    record { sound = λ entry has. same-path (are.sound entry has); whole = are.whole }
-  where
-    same-path : {entry : ℕ × Best} → IsPath code_of device machine weight links pieces entry
-        → IsPath code_of device machine weight links (ReplyTail command bytes events ∷ pieces)
-        entry
-    same-path path = record {
-      state = path.state;
-      is = path.is;
-      sums = path.sums;
-      choices = path.choices;
-      way = path.way;
-      value = path.value;
-      chain = path.chain;
-      marks = path.marks;
-    }
-paths-tail code_of device machine weight links (RepeatTail command reply words events) pieces
-    entries tail are =
-    record { sound = λ entry has. same-path (are.sound entry has); whole = are.whole }
-  where
-    same-path : {entry : ℕ × Best} → IsPath code_of device machine weight links pieces entry
-        → IsPath code_of device machine weight links
-        (RepeatTail command reply words events ∷ pieces) entry
+        → IsPath code_of device machine weight links (piece ∷ pieces) entry
     same-path path = record {
       state = path.state;
       is = path.is;
@@ -406,47 +372,11 @@ pub paths-untail : {State : Type 0} (code_of : State → ℕ) (device : Device)
     → IsPaths code_of device machine weight links pieces entries
 paths-untail code_of device machine weight links (Whole act events) pieces entries tail are =
     absurd tail
-paths-untail code_of device machine weight links (AskTail bytes events) pieces entries tail are =
+paths-untail code_of device machine weight links piece pieces entries tail are =
     record { sound = λ entry has. same-path (are.sound entry has); whole = are.whole }
   where
     same-path : {entry : ℕ × Best}
-        → IsPath code_of device machine weight links (AskTail bytes events ∷ pieces) entry
-        → IsPath code_of device machine weight links pieces entry
-    same-path path = record {
-      state = path.state;
-      is = path.is;
-      sums = path.sums;
-      choices = path.choices;
-      way = path.way;
-      value = path.value;
-      chain = path.chain;
-      marks = path.marks;
-    }
-paths-untail code_of device machine weight links (ReplyTail command bytes events) pieces entries
-    tail are =
-    record { sound = λ entry has. same-path (are.sound entry has); whole = are.whole }
-  where
-    same-path : {entry : ℕ × Best}
-        → IsPath code_of device machine weight links (ReplyTail command bytes events ∷ pieces)
-        entry
-        → IsPath code_of device machine weight links pieces entry
-    same-path path = record {
-      state = path.state;
-      is = path.is;
-      sums = path.sums;
-      choices = path.choices;
-      way = path.way;
-      value = path.value;
-      chain = path.chain;
-      marks = path.marks;
-    }
-paths-untail code_of device machine weight links (RepeatTail command reply words events) pieces
-    entries tail are =
-    record { sound = λ entry has. same-path (are.sound entry has); whole = are.whole }
-  where
-    same-path : {entry : ℕ × Best}
-        → IsPath code_of device machine weight links
-        (RepeatTail command reply words events ∷ pieces) entry
+        → IsPath code_of device machine weight links (piece ∷ pieces) entry
         → IsPath code_of device machine weight links pieces entry
     same-path path = record {
       state = path.state;

@@ -14,9 +14,11 @@ use Rattle.mdb_bus.specs.declared.fault.LinkFault.{LinkFault}
 use Rattle.mdb_bus.specs.declared.scope.Beginning.{Beginning}
 use Rattle.mdb_bus.specs.declared.scope.Beginning.TheVariants.{PowerOn}
 use Rattle.mdb_bus.specs.declared.scope.Profile.{Profile}
+use Rattle.mdb_bus.specs.declared.scope.Profile.TheVariants.{Extended}
 use Rattle.mdb_bus.specs.declared.scope.Scope.{Scope}
-use Rattle.mdb_bus.specs.ActLists.{ArePieces, AskTail, HasActList, IsActList, IsTail, Piece}
-use Rattle.mdb_bus.specs.ActLists.{RepeatTail, ReplyTail, Whole, act_in, acts_of, events_of}
+use Rattle.mdb_bus.specs.Scopes.{profile_of}
+use Rattle.mdb_bus.specs.ActLists.{ArePieces, HasActList, IsActList, IsTail, Piece}
+use Rattle.mdb_bus.specs.ActLists.{Whole, act_in, acts_of, events_of}
 use Rattle.mdb_bus.specs.Bus as link
 use Rattle.mdb_bus.specs.Bus.{GoesOn, Grown, ended_act}
 use Rattle.mdb_bus.specs.LinkFaults.{IsLinkFault}
@@ -52,6 +54,7 @@ use Rattle.mdb_follow.specs.SilenceSteps.{SilencesFollow}
 use Rattle.mdb_explained_runs.specs.inner.TrackSteps.{TrackStops, TracksLead}
 use Rattle.mdb_follow.proofs.Asks.{asks-go-on, asks-stay}
 use Rattle.mdb_explained_runs.proofs.LastMark.{last-stands}
+use Rattle.mdb_explained_runs.proofs.MarkedRuns.{at-mark}
 use Rattle.mdb_follow.proofs.Following.{OneActList, accounts-of-cells, cell-of-runs}
 use Rattle.mdb_follow.proofs.Following.{list-on, whole-piece}
 
@@ -86,11 +89,7 @@ without-tail : (profile : Profile) (tracks : Tracks) (marks : List (ℕ × Mark)
     (pieces : List Piece)
     → IsTail tail → Known profile tracks marks (tail ∷ pieces) → Known profile tracks marks pieces
 without-tail profile tracks marks (Whole act events) pieces is known = absurd is
-without-tail profile tracks marks (AskTail bytes events) pieces is known =
-    record { chosen = known.chosen; marked = known.marked; stand = known.stand }
-without-tail profile tracks marks (ReplyTail command bytes events) pieces is known =
-    record { chosen = known.chosen; marked = known.marked; stand = known.stand }
-without-tail profile tracks marks (RepeatTail command reply words events) pieces is known =
+without-tail profile tracks marks tail pieces is known =
     record { chosen = known.chosen; marked = known.marked; stand = known.stand }
 
 with-tail : (profile : Profile) (tracks : Tracks) (marks : List (ℕ × Mark)) (tail : Piece)
@@ -98,11 +97,7 @@ with-tail : (profile : Profile) (tracks : Tracks) (marks : List (ℕ × Mark)) (
     → act_in tail ≡ None → Known profile tracks marks pieces → Known profile tracks marks
     (tail ∷ pieces)
 with-tail profile tracks marks (Whole act events) pieces none known = absurd (cc none)
-with-tail profile tracks marks (AskTail bytes events) pieces none known =
-    record { chosen = known.chosen; marked = known.marked; stand = known.stand }
-with-tail profile tracks marks (ReplyTail command bytes events) pieces none known =
-    record { chosen = known.chosen; marked = known.marked; stand = known.stand }
-with-tail profile tracks marks (RepeatTail command reply words events) pieces none known =
+with-tail profile tracks marks tail pieces none known =
     record { chosen = known.chosen; marked = known.marked; stand = known.stand }
 
 -- what is known of the pieces before the newest of those that went on
@@ -126,13 +121,6 @@ still-known profile tracks marks pieces row longer grown known =
     subst (Known profile tracks marks) (sym grown.are)
     (with-tail profile tracks marks grown.newest grown.earlier grown.ends
     (earlier-known profile tracks marks pieces row None longer grown known))
-
--- the mark of a choice
-at-mark : (row : ℕ) (mark : Option Mark) (marks : List (ℕ × Mark))
-    → marks ++ marks_at row (choice_by mark) ≡ with_mark row mark marks
-at-mark row None marks = append-nil marks
-at-mark row (Some mark_kinds.Lost) marks = refl
-at-mark row (Some mark_kinds.Restart) marks = refl
 
 -- the newest of pieces that went on by an act
 newest-whole : (pieces : List Piece) (row : Event) (act : Act) (longer : List Piece)
@@ -185,29 +173,14 @@ rows-more pieces longer events row rows whole =
     ap length (rows ∙ ap (λ es. es ++ row ∷ []) whole) ∙ length-append events (row ∷ [])
 
 -- the choice of a mark that may stand on an act can stand on it
-can-stand : (mark : Option Mark) (act : Act) → MayStandAt mark (Some act)
-    → CanStand act (choice_by mark)
-can-stand None act may = tt
-can-stand (Some mark_kinds.Lost) (acts.Ack command) may = tt
-can-stand (Some mark_kinds.Lost) (acts.VmcAck command reply) may = tt
-can-stand (Some mark_kinds.Restart) (acts.Reply command reply) may = tt
-can-stand (Some mark_kinds.Lost) (acts.Ask command) may = absurd may
-can-stand (Some mark_kinds.Lost) (acts.Nak command) may = absurd may
-can-stand (Some mark_kinds.Lost) (acts.Reply command reply) may = absurd may
-can-stand (Some mark_kinds.Lost) (acts.VmcNak command reply) may = absurd may
-can-stand (Some mark_kinds.Lost) (acts.VmcRet command reply) may = absurd may
-can-stand (Some mark_kinds.Lost) (acts.Repeat command reply) may = absurd may
-can-stand (Some mark_kinds.Lost) acts.Foreign may = absurd may
-can-stand (Some mark_kinds.Lost) (acts.Break length) may = absurd may
-can-stand (Some mark_kinds.Restart) (acts.Ask command) may = absurd may
-can-stand (Some mark_kinds.Restart) (acts.Ack command) may = absurd may
-can-stand (Some mark_kinds.Restart) (acts.Nak command) may = absurd may
-can-stand (Some mark_kinds.Restart) (acts.VmcAck command reply) may = absurd may
-can-stand (Some mark_kinds.Restart) (acts.VmcNak command reply) may = absurd may
-can-stand (Some mark_kinds.Restart) (acts.VmcRet command reply) may = absurd may
-can-stand (Some mark_kinds.Restart) (acts.Repeat command reply) may = absurd may
-can-stand (Some mark_kinds.Restart) acts.Foreign may = absurd may
-can-stand (Some mark_kinds.Restart) (acts.Break length) may = absurd may
+can-stand : (profile : Profile) (mark : Option Mark) (act : Act)
+    → MayStandAt profile mark (Some act) → CanStand act (choice_by mark)
+can-stand profile None act may = tt
+can-stand profile (Some mark_kinds.Lost) (acts.Ack command) may = tt
+can-stand profile (Some mark_kinds.Lost) (acts.VmcAck command reply) may = tt
+can-stand profile (Some mark_kinds.Restart) (acts.Reply command reply) may = tt
+can-stand Extended (Some mark_kinds.Again) act may = may
+can-stand _ _ _ may = absurd may
 
 -- no act ended
 pub stands-still : (old new : Replay) (events : List Event) (marks : List (ℕ × Mark))
@@ -244,7 +217,7 @@ pub stands-on : (old mid new : Replay) (events : List Event) (marks : List (ℕ 
     (row : Event) (act : Act) (mark : Option Mark) (on : StandsFor old events marks)
     (goes : GoesOn mid.bus on.pieces row (Some act)) → scope_of mid ≡ scope_of old
     → mid.tracks ≡ old.tracks → mid.silences ≡ old.silences → mid.rows ≡ old.rows
-    → mid.fault ≡ old.fault → MayStandAt mark (Some act)
+    → mid.fault ≡ old.fault → (profile : Profile) → MayStandAt profile mark (Some act)
     → (choice : Choice) → choice ≡ choice_by mark → HasReplayed mid act choice row new
     → (counts : Option Untimely)
     → (few : (times : Untimely) → counts ≡ Some times → AreFew new.rows times)
@@ -252,8 +225,8 @@ pub stands-on : (old mid new : Replay) (events : List Event) (marks : List (ℕ 
     → StandsFor (record new { untimely = counts; few_untimely = few }) (events ++ row ∷ [])
     (with_mark (old.rows + 1) mark marks)
 stands-on old mid new events marks row act mark on goes old_scope same_tracks same_silences
-    same_rows same may choice same_choice had counts few times =
-    let can = can-stand mark act may in
+    same_rows same profile may choice same_choice had counts few times =
+    let can = can-stand profile mark act may in
     let has = subst (λ choice. HasReplayed mid act choice row new) same_choice had in
     let led : TracksLead old.tracks act (choice_by mark) new.tracks =
     subst (λ tracks. TracksLead tracks act (choice_by mark) new.tracks) same_tracks has.tracks in
@@ -291,10 +264,10 @@ stands-on old mid new events marks row act mark on goes old_scope same_tracks sa
     }
 
 -- where no act ended, a mark that may stand is none
-no-mark : (row : ℕ) (mark : Option Mark) (marks : List (ℕ × Mark)) → MayStandAt mark None
-    → with_mark row mark marks ≡ marks
-no-mark row None marks may = refl
-no-mark row (Some mark) marks may = absurd may
+no-mark : (row : ℕ) (profile : Profile) (mark : Option Mark) (marks : List (ℕ × Mark))
+    → MayStandAt profile mark None → with_mark row mark marks ≡ marks
+no-mark row profile None marks may = refl
+no-mark row profile (Some mark) marks may = absurd may
 
 -- the act list of what a replay stands for
 list-of : (replay : Replay) (events : List Event) (marks : List (ℕ × Mark))
@@ -398,12 +371,13 @@ pub machine-offence : JoinWithChoices → SplitWithChoices → MarksTell
     (marks : List (ℕ × Mark)) (row : Event) (act : Act) (mark : Option Mark)
     (fault : ReplayFault) (on : StandsFor old events marks)
     → GoesOn mid.bus on.pieces row (Some act) → scope_of mid ≡ scope_of old
-    → mid.tracks ≡ old.tracks → mid.rows ≡ old.rows → MayStandAt mark (Some act)
+    → mid.tracks ≡ old.tracks → mid.rows ≡ old.rows → (profile : Profile)
+    → profile ≡ profile_of (scope_of old).begins → MayStandAt profile mark (Some act)
     → (chosen : Choice) → chosen ≡ choice_by mark → HasStopped mid act chosen row new fault
     → IsReplayFault (scope_of old) events marks row mark fault
 machine-offence joins splits tell one old mid new events marks row act mark fault on goes same_scope
-    same_tracks same_rows may chosen same_choice had =
-    let can = can-stand mark act may in
+    same_tracks same_rows profile by may chosen same_choice had =
+    let can = can-stand profile mark act may in
     let scope : Scope = scope_of old in
     let choice = choice_by mark in
     let has = subst (λ c. HasStopped mid act c row new fault) same_choice had in
@@ -452,7 +426,7 @@ machine-offence joins splits tell one old mid new events marks row act mark faul
         begun = grown.begun;
         earlier = grown.earlier;
         act_list = list;
-        may = may;
+        may = subst (λ p. MayStandAt p mark (Some act)) by may;
         no_step = record {
           device = device;
           rule = stops.rule;
@@ -471,19 +445,19 @@ machine-offence joins splits tell one old mid new events marks row act mark faul
     subst (IsReplayFault scope events marks row mark) (sym has.is) is
 
 -- the newest act of pieces is the one that a row ended
-newest-stands : (mark : Mark) (act : Option Act) (newest : Piece) (earlier : List Piece)
-    → act_in newest ≡ act → MayStandOnNewest mark (newest ∷ earlier) → MayStandAt (Some mark) act
-newest-stands mark act (Whole one events) earlier ends may =
-    subst (MayStandAt (Some mark)) ends may
-newest-stands mark act (AskTail bytes events) earlier ends may = absurd may
-newest-stands mark act (ReplyTail command bytes events) earlier ends may = absurd may
-newest-stands mark act (RepeatTail command reply words events) earlier ends may = absurd may
+newest-stands : (profile : Profile) (mark : Mark) (act : Option Act) (newest : Piece)
+    (earlier : List Piece) → act_in newest ≡ act
+    → MayStandOnNewest profile mark (newest ∷ earlier) → MayStandAt profile (Some mark) act
+newest-stands profile mark act (Whole one events) earlier ends may =
+    subst (MayStandAt profile (Some mark)) ends may
+newest-stands profile mark act newest earlier ends may = absurd may
 
 -- in a run the last mark may stand where it does, if that is the last row
 unmarked : SplitWithChoices → (scope : Scope) → OneActList scope → (rows : List Event)
     (marks : List (ℕ × Mark)) (pieces : List Piece) (number : ℕ) (mark : Mark)
     → IsActList scope pieces rows → number ≡ length (events_of pieces) → (sums : AllSums)
-    → MarkedRun scope rows (marks ++ (number, mark) ∷ []) sums → MayStandOnNewest mark pieces
+    → MarkedRun scope rows (marks ++ (number, mark) ∷ []) sums
+    → MayStandOnNewest (profile_of scope.begins) mark pieces
 unmarked splits scope one rows marks pieces number mark list at sums marked =
     let run = marked.run in
     let it : MarkedWay scope (marks ++ (number, mark) ∷ []) run.states sums pieces =
@@ -499,17 +473,20 @@ pub mark-fault : JoinWithChoices → SplitWithChoices → ((scope : Scope) → O
     → (old : Replay) (bus : Bus) (events : List Event)
     (marks : List (ℕ × Mark)) (row : Event) (act : Option Act) (mark : Option Mark)
     (on : StandsFor old events marks) → GoesOn bus on.pieces row act
-    → link.scope_of bus ≡ scope_of old → (MayStandAt mark act → ⊥)
+    → link.scope_of bus ≡ scope_of old → (profile : Profile)
+    → profile ≡ profile_of (scope_of old).begins → (MayStandAt profile mark act → ⊥)
     → IsMarkFault (scope_of old) events marks row mark (old.rows + 1)
-mark-fault joins splits one old bus events marks row act None on goes same not = absurd (not tt)
-mark-fault joins splits one old bus events marks row act (Some mark) on goes same not =
+mark-fault joins splits one old bus events marks row act None on goes same profile by not =
+    absurd (not tt)
+mark-fault joins splits one old bus events marks row act (Some mark) on goes same profile by not =
     let scope : Scope = scope_of old in
     let list : IsActList scope goes.longer (events ++ row ∷ []) =
     subst (λ s. IsActList s goes.longer (events ++ row ∷ [])) same
     (list-on bus events row on.pieces act on.whole goes) in
-    let cannot : MayStandOnNewest mark goes.longer → ⊥ = λ may.
-    not (newest-stands mark act goes.grown.newest goes.grown.earlier goes.grown.ends
-    (subst (MayStandOnNewest mark) goes.grown.are may)) in
+    let cannot : MayStandOnNewest (profile_of scope.begins) mark goes.longer → ⊥ = λ may.
+    not (newest-stands profile mark act goes.grown.newest goes.grown.earlier goes.grown.ends
+    (subst (MayStandOnNewest profile mark) goes.grown.are
+    (subst (λ p. MayStandOnNewest p mark goes.longer) (sym by) may))) in
     record {
       reached = (_, run-of joins old events marks on);
       not_reached = λ reached. cannot (unmarked splits scope (one scope) (events ++ row ∷ []) marks
@@ -573,14 +550,16 @@ by-none bus pieces row ended act is =
     subst (λ b. GoesOn bus pieces row (ended_act b act)) is
 
 -- its mark may stand there
-pub may-then : (b : Bool) (mark : Option Mark) (ended : Bool) (act : Act)
-    → (IsTrue b ↔ MayStandAt mark (ended_act ended act)) → b ≡ true → ended ≡ true
-    → MayStandAt mark (Some act)
-may-then b mark ended act told is whole =
-    subst (λ e. MayStandAt mark (ended_act e act)) whole (told.0 is)
+pub may-then : (profile : Profile) (b : Bool) (mark : Option Mark) (ended : Bool) (act : Act)
+    → (IsTrue b ↔ MayStandAt profile mark (ended_act ended act)) → b ≡ true → ended ≡ true
+    → MayStandAt profile mark (Some act)
+may-then profile b mark ended act told is whole =
+    subst (λ e. MayStandAt profile mark (ended_act e act)) whole (told.0 is)
 
-pub none-then : (b : Bool) (mark : Option Mark) (ended : Bool) (act : Act) (row : ℕ)
-    (marks : List (ℕ × Mark)) → (IsTrue b ↔ MayStandAt mark (ended_act ended act)) → b ≡ true
-    → ended ≡ false → with_mark row mark marks ≡ marks
-none-then b mark ended act row marks told is whole =
-    no-mark row mark marks (subst (λ e. MayStandAt mark (ended_act e act)) whole (told.0 is))
+pub none-then : (profile : Profile) (b : Bool) (mark : Option Mark) (ended : Bool) (act : Act)
+    (row : ℕ) (marks : List (ℕ × Mark))
+    → (IsTrue b ↔ MayStandAt profile mark (ended_act ended act)) → b ≡ true → ended ≡ false
+    → with_mark row mark marks ≡ marks
+none-then profile b mark ended act row marks told is whole =
+    no-mark row profile mark marks
+    (subst (λ e. MayStandAt profile mark (ended_act e act)) whole (told.0 is))

@@ -13,8 +13,8 @@ use Rattle.mdb_bus.specs.declared.bus.Bus.{Bus}
 use Rattle.mdb_bus.specs.declared.scope.Beginning.TheVariants.{PowerOn}
 use Rattle.mdb_bus.specs.declared.scope.Profile.{Profile}
 use Rattle.mdb_bus.specs.declared.scope.Scope.{Scope}
-use Rattle.mdb_bus.specs.ActLists.{IsActList, IsTail, Piece, Whole, AskTail, ReplyTail}
-use Rattle.mdb_bus.specs.ActLists.{RepeatTail, act_in, acts_of, events_of, piece_events}
+use Rattle.mdb_bus.specs.ActLists.{IsActList, IsTail, Piece, Whole}
+use Rattle.mdb_bus.specs.ActLists.{act_in, acts_of, events_of, piece_events}
 use Rattle.mdb_bus.specs.Bus as link
 use Rattle.mdb_bus.specs.Bus.{GoesOn, Grown}
 use Rattle.mdb_explained_runs.specs.declared.explain.all_paths.AllPaths.{AllPaths}
@@ -26,42 +26,27 @@ use Rattle.mdb_follow.specs.Sides.{code_of, codes_of, stands_for}
 use Rattle.mdb_explained_runs.specs.inner.AllPaths.{AreAllPaths, AreAllWithin, HasNoWay}
 use Rattle.mdb_explained_runs.specs.inner.AllPaths.{paths_in, weight_for}
 use Rattle.mdb_explained_runs.proofs.AllPaths.{keep-same}
+use Rattle.mdb_follow.proofs.Asks.{no-act, tail-acts}
 use Rattle.mdb_follow.proofs.Choosing.{chosen}
 use Rattle.mdb_follow.proofs.Following.{OneActList}
 use Rattle.mdb_follow.proofs.Joining.{split}
 use Rattle.mdb_explained_runs.proofs.EntryLimits.{entries-within-kept}
 use Rattle.mdb_explained_runs.proofs.Paths.{paths-tail, paths-untail}
 
--- a piece is a tail, or an act with its events
-
-is-tail : (piece : Piece) → act_in piece ≡ None → IsTail piece
-is-tail (Whole act events) none = absurd (none-some act (sym none))
-is-tail (AskTail bytes events) none = tt
-is-tail (ReplyTail command bytes events) none = tt
-is-tail (RepeatTail command reply words events) none = tt
-
+-- a piece that has an act is that with its events
 is-whole : (piece : Piece) (act : Act) → act_in piece ≡ Some act
     → piece ≡ Whole act (piece_events piece)
 is-whole (Whole one events) act is = ap (λ a. Whole a events) (same_Some one act is)
-is-whole (AskTail bytes events) act is = absurd (none-some act is)
-is-whole (ReplyTail command bytes events) act is = absurd (none-some act is)
-is-whole (RepeatTail command reply words events) act is = absurd (none-some act is)
+is-whole tail act is = absurd (none-some act is)
 
 -- what a tail has in common with what comes before it
-
-acts-tail : (piece : Piece) (pieces : List Piece) → IsTail piece
-    → acts_of (piece ∷ pieces) ≡ acts_of pieces
-acts-tail (Whole act events) pieces tail = absurd tail
-acts-tail (AskTail bytes events) pieces tail = refl
-acts-tail (ReplyTail command bytes events) pieces tail = refl
-acts-tail (RepeatTail command reply words events) pieces tail = refl
 
 with-tail : (profile : Profile) (goal : Goal) (tail : Piece) (pieces : List Piece) (all : AllPaths)
     → IsTail tail
     → AreAllPaths profile goal pieces all → AreAllPaths profile goal (tail ∷ pieces) all
 with-tail profile goal tail pieces all is are device = record {
   facts = subst (λ acts. stands_for (PowerOn profile) device (paths_in all device).facts acts)
-      (sym (acts-tail tail pieces is)) (are device).facts;
+      (sym (tail-acts tail pieces is)) (are device).facts;
   best = paths-tail (code_of device) device (machine_of (PowerOn profile) device)
       (weight_for goal device) all.chains.links.items tail pieces
       (paths_in all device).entries.items is (are device).best;
@@ -72,7 +57,7 @@ without-tail : (profile : Profile) (goal : Goal) (tail : Piece) (pieces : List P
     → AreAllPaths profile goal (tail ∷ pieces) all → AreAllPaths profile goal pieces all
 without-tail profile goal tail pieces all is are device = record {
   facts = subst (λ acts. stands_for (PowerOn profile) device (paths_in all device).facts acts)
-      (acts-tail tail pieces is) (are device).facts;
+      (tail-acts tail pieces is) (are device).facts;
   best = paths-untail (code_of device) device (machine_of (PowerOn profile) device)
       (weight_for goal device) all.chains.links.items tail pieces
       (paths_in all device).entries.items is (are device).best;
@@ -96,7 +81,7 @@ pub still-paths : (profile : Profile) (goal : Goal) (pieces : List Piece) (row :
     → AreAllPaths profile goal longer all
 still-paths profile goal pieces row longer all grown are =
     subst (λ ps. AreAllPaths profile goal ps all) (sym grown.are)
-    (with-tail profile goal grown.newest grown.earlier all (is-tail grown.newest grown.ends)
+    (with-tail profile goal grown.newest grown.earlier all (no-act grown.newest grown.ends)
     (earlier-paths profile goal pieces row None longer all grown are))
 
 -- where one has, it is the newest piece

@@ -1,5 +1,5 @@
 -- What steps from entries lead to, as it is taken in.
-use Rattle.std.proofs.Common.{arith, inl, inr, refl, sym, subst, ◌∙◌, ◌≡◌, ◌⊎◌, ◌+◌, ◌<◌, ℕ, ℤ}
+use Rattle.std.proofs.Common.{arith, inl, inr, refl, sym, subst, ◌∙◌, ◌≡◌, ◌≢◌, ◌+◌, ◌<◌, ℕ, ℤ}
 use Rattle.std.proofs.Common.{◌+ℤ◌, List, [], ◌∷◌, ◌++◌, length, take, get_or}
 use Rattle.std.proofs.lemmas.Int.{ints}
 use Rattle.std.proofs.lemmas.List.{take_more}
@@ -10,6 +10,7 @@ use Rattle.mdb_machine.specs.declared.choice.Choice.TheVariants.{Plain}
 use Rattle.mdb_machine.specs.declared.gains.Gains.{Gains}
 use Rattle.mdb_machine.specs.Gains.{IsSmall}
 use Rattle.mdb_machine.specs.Pair.{IsStep}
+use Rattle.mdb_machine.proofs.Ways.{plain_or_not, step_as}
 use Rattle.mdb_explained_runs.specs.declared.explain.best.Best.{Best}
 use Rattle.mdb_explained_runs.specs.declared.explain.best.Weight.{Weight}
 use Rattle.mdb_explained_runs.specs.declared.explain.chains.Link.{Link}
@@ -18,7 +19,7 @@ use Rattle.mdb_explained_runs.specs.inner.Chains.{KeepChains}
 use Rattle.mdb_explained_runs.specs.inner.Paths.{AreLed, LinksGoOnFrom, HasAsGood, IsLed, TakesIn}
 use Rattle.mdb_explained_runs.specs.inner.Paths.{TakesSteps}
 use Rattle.mdb_explained_runs.specs.inner.Weights.{weight_of}
-use Rattle.mdb_explained_runs.proofs.Bests.{has-weaker, takes-same}
+use Rattle.mdb_explained_runs.proofs.Bests.{has-more, marks-most, takes-same}
 
 -- where there is no step, nothing is taken in
 pub takes-nothing : {State : Type 0} (number : ℕ) (choice : Choice) (code_of : State → ℕ)
@@ -108,35 +109,44 @@ led-relinked number One Other code_of Step weight row oldest old new newest befo
       };
     }
 
--- what one lot of steps leads to is taken in, and then what another does
-pub takes-both : {State : Type 0} (number : ℕ) (One Other Can : Choice → Type 0)
-    (code_of : State → ℕ) (Step : Choice → State → State → Gains → Type 0) (weight : Weight)
-    (row : ℕ) (old_links mid_links links : List Link) (before : ℕ × Best)
-    (old mid new : List (ℕ × Best)) → ((choice : Choice) → One choice → Can choice)
-    → ((choice : Choice) → Other choice → Can choice)
-    → ((choice : Choice) → Can choice → One choice ⊎ Other choice)
+-- what the plain step leads to is taken in, and then what that by a second choice does: each other
+-- choice leads nowhere else than this one
+pub takes-both : {State : Type 0} (number : ℕ) (Can : Choice → Type 0) (code_of : State → ℕ)
+    (Step : Choice → State → State → Gains → Type 0) (weight : Weight) (row : ℕ)
+    (old_links mid_links links : List Link) (before : ℕ × Best) (old mid new : List (ℕ × Best))
+    (second : Choice) → Can Plain → Can second
+    → ((any : Choice) → Can any → any ≢ Plain → (from to : State) (gains : Gains)
+    → Step any from to gains → Step second from to gains)
     → KeepChains old_links mid_links → KeepChains mid_links links
-    → TakesSteps number One code_of Step weight row old_links mid_links before old mid
-    → TakesSteps number Other code_of Step weight row mid_links links before mid new
+    → TakesSteps number (λ one. one ≡ Plain) code_of Step weight row old_links mid_links before old
+    mid
+    → TakesSteps number (λ one. one ≡ second) code_of Step weight row mid_links links before mid new
     → TakesSteps number Can code_of Step weight row old_links links before old new
-takes-both number One Other Can code_of Step weight row old_links mid_links links before old mid
-    new one other either first last takes more = record {
+takes-both number Can code_of Step weight row old_links mid_links links before old mid new second
+    plain can leads first last takes more = record {
       takes = record {
         from = λ entry in'. elim (more.takes.from entry in') [
           | inl had ↦ elim (takes.takes.from entry had) [
             | inl was ↦ inl was
-            | inr led ↦ inr (led-relinked number One Can code_of Step weight row old_links old_links
-                mid_links links before entry one (λ chain marks is. is) last led)
+            | inr led ↦ inr (led-relinked number _ Can code_of Step weight row old_links old_links
+                mid_links links before entry (λ choice same. subst Can (sym same) plain)
+                (λ chain marks is. is) last led)
           ]
-          | inr led ↦ inr (led-relinked number Other Can code_of Step weight row old_links mid_links
-              links links before entry other first (λ chain marks is. is) led)
+          | inr led ↦ inr (led-relinked number _ Can code_of Step weight row old_links mid_links
+              links links before entry (λ choice same. subst Can (sym same) can) first
+              (λ chain marks is. is) led)
         ];
         kept = λ code value marks has.
             more.takes.kept code value marks (takes.takes.kept code value marks has);
       };
-      has = λ choice can next gains step. elim (either choice can) [
+      has = λ choice stands next gains step. elim (plain_or_not choice) [
         | inl is ↦ more.takes.kept next _ _ (takes.has choice is next gains step)
-        | inr is ↦ more.has choice is next gains step
+        | inr not ↦
+            let fewer = marks-most row second choice not in
+            has-more new next (before.1.value +ℤ weight_of weight gains)
+            (before.1.marks + length (marks_at row second))
+            (before.1.marks + length (marks_at row choice)) (omega (arith, fewer))
+            (more.has second refl next gains (step_as (leads choice stands not) step))
       ];
     }
 
@@ -193,18 +203,11 @@ takes-unheeded {State} number Can code_of Step weight row old_links links before
                 (subst (λ s. Step choice s step.after gains)
                 (apart step.before state (step.starts ∙ sym its)) step.step);
           } in
-          has-more new next (before.1.value +ℤ weight_of weight gains) before.1.marks row choice
+          has-more new next (before.1.value +ℤ weight_of weight gains)
+          (before.1.marks + length (marks_at row Plain))
+          (before.1.marks + length (marks_at row choice)) (omega arith)
           (takes.has Plain refl next gains plain));
     }
-  where
-    has-more : (entries : List (ℕ × Best)) (code : ℕ) (value : ℤ) (marks row : ℕ)
-        (choice : Choice) → HasAsGood entries code value (marks + length (marks_at row Plain))
-        → HasAsGood entries code value (marks + length (marks_at row choice))
-    has-more entries code value marks row choice =
-        has-weaker entries code value _ value _ (record {
-          no_greater = omega (arith, ints);
-          no_more = λ _. omega arith;
-        })
 
 -- one entry more is led
 pub led-push : {State : Type 0} (number : ℕ) (Can : Choice → Type 0) (code_of : State → ℕ)

@@ -1,7 +1,7 @@
 -- Marks: what a run chooses of its acts where that isn't plain, each with the number of the row
 -- that ends the act (this profile). Lists of pieces stand newest first, and lists of marks oldest
 -- first.
-use Rattle.std.specs.Prelude.{◌≡◌, ℕ, ◌<◌, ◌≤◌, List, [], ◌∷◌, ◌++◌, length, All, Option, Some, None, if◌then◌else◌}
+use Rattle.std.specs.Prelude.{◌≡◌, ℕ, ◌<◌, ◌≤◌, true, List, [], ◌∷◌, ◌++◌, length, All, Option, Some, None, if◌then◌else◌}
 use Rattle.mdb_words.specs.declared.event.Event.{Event}
 use Rattle.mdb_msgs.specs.declared.command.Command.{Command}
 use Rattle.mdb_msgs.specs.declared.command.Command.TheVariants as commands
@@ -9,6 +9,8 @@ use Rattle.mdb_msgs.specs.declared.command.Device.{Device}
 use Rattle.mdb_msgs.specs.declared.reply.Reply.{Reply}
 use Rattle.mdb_bus.specs.declared.act.Act.{Act}
 use Rattle.mdb_bus.specs.declared.act.Act.TheVariants as acts
+use Rattle.mdb_bus.specs.declared.scope.Profile.{Profile}
+use Rattle.mdb_bus.specs.declared.scope.Profile.TheVariants.{Base, Extended}
 use Rattle.mdb_bus.specs.declared.scope.Scope.{Scope}
 use Rattle.mdb_bus.specs.Acts.{IsAck}
 use Rattle.mdb_bus.specs.ActLists.{Piece, Whole, acts_of, events_of}
@@ -17,6 +19,7 @@ use Rattle.mdb_machine.specs.declared.choice.Choice.{Choice}
 use Rattle.mdb_machine.specs.declared.choice.Choice.TheVariants as choices
 use Rattle.mdb_cash.specs.BillMessages as bill
 use Rattle.mdb_cash.specs.ChangerMessages as changer
+use Rattle.mdb_machine.specs.Choices.{approves}
 use Rattle.mdb_machine.specs.Kept.{MayBeRead}
 use Rattle.mdb_cashless.specs.ReaderMessages as reader
 use Rattle.mdb_explained_runs.specs.declared.mark.Mark.{Mark}
@@ -29,12 +32,14 @@ abbrev pub choice_by : Option Mark → Choice
 choice_by None = choices.Plain
 choice_by (Some marks.Lost) = choices.Lost
 choice_by (Some marks.Restart) = choices.Restart
+choice_by (Some marks.Again) = choices.Again
 
 -- the marks of a choice, at the row that ends its act: one, or none
 abbrev pub marks_at : ℕ → Choice → List (ℕ × Mark)
 marks_at row choices.Plain = []
 marks_at row choices.Lost = (row, marks.Lost) ∷ []
 marks_at row choices.Restart = (row, marks.Restart) ∷ []
+marks_at row choices.Again = (row, marks.Again) ∷ []
 
 -- the marks of what is chosen of the acts of pieces
 abbrev pub marks_of : (pieces : List Piece) → Choices (acts_of pieces) → List (ℕ × Mark)
@@ -84,11 +89,15 @@ MayTellOfRestart (commands.Reader unit command) reply =
     MayBeRead choices.Restart (reader.parts_of reply)
 
 -- A mark may stand on an act: that an ACK was lost on one, and a restart on a reply that can be
--- read so.
-abbrev pub MayStandOn : Mark → Act → Type 0
-MayStandOn marks.Lost act = IsAck act
-MayStandOn marks.Restart (acts.Reply command reply) = MayTellOfRestart command reply
-MayStandOn marks.Restart act = ⊥
+-- read
+-- so. By the extended profile alone, that an approval was told again, on a reply that approves a
+-- sale.
+abbrev pub MayStandOn : Profile → Mark → Act → Type 0
+MayStandOn profile marks.Lost act = IsAck act
+MayStandOn profile marks.Restart (acts.Reply command reply) = MayTellOfRestart command reply
+MayStandOn profile marks.Restart act = ⊥
+MayStandOn Base marks.Again act = ⊥
+MayStandOn Extended marks.Again act = approves act ≡ true
 
 -- marks with one more, at a row, if there is one
 abbrev pub with_mark : ℕ → Option Mark → List (ℕ × Mark) → List (ℕ × Mark)

@@ -8,7 +8,9 @@ use Rattle.mdb_msgs.specs.declared.command.Device.{Device}
 use Rattle.mdb_bus.specs.declared.act.Act.{Act}
 use Rattle.mdb_bus.specs.declared.fault.Blame.{Blame}
 use Rattle.mdb_bus.specs.declared.fault.Rule.{Rule}
+use Rattle.mdb_bus.specs.declared.scope.Profile.{Profile}
 use Rattle.mdb_bus.specs.declared.scope.Scope.{Scope}
+use Rattle.mdb_bus.specs.Scopes.{profile_of}
 use Rattle.mdb_bus.specs.ActLists.{IsActList, Piece, Whole, acts_of}
 use Rattle.mdb_machine.specs.declared.choice.Choice.{Choice}
 use Rattle.mdb_explained_runs.specs.declared.mark.Mark.{Mark}
@@ -36,10 +38,10 @@ pub record SplitAt (scope : Scope) (events : List Event) (marks : List (ℕ × M
   pub after : All (λ mark. length events < mark.0) back
 
 -- a mark, if there is one, may stand on this act, if there is one
-abbrev pub MayStandAt : Option Mark → Option Act → Type 0
-MayStandAt None act = Unit {0}
-MayStandAt (Some mark) None = ⊥
-MayStandAt (Some mark) (Some act) = MayStandOn mark act
+abbrev pub MayStandAt : Profile → Option Mark → Option Act → Type 0
+MayStandAt profile None act = Unit {0}
+MayStandAt profile (Some mark) None = ⊥
+MayStandAt profile (Some mark) (Some act) = MayStandOn profile mark act
 
 -- The machine of a device that a rule is of has no step by an act under a choice, from the state
 -- where the run of rows with these marks is.
@@ -60,7 +62,7 @@ pub record BreaksMarkedMachine (scope : Scope) (events : List Event) (marks : Li
   pub begun : List Event
   pub earlier : List Piece
   pub act_list : IsActList scope (Whole act (begun ++ row ∷ []) ∷ earlier) (events ++ row ∷ [])
-  pub may : MayStandAt mark (Some act)
+  pub may : MayStandAt (profile_of scope.begins) mark (Some act)
   -- the rule of the device
   pub own : Rule
   pub no_step : HasNoMarkedStep scope events marks own act (choice_by mark) (acts_of earlier)
@@ -81,9 +83,9 @@ pub record IsReplayOffence (scope : Scope) (events : List Event) (marks : List (
       ⊎ BreaksMarkedMachine scope events marks row mark offence.rule offence.blame
 
 -- the newest of pieces is a whole act on which a mark may stand
-abbrev pub MayStandOnNewest : Mark → List Piece → Type 0
-MayStandOnNewest mark (Whole act events ∷ pieces) = MayStandOn mark act
-MayStandOnNewest mark pieces = ⊥
+abbrev pub MayStandOnNewest : Profile → Mark → List Piece → Type 0
+MayStandOnNewest profile mark (Whole act events ∷ pieces) = MayStandOn profile mark act
+MayStandOnNewest profile mark pieces = ⊥
 
 -- A mark may not stand at a row that can be, after rows that have a run with these marks: with the
 -- row and its mark there is none.
@@ -97,7 +99,7 @@ pub record IsMarkFault (scope : Scope) (events : List Event) (marks : List (ℕ 
   pub is : mark ≡ Some standing
   pub pieces : List Piece
   pub act_list : IsActList scope pieces (events ++ row ∷ [])
-  pub cannot : MayStandOnNewest standing pieces → ⊥
+  pub cannot : MayStandOnNewest (profile_of scope.begins) standing pieces → ⊥
 
 -- the fault of a row: its offence, or its mark
 abbrev pub IsReplayFault : Scope → List Event → List (ℕ × Mark) → Event → Option Mark

@@ -6,10 +6,10 @@ ghost use Rattle.mdb_machine.specs.Kept.{MayBeRead};
 ghost use Rattle.mdb_cashless.specs.ReaderMessages as reader;
 ghost use Rattle.mdb_explained_runs.specs.Marks.{MayStandOn, MayTellOfRestart, choice_by};
 
-use mdb_bus::Act;
+use mdb_bus::{Act, Profile};
 use mdb_cash::{Bill, Changer};
-use mdb_machine::Choice;
 use mdb_machine::keeper::Keeper;
+use mdb_machine::{Choice, approves};
 use mdb_msgs::{Command, ReaderIter, ReaderMsg, Reply};
 
 /// A mark on the row that ends an act (this profile).
@@ -19,6 +19,8 @@ pub enum Mark {
     Lost,
     /// This reply reports that its device was restarted before it.
     Restart,
+    /// In this reply a reader tells its last approval again, and no new one.
+    Again,
 }
 
 impl Mark {
@@ -29,18 +31,23 @@ impl Mark {
         match self {
             Mark::Lost => Choice::Lost,
             Mark::Restart => Choice::Restart,
+            Mark::Again => Choice::Again,
         }
     }
 
-    /// Whether it may stand on an act.
-    pub fn may_stand_on(self, act: &Act) -> bool
-        ensures { IsTrue result ↔ MayStandOn self act.now }
+    /// Whether it may stand on an act, by a profile.
+    pub fn may_stand_on(self, profile: Profile, act: &Act) -> bool
+        ensures { IsTrue result ↔ MayStandOn profile self act.now }
     {
         match self {
             Mark::Lost => matches!(act, Act::Ack(_) | Act::VmcAck(..)),
             Mark::Restart => match act {
                 Act::Reply(command, reply) => may_tell_of_restart(command, reply),
                 _ => false,
+            },
+            Mark::Again => match profile {
+                Profile::Base => false,
+                Profile::Extended => approves(act),
             },
         }
     }

@@ -8,11 +8,13 @@ ghost use Rattle.std.specs.Option.{ForNone, ForSome};
 ghost use Rattle.mdb_words.specs.declared.event.Event.{Event};
 ghost use Rattle.mdb_bus.specs.Bus.{ended_act};
 ghost use Rattle.mdb_bus.specs.declared.scope.Beginning.TheVariants.{PowerOn};
+ghost use Rattle.mdb_bus.specs.declared.scope.Profile.{Profile};
 ghost use Rattle.mdb_bus.specs.Scopes.{profile_of};
 ghost use Rattle.mdb_explained_runs.specs.Marks as marks;
 ghost use Rattle.mdb_explained_runs.specs.ReplayFaults.{MayStandAt, row_of};
 ghost use Rattle.mdb_bus.specs.Scopes as scopes;
 ghost use Rattle.mdb_bus.specs.Untimely as times;
+ghost use Rattle.mdb_bus.specs.declared.untimely.Untimely.{Untimely};
 ghost use Rattle.mdb_follow.specs.SilenceSteps.{AreFew};
 ghost use Rattle.mdb_explained_runs.specs.inner.TrackSteps.{AreTracksWithin};
 
@@ -33,7 +35,8 @@ pub enum ReplayFault {
     /// The first row that is impossible with these marks.
     Offence(Offence),
     /// A mark that can't stand at this row, counted from 1. The row ends no act, or an act of
-    /// another kind than the mark needs: an ACK, or a reply that can report a restart.
+    /// another kind than the mark needs: an ACK, a reply that can report a restart, or one that
+    /// approves a sale (by the extended profile).
     Mark(u64),
 }
 
@@ -179,7 +182,7 @@ impl Replay {
                 false
             }
             Ok(ended) => {
-                if !may_stand_at(mark, ended, &self.act) {
+                if !may_stand_at(profile_by(&self.untimely), mark, ended, &self.act) {
                     self.fault = Some(ReplayFault::Mark(self.rows + 1));
                     return false;
                 }
@@ -273,13 +276,24 @@ fn offence_of(rows: u64, fault: LinkFault) -> ReplayFault
     })
 }
 
+/// The profile by which rows out of their time are counted, or aren't: by the base one they aren't.
+fn profile_by(counts: &Option<Untimely>) -> Profile
+    ensures { (profile : Profile) (untimely : Untimely)
+        → counts.now ≡ times.counted_for profile untimely → result ≡ profile }
+{
+    match counts {
+        None => Profile::Base,
+        Some(_) => Profile::Extended,
+    }
+}
+
 /// Whether a mark, if there is one, may stand at a row that ends this act or none.
-fn may_stand_at(mark: Option<Mark>, ended: bool, act: &Act) -> bool
-    ensures { IsTrue result ↔ MayStandAt mark (ended_act ended act.now) }
+fn may_stand_at(profile: Profile, mark: Option<Mark>, ended: bool, act: &Act) -> bool
+    ensures { IsTrue result ↔ MayStandAt profile mark (ended_act ended act.now) }
 {
     match mark {
         None => true,
-        Some(mark) => ended && mark.may_stand_on(act),
+        Some(mark) => ended && mark.may_stand_on(profile, act),
     }
 }
 

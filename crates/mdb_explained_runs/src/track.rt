@@ -1,6 +1,6 @@
 //! A device and the controller, as a replay follows them.
 
-ghost use Rattle.std.specs.Prelude.{◌≡◌, ◌<◌, ◌↔◌, ◌^◌, List, [], IfErr, IfOk, OnErr};
+ghost use Rattle.std.specs.Prelude.{◌≡◌, ◌^◌, List, [], IfErr, IfOk, OnErr};
 ghost use Rattle.mdb_bus.specs.declared.act.Act.{Act};
 ghost use Rattle.mdb_bus.specs.declared.scope.Beginning.TheVariants.{PowerOn};
 ghost use Rattle.mdb_bus.specs.declared.scope.Profile.{Profile};
@@ -23,19 +23,16 @@ pub(crate) struct Track<F: Drop, S: Drop> {
     pub(crate) unvalued: u64,
 }
 
-/// The track after no act, by a profile. The code of the state at power-on is 0.
+/// The track after no act, by a profile.
 pub(crate) fn start<P: Pair>(profile: Profile) -> Track<P::Facts, P::State>
-    requires some { 0 < P.CODES }
-    requires starts { (state : P.State)
-        → (P.machine (PowerOn profile)).Starts state ↔ (P.code_of state ≡ 0) }
-    requires none { P.unvalued (PowerOn profile) [] ≡ 0 }
+    requires { P.unvalued (PowerOn profile) [] ≡ 0 }
     ensures stands { IsTrack (P.stands_for (PowerOn profile)) (P.machine (PowerOn profile))
         (P.unvalued (PowerOn profile)) result [] tt }
     ensures within { IsTrackWithin 0 result }
 {
     Track {
         facts: P::facts_start(&Beginning::PowerOn(profile)),
-        state: P::state(0),
+        state: P::power_on(profile),
         cell: Cell::NOTHING,
         unvalued: 0,
     }

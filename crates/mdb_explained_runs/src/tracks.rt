@@ -18,7 +18,7 @@ ghost use Rattle.mdb_explained_runs.specs.inner.TrackSteps.{TracksStop};
 use crate::track::{self, Track};
 use mdb_bus::{Act, Profile, Rule};
 use mdb_cash::{Bill, BillKnown, BillState, Changer, ChangerKnown, ChangerState};
-use mdb_cashless::{Reader, ReaderKnown, ReaderState};
+use mdb_cashless::{KnownByProfile, ReaderByProfile, StateByProfile};
 use mdb_follow::{Cell, DeviceFacts, Owner, Report, owner_of};
 use mdb_machine::Choice;
 use mdb_msgs::{Device, ReaderUnit};
@@ -28,8 +28,8 @@ use mdb_msgs::{Device, ReaderUnit};
 pub(crate) struct Tracks {
     pub(crate) changer: Track<ChangerKnown, ChangerState>,
     pub(crate) bill: Track<BillKnown, BillState>,
-    pub(crate) first_reader: Track<ReaderKnown, ReaderState>,
-    pub(crate) second_reader: Track<ReaderKnown, ReaderState>,
+    pub(crate) first_reader: Track<KnownByProfile, StateByProfile>,
+    pub(crate) second_reader: Track<KnownByProfile, StateByProfile>,
 }
 
 impl Tracks {
@@ -41,8 +41,8 @@ impl Tracks {
         Tracks {
             changer: track::start::<Changer>(profile),
             bill: track::start::<Bill>(profile),
-            first_reader: track::start::<Reader<0>>(profile),
-            second_reader: track::start::<Reader<1>>(profile),
+            first_reader: track::start::<ReaderByProfile<0>>(profile),
+            second_reader: track::start::<ReaderByProfile<1>>(profile),
         }
     }
 
@@ -100,10 +100,20 @@ impl Tracks {
             Device::Bill => track::lead::<Bill>(&mut self.bill, act, choice, Rule::Bill),
             Device::Reader(unit) => match unit {
                 ReaderUnit::First => {
-                    track::lead::<Reader<0>>(&mut self.first_reader, act, choice, Rule::Cashless)
+                    track::lead::<ReaderByProfile<0>>(
+                        &mut self.first_reader,
+                        act,
+                        choice,
+                        Rule::Cashless,
+                    )
                 }
                 ReaderUnit::Second => {
-                    track::lead::<Reader<1>>(&mut self.second_reader, act, choice, Rule::Cashless)
+                    track::lead::<ReaderByProfile<1>>(
+                        &mut self.second_reader,
+                        act,
+                        choice,
+                        Rule::Cashless,
+                    )
                 }
             },
         }

@@ -6,12 +6,13 @@ use Rattle.mdb_words.specs.Event.{start_of}
 use Rattle.mdb_msgs.specs.declared.command.Device.{Device}
 use Rattle.mdb_msgs.specs.declared.command.Device.TheVariants as devices
 use Rattle.mdb_msgs.specs.declared.command.ReaderUnit.TheVariants.{First, Second}
-use Rattle.mdb_cashless.specs.declared.reader.known.ReaderKnown.{ReaderKnown}
+use Rattle.mdb_cashless.specs.declared.by_profile.facts.KnownByProfile.{KnownByProfile}
 use Rattle.mdb_bus.specs.declared.act.Act.{Act}
 use Rattle.mdb_bus.specs.declared.act.Act.TheVariants as acts
-use Rattle.mdb_bus.specs.ActLists.{AskTail, IsTail, Piece, RepeatTail, ReplyTail, Whole, act_in}
-use Rattle.mdb_bus.specs.ActLists.{acts_of, last_of, piece_events}
+use Rattle.mdb_bus.specs.ActLists.{IsTail, Piece, Whole, act_in, acts_of, last_of, piece_events}
 use Rattle.mdb_bus.specs.declared.scope.Beginning.{Beginning}
+use Rattle.mdb_bus.specs.declared.scope.Beginning.TheVariants.{PowerOn, Joined}
+use Rattle.mdb_bus.specs.declared.scope.Profile.TheVariants as profiles
 use Rattle.mdb_bus.specs.Bus.{Grown}
 use Rattle.mdb_follow.specs.Devices.{spec_of}
 use Rattle.mdb_follow.specs.Sides.{stands_for}
@@ -23,22 +24,16 @@ tail-asks : (begins : Beginning) (device : Device) (tail : Piece) (pieces : List
     → IsTail tail
     → asks_of begins device (tail ∷ pieces) ≡ asks_of begins device pieces
 tail-asks begins device (Whole act events) pieces is = absurd is
-tail-asks begins device (AskTail bytes events) pieces is = refl
-tail-asks begins device (ReplyTail command bytes events) pieces is = refl
-tail-asks begins device (RepeatTail command reply bytes events) pieces is = refl
+tail-asks begins device tail pieces is = refl
 
-tail-acts : (tail : Piece) (pieces : List Piece) → IsTail tail
+pub tail-acts : (tail : Piece) (pieces : List Piece) → IsTail tail
     → acts_of (tail ∷ pieces) ≡ acts_of pieces
 tail-acts (Whole act events) pieces is = absurd is
-tail-acts (AskTail bytes events) pieces is = refl
-tail-acts (ReplyTail command bytes events) pieces is = refl
-tail-acts (RepeatTail command reply bytes events) pieces is = refl
+tail-acts tail pieces is = refl
 
-no-act : (piece : Piece) → act_in piece ≡ None → IsTail piece
+pub no-act : (piece : Piece) → act_in piece ≡ None → IsTail piece
 no-act (Whole act events) none = cc
-no-act (AskTail bytes events) none = tt
-no-act (ReplyTail command bytes events) none = tt
-no-act (RepeatTail command reply bytes events) none = tt
+no-act tail none = tt
 
 -- the pieces before the newest have the asks and the acts of those that went on
 earlier-asks : (begins : Beginning) (device : Device) (pieces : List Piece) (row : Event)
@@ -93,32 +88,23 @@ whole-asks begins device (Whole one events) earlier begun row act are is =
     ∙ ap (λ one. asks_after device one
     (record { at = start_of row; limit = limit_of begins device (acts_of earlier) })
     (asks_of begins device earlier)) same
-whole-asks begins device (AskTail bytes events) earlier begun row act are is = absurd (cc is)
-whole-asks begins device (ReplyTail command bytes events) earlier begun row act are is = absurd
-    (cc is)
-whole-asks begins device (RepeatTail command reply bytes events) earlier begun row act are is =
-    absurd (cc is)
+whole-asks begins device tail earlier begun row act are is = absurd (cc is)
 
 -- an ask leaves the limit
 same-limit : (begins : Beginning) (device : Device) (act : Act) (acts : List Act) (at : ℕ)
     (lists : List (List TimedAsk))
     → asks_after device act (record { at = at; limit = limit_of begins device acts }) lists
     ≡ asks_after device act (record { at = at; limit = limit_of begins device (act ∷ acts) }) lists
-same-limit begins devices.Changer act acts at lists = refl
-same-limit begins devices.Bill act acts at lists = refl
-same-limit begins (devices.Reader unit) (acts.Ask command) acts at lists = refl
-same-limit begins device (acts.Ack command) acts at lists = refl
-same-limit begins device (acts.Nak command) acts at lists = refl
-same-limit begins device (acts.Reply command reply) acts at lists = refl
-same-limit begins device (acts.VmcAck command reply) acts at lists = refl
-same-limit begins device (acts.VmcNak command reply) acts at lists = refl
-same-limit begins device (acts.VmcRet command reply) acts at lists = refl
-same-limit begins device (acts.Repeat command reply) acts at lists = refl
-same-limit begins device acts.Foreign acts at lists = refl
-same-limit begins device (acts.Break length) acts at lists = refl
+same-limit (PowerOn profiles.Base) (devices.Reader unit) (acts.Ask command) acts at lists = refl
+same-limit (Joined setups profiles.Base) (devices.Reader unit) (acts.Ask command) acts at lists =
+    refl
+same-limit (PowerOn profiles.Extended) (devices.Reader unit) (acts.Ask command) acts at lists = refl
+same-limit (Joined setups profiles.Extended) (devices.Reader unit) (acts.Ask c) acts at lists =
+    refl
+same-limit begins device act acts at lists = refl
 
 -- what is known of the readers has the limits of its acts
-limit-is : (begins : Beginning) (device : Device) (first second : ReaderKnown) (acts : List Act)
+limit-is : (begins : Beginning) (device : Device) (first second : KnownByProfile) (acts : List Act)
     → stands_for begins (devices.Reader First) first acts
     → stands_for begins (devices.Reader Second) second acts
     → limit_of begins device acts ≡ limit_in first second device
@@ -132,7 +118,7 @@ limit-is begins (devices.Reader Second) first second acts one other =
 -- an act, and the lists go on by it
 pub asks-go-on : (begins : Beginning) (device : Device) (pieces : List Piece) (row : Event)
     (act : Act)
-    (longer : List Piece) (first second : ReaderKnown) → Grown pieces row (Some act) longer
+    (longer : List Piece) (first second : KnownByProfile) → Grown pieces row (Some act) longer
     → stands_for begins (devices.Reader First) first (act ∷ acts_of pieces)
     → stands_for begins (devices.Reader Second) second (act ∷ acts_of pieces)
     → asks_after device act (record { at = start_of row; limit = limit_in first second device })

@@ -4,14 +4,13 @@ use Rattle.std.proofs.Common.{Bool, true, false, List, [], ◌∷◌, ◌++◌, 
 use Rattle.std.proofs.lemmas.Bool.Decides.{nat_tests}
 use Rattle.mdb_msgs.specs.declared.command.Device.{Device}
 use Rattle.mdb_bus.specs.declared.act.Act.{Act}
-use Rattle.mdb_bus.specs.ActLists.{ArePieces, Piece, Whole, AskTail, ReplyTail, RepeatTail, acts_of}
-use Rattle.mdb_bus.specs.ActLists.{events_of}
+use Rattle.mdb_bus.specs.ActLists.{ArePieces, Piece, Whole, acts_of, events_of, piece_events}
 use Rattle.mdb_bus.specs.Acts.{IsAck}
 use Rattle.mdb_bus.specs.Wish.{HearsAsWished}
 use Rattle.mdb_bus.specs.Loss.{IsHeard, Loss, LossFits}
 use Rattle.mdb_bus.specs.declared.scope.Beginning.{Beginning}
 use Rattle.mdb_machine.specs.declared.choice.Choice.{Choice}
-use Rattle.mdb_machine.specs.declared.choice.Choice.TheVariants.{Plain, Lost, Restart}
+use Rattle.mdb_machine.specs.declared.choice.Choice.TheVariants.{Lost}
 use Rattle.mdb_machine.specs.declared.gains.Gains.{Gains}
 use Rattle.mdb_machine.specs.Machine.{Machine}
 use Rattle.mdb_machine.specs.Pair.{IsMachineOf}
@@ -46,11 +45,7 @@ split_with_choices begins loss [] states sums way = way
 split_with_choices begins loss (Whole act events ∷ pieces) states sums way =
     let earlier = split_with_choices begins loss pieces way.before way.sums_before way.way in
     λ device. by_one (earlier device) (way.go device)
-split_with_choices begins loss (AskTail bytes events ∷ pieces) states sums way =
-    split_with_choices begins loss pieces states sums way
-split_with_choices begins loss (ReplyTail command bytes events ∷ pieces) states sums way =
-    split_with_choices begins loss pieces states sums way
-split_with_choices begins loss (RepeatTail command reply words events ∷ pieces) states sums way =
+split_with_choices begins loss (tail ∷ pieces) states sums way =
     split_with_choices begins loss pieces states sums way
 
 -- so it is a way of each device
@@ -76,9 +71,8 @@ pick_other one other same apart less = grind (arith, nat_tests)
 
 -- whether a choice leaves it that an act was heard
 is_heard : Choice → Bool
-is_heard Plain = true
 is_heard Lost = false
-is_heard Restart = true
+is_heard choice = true
 
 -- which acts are heard by choices, by the number of rows before them
 chosen_at : (pieces : List Piece) → Choices (acts_of pieces) → ℕ → Bool
@@ -86,19 +80,15 @@ chosen_at [] choices before = true
 chosen_at (Whole act events ∷ pieces) choices before =
     pick before (length (events_of pieces)) (is_heard choices.choice)
     (chosen_at pieces choices.before before)
-chosen_at (AskTail bytes events ∷ pieces) choices before = chosen_at pieces choices before
-chosen_at (ReplyTail command bytes events ∷ pieces) choices before = chosen_at pieces choices before
-chosen_at (RepeatTail command reply words events ∷ pieces) choices before =
-    chosen_at pieces choices before
+chosen_at (tail ∷ pieces) choices before = chosen_at pieces choices before
 
 -- a choice is Lost exactly where an ACK wasn't heard
 lost_as : (choice : Choice) (Heard : Type 0) → Heard ↔ (is_heard choice ≡ true)
     → (choice ≡ Lost) ↔ (Heard → ⊥)
 unfolding is_heard
-lost_as Plain Heard told = (λ is. absurd cc, λ none. absurd (none (told.1 refl)))
 lost_as Lost Heard told =
     (λ is heard. let never : false ≡ true = told.0 heard in absurd cc, λ none. refl)
-lost_as Restart Heard told = (λ is. absurd cc, λ none. absurd (none (told.1 refl)))
+lost_as choice Heard told = (λ is. absurd cc, λ none. absurd (none (told.1 refl)))
 
 -- a loss agrees with choices on each ACK
 abbrev Agrees : Loss → (pieces : List Piece) → Choices (acts_of pieces) → Type 0
@@ -108,9 +98,7 @@ Agrees loss (Whole act events ∷ pieces) choices =
     → IsHeard loss act (length (events_of pieces)) (length events)
     ↔ (is_heard choices.choice ≡ true))
     × Agrees loss pieces choices.before
-Agrees loss (AskTail bytes events ∷ pieces) choices = Agrees loss pieces choices
-Agrees loss (ReplyTail command bytes events ∷ pieces) choices = Agrees loss pieces choices
-Agrees loss (RepeatTail command reply words events ∷ pieces) choices = Agrees loss pieces choices
+Agrees loss (tail ∷ pieces) choices = Agrees loss pieces choices
 
 agrees : (scope : Scope) (choice : ℕ → Bool) (loss : Loss) (pieces : List Piece)
     (choices : Choices (acts_of pieces))
@@ -133,16 +121,8 @@ agrees scope choice loss (Whole act events ∷ pieces) choices are same hears =
           ∙ pick_other before (length (events_of pieces)) (is_heard choices.choice) _ less)
           hears.1,
     )
-agrees scope choice loss (AskTail bytes events ∷ pieces) choices are same hears =
-    let rows = length-append (events_of pieces) events in
-    agrees scope choice loss pieces choices are.2
-    (λ before less. same before (omega (arith, less, rows))) hears
-agrees scope choice loss (ReplyTail command bytes events ∷ pieces) choices are same hears =
-    let rows = length-append (events_of pieces) events in
-    agrees scope choice loss pieces choices are.2
-    (λ before less. same before (omega (arith, less, rows))) hears
-agrees scope choice loss (RepeatTail command reply words events ∷ pieces) choices are same hears =
-    let rows = length-append (events_of pieces) events in
+agrees scope choice loss (tail ∷ pieces) choices are same hears =
+    let rows = length-append (events_of pieces) (piece_events tail) in
     agrees scope choice loss pieces choices are.2
     (λ before less. same before (omega (arith, less, rows))) hears
 
@@ -170,11 +150,7 @@ way_of begins loss (Whole act events ∷ pieces) choices states sums agree ways 
       (λ device. (ways device).sums_before) agree.1 (λ device. (ways device).way);
   go = λ device. gone (ways device);
 }
-way_of begins loss (AskTail bytes events ∷ pieces) choices states sums agree ways =
-    way_of begins loss pieces choices states sums agree ways
-way_of begins loss (ReplyTail command bytes events ∷ pieces) choices states sums agree ways =
-    way_of begins loss pieces choices states sums agree ways
-way_of begins loss (RepeatTail command reply words events ∷ pieces) choices states sums agree ways =
+way_of begins loss (tail ∷ pieces) choices states sums agree ways =
     way_of begins loss pieces choices states sums agree ways
 
 -- and it chooses what was chosen
@@ -190,13 +166,7 @@ way_of-choices begins loss (Whole act events ∷ pieces) choices states sums agr
     ap (λ before. record { choice = choices.choice; stands = choices.stands; before = before })
     (way_of-choices begins loss pieces choices.before (λ device. (ways device).before)
     (λ device. (ways device).sums_before) agree.1 (λ device. (ways device).way))
-way_of-choices begins loss (AskTail bytes events ∷ pieces) choices states sums agree ways =
-    way_of-choices begins loss pieces choices states sums agree ways
-way_of-choices begins loss (ReplyTail command bytes events ∷ pieces) choices states sums agree
-    ways =
-    way_of-choices begins loss pieces choices states sums agree ways
-way_of-choices begins loss (RepeatTail command reply words events ∷ pieces) choices states sums
-    agree ways =
+way_of-choices begins loss (tail ∷ pieces) choices states sums agree ways =
     way_of-choices begins loss pieces choices states sums agree ways
 
 -- what mdb_bus says of losses: there is one by which the ACKs are heard that are wished to be
@@ -265,11 +235,7 @@ heard_alike begins one other (Whole act events ∷ pieces) states sums same way 
   way = heard_alike begins one other pieces way.before way.sums_before same.1 way.way;
   go = way.go;
 }
-heard_alike begins one other (AskTail bytes events ∷ pieces) states sums same way =
-    heard_alike begins one other pieces states sums same way
-heard_alike begins one other (ReplyTail command bytes events ∷ pieces) states sums same way =
-    heard_alike begins one other pieces states sums same way
-heard_alike begins one other (RepeatTail command reply words events ∷ pieces) states sums same way =
+heard_alike begins one other (tail ∷ pieces) states sums same way =
     heard_alike begins one other pieces states sums same way
 
 same_back : (one other : Loss) (pieces : List Piece) → HearSameAcks one other pieces
@@ -277,10 +243,7 @@ same_back : (one other : Loss) (pieces : List Piece) → HearSameAcks one other 
 same_back one other [] same = tt
 same_back one other (Whole act events ∷ pieces) same =
     ((λ ack. ((same.0 ack).1, (same.0 ack).0)), same_back one other pieces same.1)
-same_back one other (AskTail bytes events ∷ pieces) same = same_back one other pieces same
-same_back one other (ReplyTail command bytes events ∷ pieces) same = same_back one other pieces same
-same_back one other (RepeatTail command reply words events ∷ pieces) same =
-    same_back one other pieces same
+same_back one other (tail ∷ pieces) same = same_back one other pieces same
 
 pub ways_alike : (begins : Beginning) (one other : Loss) (pieces : List Piece)
     → HearSameAcks one other pieces → (states : States) (sums : AllSums)

@@ -2,6 +2,7 @@ pub mod Accounts
 pub mod Alone
 pub mod Asks
 pub mod ByDevice
+pub mod ByProfile
 pub mod Choosing
 pub mod Cuts
 pub mod Ends

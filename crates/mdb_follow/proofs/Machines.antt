@@ -9,7 +9,7 @@ use Rattle.mdb_bus.specs.declared.act.Act.TheVariants as kinds
 use Rattle.mdb_bus.specs.declared.scope.Beginning.{Beginning}
 use Rattle.mdb_bus.specs.LeavingOut.{device_in}
 use Rattle.mdb_machine.specs.declared.choice.Choice.{Choice}
-use Rattle.mdb_machine.specs.declared.choice.Choice.TheVariants.{Plain, Lost, Restart}
+use Rattle.mdb_machine.specs.declared.choice.Choice.TheVariants.{Plain, Again}
 use Rattle.mdb_machine.specs.declared.gains.Gains.{Gains}
 use Rattle.mdb_cash.specs.shared.BillWays as bill_ways
 use Rattle.mdb_cash.specs.shared.ChangerWays as changer_ways
@@ -17,7 +17,7 @@ use Rattle.mdb_machine.specs.Choices.{CanStand}
 use Rattle.mdb_machine.specs.Gains.{no_gains}
 use Rattle.mdb_machine.specs.Machine.{Machine}
 use Rattle.mdb_machine.specs.Pair.{IsActOf, IsMachineOf}
-use Rattle.mdb_cashless.specs.shared.ReaderWays as reader_ways
+use Rattle.mdb_cashless.specs.shared.ByProfileWays as reader_ways
 use Rattle.mdb_follow.specs.Arrivals.{Arrives}
 use Rattle.mdb_follow.specs.Machines.{machine_of}
 use Rattle.mdb_follow.specs.Offences.{HasNoStep}
@@ -75,8 +75,8 @@ whose_is device act own whole = ap (λ named. unwrap_or named devices.Changer) o
 -- on a break the plain choice can stand alone
 plain_alone : (length : ℕ) (choice : Choice) → CanStand (kinds.Break length) choice → choice ≡ Plain
 plain_alone length Plain stands = refl
-plain_alone length Lost stands = absurd stands
-plain_alone length Restart stands = absurd stands
+plain_alone length Again stands = absurd cc
+plain_alone length _ stands = absurd stands
 
 -- a device with a part in an act takes it as the one whose it is does, where each can
 pub same_choice : (device : Device) (act : Act) (chosen : Device → Choice)

@@ -1,15 +1,18 @@
 -- What is known of any device, and the amounts of it without a value, by what is known of each.
-use Rattle.std.proofs.Common.{ap, refl, ◌∙◌, ◌≡◌, List, [], None, All, option_map}
+use Rattle.std.proofs.Common.{ap, refl, ◌∙◌, ◌≡◌, ℕ, List, [], None, All, option_map}
 use Rattle.mdb_msgs.specs.declared.command.Device.{Device}
 use Rattle.mdb_msgs.specs.declared.command.Device.TheVariants as devices
 use Rattle.mdb_msgs.specs.declared.command.ReaderUnit.{ReaderUnit}
 use Rattle.mdb_bus.specs.declared.act.Act.{Act}
 use Rattle.mdb_bus.specs.declared.scope.Beginning.{Beginning}
 use Rattle.mdb_bus.specs.declared.scope.Beginning.TheVariants.{PowerOn, Joined}
+use Rattle.mdb_bus.specs.declared.scope.Profile.TheVariants as profiles
 use Rattle.mdb_cash.specs.BillFacts as bill_facts
 use Rattle.mdb_cash.specs.ChangerFacts as changer_facts
 use Rattle.mdb_machine.specs.Pair.{IsBreak, own_acts}
-use Rattle.mdb_cashless.specs.ReaderFacts as reader_facts
+use Rattle.mdb_bus.specs.Scopes.{profile_of}
+use Rattle.mdb_cashless.specs.ByProfile.{config_of, facts_of, unvalued}
+use Rattle.mdb_cashless.specs.shared.ByProfileWays.{of_each}
 use Rattle.mdb_follow.specs.LeavingOut.{IsNotKnown}
 use Rattle.mdb_follow.specs.Report.{decimals_of}
 
@@ -25,12 +28,15 @@ none_before : (begins : Beginning) (device : Device) → IsNotKnown begins devic
     → decimals_of begins device [] ≡ None
 none_before (PowerOn profile) devices.Changer none = refl
 none_before (PowerOn profile) devices.Bill none = refl
-none_before (PowerOn profile) (devices.Reader unit) none = refl
+none_before (PowerOn profiles.Base) (devices.Reader unit) none = refl
+none_before (PowerOn profiles.Extended) (devices.Reader unit) none = refl
 none_before (Joined setups profile) devices.Changer none =
     ap (option_map (λ setup. setup.decimals)) none
 none_before (Joined setups profile) devices.Bill none =
     ap (option_map (λ setup. setup.decimals)) none
-none_before (Joined setups profile) (devices.Reader unit) none =
+none_before (Joined setups profiles.Base) (devices.Reader unit) none =
+    ap (option_map (λ config. config.decimals)) none
+none_before (Joined setups profiles.Extended) (devices.Reader unit) none =
     ap (option_map (λ config. config.decimals)) none
 
 -- So it has none where breaks leave its setup.
@@ -41,8 +47,8 @@ pub no_decimals : ((begins : Beginning) (so_far : List Act)
     → (bill_facts.known_of begins so_far).setup ≡ (bill_facts.known_of begins []).setup)
     → ((begins : Beginning) (unit : ReaderUnit) (so_far : List Act)
     → All IsBreak (own_acts (devices.Reader unit) so_far)
-    → (reader_facts.known_of begins unit so_far).config
-    ≡ (reader_facts.known_of begins unit []).config) → (begins : Beginning) (device : Device)
+    → config_of (facts_of begins unit so_far) ≡ config_of (facts_of begins unit []))
+    → (begins : Beginning) (device : Device)
     (so_far : List Act) → All IsBreak (own_acts device so_far) → IsNotKnown begins device
     → decimals_of begins device so_far ≡ None
 no_decimals changer bill reader begins devices.Changer so_far alone none =
@@ -54,3 +60,7 @@ no_decimals changer bill reader begins devices.Bill so_far alone none =
 no_decimals changer bill reader begins (devices.Reader unit) so_far alone none =
     ap (option_map (λ config. config.decimals)) (reader begins unit so_far alone)
     ∙ none_before begins (devices.Reader unit) none
+
+-- no act tells no amount of a reader
+pub none_unvalued : (unit : ReaderUnit) (begins : Beginning) → unvalued unit begins [] ≡ 0
+none_unvalued unit begins = of_each (λ (u : List Act → ℕ). u [] ≡ 0) (profile_of begins) refl refl

@@ -1,5 +1,5 @@
 -- That each sale in a run follows its approval.
-use Rattle.std.proofs.Common.{ap, subst, ◌≡◌, ◌⊎◌, inl, inr, ℕ, List, [], ◌∷◌, ◌++◌}
+use Rattle.std.proofs.Common.{ap, refl, subst, ◌≡◌, ◌⊎◌, inl, inr, ℕ, List, [], ◌∷◌, ◌++◌}
 use Rattle.std.proofs.lemmas.List.Elements.{All-cons, All-nil}
 use Rattle.mdb_words.specs.declared.event.Event.{Event}
 use Rattle.mdb_msgs.specs.declared.command.Command.{Command}
@@ -10,11 +10,18 @@ use Rattle.mdb_msgs.specs.declared.command.ReaderUnit.{ReaderUnit}
 use Rattle.mdb_msgs.specs.declared.reply.Reply.{Reply}
 use Rattle.mdb_bus.specs.declared.act.Act.{Act}
 use Rattle.mdb_bus.specs.declared.act.Act.TheVariants as acts
-use Rattle.mdb_bus.specs.ActLists.{ArePieces, Piece, Position, Whole, AskTail, ReplyTail}
-use Rattle.mdb_bus.specs.ActLists.{RepeatTail, Replied, Returned, acts_of, first_position, position_of}
+use Rattle.mdb_bus.specs.ActLists.{ArePieces, Piece, Position, Whole}
+use Rattle.mdb_bus.specs.ActLists.{Replied, Returned, acts_of, first_position, position_of}
 use Rattle.mdb_machine.specs.declared.gains.Gains.{Gains}
 use Rattle.mdb_machine.specs.declared.choice.Choice.{Choice}
 use Rattle.mdb_cashless.specs.declared.reader.state.ReaderState.{ReaderState}
+use Rattle.mdb_cashless.specs.declared.approvals.state.ApprovalState.{ApprovalState}
+use Rattle.mdb_cashless.specs.declared.by_profile.state.StateByProfile.{StateByProfile}
+use Rattle.mdb_cashless.specs.declared.by_profile.state.StateByProfile.TheVariants.{Base, Extended}
+use Rattle.mdb_cashless.specs.ByProfile.{base_state, by_profile, extended_state, machine_in}
+use Rattle.mdb_cashless.specs.ExtendedReader as extended
+use Rattle.mdb_cashless.specs.ExtendedSales as extended_sales
+use Rattle.mdb_cashless.specs.ExtendedSales.{AcksAreOfReplies}
 use Rattle.mdb_cashless.specs.Reader as reader
 use Rattle.mdb_cashless.specs.shared.SaleViews.{AcksLastReply, MayTellOfSale}
 use Rattle.mdb_cashless.specs.Sales.{EndsInReply, IsApproved, MayBeRequestedBefore}
@@ -22,10 +29,15 @@ use Rattle.mdb_cashless.specs.Sales.{SalesAreApproved}
 use Rattle.mdb_follow.specs.Arrivals.{Arrives}
 use Rattle.mdb_follow.specs.Sales.{SalesFollowApprovals}
 use Rattle.mdb_follow.specs.Sums.{Sums}
+use Rattle.mdb_follow.proofs.ByProfile.{own_way}
+use Rattle.mdb_follow.proofs.Choosing.{arrives, chosen}
 use Rattle.mdb_follow.proofs.Joining.{split}
 use Rattle.mdb_bus.specs.declared.scope.Beginning.{Beginning}
 use Rattle.mdb_bus.specs.declared.scope.Beginning.TheVariants.{PowerOn, Joined}
+use Rattle.mdb_bus.specs.declared.scope.Profile.{Profile}
+use Rattle.mdb_bus.specs.declared.scope.Profile.TheVariants as profiles
 use Rattle.mdb_bus.specs.declared.scope.Scope.{Scope}
+use Rattle.mdb_bus.specs.Scopes.{profile_of}
 
 -- a reply, RET for it, or its repeat
 abbrev pub IsOfReply : Command → Reply → Act → Type 0
@@ -76,51 +88,17 @@ ends_in scope command reply (Whole (acts.VmcRet c r) events ∷ pieces) are (inr
     let before = are.1.comes.0 in
     again command reply (acts.VmcRet c r) (acts_of pieces) (inl cc)
     (ends_in scope command reply pieces are.2 (inl cc))
-ends_in scope command reply (Whole (acts.Reply c r) events ∷ pieces) are (inr e) = absurd cc
-ends_in scope command reply (Whole (acts.Repeat c r) events ∷ pieces) are (inr e) = absurd cc
-ends_in scope command reply (Whole (acts.VmcRet c r) events ∷ pieces) are (inl e) = absurd cc
-ends_in scope command reply (Whole (acts.Ask c) events ∷ pieces) are (inl e) = absurd cc
-ends_in scope command reply (Whole (acts.Ask c) events ∷ pieces) are (inr e) = absurd cc
-ends_in scope command reply (Whole (acts.Ack c) events ∷ pieces) are (inl e) = absurd cc
-ends_in scope command reply (Whole (acts.Ack c) events ∷ pieces) are (inr e) = absurd cc
-ends_in scope command reply (Whole (acts.Nak c) events ∷ pieces) are (inl e) = absurd cc
-ends_in scope command reply (Whole (acts.Nak c) events ∷ pieces) are (inr e) = absurd cc
-ends_in scope command reply (Whole (acts.VmcAck c r) events ∷ pieces) are (inl e) = absurd cc
-ends_in scope command reply (Whole (acts.VmcAck c r) events ∷ pieces) are (inr e) = absurd cc
-ends_in scope command reply (Whole (acts.VmcNak c r) events ∷ pieces) are (inl e) = absurd cc
-ends_in scope command reply (Whole (acts.VmcNak c r) events ∷ pieces) are (inr e) = absurd cc
-ends_in scope command reply (Whole acts.Foreign events ∷ pieces) are (inl e) = absurd cc
-ends_in scope command reply (Whole acts.Foreign events ∷ pieces) are (inr e) = absurd cc
-ends_in scope command reply (Whole (acts.Break n) events ∷ pieces) are (inl e) = absurd cc
-ends_in scope command reply (Whole (acts.Break n) events ∷ pieces) are (inr e) = absurd cc
-ends_in scope command reply (AskTail bytes events ∷ pieces) are (inl e) = absurd cc
-ends_in scope command reply (AskTail bytes events ∷ pieces) are (inr e) = absurd cc
-ends_in scope command reply (ReplyTail c bytes events ∷ pieces) are (inl e) = absurd cc
-ends_in scope command reply (ReplyTail c bytes events ∷ pieces) are (inr e) = absurd cc
-ends_in scope command reply (RepeatTail c r words events ∷ pieces) are (inl e) = absurd cc
-ends_in scope command reply (RepeatTail c r words events ∷ pieces) are (inr e) = absurd cc
+ends_in scope command reply (piece ∷ pieces) are (inl e) = absurd cc
+ends_in scope command reply (piece ∷ pieces) are (inr e) = absurd cc
 
 -- each ACK of the controller stands after the reply that it acknowledges
-abbrev AcksFit : List Act → Type 0
-AcksFit [] = Unit {0}
-AcksFit (act ∷ so_far) = AcksLastReply act so_far × AcksFit so_far
-
-acks_fit : (scope : Scope) (pieces : List Piece) → ArePieces scope pieces → AcksFit (acts_of pieces)
+acks_fit : (scope : Scope) (pieces : List Piece) → ArePieces scope pieces
+    → AcksAreOfReplies (acts_of pieces)
 acks_fit scope [] are = tt
-acks_fit scope (Whole (acts.Ask c) events ∷ pieces) are = (tt, acks_fit scope pieces are.2)
-acks_fit scope (Whole (acts.Ack c) events ∷ pieces) are = (tt, acks_fit scope pieces are.2)
-acks_fit scope (Whole (acts.Nak c) events ∷ pieces) are = (tt, acks_fit scope pieces are.2)
-acks_fit scope (Whole (acts.Reply c r) events ∷ pieces) are = (tt, acks_fit scope pieces are.2)
 acks_fit scope (Whole (acts.VmcAck c r) events ∷ pieces) are =
     (ends_in scope c r pieces are.2 (inl are.1.comes.0), acks_fit scope pieces are.2)
-acks_fit scope (Whole (acts.VmcNak c r) events ∷ pieces) are = (tt, acks_fit scope pieces are.2)
-acks_fit scope (Whole (acts.VmcRet c r) events ∷ pieces) are = (tt, acks_fit scope pieces are.2)
-acks_fit scope (Whole (acts.Repeat c r) events ∷ pieces) are = (tt, acks_fit scope pieces are.2)
-acks_fit scope (Whole acts.Foreign events ∷ pieces) are = (tt, acks_fit scope pieces are.2)
-acks_fit scope (Whole (acts.Break n) events ∷ pieces) are = (tt, acks_fit scope pieces are.2)
-acks_fit scope (AskTail bytes events ∷ pieces) are = acks_fit scope pieces are.2
-acks_fit scope (ReplyTail c bytes events ∷ pieces) are = acks_fit scope pieces are.2
-acks_fit scope (RepeatTail c r words events ∷ pieces) are = acks_fit scope pieces are.2
+acks_fit scope (Whole act events ∷ pieces) are = (tt, acks_fit scope pieces are.2)
+acks_fit scope (tail ∷ pieces) are = acks_fit scope pieces are.2
 
 -- the laws of the views
 pub record ViewLaws : Type 0 where
@@ -138,49 +116,101 @@ pub record ViewLaws : Type 0 where
       (acts.Ask (commands.Reader unit (readers.VendSuccess item))) choice before after gains
       → IsApproved unit item so_far ⊎ MayBeRequestedBefore begins unit so_far
 
--- before the first act there is no sale
-none_sold : (begins : Beginning) (unit : ReaderUnit) (item : ℕ) (later before : List Act)
-    → [] ≡ later ++ (acts.Ask (commands.Reader unit (readers.VendSuccess item)) ∷ before)
-    → IsApproved unit item before ⊎ MayBeRequestedBefore begins unit before
-none_sold begins unit item [] before order = absurd cc
-none_sold begins unit item (act ∷ later) before order = absurd cc
+-- of each sale among acts this is so
+abbrev EachSold : (ℕ → List Act → Type 0) → ReaderUnit → List Act → Type 0
+EachSold Is unit so_far = (later before : List Act) (item : ℕ)
+    → so_far ≡ later ++ (acts.Ask (commands.Reader unit (readers.VendSuccess item)) ∷ before)
+    → Is item before
+
+-- before the first act there is none
+none_sold : (Is : ℕ → List Act → Type 0) (unit : ReaderUnit) → EachSold Is unit []
+none_sold Is unit [] before item order = absurd cc
+none_sold Is unit (act ∷ later) before item order = absurd cc
 
 -- one act more: a sale is the last act, or stands before it
-one_more : (begins : Beginning) (unit : ReaderUnit) (act : Act) (so_far : List Act)
+one_more : (Is : ℕ → List Act → Type 0) (unit : ReaderUnit) (act : Act) (so_far : List Act)
     → ((item : ℕ) → act ≡ acts.Ask (commands.Reader unit (readers.VendSuccess item))
-    → IsApproved unit item so_far ⊎ MayBeRequestedBefore begins unit so_far)
-    → SalesAreApproved begins unit so_far → SalesAreApproved begins unit (act ∷ so_far)
-one_more begins unit act so_far last earlier [] before item order =
-    let same : so_far ≡ before = cc in
-    subst (λ l. IsApproved unit item l ⊎ MayBeRequestedBefore begins unit l) same (last item cc)
-one_more begins unit act so_far last earlier (other ∷ later) before item order =
+    → Is item so_far) → EachSold Is unit so_far → EachSold Is unit (act ∷ so_far)
+one_more Is unit act so_far last earlier [] before item order =
+    let same : so_far ≡ before = cc in subst (Is item) same (last item cc)
+one_more Is unit act so_far last earlier (other ∷ later) before item order =
     earlier later before item cc
 
 -- a way of a reader through acts: the view where it leads may tell of the sale, and each sale is
 -- approved, or may have been requested before
 all_sold : ViewLaws → (begins : Beginning) (unit : ReaderUnit) (so_far : List Act)
-    (state : ReaderState) (sums : Sums) → AcksFit so_far
+    (state : ReaderState) (sums : Sums) → AcksAreOfReplies so_far
     → Arrives (reader.machine unit begins) so_far state sums
     → MayTellOfSale begins unit state.view so_far × SalesAreApproved begins unit so_far
 all_sold laws begins unit [] state sums fit way = (
   laws.start unit begins state way.0,
-  λ later before item order. none_sold begins unit item later before order,
+  none_sold _ unit,
 )
 all_sold laws begins unit (act ∷ so_far) state sums fit way =
     let earlier = all_sold laws begins unit so_far way.before way.sums_before fit.1 way.way in (
       laws.tells unit begins so_far act way.choice way.before state way.gains fit.0 earlier.0
           way.step,
-      one_more begins unit act so_far
+      one_more _ unit act so_far
           (λ item is. laws.approved unit begins so_far item way.choice way.before state way.gains
           earlier.0 (subst (λ (a : Act). (reader.machine unit begins).Step so_far a way.choice
           way.before state way.gains) is way.step))
           earlier.1,
     )
 
-pub sales_follow : (scope : Scope) → ViewLaws → (rows : List Event)
+-- ---- by either profile
+
+-- the laws of the extended profile's machine
+pub record ApprovalLaws : Type 0 where
+  pub only : (unit : ReaderUnit) (begins : Beginning) (so_far : List Act) (item : ℕ)
+      (choice : Choice) (before after : ApprovalState) (gains : Gains) → AcksAreOfReplies so_far
+      → extended_sales.SalesAreApproved begins unit so_far
+      → (extended.machine unit begins).Step so_far
+      (acts.Ask (commands.Reader unit (readers.VendSuccess item))) choice before after gains
+      → extended_sales.IsApproved unit item so_far ⊎ MayBeRequestedBefore begins unit so_far
+  pub too : (begins : Beginning) (unit : ReaderUnit) (so_far : List Act)
+      → extended_sales.SalesAreApproved begins unit so_far → SalesAreApproved begins unit so_far
+
+module _ (laws : ApprovalLaws) (begins : Beginning) (unit : ReaderUnit) where
+  all_approved : (so_far : List Act) (state : ApprovalState) (sums : Sums)
+      → AcksAreOfReplies so_far → Arrives (extended.machine unit begins) so_far state sums
+      → extended_sales.SalesAreApproved begins unit so_far
+  all_approved [] state sums fit way =
+      none_sold (λ item before. extended_sales.IsApproved unit item before
+      ⊎ MayBeRequestedBefore begins unit before) unit
+  all_approved (act ∷ so_far) state sums fit way =
+      let earlier = all_approved so_far way.before way.sums_before fit.1 way.way in
+      one_more _ unit act so_far
+      (λ item is. laws.only unit begins so_far item way.choice way.before state way.gains fit.1
+      earlier (subst (λ (a : Act). (extended.machine unit begins).Step so_far a way.choice
+      way.before state way.gains) is way.step))
+      earlier
+
+-- by either profile each sale is approved
+each_sold : ViewLaws → ApprovalLaws → (profile : Profile) (begins : Beginning) (unit : ReaderUnit)
+    (so_far : List Act) (state : StateByProfile) (sums : Sums) → AcksAreOfReplies so_far
+    → Arrives (by_profile profile
+    (machine_in base_state (Base reader.power_on) (reader.machine unit begins))
+    (machine_in extended_state (Extended extended.power_on) (extended.machine unit begins)))
+    so_far state sums
+    → SalesAreApproved begins unit so_far
+each_sold views laws profiles.Base begins unit so_far state sums fit way =
+    let machine = reader.machine unit begins in
+    let all = chosen (machine_in base_state _ machine) so_far state sums way in
+    let its = own_way base_state _ machine so_far all.0 state sums all.1 in
+    (all_sold views begins unit so_far its.0 sums fit
+    (arrives machine so_far all.0 its.0 sums its.2)).1
+each_sold views laws profiles.Extended begins unit so_far state sums fit way =
+    let machine = extended.machine unit begins in
+    let all = chosen (machine_in extended_state _ machine) so_far state sums way in
+    let its = own_way extended_state _ machine so_far all.0 state sums all.1 in
+    laws.too begins unit so_far (all_approved laws begins unit so_far its.0 sums fit
+    (arrives machine so_far all.0 its.0 sums its.2))
+
+pub sales_follow : (scope : Scope) → ViewLaws → ApprovalLaws → (rows : List Event)
     → SalesFollowApprovals scope rows
-sales_follow scope laws rows sums run unit =
+sales_follow scope views laws rows sums run unit =
     let ways = split scope.begins run.loss run.pieces run.states sums run.way in
     let device = devices.Reader unit in
-    (all_sold laws scope.begins unit (acts_of run.pieces) (run.states device) (sums device)
-    (acks_fit scope run.pieces run.act_list.in_order) (ways device)).1
+    each_sold views laws (profile_of scope.begins) scope.begins unit (acts_of run.pieces)
+    (run.states device) (sums device) (acks_fit scope run.pieces run.act_list.in_order)
+    (ways device)

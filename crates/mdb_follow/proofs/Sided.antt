@@ -16,8 +16,8 @@ use Rattle.mdb_machine.specs.declared.choice.Choice.TheVariants.{Plain}
 use Rattle.mdb_machine.specs.Pair.{IsActOf, IsBreak}
 use Rattle.mdb_cash.specs.shared.BillWays as bill_ways
 use Rattle.mdb_cash.specs.shared.ChangerWays as changer_ways
-use Rattle.mdb_cashless.specs.ReaderValues as reader_values
-use Rattle.mdb_cashless.specs.shared.ReaderWays as reader_ways
+use Rattle.mdb_cashless.specs.ByProfile as reader_values
+use Rattle.mdb_cashless.specs.shared.ByProfileWays as reader_ways
 use Rattle.mdb_follow.specs.declared.report.TheConstants.Report.{DEVICES}
 use Rattle.mdb_follow.specs.declared.sides.Sides.{Sides}
 use Rattle.mdb_follow.specs.Devices.{spec_of}

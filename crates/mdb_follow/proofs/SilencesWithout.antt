@@ -14,7 +14,7 @@ use Rattle.mdb_bus.specs.declared.act.Act.{Act}
 use Rattle.mdb_bus.specs.declared.act.Act.TheVariants as acts
 use Rattle.mdb_bus.specs.declared.scope.Beginning.{Beginning}
 use Rattle.mdb_bus.specs.declared.scope.Scope.{Scope}
-use Rattle.mdb_bus.specs.ActLists.{ArePieces, AskTail, Piece, RepeatTail, ReplyTail, Whole, acts_of}
+use Rattle.mdb_bus.specs.ActLists.{ArePieces, Piece, Whole, acts_of}
 use Rattle.mdb_bus.specs.ActLists.{piece_events}
 use Rattle.mdb_bus.specs.LeavingOut.{device_in, is_left_out, leave_out, with_foreign}
 use Rattle.mdb_bus.specs.Scopes.{IsFollowed, IsLeftOut}
@@ -89,16 +89,9 @@ of_other begins scope device (Whole (acts.Nak command) events) pieces followed l
 of_other begins scope device (Whole (acts.Reply command reply) events) pieces followed left =
     leaves begins device (acts.Reply command reply) events pieces
     (two_devices scope.without device (device_of command) false followed left) refl
-of_other begins scope device (Whole (acts.VmcAck command reply) events) pieces followed left = refl
-of_other begins scope device (Whole (acts.VmcNak command reply) events) pieces followed left = refl
-of_other begins scope device (Whole (acts.VmcRet command reply) events) pieces followed left = refl
-of_other begins scope device (Whole (acts.Repeat command reply) events) pieces followed left = refl
-of_other begins scope device (Whole acts.Foreign events) pieces followed left = refl
 of_other begins scope device (Whole (acts.Break length) events) pieces followed left =
     let clash : false ≡ true = left in absurd (cc clash)
-of_other begins scope device (AskTail bytes events) pieces followed left = refl
-of_other begins scope device (ReplyTail command bytes events) pieces followed left = refl
-of_other begins scope device (RepeatTail command reply words events) pieces followed left = refl
+of_other begins scope device piece pieces followed left = refl
 
 -- after pieces with the same lists and the same limit, a piece makes the same lists
 alike : (begins : Beginning) (device : Device) (piece : Piece) (one other : List Piece)
@@ -112,9 +105,7 @@ alike begins device (Whole act events) one other same limits =
     ∙ ap (λ (lists : List (List TimedAsk)). go_on (ends_asking device act) (asks device act)
     (record { at = last_start events; limit = limit_of begins device (acts_of other) }) lists) same
     ∙ sym (one_more begins device act events other)
-alike begins device (AskTail bytes events) one other same limits = same
-alike begins device (ReplyTail command bytes events) one other same limits = same
-alike begins device (RepeatTail command reply words events) one other same limits = same
+alike begins device tail one other same limits = same
 
 -- The limit of a device that is followed is the same without further devices, after any pieces.
 abbrev pub LimitsStay : Beginning → Scope → Device → Type 0
@@ -186,19 +177,7 @@ no_asks begins scope names device left (Whole (acts.Reply command reply) events)
     (names (acts.Reply command reply) events pieces (device_of command) are refl)) refl)) empty
 no_asks begins scope names device left (Whole (acts.Break length) events) pieces are empty =
     (refl, empty)
-no_asks begins scope names device left (Whole acts.Foreign events) pieces are empty = empty
-no_asks begins scope names device left (Whole (acts.VmcAck command reply) events) pieces are empty =
-    empty
-no_asks begins scope names device left (Whole (acts.VmcNak command reply) events) pieces are empty =
-    empty
-no_asks begins scope names device left (Whole (acts.VmcRet command reply) events) pieces are empty =
-    empty
-no_asks begins scope names device left (Whole (acts.Repeat command reply) events) pieces are empty =
-    empty
-no_asks begins scope names device left (AskTail bytes events) pieces are empty = empty
-no_asks begins scope names device left (ReplyTail command bytes events) pieces are empty = empty
-no_asks begins scope names device left (RepeatTail command reply words events) pieces are empty =
-    empty
+no_asks begins scope names device left piece pieces are empty = empty
 
 never_asked : (begins : Beginning) (scope : Scope) → NamesFollowed scope → (device : Device)
     → IsLeftOut scope device

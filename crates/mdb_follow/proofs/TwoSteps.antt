@@ -12,7 +12,7 @@ use Rattle.mdb_machine.specs.declared.choice.Choice.TheVariants.{Plain}
 use Rattle.mdb_machine.specs.declared.gains.Gains.{Gains}
 use Rattle.mdb_machine.specs.Choices.{CanStand}
 use Rattle.mdb_machine.specs.Pair.{IsChosenStep, IsMove, IsOtherMove, IsStep}
-use Rattle.mdb_machine.proofs.Ways.{plain_or_not}
+use Rattle.mdb_machine.proofs.Ways.{plain_or_not, step_as}
 use Rattle.mdb_follow.specs.declared.cell.Cell.{Cell}
 use Rattle.mdb_follow.specs.inner.Entries.{AreMoves, LeadTo, moves_of, with_moves}
 use Rattle.mdb_follow.proofs.Listed.{contains-cases, contains-here, contains-none}
@@ -153,45 +153,42 @@ unheeded act code_of Step code state apart its matters_not next gains move =
           (subst (λ s. Step move.0 s step.after gains) same step.step);
     }
 
--- the moves by an act of which something else than the plain one can be chosen: the steps by both
+-- the moves by an act of which something else than the plain one can be chosen: the steps by both,
+-- where each other choice leads nowhere else than the second
 pub all-moves : {State : Type 0} (act : Act) (code_of : State → ℕ)
-    (Step : Choice → State → State → Gains → Type 0) (code : ℕ) (found : Option Choice)
-    (choice : Choice) (plain other : List (ℕ × Gains)) → found ≡ Some choice
-    → ((any : Choice) → (found ≡ Some any) ↔ CanStand act any × (any ≢ Plain))
+    (Step : Choice → State → State → Gains → Type 0) (code : ℕ) (second : Choice)
+    (plain other : List (ℕ × Gains)) → CanStand act second
+    → ((any : Choice) → CanStand act any → any ≢ Plain → (before after : State) (gains : Gains)
+    → Step any before after gains → Step second before after gains)
     → ((next : ℕ) (gains : Gains) → Contains plain (next, gains)
     ↔ IsStep code_of (Step Plain) code next gains)
     → ((next : ℕ) (gains : Gains) → Contains other (next, gains)
-    ↔ IsStep code_of (Step choice) code next gains)
+    ↔ IsStep code_of (Step second) code next gains)
     → (next : ℕ) (gains : Gains) → Contains (plain ++ other) (next, gains)
     ↔ IsMove act code_of Step code next gains
-all-moves act code_of Step code found choice plain other is only plain_are other_are next gains = (
+all-moves act code_of Step code second plain other stands leads plain_are other_are next gains = (
   λ among. elim (Contains-append_cases plain other (next, gains) among) [
     | inl one ↦ (Plain, tt, (plain_are next gains).0 one)
-    | inr one ↦ (choice, ((only choice).0 is).0, (other_are next gains).0 one)
+    | inr one ↦ (second, stands, (other_are next gains).0 one)
   ],
   λ move. elim (plain_or_not move.0) [
     | inl same ↦ Contains-append_left plain other (next, gains) ((plain_are next gains).1
         (subst (λ c. IsStep code_of (Step c) code next gains) same move.2))
-    | inr not ↦ Contains-append_right plain other (next, gains) ((other_are next gains).1
-        (subst (λ c. IsStep code_of (Step c) code next gains)
-        (sym (same_Some choice move.0 (sym is ∙ (only move.0).1 (move.1, not)))) move.2))
+    | inr not ↦ Contains-append_right plain other (next, gains)
+        ((other_are next gains).1 (step_as (leads move.0 move.1 not) move.2))
   ],
 )
 
 -- and by one of which the plain one alone can
 pub plain-moves : {State : Type 0} (act : Act) (code_of : State → ℕ)
-    (Step : Choice → State → State → Gains → Type 0) (code : ℕ) (found : Option Choice)
-    (plain : List (ℕ × Gains)) → found ≡ None
-    → ((any : Choice) → (found ≡ Some any) ↔ CanStand act any × (any ≢ Plain))
+    (Step : Choice → State → State → Gains → Type 0) (code : ℕ) (plain : List (ℕ × Gains))
+    → ((choice : Choice) → CanStand act choice → choice ≡ Plain)
     → ((next : ℕ) (gains : Gains) → Contains plain (next, gains)
     ↔ IsStep code_of (Step Plain) code next gains)
     → (next : ℕ) (gains : Gains) → Contains plain (next, gains)
     ↔ IsMove act code_of Step code next gains
-plain-moves act code_of Step code found plain none only plain_are next gains = (
+plain-moves act code_of Step code plain only plain_are next gains = (
   λ among. (Plain, tt, (plain_are next gains).0 among),
-  λ move. elim (plain_or_not move.0) [
-    | inl same ↦ (plain_are next gains).1
-        (subst (λ c. IsStep code_of (Step c) code next gains) same move.2)
-    | inr not ↦ absurd (none-some move.0 (sym none ∙ (only move.0).1 (move.1, not)))
-  ],
+  λ move. (plain_are next gains).1
+      (subst (λ c. IsStep code_of (Step c) code next gains) (only move.0 move.1) move.2),
 )

@@ -15,9 +15,8 @@ use Rattle.mdb_cash.specs.Bill as bill
 use Rattle.mdb_cash.specs.BillFacts as bill_facts
 use Rattle.mdb_cash.specs.Changer as changer
 use Rattle.mdb_cash.specs.ChangerFacts as changer_facts
-use Rattle.mdb_cashless.specs.declared.reader.state.ReaderState.{ReaderState}
-use Rattle.mdb_cashless.specs.Reader as reader
-use Rattle.mdb_cashless.specs.ReaderFacts as reader_facts
+use Rattle.mdb_cashless.specs.declared.by_profile.state.StateByProfile.{StateByProfile}
+use Rattle.mdb_cashless.specs.ByProfile as reader
 use Rattle.mdb_follow.specs.declared.silence.TheConstants.{CHANGER_SILENCE_MAX, BILL_SILENCE_MAX}
 use Rattle.mdb_follow.specs.declared.silence.TheConstants.{READER_SILENCE_MAX, MICROS_PER_SECOND}
 
@@ -80,12 +79,13 @@ spec_of (devices.Reader unit) =
     record {
       place = reader_place unit;
       rule = rules.Cashless;
-      State = ReaderState;
+      State = StateByProfile;
       machine = reader.machine unit;
-      Known = reader_facts.KnownFacts;
-      known = λ begins. reader_facts.known_of begins unit;
-      decimals = λ known. option_map (λ config. config.decimals) known.config;
-      limit = λ known. reader_limit (option_map (λ config. config.response) known.config);
+      Known = reader.FactsByProfile;
+      known = λ begins. reader.facts_of begins unit;
+      decimals = λ known. option_map (λ config. config.decimals) (reader.config_of known);
+      limit = λ known.
+          reader_limit (option_map (λ config. config.response) (reader.config_of known));
       unvalued = reader.unvalued unit;
     }
 

@@ -12,10 +12,10 @@ use Rattle.mdb_cash.specs.ChangerValues as changer_values
 use Rattle.mdb_machine.specs.Machine.{Machine}
 use Rattle.mdb_cash.specs.shared.BillCodes as bill_codes
 use Rattle.mdb_cash.specs.shared.ChangerCodes as changer_codes
-use Rattle.mdb_cashless.specs.declared.reader.known.ReaderKnown.{ReaderKnown}
-use Rattle.mdb_cashless.specs.declared.reader.state.TheConstants.{READER_STATES}
-use Rattle.mdb_cashless.specs.ReaderValues as reader_values
-use Rattle.mdb_cashless.specs.shared.ReaderCodes as reader_codes
+use Rattle.mdb_cashless.specs.declared.by_profile.facts.KnownByProfile.{KnownByProfile}
+use Rattle.mdb_cashless.specs.declared.by_profile.state.TheConstants.{STATES_BY_PROFILE}
+use Rattle.mdb_cashless.specs.ByProfile as reader_values
+use Rattle.mdb_cashless.specs.shared.ByProfileCodes as reader_codes
 use Rattle.mdb_follow.specs.declared.side.Side.{Side}
 use Rattle.mdb_follow.specs.declared.sides.Sides.{Sides}
 use Rattle.mdb_follow.specs.Devices.{spec_of}
@@ -60,9 +60,9 @@ side_spec_of devices.Bill =
     }
 side_spec_of (devices.Reader unit) =
     record {
-      Facts = ReaderKnown;
+      Facts = KnownByProfile;
       known_in = reader_values.known_in;
-      codes = READER_STATES;
+      codes = STATES_BY_PROFILE;
       code_of = reader_codes.code_of;
     }
 

@@ -4,8 +4,9 @@ use Rattle.mdb_msgs.specs.declared.command.Device.{Device}
 use Rattle.mdb_msgs.specs.declared.command.Device.TheVariants as devices
 use Rattle.mdb_msgs.specs.declared.command.ReaderUnit.TheVariants.{First, Second}
 use Rattle.mdb_bus.specs.declared.act.Act.{Act}
-use Rattle.mdb_cashless.specs.declared.reader.known.ReaderKnown.{ReaderKnown}
-use Rattle.mdb_cashless.specs.ReaderValues as reader_values
+use Rattle.mdb_cashless.specs.declared.by_profile.facts.KnownByProfile.{KnownByProfile}
+use Rattle.mdb_cashless.specs.ByProfile as reader_values
+use Rattle.mdb_cashless.specs.ByProfile.{config_of}
 use Rattle.mdb_follow.specs.declared.silence.Silence.{Silence}
 use Rattle.mdb_follow.specs.declared.silence.Silences.{Silences}
 use Rattle.mdb_follow.specs.declared.silence.TheConstants.{CHANGER_SILENCE_MAX, BILL_SILENCE_MAX}
@@ -15,18 +16,19 @@ use Rattle.mdb_follow.specs.SilencesKept.{AreAtMost, StandsForAsks, silence_in}
 use Rattle.mdb_follow.specs.ByDevice.{OneGoes}
 
 -- how long a device may be silent, by what is known of the two readers
-abbrev pub limit_by : ReaderKnown → ℕ
+abbrev pub limit_by : KnownByProfile → ℕ
 limit_by facts =
-    reader_limit (option_map (λ config. config.response) (reader_values.known_in facts).config)
+    reader_limit (option_map (λ config. config.response)
+    (config_of (reader_values.known_in facts)))
 
-abbrev pub limit_in : ReaderKnown → ReaderKnown → Device → ℕ
+abbrev pub limit_in : KnownByProfile → KnownByProfile → Device → ℕ
 limit_in first second devices.Changer = CHANGER_SILENCE_MAX
 limit_in first second devices.Bill = BILL_SILENCE_MAX
 limit_in first second (devices.Reader First) = limit_by first
 limit_in first second (devices.Reader Second) = limit_by second
 
 -- the ask of a device, of whose words the last started at a time
-abbrev pub ask_in : ReaderKnown → ReaderKnown → ℕ → Device → TimedAsk
+abbrev pub ask_in : KnownByProfile → KnownByProfile → ℕ → Device → TimedAsk
 ask_in first second at device = record { at = at; limit = limit_in first second device }
 
 -- lists of asks to a device after one act more, which is this ask if it asks the device
@@ -63,7 +65,7 @@ AllGoOn further old new =
 
 -- Silences have followed an act whose last word started at a time, with what is known of the two
 -- readers after it.
-abbrev pub SilencesFollow : Silences → Act → ℕ → ReaderKnown → ReaderKnown → Silences → Type 0
+abbrev pub SilencesFollow : Silences → Act → ℕ → KnownByProfile → KnownByProfile → Silences → Type 0
 SilencesFollow old act at first second new =
     AllGoOn (λ device. asks_after device act (ask_in first second at device)) old new
 

@@ -197,6 +197,8 @@ pub fn sales_follow_their_approvals()
 {
     cashless_laws::views_tell_of_the_sale();
     cashless_laws::views_allow_approved_sales_alone();
+    cashless_laws::a_sale_is_told_exactly_where_it_is_approved();
+    cashless_laws::sales_of_the_extended_profile_are_approved();
 }
 
 /// The limits of silences are the non-response times of MDB/ICP 4.3. Response times are in seconds.

@@ -21,14 +21,14 @@ use crate::side::{self, Side};
 use crate::{Cell, DeviceFacts, Report};
 use mdb_bus::{Act, Beginning, Rule};
 use mdb_cash::{BILL_STATES, Bill, BillKnown, CHANGER_STATES, Changer, ChangerKnown};
-use mdb_cashless::{READER_STATES, Reader, ReaderKnown};
+use mdb_cashless::{KnownByProfile, ReaderByProfile, STATES_BY_PROFILE};
 use mdb_msgs::{Device, ReaderUnit};
 
 /// The reader at 10H.
-type FirstReader = Reader<0>;
+type FirstReader = ReaderByProfile<0>;
 
 /// The reader at 60H.
-type SecondReader = Reader<1>;
+type SecondReader = ReaderByProfile<1>;
 
 /// The sides that are followed, each a device and the controller. The size of each is the number of
 /// states.
@@ -36,8 +36,8 @@ type SecondReader = Reader<1>;
 pub(crate) struct Sides {
     changer: Side<ChangerKnown, CHANGER_STATES>,
     bill: Side<BillKnown, BILL_STATES>,
-    pub(crate) first_reader: Side<ReaderKnown, READER_STATES>,
-    pub(crate) second_reader: Side<ReaderKnown, READER_STATES>,
+    pub(crate) first_reader: Side<KnownByProfile, STATES_BY_PROFILE>,
+    pub(crate) second_reader: Side<KnownByProfile, STATES_BY_PROFILE>,
 }
 
 impl Sides {

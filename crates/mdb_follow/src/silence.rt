@@ -14,7 +14,7 @@ ghost use Rattle.mdb_follow.specs.SilenceSteps.{ask_in, ended, limit_by};
 use crate::Report;
 use crate::devices::device_place;
 use mdb_bus::Act;
-use mdb_cashless::ReaderKnown;
+use mdb_cashless::KnownByProfile;
 use mdb_msgs::{Device, ReaderUnit};
 use mdb_words::Time;
 
@@ -115,7 +115,7 @@ impl Silences {
 
     /// Follows an act whose last word started at a time, with what is known of the two readers
     /// after it.
-    pub fn follow(&mut self, act: &Act, at: Time, first: &ReaderKnown, second: &ReaderKnown)
+    pub fn follow(&mut self, act: &Act, at: Time, first: &KnownByProfile, second: &KnownByProfile)
         requires { AreFew (2 ^ 62) self.old }
         ensures { SilencesFollow self.old act.now at first.now second.now self.new }
     {
@@ -137,7 +137,7 @@ impl Silences {
     }
 
     /// The controller asks a device, with what is known of the two readers after that.
-    fn ask(&mut self, device: Device, at: Time, first: &ReaderKnown, second: &ReaderKnown)
+    fn ask(&mut self, device: Device, at: Time, first: &KnownByProfile, second: &KnownByProfile)
         requires { AreFew (2 ^ 62) self.old }
         ensures { OneGoesOn (λ other. with_ask (ask_in first.now second.now at other)) device
             self.old self.new }
@@ -163,7 +163,7 @@ impl Silences {
 }
 
 /// How long a device may be silent, by what is known of the two readers.
-fn limit_in(first: &ReaderKnown, second: &ReaderKnown, device: Device) -> u64
+fn limit_in(first: &KnownByProfile, second: &KnownByProfile, device: Device) -> u64
     ensures limit { result ≡ spec.limit_in first.now second.now device }
     ensures small { result < 2 ^ 62 }
 {
@@ -178,7 +178,7 @@ fn limit_in(first: &ReaderKnown, second: &ReaderKnown, device: Device) -> u64
 }
 
 /// How long a reader may be silent, by what it has told.
-fn reader_limit(facts: &ReaderKnown) -> u64
+fn reader_limit(facts: &KnownByProfile) -> u64
     ensures limit { result ≡ limit_by facts.now }
     ensures small { result < 2 ^ 62 }
 {

@@ -84,10 +84,7 @@ kept_fit [] all = tt
 kept_fit (messages.ManualDispense count coin in_tube ∷ items) all = (tt, kept_fit items all.1)
 kept_fit (messages.CashBox coin in_tube ∷ items) all = (all.0, kept_fit items all.1)
 kept_fit (messages.Tube coin in_tube ∷ items) all = (all.0, kept_fit items all.1)
-kept_fit (messages.Rejected coin second ∷ items) all = kept_fit items all.1
-kept_fit (messages.Slugs count ∷ items) all = kept_fit items all.1
-kept_fit (messages.Reset ∷ items) all = kept_fit items all.1
-kept_fit (messages.Status byte ∷ items) all = kept_fit items all.1
+kept_fit (message ∷ items) all = kept_fit items all.1
 
 -- so what a reply keeps fits
 fits : (command : Command) (reply : Reply) → IsReply command reply
@@ -112,8 +109,6 @@ ask_holds : (facts : Facts) (command : ChangerCommand) (before after : ChangerSt
     (gains : Gains) → AskStep facts command before after gains → after.holds ≡ true
     → before.holds ≡ true
 ask_holds facts (changer.Dispense coins) before after gains step is =
-    sym (ap (λ (s : ChangerState). s.holds) step.0) ∙ is
-ask_holds facts changer.Reset before after gains step is =
     sym (ap (λ (s : ChangerState). s.holds) step.0) ∙ is
 ask_holds facts _ before after gains step is =
     sym (ap (λ (s : ChangerState). s.holds) step.0) ∙ is
@@ -156,9 +151,15 @@ pub changer_stays : (begins : Beginning) (setups : Setups)
     → MayJoinLate begins setups devices.Changer
 changer_stays begins setups = record {
   starts = told_first tables conduct Fits steady begins;
+  starts_anew = λ so_far state told. tt;
   goes_on = told_on tables conduct Fits steady begins;
-  step = λ later front act choice before after gains names levels told step.
+  step = λ later front act choice before after gains names told step.
       let goes = step_in_end tables conduct Fits steady begins setups later front act choice before
       after gains names told step in
-      record { other = goes.other; step = goes.step; valued = goes.valued; alike = goes.alike };
+      record {
+        other = goes.other;
+        step = goes.step;
+        valued = λ are answers none. goes.same (inl (are, answers, none));
+        alike = λ power_on empty none. goes.same (inr (power_on, empty, none));
+      };
 }

@@ -5,6 +5,7 @@ use Rattle.std.proofs.Common.{◌≡◌, ℕ, ◌<◌, Bool, true, false, not, �
 use Rattle.std.specs.Prelude.{ltb}
 use Rattle.std.specs.List.{list_any}
 use Rattle.std.proofs.lemmas.Bool.{lt-ltb}
+use Rattle.std.proofs.lemmas.List.{append-nil}
 use Rattle.std.proofs.lemmas.List.Folds.{list_any-append}
 use Rattle.mdb_msgs.specs.declared.command.Command.{Command}
 use Rattle.mdb_msgs.specs.declared.setups.Setups.{Setups}
@@ -16,7 +17,7 @@ use Rattle.mdb_machine.specs.declared.kept.Part.{Part}
 use Rattle.mdb_machine.specs.declared.past.Effect.{Effect}
 use Rattle.mdb_machine.specs.Enabled.{disables, enabled_of, enables, known_enabled}
 use Rattle.mdb_machine.specs.Kept.{has_reset, kept_of}
-use Rattle.mdb_machine.specs.Keeper.{KnownFacts, Tables, asked_by, effect_of, known_of, parts_by, setup_by}
+use Rattle.mdb_machine.specs.Keeper.{KnownFacts, Tables, asked_by, effect_of, known_of, parts_by}
 use Rattle.mdb_machine.specs.Known.{Known, Unknown, Is, known_before, known_by}
 use Rattle.mdb_machine.specs.Past.{acts_from, effect_by, known_past, last_list, last_told, or_else, powers_on, runs_on, unless_empty}
 use Rattle.mdb_late_start.specs.MidSession.{IsNothingOr}
@@ -33,7 +34,7 @@ first_of_three (Some x) second third = refl
 first_of_three None second third = refl
 
 -- what the last act tells that tells something, in the end or else in front of it
-told_over : {X : Type 0} (tells : Act → Option X) (later front : List Act)
+pub told_over : {X : Type 0} (tells : Act → Option X) (later front : List Act)
     → last_told tells (later ++ front) ≡ or_else (last_told tells later) (last_told tells front)
 told_over tells [] front = refl
 told_over tells (act ∷ later) front =
@@ -41,7 +42,7 @@ told_over tells (act ∷ later) front =
     ∙ first_of_three (tells act) (last_told tells later) (last_told tells front)
 
 -- what was asked last counts as something told
-asked_over : {X : Type 0} (first second : Option X)
+pub asked_over : {X : Type 0} (first second : Option X)
     → option_map (λ (x : X). Some x) (or_else first second)
     ≡ or_else (option_map (λ (x : X). Some x) first) (option_map (λ (x : X). Some x) second)
 asked_over (Some x) second = refl
@@ -56,7 +57,7 @@ covers_told begins setups none (Some x) second = refl
 covers_told begins setups none None second = tt
 
 -- so it is for the whole by another name
-covers_over : {X : Type 0} (begins : Beginning) (setups : Setups) (none : X)
+pub covers_over : {X : Type 0} (begins : Beginning) (setups : Setups) (none : X)
     (first second whole : Option X) → whole ≡ or_else first second
     → Covers (known_by (Joined setups (profile_of begins)) none first) (known_by begins none whole)
 covers_over begins setups none first second whole is =
@@ -128,7 +129,7 @@ enabled_end begins setups effect later front kind few =
     (runs_no_more begins ends later front) (lt-ltb kind 16 few)
 
 -- where a reset message is owed in the end, it is in the whole
-owed_end : {M : Type 0} (begins : Beginning) (setups : Setups) (effect : Command → Effect)
+pub owed_end : {M : Type 0} (begins : Beginning) (setups : Setups) (effect : Command → Effect)
     (parts : Act → List (Part M)) (later front : List Act)
     → (known_past (Joined setups (profile_of begins)) effect parts later).reset_owed ≡ true
     → (known_past begins effect parts (later ++ front)).reset_owed ≡ true
@@ -176,35 +177,35 @@ known_in_end {Asked = Asked} tables begins setups later front = record {
   enabled = enabled_end begins setups (effect_of tables) later front;
 }
 
--- how the device is set up by the end, so it is by the whole, where what was told from elsewhere is
--- what was known in front of the end
-pub known_setup_end : {Own Setup Asked M : Type 0} (tables : Tables Own Setup Asked M)
-    (begins : Beginning) (setups : Setups) (later front : List Act) (setup : Setup)
-    → IsNothingOr (tables.setup_known setups) (known_of tables begins front).setup
-    → (known_of tables (Joined setups (profile_of begins)) later).setup ≡ Some setup
-    → (known_of tables begins (later ++ front)).setup ≡ Some setup
-known_setup_end tables begins setups later front setup are is =
-    ap (λ o. or_else o (known_before tables.setup_known begins))
-    (told_over (setup_by tables) later front)
-    ∙ sym (first_of_three (last_told (setup_by tables) later) (last_told (setup_by tables) front)
-    (known_before tables.setup_known begins))
-    ∙ setup_end (last_told (setup_by tables) later) (tables.setup_known setups)
-    (known_of tables begins front).setup setup are is
+-- where nothing stands in front, the end is the whole
+pub all_later : (later front : List Act) → front ≡ [] → later ≡ later ++ front
+all_later later front empty = sym (ap (λ acts. later ++ acts) empty ∙ append-nil later)
 
--- a recording from power-on is set up as one in mid-session of which nothing was told
-pub same_setup : {Own Setup Asked M : Type 0} (tables : Tables Own Setup Asked M)
-    (begins : Beginning) (setups : Setups) (later front : List Act) → begins ≡ PowerOn
-    (profile_of begins)
-    → front ≡ [] → tables.setup_known setups ≡ None
-    → (known_of tables (Joined setups (profile_of begins)) later).setup
-    ≡ (known_of tables begins (later ++ front)).setup
-same_setup tables begins setups later front power_on empty none =
-    ap (or_else (last_told (setup_by tables) later)) none
-    ∙ sym (ap (λ b. or_else (last_told (setup_by tables) (later ++ front))
-    (known_before tables.setup_known b)) power_on
-    ∙ ap (λ acts. or_else (last_told (setup_by tables) acts) None)
-    (ap (λ acts. later ++ acts) empty ∙ append_none later))
-  where
-    append_none : (acts : List Act) → acts ++ [] ≡ acts
-    append_none [] = refl
-    append_none (act ∷ acts) = ap (λ more. act ∷ more) (append_none acts)
+-- what is told last of a kind, or known from elsewhere
+module _ {X : Type 0} (tells : Act → Option X) (elsewhere : Setups → Option X)
+    (begins : Beginning) (setups : Setups) (later front : List Act) where
+  abbrev end : Option X
+  end = or_else (last_told tells later) (elsewhere setups)
+
+  abbrev whole : Option X
+  whole = or_else (last_told tells (later ++ front)) (known_before elsewhere begins)
+
+  -- What the end knows the whole knows, where what was told from elsewhere is what was known in
+  -- front of the end.
+  pub known_over : (x : X)
+      → IsNothingOr (elsewhere setups)
+      (or_else (last_told tells front) (known_before elsewhere begins))
+      → end ≡ Some x → whole ≡ Some x
+  known_over x are is =
+      ap (λ o. or_else o (known_before elsewhere begins)) (told_over tells later front)
+      ∙ sym (first_of_three (last_told tells later) (last_told tells front)
+      (known_before elsewhere begins))
+      ∙ setup_end (last_told tells later) (elsewhere setups) _ x are is
+
+  -- a recording from power-on knows the same as one in mid-session of which nothing was told
+  pub same_over : begins ≡ PowerOn (profile_of begins) → front ≡ [] → elsewhere setups ≡ None
+      → end ≡ whole
+  same_over power_on empty none =
+      ap (or_else (last_told tells later)) (none ∙ sym (ap (known_before elsewhere) power_on))
+      ∙ ap (λ acts. or_else (last_told tells acts) (known_before elsewhere begins))
+      (all_later later front empty)

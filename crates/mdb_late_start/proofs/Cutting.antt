@@ -16,9 +16,8 @@ use Rattle.mdb_bus.specs.Acts.{IsBlockWord, IsForeignWord}
 use Rattle.mdb_bus.specs.ActLists.{Piece, Whole, AskTail, Position, InAsk, InReply, InRepeat, InForeign, ArePieces, AreSpaced, BlockMayCome, ForeignMayCome, IsActList, IsPiece, MayCome, MayStand, NotBefore, PieceFits, events_of, last_of, left_by, levels_of, piece_events, position_of, NotPast}
 use Rattle.mdb_bus.specs.LeavingOut.{with_foreign}
 use Rattle.mdb_bus.specs.Scopes.{levels_before, no_levels, profile_of}
-use Rattle.mdb_late_start.specs.Cuts.{BeginAnew, IsBreakEvent, joined_with}
+use Rattle.mdb_late_start.specs.Cuts.{BeginAnew, IsBreakEvent, SplitsAt, joined_with}
 use Rattle.mdb_late_start.specs.MidSession.{IsNothingOr}
-use Rattle.mdb_late_start.specs.inner.Splits.{Splits}
 use Rattle.mdb_late_start.proofs.CutWords.{Kind, foreign_both, foreign_end, kind_of}
 use Rattle.mdb_late_start.proofs.Said.{said_stays}
 use Rattle.mdb_bus.proofs.Lists.{last_push}
@@ -611,24 +610,20 @@ later_anew scope setups front end pieces cut (top ∷ later) is some =
 -- the end of a transcript has an act list of its own, where all pieces fit
 pub splits : (scope : Scope) (setups : Setups) (front end : List Event) (pieces : List Piece)
     → AllFitAlone scope setups front end → IsActList scope pieces (front ++ end)
-    → Splits scope setups front end pieces
+    → SplitsAt scope setups front end pieces
 splits scope setups front end pieces fit list =
     let cut = cut_at scope setups pieces front end end [] fit (sym (append-nil end)) list.in_order
     list.whole in
     let rows : end ≡ cut.words ++ events_of cut.later =
     sym cut.whole ∙ rows_begin cut.later cut.words in
     record {
-      cut = record {
-        later = cut.later;
-        words = cut.words;
-        before = cut.before;
-        order = cut.order;
-        in_front = cut.in_front;
-        rows = cut.rows;
-        act_list = record { in_order = cut.stand; whole = cut.whole };
-        clean = λ anew. none_anew cut.words (events_of cut.later) cut.foreign
-            (subst BeginAnew rows anew);
-      };
-      foreign = all_foreign cut.words cut.foreign;
-      anew = λ some. later_anew scope setups front end pieces cut cut.later refl some;
+      later = cut.later;
+      words = cut.words;
+      before = cut.before;
+      order = cut.order;
+      in_front = cut.in_front;
+      rows = cut.rows;
+      act_list = record { in_order = cut.stand; whole = cut.whole };
+      clean = λ anew. none_anew cut.words (events_of cut.later) cut.foreign
+          (subst BeginAnew rows anew);
     }

@@ -1,7 +1,6 @@
 -- Runs of ends. Lists of pieces are written newest first, lists of events oldest first.
-use Rattle.std.proofs.Common.{ap, refl, subst, sym, ◌∙◌, ◌≡◌, ◌≢◌, ◌++◌, inl, inr, List, [], ◌∷◌}
+use Rattle.std.proofs.Common.{ap, subst, sym, ◌∙◌, ◌≡◌, ◌++◌, List, [], ◌∷◌}
 use Rattle.std.proofs.lemmas.List.{append-nil, append_cancel_right}
-use Rattle.std.proofs.lemmas.List.Elements.{All-from_recursion}
 use Rattle.mdb_words.specs.declared.event.Event.{Event}
 use Rattle.mdb_msgs.specs.declared.command.Device.{Device}
 use Rattle.mdb_msgs.specs.declared.setups.Setups.{Setups}
@@ -9,8 +8,7 @@ use Rattle.mdb_bus.specs.declared.levels.Levels.{Levels}
 use Rattle.mdb_bus.specs.declared.scope.Beginning.{Beginning}
 use Rattle.mdb_bus.specs.declared.scope.Beginning.TheVariants.{Joined}
 use Rattle.mdb_bus.specs.declared.scope.Scope.{Scope}
-use Rattle.mdb_bus.specs.Acts.{IsForeignWord}
-use Rattle.mdb_bus.specs.ActLists.{Piece, Whole, ArePieces, IsActList, acts_of, events_of}
+use Rattle.mdb_bus.specs.ActLists.{Piece, Whole, ArePieces, IsActList, acts_of}
 use Rattle.mdb_bus.specs.LeavingOut.{with_foreign}
 use Rattle.mdb_bus.specs.Scopes.{no_levels, profile_of}
 use Rattle.mdb_follow.specs.Arrivals.{Arrives, EachArrives}
@@ -21,15 +19,13 @@ use Rattle.mdb_follow.specs.Sums.{Sums}
 use Rattle.mdb_late_start.specs.Alone.{MayBeReadAlone}
 use Rattle.mdb_late_start.specs.Cuts.{BeginAnew, joined_with}
 use Rattle.mdb_late_start.specs.Ends.{Passes, both_sums}
-use Rattle.mdb_late_start.specs.MidSession.{TellsLevelsAsKnown, TellsOnlyWhatIsSo}
+use Rattle.mdb_late_start.specs.MidSession.{TellsOnlyWhatIsSo}
 use Rattle.mdb_late_start.specs.Told.{AreToldBy, WereTold, told_later}
 use Rattle.mdb_late_start.proofs.Answering.{AllAnswer, all_answer}
 use Rattle.mdb_late_start.proofs.Foreign.{after_foreign}
-use Rattle.mdb_late_start.proofs.Cutting.{pass_at, rows_begin}
-use Rattle.mdb_late_start.proofs.InEnds.{AllName, InEnd, base_levels, holds_there, in_end, name_later}
-use Rattle.mdb_late_start.proofs.KnownLevels.{may_be_linked}
+use Rattle.mdb_late_start.proofs.Cutting.{pass_at}
+use Rattle.mdb_late_start.proofs.InEnds.{AllName, InEnd, holds_there, in_end, name_later}
 use Rattle.mdb_late_start.specs.inner.EndLaws.{EndLaws}
-use Rattle.mdb_late_start.specs.inner.Splits.{Splits}
 use Rattle.mdb_late_start.proofs.Onward.{acts_in_two, all_in_two, each_goes_on, in_two}
 
 -- acts of pieces in order name replies of their commands
@@ -64,12 +60,11 @@ run_by laws scope rows pieces states sums list ways =
 -- the way of a device in an end that begins with foreign words
 its_way : EndLaws → (begins : Beginning) (setups : Setups) (device : Device)
     (later before : List Piece) (words : List Event) (states : States) (sums : AllSums)
-    → (acts_of later ≢ [] → TellsLevelsAsKnown setups begins device (acts_of before))
     → AllName (acts_of later)
     → EachArrives begins (acts_of (later ++ before)) states sums
     → (gained : Sums) × Arrives (machine_of (Joined setups (profile_of begins)) device)
     (acts_of (later ++ with_foreign words [])) (states device) gained
-its_way laws begins setups device later before words states sums known name ways =
+its_way laws begins setups device later before words states sums name ways =
     let machine = machine_of begins device in
     let whole : Arrives machine (acts_of later ++ acts_of before) (states device) (sums device) =
     subst (λ l. Arrives machine l (states device) (sums device)) (acts_in_two later before)
@@ -80,7 +75,7 @@ its_way laws begins setups device later before words states sums known name ways
     two.way in
     let end : InEnd begins setups device (acts_of later) (acts_of before) two.sums_from
     (states device) (sums device) =
-    in_end begins setups device law (acts_of before) (acts_of later) known two.from two.sums_from
+    in_end begins setups device law (acts_of before) (acts_of later) two.from two.sums_from
     (states device) (sums device) name holds two.onward in (
       end.gained,
       subst (λ l. Arrives (machine_of (Joined setups (profile_of begins)) device) l (states device)
@@ -89,29 +84,6 @@ its_way laws begins setups device later before words states sums known name ways
           end.gained end.way),
     )
 
--- what is told of levels in front of an end that may be read by itself is known there
-known_there : (scope : Scope) (setups : Setups) (front end : List Event) (pieces : List Piece)
-    → MayBeReadAlone scope setups front end → (it : Splits scope setups front end pieces)
-    → (device : Device) → acts_of it.cut.later ≢ []
-    → TellsLevelsAsKnown setups scope.begins device (acts_of it.cut.before)
-known_there scope setups front end pieces (inl base) it device some =
-    base_levels setups scope.begins device (acts_of it.cut.before) base
-known_there scope setups front end pieces (inr read) it device some =
-    read.tells it.cut.words (events_of it.cut.later) it.cut.before
-    (sym it.cut.act_list.whole ∙ rows_begin it.cut.later it.cut.words) it.foreign
-    (it.anew (λ none. some (ap acts_of none)))
-    (record { in_order = it.cut.in_front; whole = it.cut.rows }) device
-
--- and where the end begins anew it is known after the rows in front
-pub known_anew : (scope : Scope) (setups : Setups) (front end : List Event) (before : List Piece)
-    → MayBeReadAlone scope setups front end → BeginAnew end → IsActList scope before front
-    → (device : Device) → TellsLevelsAsKnown setups scope.begins device (acts_of before)
-known_anew scope setups front end before (inl base) anew list device =
-    base_levels setups scope.begins device (acts_of before) base
-known_anew scope setups front end before (inr read) anew list device =
-    read.tells [] end before refl (All-from_recursion IsForeignWord [] tt) anew
-    (subst (IsActList scope before) (sym (append-nil front)) list) device
-
 -- no levels were told, in front of any end of rows that are reached
 pub none_told : EndLaws → (scope : Scope) (setups : Setups) (front end : List Event)
     → MayBeReadAlone scope setups front end → IsReached scope (front ++ end)
@@ -119,8 +91,7 @@ pub none_told : EndLaws → (scope : Scope) (setups : Setups) (front end : List 
 none_told laws scope setups front end may reached = record {
   pieces = reached.1.pieces;
   act_list = reached.1.act_list;
-  cut = (laws.splits_rows scope setups front end reached.1.pieces
-      (may_be_linked scope setups front end may) reached.1.act_list).cut;
+  cut = laws.splits_rows scope setups front end reached.1.pieces may reached.1.act_list;
   in_front = (tt, tt);
 }
 
@@ -132,10 +103,7 @@ pub end_reached : EndLaws → (scope : Scope) (setups : Setups) (levels : Levels
 end_reached laws scope setups levels front end may reached told =
     let run = reached.1 in
     let new = told_later setups levels scope in
-    let it : Splits scope setups front end run.pieces =
-    laws.splits_rows scope setups front end run.pieces (may_be_linked scope setups front end may)
-    run.act_list in
-    let cut = it.cut in
+    let cut = laws.splits_rows scope setups front end run.pieces may run.act_list in
     let ways : EachArrives scope.begins (acts_of (cut.later ++ cut.before)) run.states reached.0 =
     subst (λ ps. EachArrives scope.begins (acts_of ps) run.states reached.0) cut.order
     (laws.splits scope.begins run.loss run.pieces run.states reached.0 run.way) in
@@ -154,7 +122,7 @@ end_reached laws scope setups levels front end may reached told =
     (machine_of (Joined setups (profile_of scope.begins)) device) (acts_of (cut.later ++ foreign))
     (run.states device) gained =
     λ device. its_way laws scope.begins setups device cut.later cut.before cut.words run.states
-    reached.0 (known_there scope setups front end run.pieces may it device) name ways in (
+    reached.0 name ways in (
       (λ device. (each device).0),
       run_by laws new end (cut.later ++ foreign) run.states (λ device. (each device).0) list
           (λ device. (each device).1),
@@ -198,8 +166,7 @@ pub later_pieces : EndLaws → (scope : Scope) (setups : Setups) (levels : Level
     → AreToldBy scope passes.before levels
     → IsActList (told_later setups levels scope) passes.later end
 later_pieces laws scope setups levels front end sums run may anew passes told =
-    let cut = (laws.splits_rows scope setups front end run.pieces
-    (may_be_linked scope setups front end may) run.act_list).cut in
+    let cut = laws.splits_rows scope setups front end run.pieces may run.act_list in
     let none = cut.clean anew in
     let mine = passed_list scope front end sums run passes in
     let its : IsActList scope cut.before front = record {
@@ -241,9 +208,7 @@ gained_there laws scope setups levels front end sums run may anew passes levels_
     let each : (device : Device) → InEnd begins setups device (acts_of passes.later)
     (acts_of passes.before) (passes.sums_then device) (run.states device) (sums device) =
     λ device. in_end begins setups device (laws.stays begins setups device)
-    (acts_of passes.before) (acts_of passes.later)
-    (λ some. known_anew scope setups front end passes.before may anew
-    (passed_list scope front end sums run passes) device) (passes.states_then device)
+    (acts_of passes.before) (acts_of passes.later) (passes.states_then device)
     (passes.sums_then device) (run.states device) (sums device) name
     (holds_there begins setups device (laws.stays begins setups device) (acts_of passes.before)
     (passes.states_then device) (passes.sums_then device) (fronts device))

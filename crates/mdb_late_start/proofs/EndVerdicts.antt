@@ -18,7 +18,7 @@ use Rattle.mdb_follow.specs.Runs.{IsReached}
 use Rattle.mdb_text.specs.declared.outcome.Outcome.{Outcome}
 use Rattle.mdb_text.specs.declared.outcome.Outcome.TheVariants.{Yes, No}
 use Rattle.mdb_verdict.specs.declared.fault.RunFault.{RunFault}
-use Rattle.mdb_verdict.specs.declared.fault.RunFault.TheVariants.{BadRow, TooLong, Read, Write, Memory}
+use Rattle.mdb_verdict.specs.declared.fault.RunFault.TheVariants.{BadRow, TooLong}
 use Rattle.mdb_verdict.specs.Verdict.{IsAnswer, IsOwnAnswer, LeadUpTo}
 use Rattle.mdb_verdict.specs.Rows.{AreRows}
 use Rattle.mdb_late_start.specs.Alone.{IsYesOrByProfile, MayBeReadAlone, TellsLevelsOfFront, TellsRecordsOfFront}
@@ -154,12 +154,8 @@ end_says laws Says scope later limit front end yes_is no_is report (Err TooLong)
     let its : length two.second ≡ length is.rows + length (led.event ∷ led.rest) =
     ap length led.parts ∙ length-append is.rows (led.event ∷ led.rest) in
     absurd (omega (arith, all, its, whole.few, is.full))
-end_says laws Says scope later limit front end yes_is no_is report
-    (Err Read) whole is own = absurd own
-end_says laws Says scope later limit front end yes_is no_is report
-    (Err Write) whole is own = absurd own
-end_says laws Says scope later limit front end yes_is no_is report
-    (Err Memory) whole is own = absurd own
+end_says laws Says scope later limit front end yes_is no_is report (Err fault) whole is own =
+    absurd own
 
 -- where the rows of an end are reached, as they are taken there (`later`), if all rows are
 abbrev pub EndIsReached : Scope → Scope → List (List (List ℕ)) → List (List (List ℕ)) → Type 0

@@ -17,7 +17,7 @@ use Rattle.mdb_cash.specs.shared.ChangerWays as changer_ways
 use Rattle.mdb_machine.specs.declared.choice.Choice.TheVariants.{Plain}
 use Rattle.mdb_machine.specs.Gains.{no_gains}
 use Rattle.mdb_machine.specs.Pair.{IsMachineOf, own_acts}
-use Rattle.mdb_cashless.specs.shared.ReaderWays as reader_ways
+use Rattle.mdb_cashless.specs.shared.ByProfileWays as reader_ways
 use Rattle.mdb_follow.specs.Arrivals.{Arrives}
 use Rattle.mdb_follow.specs.Machines.{StateOf, machine_of}
 use Rattle.mdb_follow.specs.Sums.{Sums, no_sums}
@@ -29,14 +29,6 @@ pub is_machine_of : (begins : Beginning) (device : Device)
 is_machine_of begins devices.Changer = changer_ways.is_machine begins
 is_machine_of begins devices.Bill = bill_ways.is_machine begins
 is_machine_of begins (devices.Reader unit) = reader_ways.is_machine unit begins
-
--- in mid-session a machine may start in each state
-pub starts_anywhere : (setups : Setups) (profile : Profile) (device : Device)
-    (state : StateOf device)
-    → (machine_of (Joined setups profile) device).Starts state
-starts_anywhere setups profile devices.Changer state = tt
-starts_anywhere setups profile devices.Bill state = tt
-starts_anywhere setups profile (devices.Reader unit) state = tt
 
 -- foreign words are acts of no device
 pub none_own : (device : Device) (words : List Event) (pieces : List Piece)
@@ -75,17 +67,17 @@ own_later device (act ∷ later) others none =
     (own_later device later others none)
 
 -- A way in mid-session leads on where acts stand in front in which the device has no part, and
--- through which a way leads from each state to the same.
+-- through which a way leads from each state where it may start to the same.
 pub after_others : (setups : Setups) (profile : Profile) (device : Device) (others : List Act)
     → own_acts device others ≡ []
-    → ((state : StateOf device)
+    → ((state : StateOf device) → (machine_of (Joined setups profile) device).Starts state
     → Arrives (machine_of (Joined setups profile) device) others state no_sums)
     → (later : List Act) (state : StateOf device) (sums : Sums)
     → Arrives (machine_of (Joined setups profile) device) later state sums
     → Arrives (machine_of (Joined setups profile) device) (later ++ others) state sums
 after_others setups profile device others none through [] state sums way =
     subst (λ u. Arrives (machine_of (Joined setups profile) device) others state u) (sym way.1)
-    (through state)
+    (through state way.0)
 after_others setups profile device others none through (act ∷ later) state sums way =
     let is = is_machine_of (Joined setups profile) device in
     record {
@@ -109,5 +101,5 @@ pub after_foreign : (setups : Setups) (profile : Profile) (device : Device) (wor
     state sums
 after_foreign setups profile device words =
     after_others setups profile device (acts_of (with_foreign words [])) (none_own device words [])
-    (λ state. through_foreign (Joined setups profile) device words [] state no_sums
-    (starts_anywhere setups profile device state, refl))
+    (λ state starts. through_foreign (Joined setups profile) device words [] state no_sums
+    (starts, refl))

@@ -1,5 +1,5 @@
 -- Runs from power-on, as runs in mid-session. Lists of pieces are written newest first.
-use Rattle.std.proofs.Common.{ap, refl, subst, sym, ◌∙◌, ◌≡◌, ◌≢◌, List, [], ◌∷◌, ◌++◌}
+use Rattle.std.proofs.Common.{ap, refl, subst, sym, ◌∙◌, ◌≡◌, List, [], ◌∷◌, ◌++◌}
 use Rattle.std.proofs.lemmas.List.{append-nil}
 use Rattle.mdb_words.specs.declared.event.Event.{Event}
 use Rattle.mdb_msgs.specs.declared.command.Device.{Device}
@@ -19,19 +19,11 @@ use Rattle.mdb_follow.specs.Runs.{AllSums, IsWay, Run, States}
 use Rattle.mdb_follow.specs.Sums.{added, no_sums}
 use Rattle.mdb_late_start.specs.Ends.{AreAlike}
 use Rattle.mdb_late_start.specs.Alone.{MayBeReadAlone}
-use Rattle.mdb_late_start.specs.Cuts.{BeginAnew}
-use Rattle.mdb_late_start.specs.MidSession.{GoesOnInEnd, HasToldWhatItHolds, TellsLevelsAsKnown}
+use Rattle.mdb_late_start.specs.MidSession.{GoesOnInEnd, HasToldWhatItHolds}
 use Rattle.mdb_bus.specs.Acts.{NamesAReply}
 use Rattle.mdb_late_start.specs.inner.EndLaws.{EndLaws}
-use Rattle.mdb_late_start.proofs.EndRuns.{all_name, known_anew}
-use Rattle.mdb_late_start.proofs.Foreign.{starts_anywhere}
+use Rattle.mdb_late_start.proofs.EndRuns.{all_name}
 use Rattle.mdb_late_start.proofs.InEnds.{AllName, holds_there}
-use Rattle.mdb_late_start.proofs.JoinedOrder.{begin_anew}
-
--- nothing is told of an end that isn't known as a recording begins from power-on
-abbrev NothingTold : Profile → Setups → Type 0
-NothingTold profile setups =
-    (device : Device) → TellsLevelsAsKnown setups (PowerOn profile) device []
 
 -- the same way in mid-session
 pub record SameWay (profile : Profile) (setups : Setups) (loss : Loss) (pieces : List Piece)
@@ -45,39 +37,38 @@ pub record SameWay (profile : Profile) (setups : Setups) (loss : Loss) (pieces :
       → more device ≡ sums device
 
 -- a step of a device from power-on, in mid-session
-step_there : EndLaws → (profile : Profile) (setups : Setups) → NothingTold profile setups
-    → (device : Device) (so_far : List Act) (act : Act)
+step_there : EndLaws → (profile : Profile) (setups : Setups) (device : Device) (so_far : List Act)
+    (act : Act)
     (choice : Choice) (before after : StateOf device) (gains : Gains) → NamesAReply act
     → HasToldWhatItHolds (PowerOn profile) device so_far before
     → (machine_of (PowerOn profile) device).Step so_far act choice before after gains
     → GoesOnInEnd (PowerOn profile) setups device so_far [] act choice before after gains
-step_there laws profile setups told device so_far act choice before after gains name holds step =
+step_there laws profile setups device so_far act choice before after gains name holds step =
     let whole : so_far ≡ so_far ++ [] = sym (append-nil so_far) in
     (laws.stays (PowerOn profile) setups device).step so_far [] act choice before after gains name
-    (told device)
     (subst (λ l. HasToldWhatItHolds (PowerOn profile) device l before) whole holds)
     (subst (λ l. (machine_of (PowerOn profile) device).Step l act choice before after gains) whole
     step)
 
 pub same_way : EndLaws → (profile : Profile) (setups : Setups) (loss : Loss)
-    (pieces : List Piece) → (pieces ≢ [] → NothingTold profile setups) → (states : States)
-    (sums : AllSums) (way : IsWay (PowerOn profile) loss pieces states sums)
+    (pieces : List Piece) (states : States) (sums : AllSums) (way : IsWay (PowerOn profile) loss
+    pieces states sums)
     → AllName (acts_of pieces) → SameWay profile setups loss pieces states sums way
-same_way laws profile setups loss [] told states sums way name = record {
+same_way laws profile setups loss [] states sums way name = record {
   more = λ device. no_sums;
-  same = λ device. (starts_anywhere setups profile device (states device), refl);
+  same = λ device.
+      let law = laws.stays (PowerOn profile) setups device in
+      (law.starts_anew [] (states device) (law.starts (states device) (way device).0), refl);
   alike = tt;
   gained = λ device unknown. sym (way device).1;
 }
-same_way laws profile setups loss (Whole act events ∷ pieces) told states sums way name =
-    let now = told (λ none. cc none) in
+same_way laws profile setups loss (Whole act events ∷ pieces) states sums way name =
     let earlier =
-    same_way laws profile setups loss pieces (λ some. now) way.before way.sums_before way.way
-    name.1 in
+    same_way laws profile setups loss pieces way.before way.sums_before way.way name.1 in
     let arrived = laws.splits (PowerOn profile) loss pieces way.before way.sums_before way.way in
     let there : (device : Device) → GoesOnInEnd (PowerOn profile) setups device (acts_of pieces) []
     act way.choice (way.before device) (states device) (way.go device).gains =
-    λ device. step_there laws profile setups now device (acts_of pieces) act way.choice
+    λ device. step_there laws profile setups device (acts_of pieces) act way.choice
     (way.before device) (states device) (way.go device).gains name.0
     (holds_there (PowerOn profile) setups device (laws.stays (PowerOn profile) setups device)
     (acts_of pieces) (way.before device) (way.sums_before device) (arrived device))
@@ -103,27 +94,14 @@ same_way laws profile setups loss (Whole act events ∷ pieces) told states sums
           ∙ ap (added (way.sums_before device)) ((there device).alike refl refl unknown)
           ∙ sym (way.go device).adds;
     }
-same_way laws profile setups loss (piece ∷ pieces) told states sums way name =
-    let earlier = same_way laws profile setups loss pieces
-    (λ some. told (λ none. cc none)) states sums way name in
+same_way laws profile setups loss (piece ∷ pieces) states sums way name =
+    let earlier = same_way laws profile setups loss pieces states sums way name in
     record {
       more = earlier.more;
       same = earlier.same;
       alike = earlier.alike;
       gained = earlier.gained;
     }
-
--- nothing but that was told where all rows may be read by themselves
-nothing_told : (profile : Profile) (setups : Setups) (without : DeviceSet) (pieces : List Piece)
-    (rows : List Event) → IsActList (from_power_on profile without) pieces rows
-    → MayBeReadAlone (from_power_on profile without) setups [] rows → pieces ≢ []
-    → NothingTold profile setups
-nothing_told profile setups without [] rows list may some = absurd (some refl)
-nothing_told profile setups without (piece ∷ pieces) rows list may some =
-    let scope = from_power_on profile without in
-    known_anew scope setups [] rows [] may
-    (subst BeginAnew list.whole (begin_anew scope refl piece pieces list.in_order))
-    (record { in_order = tt; whole = refl })
 
 -- each run from power-on is one in mid-session
 pub run_joined : EndLaws → ((profile : Profile) (setups : Setups) (without : DeviceSet)
@@ -141,9 +119,8 @@ pub run_joined : EndLaws → ((profile : Profile) (setups : Setups) (without : D
     × ((device : Device) → IsNotKnown (Joined setups profile) device → more device ≡ sums device)
 run_joined laws lists profile setups without rows sums run may =
     let name = all_name laws (from_power_on profile without) run.pieces run.act_list.in_order in
-    let told = nothing_told profile setups without run.pieces rows run.act_list may in
     let there =
-    same_way laws profile setups run.loss run.pieces told run.states sums run.way name in (
+    same_way laws profile setups run.loss run.pieces run.states sums run.way name in (
       there.more,
       lists profile setups without run.pieces rows may run.act_list,
       there.same,

@@ -1,12 +1,12 @@
 -- What a device does in the course of a recording is a way of its end by itself, and gains the same
 -- there where its amounts have a value. Lists of acts and of pieces stand newest first.
-use Rattle.std.proofs.Common.{ap, refl, subst, sym, ◌∙◌, ◌≡◌, ◌≢◌, List, [], ◌∷◌, ◌++◌}
+use Rattle.std.proofs.Common.{ap, refl, subst, sym, ◌∙◌, ◌≡◌, List, [], ◌∷◌, ◌++◌}
 use Rattle.mdb_msgs.specs.declared.command.Device.{Device}
 use Rattle.mdb_msgs.specs.declared.command.Device.TheVariants as devices
 use Rattle.mdb_msgs.specs.declared.setups.Setups.{Setups}
 use Rattle.mdb_bus.specs.declared.act.Act.{Act}
 use Rattle.mdb_bus.specs.declared.scope.Beginning.{Beginning}
-use Rattle.mdb_bus.specs.declared.scope.Beginning.TheVariants.{PowerOn, Joined}
+use Rattle.mdb_bus.specs.declared.scope.Beginning.TheVariants.{Joined}
 use Rattle.mdb_bus.specs.declared.scope.Profile.{Profile}
 use Rattle.mdb_bus.specs.declared.scope.Profile.TheVariants.{Base, Extended}
 use Rattle.mdb_bus.specs.Acts.{NamesAReply}
@@ -17,10 +17,9 @@ use Rattle.mdb_follow.specs.Machines.{StateOf, machine_of}
 use Rattle.mdb_follow.specs.Report.{unvalued_of}
 use Rattle.mdb_follow.specs.Sums.{Sums, added, no_sums}
 use Rattle.mdb_late_start.specs.Ends.{both_sums}
-use Rattle.mdb_late_start.specs.MidSession.{GoesOnInEnd, HasToldWhatItHolds, MayJoinLate, TellsLevelsAsKnown, TellsOnlyWhatIsSo}
+use Rattle.mdb_late_start.specs.MidSession.{GoesOnInEnd, HasToldWhatItHolds, MayJoinLate, TellsOnlyWhatIsSo}
 use Rattle.mdb_late_start.proofs.Answering.{AllAnswer}
 use Rattle.mdb_late_start.proofs.EndSums.{and_gains, and_nothing, second_none}
-use Rattle.mdb_late_start.proofs.Foreign.{starts_anywhere}
 use Rattle.mdb_late_start.proofs.Onward.{GoesOnTo}
 
 -- each act that names a reply names one of its command
@@ -32,17 +31,6 @@ AllName (act ∷ so_far) = NamesAReply act × AllName so_far
 pub name_later : (later others : List Act) → AllName (later ++ others) → AllName later
 name_later [] others name = tt
 name_later (act ∷ later) others name = (name.0, name_later later others name.1)
-
--- by the base profile no levels count, nor always idle, whatever is told
-pub base_levels : (setups : Setups) (begins : Beginning) (device : Device) (front : List Act)
-    → profile_of begins ≡ Base → TellsLevelsAsKnown setups begins device front
-base_levels setups begins devices.Changer front base = tt
-base_levels setups begins devices.Bill front base = tt
-base_levels setups (PowerOn Base) (devices.Reader unit) front base = λ facts none. absurd cc
-base_levels setups (PowerOn Extended) (devices.Reader unit) front base = absurd cc
-base_levels setups (Joined known Base) (devices.Reader unit) front base =
-    λ facts none. absurd cc
-base_levels setups (Joined known Extended) (devices.Reader unit) front base = absurd cc
 
 -- a device has told what it holds, wherever its way leads
 pub holds_there : (begins : Beginning) (setups : Setups) (device : Device)
@@ -75,7 +63,8 @@ valued_before : (setups : Setups) (profile : Profile) (device : Device) (act : A
     → unvalued_of (Joined setups profile) device so_far ≡ 0
 valued_before setups profile devices.Changer act so_far none = second_none _ _ none
 valued_before setups profile devices.Bill act so_far none = second_none _ _ none
-valued_before setups profile (devices.Reader unit) act so_far none = second_none _ _ none
+valued_before setups Base (devices.Reader unit) act so_far none = second_none _ _ none
+valued_before setups Extended (devices.Reader unit) act so_far none = second_none _ _ none
 
 -- A way of the end by itself, to the same state; what is gained there is the same where the end
 -- leaves no amount without a value.
@@ -96,26 +85,28 @@ gains_more sums sums_before sums_from gained gains other adds before same =
     ∙ ap (λ g. both_sums sums_from (added gained g)) (sym same)
 
 pub in_end : (begins : Beginning) (setups : Setups) (device : Device)
-    → MayJoinLate begins setups device → (front later : List Act)
-    → (later ≢ [] → TellsLevelsAsKnown setups begins device front) → (from : StateOf device)
+    → MayJoinLate begins setups device → (front later : List Act) (from : StateOf device)
     (sums_from : Sums) (state : StateOf device) (sums : Sums) → AllName later
     → HasToldWhatItHolds begins device front from
     → GoesOnTo (machine_of begins device) front later from sums_from state sums
     → InEnd begins setups device later front sums_from state sums
-in_end begins setups device law front [] known from sums_from state sums name holds way = record {
+in_end begins setups device law front [] from sums_from state sums name holds way = record {
   gained = no_sums;
-  way = (starts_anywhere setups (profile_of begins) device state, refl);
+  way = (
+    law.starts_anew front state
+        (holds_on begins setups device law front [] from sums_from state sums holds way),
+    refl,
+  );
   same = λ answer told none. way.1 ∙ and_nothing sums_from;
 }
-in_end begins setups device law front (act ∷ later) known from sums_from state sums name holds way =
-    let now = known (λ none. cc none) in
-    let earlier = in_end begins setups device law front later (λ some. now) from sums_from
-    way.before way.sums_before name.1 holds way.way in
+in_end begins setups device law front (act ∷ later) from sums_from state sums name holds way =
+    let earlier = in_end begins setups device law front later from sums_from way.before
+    way.sums_before name.1 holds way.way in
     let held = holds_on begins setups device law front later from sums_from way.before
     way.sums_before holds way.way in
     let goes : GoesOnInEnd begins setups device later front act way.choice way.before state
     way.gains =
-    law.step later front act way.choice way.before state way.gains name.0 now held way.step in
+    law.step later front act way.choice way.before state way.gains name.0 held way.step in
     record {
       gained = added earlier.gained goes.other;
       way = record {

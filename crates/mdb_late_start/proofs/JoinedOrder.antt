@@ -1,8 +1,6 @@
 -- The act list of a transcript from power-on is one of the same rows as a recording that begins in
 -- mid-session: from power-on rows begin anew, so that all pieces begin in the end that they are.
-use Rattle.std.proofs.Common.{ap, refl, sym, subst, ◌∙◌, ◌≡◌, ◌++◌, ◌⊎◌, inl, inr, List, [], ◌∷◌, All, None}
-use Rattle.std.specs.List.{AllByRecursion}
-use Rattle.std.proofs.lemmas.List.Elements.{recursion_from_All}
+use Rattle.std.proofs.Common.{ap, refl, sym, subst, ◌∙◌, ◌≡◌, ◌++◌, ◌⊎◌, inl, inr, List, [], ◌∷◌, None}
 use Rattle.mdb_words.specs.declared.event.Event.{Event}
 use Rattle.mdb_words.specs.declared.event.Event.TheVariants.{Break}
 use Rattle.mdb_words.specs.declared.word.Line.TheVariants.{Controller}
@@ -13,16 +11,14 @@ use Rattle.mdb_msgs.specs.declared.setups.Setups.{Setups}
 use Rattle.mdb_bus.specs.declared.act.Act.TheVariants as acts
 use Rattle.mdb_bus.specs.declared.scope.Profile.{Profile}
 use Rattle.mdb_bus.specs.declared.scope.Scope.{Scope}
-use Rattle.mdb_bus.specs.Acts.{IsBlockWord, IsForeignWord, Say}
-use Rattle.mdb_bus.specs.ActLists.{Piece, Whole, AskTail, ReplyTail, RepeatTail, Position, Quiet, InForeign, ArePieces, IsActList, IsSaid, MayCome, events_of, first_position, piece_events}
+use Rattle.mdb_bus.specs.Acts.{IsBlockWord, Say}
+use Rattle.mdb_bus.specs.ActLists.{Piece, Whole, AskTail, Position, Quiet, InForeign, ArePieces, IsActList, IsSaid, MayCome, events_of, first_position, piece_events}
 use Rattle.mdb_bus.specs.LeavingOut.{with_foreign}
 use Rattle.mdb_bus.specs.Scopes.{from_power_on, joined_by, profile_of}
 use Rattle.mdb_late_start.specs.Alone.{MayBeReadAlone}
-use Rattle.mdb_late_start.specs.Cuts.{BeginAnew, IsBreakEvent}
-use Rattle.mdb_late_start.specs.inner.Splits.{MayBeLinkedAlone, Splits}
+use Rattle.mdb_late_start.specs.Cuts.{BeginAnew, IsBreakEvent, SplitsAt}
 use Rattle.mdb_late_start.proofs.CutWords.{block_begins}
-use Rattle.mdb_late_start.proofs.Cutting.{anew_still, begins_nothing}
-use Rattle.mdb_late_start.proofs.KnownLevels.{may_be_linked}
+use Rattle.mdb_late_start.proofs.Cutting.{anew_still}
 
 -- a piece that may come where nothing is open, and no row stands before it, begins anew
 first_anew : (scope : Scope) (piece : Piece) (position : Position) (first : Event)
@@ -33,20 +29,6 @@ first_anew scope (Whole (acts.Ask command) events) position first others said ar
     let block = block_of (command_bytes command) in
     inl (block_begins block first others (subst (Say Controller (controller_words block)) are
     said.1))
-first_anew scope (Whole (acts.Ack command) events) position first others said are quiet comes =
-    cc (sym comes.0 ∙ quiet)
-first_anew scope (Whole (acts.Nak command) events) position first others said are quiet comes =
-    cc (sym comes.0 ∙ quiet)
-first_anew scope (Whole (acts.Reply command reply) events) position first others said are quiet
-    comes = cc (sym comes.0 ∙ quiet)
-first_anew scope (Whole (acts.VmcAck command reply) events) position first others said are quiet
-    comes = cc (sym comes.0 ∙ quiet)
-first_anew scope (Whole (acts.VmcNak command reply) events) position first others said are quiet
-    comes = cc (sym comes.0 ∙ quiet)
-first_anew scope (Whole (acts.VmcRet command reply) events) position first others said are quiet
-    comes = cc (sym comes.0 ∙ quiet)
-first_anew scope (Whole (acts.Repeat command reply) events) position first others said are quiet
-    comes = cc (sym comes.0 ∙ quiet)
 first_anew scope (Whole acts.Foreign events) position first others said are quiet (inl opens) =
     inl opens.0
 first_anew scope (Whole acts.Foreign events) position first others said are quiet (inr further) =
@@ -59,10 +41,7 @@ first_anew scope (Whole (acts.Break length) events) position first others said a
 first_anew scope (AskTail bytes events) position first others said are quiet comes =
     inl (block_begins bytes first others (subst (Say Controller (controller_words bytes)) are
     said.1))
-first_anew scope (ReplyTail command bytes events) position first others said are quiet comes =
-    cc (sym comes.0 ∙ quiet)
-first_anew scope (RepeatTail command reply words events) position first others said are quiet
-    comes = cc (sym comes.0 ∙ quiet)
+first_anew scope piece position first others said are quiet comes = cc (sym comes.0 ∙ quiet)
 
 -- so pieces in order begin anew, where nothing is open before them
 pub begin_anew : (scope : Scope) → first_position scope.begins ≡ Quiet → (piece : Piece)
@@ -77,43 +56,32 @@ begin_anew scope quiet piece (earlier ∷ pieces) are =
     anew_still (events_of (earlier ∷ pieces)) (piece_events piece)
     (begin_anew scope quiet earlier pieces are.2)
 
--- foreign words don't
-words_never : (words : List Event) → All IsForeignWord words → BeginAnew words → ⊥
-words_never words foreign anew = each words (recursion_from_All IsForeignWord words foreign) anew
-  where
-    each : (words : List Event) → AllByRecursion IsForeignWord words → BeginAnew words → ⊥
-    each [] foreign anew = anew
-    each (word ∷ words) foreign anew = begins_nothing word foreign.0 anew
+-- pieces that have no rows are none
+none_there : (scope : Scope) → first_position scope.begins ≡ Quiet → (pieces : List Piece)
+    → ArePieces scope pieces → events_of pieces ≡ [] → pieces ≡ []
+none_there scope quiet [] are none = refl
+none_there scope quiet (piece ∷ pieces) are none =
+    absurd (subst BeginAnew none (begin_anew scope quiet piece pieces are))
 
--- nothing stands in front where all rows are the end
-all_later : (profile : Profile) (setups : Setups) (without : DeviceSet) (pieces : List Piece)
-    (rows : List Event) → (it : Splits (from_power_on profile without) setups [] rows pieces)
-    → (before : List Piece) → it.cut.before ≡ before
-    → IsActList (joined_by profile setups without) pieces rows
-all_later profile setups without pieces rows it [] none =
-    let new = joined_by profile setups without in
-    let words : it.cut.words ≡ [] = sym it.cut.rows ∙ ap events_of none in
-    let later : it.cut.later ++ with_foreign it.cut.words [] ≡ pieces =
-    ap (λ ws. it.cut.later ++ with_foreign ws []) words
-    ∙ sym (it.cut.order ∙ ap (λ ps. it.cut.later ++ ps) none) in
-    subst (λ ps. IsActList new ps rows) later it.cut.act_list
-all_later profile setups without pieces rows it (piece ∷ before) is =
-    let scope = from_power_on profile without in
-    let rows_there : events_of (piece ∷ before) ≡ it.cut.words =
-    ap events_of (sym is) ∙ it.cut.rows in
-    absurd (words_never it.cut.words it.foreign
-    (subst BeginAnew rows_there
-    (begin_anew scope refl piece before (subst (ArePieces scope) is it.cut.in_front))))
-
--- so an act list from power-on is one in mid-session
+-- so an act list from power-on is one in mid-session: nothing stands in front where all rows are
+-- the
+-- end
 pub joined_too : ((scope : Scope) (setups : Setups) (front end : List Event)
-    (pieces : List Piece) → MayBeLinkedAlone scope setups front end
-    → IsActList scope pieces (front ++ end) → Splits scope setups front end pieces)
+    (pieces : List Piece) → MayBeReadAlone scope setups front end
+    → IsActList scope pieces (front ++ end) → SplitsAt scope setups front end pieces)
     → (profile : Profile) (setups : Setups) (without : DeviceSet) (pieces : List Piece)
     (rows : List Event) → MayBeReadAlone (from_power_on profile without) setups [] rows
     → IsActList (from_power_on profile without) pieces rows
     → IsActList (joined_by profile setups without) pieces rows
-joined_too cuts profile setups without pieces rows may list =
+joined_too cuts profile setups without [] rows may list =
+    record { in_order = tt; whole = list.whole }
+joined_too cuts profile setups without (piece ∷ pieces) rows may list =
     let scope = from_power_on profile without in
-    let it = cuts scope setups [] rows pieces (may_be_linked scope setups [] rows may) list in
-    all_later profile setups without pieces rows it it.cut.before refl
+    let cut = cuts scope setups [] rows (piece ∷ pieces) may list in
+    let words : cut.words ≡ [] =
+    cut.clean (subst BeginAnew list.whole (begin_anew scope refl piece pieces list.in_order)) in
+    let none : cut.before ≡ [] = none_there scope refl cut.before cut.in_front (cut.rows ∙ words) in
+    let later : cut.later ++ with_foreign cut.words [] ≡ piece ∷ pieces =
+    ap (λ ws. cut.later ++ with_foreign ws []) words
+    ∙ sym (cut.order ∙ ap (λ ps. cut.later ++ ps) none) in
+    subst (λ ps. IsActList (joined_by profile setups without) ps rows) later cut.act_list

@@ -24,7 +24,7 @@ use Rattle.mdb_bus.specs.LeavingOut.{with_foreign}
 use Rattle.mdb_bus.specs.Scopes.{first_levels, profile_of}
 use Rattle.mdb_late_start.specs.MidSession.{IsNothingOr}
 use Rattle.mdb_late_start.specs.Told.{IsLessTold}
-use Rattle.mdb_late_start.specs.inner.Splits.{IsLessKnown}
+use Rattle.mdb_late_start.specs.Alone.{IsLessKnown}
 use Rattle.mdb_bus.proofs.LeftOutOrder.{foreign_levels}
 
 -- a profile is one of the two

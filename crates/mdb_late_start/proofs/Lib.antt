@@ -7,12 +7,13 @@ pub mod EachStays
 pub mod EndRuns
 pub mod EndSums
 pub mod EndVerdicts
+pub mod ExtendedSales
+pub mod ExtendedSteps
 pub mod Foreign
 pub mod FromPowerOn
 pub mod InEnds
 pub mod JoinedOrder
 pub mod Keepers
-pub mod KnownLevels
 pub mod LessTold
 pub mod Middles
 pub mod Onward

@@ -18,7 +18,7 @@ use Rattle.mdb_bus.specs.declared.scope.Scope.{Scope}
 use Rattle.mdb_bus.specs.declared.scope.Profile.{Profile}
 use Rattle.mdb_bus.specs.declared.scope.Profile.TheVariants.{Base, Extended}
 use Rattle.mdb_bus.specs.Acts.{IsForeignWord, Say, said_by}
-use Rattle.mdb_bus.specs.ActLists.{Piece, Whole, AskTail, ReplyTail, RepeatTail, Position, InForeign, ArePieces, IsActList, IsSaid, IsTail, MayCome, acts_of, events_of, first_position, last_of, levels_of, piece_events, position_of}
+use Rattle.mdb_bus.specs.ActLists.{Piece, Whole, AskTail, Position, InForeign, ArePieces, IsActList, IsSaid, IsTail, MayCome, acts_of, events_of, first_position, last_of, levels_of, piece_events, position_of}
 use Rattle.mdb_bus.specs.LeavingOut.{with_foreign}
 use Rattle.mdb_machine.specs.declared.choice.Choice.TheVariants.{Plain}
 use Rattle.mdb_machine.specs.Gains.{no_gains}
@@ -32,13 +32,13 @@ use Rattle.mdb_late_start.specs.MidSession.{IsNothingOr}
 use Rattle.mdb_late_start.specs.Cuts.{SplitsAt}
 use Rattle.mdb_late_start.specs.Told.{IsLessTold, told_later}
 use Rattle.mdb_late_start.specs.inner.EndLaws.{EndLaws}
-use Rattle.mdb_late_start.specs.inner.Splits.{IsLessKnown, MayBeLinkedAlone}
+use Rattle.mdb_late_start.specs.Alone.{IsLessKnown, MayBeReadAlone}
 use Rattle.mdb_follow.proofs.Ways.{no-gains}
 use Rattle.mdb_late_start.proofs.CutWords.{foreign_both, foreign_end}
 use Rattle.mdb_late_start.proofs.LessTold.{as_told, by_profile}
 use Rattle.mdb_late_start.proofs.ToldCuts.{other_levels}
 use Rattle.mdb_late_start.proofs.EndRuns.{front_in_order, run_by}
-use Rattle.mdb_late_start.proofs.Foreign.{after_others, is_machine_of, own_later, starts_anywhere}
+use Rattle.mdb_late_start.proofs.Foreign.{after_others, is_machine_of, own_later}
 use Rattle.mdb_late_start.proofs.Onward.{acts_in_two}
 use Rattle.mdb_bus.proofs.Backward.{marked_not_foreign as marked_word}
 use Rattle.mdb_bus.proofs.LeftOutWords.{AreForeignWords}
@@ -81,20 +81,6 @@ one_foreign scope (Whole (acts.Ask command) events) position from first others s
     let block = block_of (command_bytes command) in
     absurd (begins_marked block first others (subst (Say Controller (controller_words block)) are
     said.1) low)
-one_foreign scope (Whole (acts.Ack command) events) position from first others said are comes here
-    low pieces foreign = cc (sym comes.0 ∙ here)
-one_foreign scope (Whole (acts.Nak command) events) position from first others said are comes here
-    low pieces foreign = cc (sym comes.0 ∙ here)
-one_foreign scope (Whole (acts.Reply command reply) events) position from first others said are
-    comes here low pieces foreign = cc (sym comes.0 ∙ here)
-one_foreign scope (Whole (acts.VmcAck command reply) events) position from first others said are
-    comes here low pieces foreign = cc (sym comes.0 ∙ here)
-one_foreign scope (Whole (acts.VmcNak command reply) events) position from first others said are
-    comes here low pieces foreign = cc (sym comes.0 ∙ here)
-one_foreign scope (Whole (acts.VmcRet command reply) events) position from first others said are
-    comes here low pieces foreign = cc (sym comes.0 ∙ here)
-one_foreign scope (Whole (acts.Repeat command reply) events) position from first others said are
-    comes here low pieces foreign = cc (sym comes.0 ∙ here)
 one_foreign scope (Whole acts.Foreign events) position from first others said are comes here low
     pieces foreign = foreign
 one_foreign scope (Whole (acts.Break length) events) position from first others said are comes here
@@ -106,10 +92,8 @@ one_foreign scope (AskTail bytes events) position from first others said are com
     foreign =
     absurd (begins_marked bytes first others (subst (Say Controller (controller_words bytes)) are
     said.1) low)
-one_foreign scope (ReplyTail command bytes events) position from first others said are comes here
-    low pieces foreign = cc (sym comes.0 ∙ here)
-one_foreign scope (RepeatTail command reply words events) position from first others said are comes
-    here low pieces foreign = cc (sym comes.0 ∙ here)
+one_foreign scope piece position from first others said are comes here low pieces foreign =
+    cc (sym comes.0 ∙ here)
 
 -- foreign acts leave foreign traffic
 still_foreign : (scope : Scope) (pieces : List Piece) → first_position scope.begins ≡ InForeign
@@ -152,12 +136,11 @@ none_of_its device (piece ∷ pieces) foreign = absurd foreign
 
 -- and a way leads through them from each state to the same
 stays_there : (setups : Setups) (profile : Profile) (device : Device) (pieces : List Piece)
-    → AreForeign pieces
-    → (state : StateOf device)
+    → AreForeign pieces → (state : StateOf device)
+    → (machine_of (Joined setups profile) device).Starts state
     → Arrives (machine_of (Joined setups profile) device) (acts_of pieces) state no_sums
-stays_there setups profile device [] foreign state =
-    (starts_anywhere setups profile device state, refl)
-stays_there setups profile device (Whole acts.Foreign events ∷ pieces) foreign state =
+stays_there setups profile device [] foreign state starts = (starts, refl)
+stays_there setups profile device (Whole acts.Foreign events ∷ pieces) foreign state starts =
     let is = is_machine_of (Joined setups profile) device in
     record {
       choice = Plain;
@@ -165,22 +148,19 @@ stays_there setups profile device (Whole acts.Foreign events ∷ pieces) foreign
       before = state;
       sums_before = no_sums;
       gains = no_gains;
-      way = stays_there setups profile device pieces foreign state;
+      way = stays_there setups profile device pieces foreign state starts;
       step = (is.elsewhere (acts_of pieces) acts.Foreign Plain state state no_gains
           (λ part. absurd cc)).1 (refl, refl);
       adds = no-gains no_sums;
     }
-stays_there setups profile device (piece ∷ pieces) foreign state = absurd foreign
+stays_there setups profile device (piece ∷ pieces) foreign state starts = absurd foreign
 
 -- tails have no acts
 acts_past : (tail pieces : List Piece) → AllByRecursion IsTail tail
     → acts_of (tail ++ pieces) ≡ acts_of pieces
 acts_past [] pieces tails = refl
 acts_past (Whole act events ∷ tail) pieces tails = absurd tails.0
-acts_past (AskTail bytes events ∷ tail) pieces tails = acts_past tail pieces tails.1
-acts_past (ReplyTail command bytes events ∷ tail) pieces tails = acts_past tail pieces tails.1
-acts_past (RepeatTail command reply words events ∷ tail) pieces tails =
-    acts_past tail pieces tails.1
+acts_past (piece ∷ tail) pieces tails = acts_past tail pieces tails.1
 
 -- what is told is the same
 the_same : (told : Option ℕ) → IsNothingOr told told
@@ -229,7 +209,7 @@ none_told_in scope pieces rows begins list words =
 pub middle_linked : (setups : Setups) (levels : Levels) (scope : Scope)
     (words middle : List Event) (pieces : List Piece) → All IsForeignWord words
     → IsActList (told_later setups levels scope) pieces middle
-    → MayBeLinkedAlone (told_later setups levels scope) setups words middle
+    → MayBeReadAlone (told_later setups levels scope) setups words middle
 middle_linked setups levels scope words middle pieces foreign list =
     let mine = told_later setups levels scope in
     let profile = profile_of scope.begins in
@@ -238,7 +218,7 @@ middle_linked setups levels scope words middle pieces foreign list =
       | inl base ↦ inl base
       | inr extended ↦ inr (record {
         act_list = (pieces, other_levels setups levels no_levels scope pieces middle extended list);
-        knows = λ more rest before parts others anew front.
+        tells = λ more rest before parts others anew front.
             subst (IsLessKnown here)
             (sym (none_told_in mine before (words ++ more) refl front
             (foreign_both words more
@@ -269,7 +249,7 @@ list_there laws setups levels scope words middle pieces list cut before =
 
 pub parts : EndLaws → (setups : Setups) (levels : Levels) (scope : Scope)
     (rows middle : List Event) (has : HasMiddle (told_later setups levels scope) rows middle)
-    → MayBeLinkedAlone (told_later setups levels scope) setups has.words middle
+    → MayBeReadAlone (told_later setups levels scope) setups has.words middle
     → Parts (told_later setups levels scope) rows middle has
 parts laws setups levels scope rows middle has linked =
     let mine = told_later setups levels scope in
@@ -277,7 +257,7 @@ parts laws setups levels scope rows middle has linked =
       in_order = front_in_order mine has.tail has.whole has.act_list.in_order;
       whole = has.of_whole;
     } in
-    let cut = (laws.splits_rows mine setups has.words middle has.whole linked list).cut in
+    let cut = laws.splits_rows mine setups has.words middle has.whole linked list in
     let none = cut.clean has.anew in
     let before_rows : events_of cut.before ≡ has.words =
     cut.rows ∙ ap (λ ws. has.words ++ ws) none ∙ append-nil has.words in
@@ -312,7 +292,7 @@ own_in_middle scope rows middle has parted device =
 -- and a run of the middle is one of the rows
 pub run_of_rows : EndLaws → (setups : Setups) (levels : Levels) (scope : Scope)
     (rows middle : List Event) (has : HasMiddle (told_later setups levels scope) rows middle)
-    (sums : AllSums) → MayBeLinkedAlone (told_later setups levels scope) setups has.words middle
+    (sums : AllSums) → MayBeReadAlone (told_later setups levels scope) setups has.words middle
     → Run (told_later setups levels scope) middle sums
     → Run (told_later setups levels scope) rows sums
 run_of_rows laws setups levels scope rows middle has sums linked run =

@@ -35,7 +35,7 @@ use Rattle.mdb_bus.specs.shared.Steps.{Leads}
 use Rattle.mdb_late_start.specs.Cuts.{BeginAnew, joined_with}
 use Rattle.mdb_late_start.specs.MidSession.{IsNothingOr}
 use Rattle.mdb_late_start.specs.Told.{IsLessTold}
-use Rattle.mdb_late_start.specs.inner.Splits.{IsLessKnown, IsLinkedAlone, KnowsLevelsOfFront, MayBeLinkedAlone}
+use Rattle.mdb_late_start.specs.Alone.{IsLessKnown, IsReadAlone, MayBeReadAlone, TellsLevelsOfFront}
 use Rattle.mdb_late_start.proofs.Cutting.{AllFitAlone, ComesAlone, Cutting, FitsAlone, all_foreign, alone, anew_still, foreign_position, later_anew, rows_begin}
 use Rattle.mdb_late_start.proofs.LessTold.{by_profile, less_before, less_known, less_told, levels_fit}
 use Rattle.mdb_bus.proofs.Backward.{backward}
@@ -344,7 +344,7 @@ some_there scope setups front middle pieces cut command at none =
 
 -- less is known there than in the whole
 pub known_in_reply : (scope : Scope) (setups : Setups) (front end : List Event)
-    → KnowsLevelsOfFront scope setups front end → (middle others : List Event)
+    → TellsLevelsOfFront scope setups front end → (middle others : List Event)
     (command : Command) (pieces : List Piece) → end ≡ middle ++ others
     → (cut : Cutting scope setups front middle pieces)
     → position_of (joined_with setups scope) (alone cut.later cut.words) ≡ Asked command
@@ -376,7 +376,7 @@ known_in_reply scope setups front end knows middle others command pieces all cut
 
 -- so by the extended profile a reply fits where its rows have an act list
 pub reply_fits_there : LinkLaws → (scope : Scope) (setups : Setups) (front end : List Event)
-    → profile_of scope.begins ≡ Extended → KnowsLevelsOfFront scope setups front end
+    → profile_of scope.begins ≡ Extended → TellsLevelsOfFront scope setups front end
     → (middle more : List Event) (command : Command) (reply : Reply) (events : List Event)
     (pieces : List Piece) → end ≡ (middle ++ events) ++ more
     → (cut : Cutting scope setups front middle pieces)
@@ -403,23 +403,23 @@ reply_fits_there laws scope setups front end extended knows middle more command 
 
 -- and all pieces fit where the end has one
 fit_alone : LinkLaws → (scope : Scope) (setups : Setups) (front end : List Event)
-    → profile_of scope.begins ≡ Extended → IsLinkedAlone scope setups front end
+    → profile_of scope.begins ≡ Extended → IsReadAlone scope setups front end
     → AllFitAlone scope setups front end
-fit_alone laws scope setups front end extended linked middle more
+fit_alone laws scope setups front end extended read middle more
     (Whole (acts.Reply command reply) events) pieces all cut are comes =
     let new = joined_with setups scope in
-    reply_fits_there laws scope setups front end extended linked.knows middle more command reply
+    reply_fits_there laws scope setups front end extended read.tells middle more command reply
     events pieces all cut are comes
-    (laws.fronts new (middle ++ events) more (subst (HasActList new) all linked.act_list))
-fit_alone laws scope setups front end extended linked middle more piece pieces all cut are comes =
+    (laws.fronts new (middle ++ events) more (subst (HasActList new) all read.act_list))
+fit_alone laws scope setups front end extended read middle more piece pieces all cut are comes =
     are.1.levels
 
 -- so pieces of a transcript fit in an end that may be read by itself
 pub all_fit : LinkLaws → (scope : Scope) (setups : Setups) (front end : List Event)
-    → MayBeLinkedAlone scope setups front end → AllFitAlone scope setups front end
+    → MayBeReadAlone scope setups front end → AllFitAlone scope setups front end
 all_fit laws scope setups front end (inl base) = fit_by_base scope setups front end base
-all_fit laws scope setups front end (inr linked) =
+all_fit laws scope setups front end (inr read) =
     elim (by_profile (profile_of scope.begins)) [
       | inl base ↦ fit_by_base scope setups front end base
-      | inr extended ↦ fit_alone laws scope setups front end extended linked
+      | inr extended ↦ fit_alone laws scope setups front end extended read
     ]

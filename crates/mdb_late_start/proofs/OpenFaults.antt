@@ -3,8 +3,8 @@
 use Rattle.std.proofs.Common.{ap, refl, sym, subst, ◌∙◌, ◌≡◌, ◌≢◌, ◌++◌, ◌⊎◌, inl, inr, ℕ, Bool, true, false, List, [], ◌∷◌, Some, append_assoc}
 use Rattle.std.proofs.lemmas.List.{append-nil, same_from_push}
 use Rattle.mdb_words.specs.declared.event.Event.{Event}
-use Rattle.mdb_words.specs.declared.event.Event.TheVariants.{Word, Break}
-use Rattle.mdb_words.specs.declared.word.Line.TheVariants.{Controller, Peripheral}
+use Rattle.mdb_words.specs.declared.event.Event.TheVariants.{Word}
+use Rattle.mdb_words.specs.declared.word.Line.TheVariants.{Peripheral}
 use Rattle.mdb_msgs.specs.declared.command.Command.{Command}
 use Rattle.mdb_msgs.specs.declared.fault.MsgFault.{MsgFault}
 use Rattle.mdb_msgs.specs.declared.fault.MsgFault.TheVariants.{Message, Profile as Left, Answer}
@@ -28,11 +28,9 @@ use Rattle.mdb_bus.specs.Formats.{HasFault, IsReadAs, format_by, format_for}
 use Rattle.mdb_bus.specs.LinkFaults.{HasBadMessage, IsLinkFault, OutOfOrder, RowBreaks, TooEarly, TooFarApart, TooLate, WrongAnswer, WrongSpeaker, WrongSum, situation_of, asked_device, blame_of, fault_of}
 use Rattle.mdb_bus.specs.OpenReplies.{OpenLeavesOut}
 use Rattle.mdb_bus.specs.Scopes.{levels_before, profile_of}
-use Rattle.mdb_late_start.specs.Alone.{TellsLevelsOfFront}
-use Rattle.mdb_late_start.specs.Cuts.{joined_with}
-use Rattle.mdb_late_start.specs.inner.Splits.{IsLessKnown, KnowsLevelsOfFront, Splits}
+use Rattle.mdb_late_start.specs.Alone.{IsLessKnown, TellsLevelsOfFront}
+use Rattle.mdb_late_start.specs.Cuts.{SplitsAt, joined_with}
 use Rattle.mdb_late_start.proofs.Cutting.{AllFitAlone, ComesAlone, Cutting, alone, anew_still, splits}
-use Rattle.mdb_late_start.proofs.KnownLevels.{knows_too}
 use Rattle.mdb_late_start.proofs.LessTold.{by_profile}
 use Rattle.mdb_late_start.proofs.OpenEnds.{LinkLaws, Tail, fit_by_base, format_alone, known_in_reply, not_base, reply_fits_there, reply_tail}
 use Rattle.mdb_bus.proofs.Lists.{front_and_last, last_push}
@@ -92,10 +90,8 @@ answer_there leaves begins setups extended command less more known reply answers
       fault_there leaves begins setups extended command less more known reply Answer (λ is. cc is)
           answers fits bad.1,
     )
-answer_there leaves begins setups extended command less more known reply answers fits
-    (Word at Controller word) bad = bad
-answer_there leaves begins setups extended command less more known reply answers fits
-    (Break at length) bad = bad
+answer_there leaves begins setups extended command less more known reply answers fits row bad =
+    bad
 
 message_there : OpenLeavesOut → (begins : Beginning) (setups : Setups)
     → profile_of begins ≡ Extended → (command : Command) (less more : Levels)
@@ -110,16 +106,13 @@ message_there leaves begins setups extended command less more known reply answer
       fault_there leaves begins setups extended command less more known reply Message (λ is. cc is)
           answers fits bad.1,
     )
-message_there leaves begins setups extended command less more known reply answers fits
-    (Word at Controller word) bad = bad
-message_there leaves begins setups extended command less more known reply answers fits
-    (Break at length) bad = bad
+message_there leaves begins setups extended command less more known reply answers fits row bad =
+    bad
 
 sum_there : (one other : Scope) (command : Command) (bytes : List ℕ) (row : Event)
     → WrongSum one (InReply command bytes) row → WrongSum other (InReply command bytes) row
 sum_there one other command bytes (Word at Peripheral word) bad = bad
-sum_there one other command bytes (Word at Controller word) bad = bad
-sum_there one other command bytes (Break at length) bad = bad
+sum_there one other command bytes row bad = bad
 
 -- the last row is that of events which aren't none
 last_alike : (one other events : List Event) → events ≢ []
@@ -172,7 +165,6 @@ breaks_there laws scope setups extended here there command reply front row some 
     by_rule rule.Order other breaks = subst (λ from. OutOfOrder from row) last breaks
     by_rule rule.Speaker other breaks =
         subst (λ from. WrongSpeaker (InReply command bytes) from row) last breaks
-    by_rule rule.Mode other breaks = breaks
     by_rule rule.Early other breaks =
         subst (λ from. TooEarly (profile_of scope.begins) (InReply command bytes) from row) last
         breaks
@@ -182,28 +174,23 @@ breaks_there laws scope setups extended here there command reply front row some 
     by_rule rule.Spacing other breaks =
         subst (λ from. TooFarApart (profile_of scope.begins) (InReply command bytes) from row) last
         breaks
-    by_rule rule.Length other breaks = breaks
     by_rule rule.Sum other breaks =
         sum_there (joined_with setups scope) scope command bytes row breaks
-    by_rule rule.Break other breaks = breaks
     by_rule rule.Answer other breaks =
         answer_there laws.left_out scope.begins setups extended command less more known reply
         answers fits row breaks
     by_rule rule.Message other breaks =
         message_there laws.left_out scope.begins setups extended command less more known reply
         answers fits row breaks
-    by_rule rule.Same other breaks = breaks
     by_rule rule.Profile other breaks = absurd (other refl)
-    by_rule rule.Changer other breaks = breaks
-    by_rule rule.Bill other breaks = breaks
-    by_rule rule.Cashless other breaks = breaks
+    by_rule broken other breaks = breaks
 
 -- ---- the end of rows and one more
 
 -- no reply ends with a row that breaks another rule than Profile
 no_reply_ends : LinkLaws → FaultLaws → (scope : Scope) (setups : Setups)
     → profile_of scope.begins ≡ Extended → (front rows : List Event) (row : Event)
-    → KnowsLevelsOfFront scope setups front (rows ++ row ∷ []) → (here : List Piece)
+    → TellsLevelsOfFront scope setups front (rows ++ row ∷ []) → (here : List Piece)
     → IsActList (joined_with setups scope) here rows → (broken : Rule) → broken ≢ rule.Profile
     → RowBreaks (situation_of (joined_with setups scope) here) row broken
     → (middle : List Event) (command : Command) (reply : Reply) (begun : List Event) (last : Event)
@@ -260,7 +247,7 @@ ends_so rows all more row some is =
 -- all pieces fit in rows and one more that breaks another rule
 fit_but : LinkLaws → FaultLaws → (scope : Scope) (setups : Setups)
     → profile_of scope.begins ≡ Extended → (front rows : List Event) (row : Event)
-    → KnowsLevelsOfFront scope setups front (rows ++ row ∷ []) → (here : List Piece)
+    → TellsLevelsOfFront scope setups front (rows ++ row ∷ []) → (here : List Piece)
     → IsActList (joined_with setups scope) here rows → (broken : Rule) → broken ≢ rule.Profile
     → RowBreaks (situation_of (joined_with setups scope) here) row broken
     → AllFitAlone scope setups front (rows ++ row ∷ [])
@@ -304,7 +291,7 @@ is_profile broken = inr (λ is. cc is)
 -- so the first rule that is broken in an end is Profile
 only_left_out : LinkLaws → FaultLaws → (scope : Scope) (setups : Setups)
     (front rows : List Event) (row : Event) → HasActList scope (front ++ (rows ++ row ∷ []))
-    → KnowsLevelsOfFront scope setups front (rows ++ row ∷ []) → (here : List Piece)
+    → TellsLevelsOfFront scope setups front (rows ++ row ∷ []) → (here : List Piece)
     → IsActList (joined_with setups scope) here rows → (broken : Rule)
     → RowBreaks (situation_of (joined_with setups scope) here) row broken → broken ≡ rule.Profile
 only_left_out laws faults scope setups front rows row has knows here list broken breaks =
@@ -316,11 +303,11 @@ only_left_out laws faults scope setups front rows row has knows here list broken
     new : Scope
     new = joined_with setups scope
 
-    goes_on : Splits scope setups front (rows ++ row ∷ []) has.0 → ⊥
+    goes_on : SplitsAt scope setups front (rows ++ row ∷ []) has.0 → ⊥
     goes_on it =
         let Has : List Event → Type 0 = λ es. HasActList new (es ++ row ∷ []) in
         faults.breaks new here row broken list.in_order breaks
-        (subst Has (sym list.whole) (_, it.cut.act_list))
+        (subst Has (sym list.whole) (_, it.act_list))
 
     no_other : broken ≢ rule.Profile
         → (profile_of scope.begins ≡ Base) ⊎ (profile_of scope.begins ≡ Extended) → ⊥
@@ -346,14 +333,13 @@ still_left_out : (haste : Bool) (row : Event) (blamed : Blame)
     → (counted_in haste row (record { rule = rule.Profile; blame = blamed })).rule ≡ rule.Profile
 still_left_out false row blamed = refl
 still_left_out true (Word at Peripheral word) blamed = refl
-still_left_out true (Word at Controller word) blamed = refl
-still_left_out true (Break at length) blamed = refl
+still_left_out true row blamed = refl
 
 -- and so is the rule of its fault
 fault_left_out : LinkLaws → FaultLaws → (scope : Scope) (setups : Setups)
     (front rows : List Event) (row : Event) (here : List Piece) (broken : Rule) (blamed : Blame)
     → HasActList scope (front ++ (rows ++ row ∷ []))
-    → KnowsLevelsOfFront scope setups front (rows ++ row ∷ [])
+    → TellsLevelsOfFront scope setups front (rows ++ row ∷ [])
     → IsActList (joined_with setups scope) here rows
     → IsLinkFault (joined_with setups scope) here row broken blamed → broken ≡ rule.Profile
 fault_left_out laws faults scope setups front rows row here broken blamed has knows list fault =
@@ -382,4 +368,4 @@ left_out_alone laws faults scope setups front rows more row pieces broken blamed
     first_rows scope setups front now more (subst Tells all tells) in
     fault_left_out laws faults scope setups front rows row pieces broken blamed
     (laws.fronts scope (front ++ now) more (subst (HasActList scope) whole has))
-    (knows_too scope setups front now known) list
+    known list

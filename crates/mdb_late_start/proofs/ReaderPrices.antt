@@ -1,6 +1,6 @@
 -- Where the end of a recording leaves no amount of a reader without a value, each of its acts has
 -- the same price there as in the whole recording.
-use Rattle.std.proofs.Common.{◌≡◌, ◌⊎◌, ℕ, ◌+◌, Bool, true, false, ◌&&◌, ◌||◌, List, [], ◌∷◌, ◌++◌, Option, Some, None, refl, inl, inr, unwrap_or, arith, ap, sym, subst}
+use Rattle.std.proofs.Common.{◌≡◌, ◌⊎◌, ℕ, ◌+◌, Bool, true, false, ◌&&◌, ◌||◌, List, [], ◌∷◌, ◌++◌, Option, Some, None, refl, inl, inr, unwrap_or, arith, ap, sym, subst, ◌∙◌, sum_by}
 use Rattle.std.specs.Option.{is_none}
 use Rattle.mdb_msgs.specs.declared.command.Command.{Command}
 use Rattle.mdb_msgs.specs.declared.command.ReaderCommand.{ReaderCommand}
@@ -8,52 +8,94 @@ use Rattle.mdb_msgs.specs.declared.command.ReaderUnit.{ReaderUnit}
 use Rattle.mdb_msgs.specs.declared.reply.Reply.{Reply}
 use Rattle.mdb_msgs.specs.declared.reply.reader.ReaderMsg.{ReaderMsg}
 use Rattle.mdb_msgs.specs.declared.setups.ReaderConfig.{ReaderConfig}
+use Rattle.mdb_msgs.specs.Setups.{config_known}
 use Rattle.mdb_bus.specs.declared.act.Act.{Act}
 use Rattle.mdb_bus.specs.declared.act.Act.TheVariants as acts
 use Rattle.mdb_bus.specs.declared.scope.Beginning.{Beginning}
-use Rattle.mdb_machine.specs.Past.{or_else}
+use Rattle.mdb_machine.specs.Choices.{is_approval}
+use Rattle.mdb_machine.specs.Known.{known_before}
+use Rattle.mdb_machine.specs.Past.{last_told, or_else}
 use Rattle.mdb_machine.specs.Unvalued as amounts
 use Rattle.mdb_machine.specs.Unvalued.{one_if}
 use Rattle.mdb_cashless.specs.Reader.{asks_sale, is_unpriced, unvalued, unvalued_by}
-use Rattle.mdb_cashless.specs.ReaderFacts.{Facts, KnownFacts, config_by, known_of, messages_by}
+use Rattle.mdb_cashless.specs.ReaderFacts.{amount_by, config_by, known_of, messages_by}
 use Rattle.mdb_cashless.specs.ReaderMessages.{config_in, last_said, messages_of}
 use Rattle.mdb_cashless.specs.Units.{own}
-use Rattle.mdb_cashless.specs.shared.ReaderWays.{goes_on}
-use Rattle.mdb_late_start.specs.MidSession.{AnswersLast, IsNothingOr}
-use Rattle.mdb_late_start.proofs.ReaderOtherwise.{IsPriced, IsSalePriced, approvals, config_after, otherwise}
+use Rattle.mdb_cashless.specs.shared.ReaderWays.{first_of_three}
+use Rattle.mdb_late_start.specs.MidSession.{AnswersLast}
+
+-- what values hang on: the config message, and the amount of the last message 05
+pub record Prices : Type 0 where
+  pub config : Option ReaderConfig
+  pub amount : ℕ
+
+-- prices are the same where their fields are
+pub same_prices : {one other : Prices} → one.config ≡ other.config → one.amount ≡ other.amount
+    → one ≡ other
+same_prices {one} {other} config amount =
+    let same : record one { config = one.config } ≡ record other { config = other.config } =
+    cc (config, amount) in
+    same
+
+-- a command is no sale, or a sale has the same value
+abbrev pub IsSalePriced : Prices → Prices → ReaderCommand → Type 0
+IsSalePriced one other its = (asks_sale (Some its) ≡ false) ⊎ (one ≡ other)
+
+-- how many messages 05 there are
+abbrev pub approvals : List ReaderMsg → ℕ
+approvals said = sum_by (λ message. one_if (is_approval message)) said
+
+-- the config message that the messages of a reply are valued by
+abbrev pub config_with : Reply → Option ReaderConfig → Option ReaderConfig
+config_with reply config = or_else (last_said config_in (messages_of reply)) config
+
+-- messages have no 05, or have the same value
+abbrev pub AreSaidPriced : Reply → Option ReaderConfig → Option ReaderConfig → Type 0
+AreSaidPriced reply one other = (approvals (messages_of reply) ≡ 0) ⊎ (one ≡ other)
+
+-- what an act values has the same value
+abbrev pub IsPriced : ReaderUnit → Prices → Prices → Act → Type 0
+IsPriced unit one other (acts.Ask command) =
+    (its : ReaderCommand) → own unit command ≡ Some its → IsSalePriced one other its
+IsPriced unit one other (acts.Ack command) =
+    (its : ReaderCommand) → own unit command ≡ Some its → IsSalePriced one other its
+IsPriced unit one other (acts.Reply command reply) =
+    (its : ReaderCommand) → own unit command ≡ Some its → IsSalePriced one other its
+    × AreSaidPriced reply (config_with reply one.config) (config_with reply other.config)
+IsPriced unit one other (acts.VmcAck command reply) =
+    (its : ReaderCommand) → own unit command ≡ Some its
+    → AreSaidPriced reply one.config other.config
+IsPriced unit one other act = Unit {0}
+
+-- so it is where all has the same value
+pub all_priced : (unit : ReaderUnit) (one other : Prices) (act : Act) → one ≡ other
+    → IsPriced unit one other act
+all_priced unit one other (acts.Ask c) same = λ its is. inr same
+all_priced unit one other (acts.Ack c) same = λ its is. inr same
+all_priced unit one other (acts.Reply c r) same =
+    λ its is. (inr same, inr (ap (λ (p : Prices). config_with r p.config) same))
+all_priced unit one other (acts.VmcAck c r) same =
+    λ its is. inr (ap (λ (p : Prices). p.config) same)
+all_priced unit one other act same = tt
+
+-- ---- what is known
 
 -- something is known
 abbrev pub IsSome : {X : Type 0} → Option X → Type 0
 IsSome {X} found = (x : X) × (found ≡ Some x)
 
--- A config message and an amount that are known are those that count.
-pub record Counts (config : Option ReaderConfig) (amount : Option ℕ) (facts : Facts) : Type 0 where
-  pub config_is : IsNothingOr config facts.config
-  pub amount_is : IsSome amount → unwrap_or amount 0 ≡ facts.amount
+-- what is known is the same there, after a reply that may tell something
+same_after : {X : Type 0} (its here there : Option X)
+    → ((x : X) → here ≡ Some x → there ≡ Some x) → IsSome (or_else its here)
+    → or_else its here ≡ or_else its there
+same_after (Some x) here there too some = refl
+same_after None here there too some = some.1 ∙ sym (too some.0 some.1)
 
--- so it is with what is known of the facts
-abbrev pub IsTrue : KnownFacts → Facts → Type 0
-IsTrue known facts = Counts known.config known.amount facts
-
--- what is known is the same there
-pub same_where_known : {X : Type 0} (here there : Option X) → IsNothingOr here there
-    → IsSome here → here ≡ there
-same_where_known None there is some = absurd cc
-same_where_known (Some x) there is some = sym is
-
--- so it is after a reply that may tell something
-same_after : {X : Type 0} (own here there : Option X) → IsNothingOr here there
-    → IsSome (or_else own here) → or_else own here ≡ or_else own there
-same_after (Some x) here there is some = refl
-same_after None here there is some = same_where_known here there is some
-
--- parts of a sum that is 0
-first_none : (n m : ℕ) → n + m ≡ 0 → n ≡ 0
-first_none n m none = omega (arith, none)
-
--- its second part
-second_none : (n m : ℕ) → n + m ≡ 0 → m ≡ 0
-second_none n m none = omega (arith, none)
+-- it stays known
+stays : {X : Type 0} (first last elsewhere : Option X) → IsSome (or_else last elsewhere)
+    → IsSome (or_else (or_else first last) elsewhere)
+stays (Some x) last elsewhere some = (x, refl)
+stays None last elsewhere some = some
 
 -- a command is no sale, or one that has a value
 sale_known : {X : Type 0} (asks : Bool) (config : Option X) (amount : Option ℕ)
@@ -64,38 +106,6 @@ sale_known true (Some config) (Some amount) none = inr ((config, refl), (amount,
 sale_known true (Some config) None none = absurd (omega (arith, none))
 sale_known true None amount none = absurd (omega (arith, none))
 
--- that is the same in the whole recording
-sale_priced : (its : ReaderCommand) (known : KnownFacts) (facts : Facts) → IsTrue known facts
-    → (asks_sale (Some its) ≡ false) ⊎ (IsSome known.config × IsSome known.amount)
-    → IsSalePriced (otherwise facts known) facts its
-sale_priced its known facts is (inl none) = inl none
-sale_priced its known facts is (inr some) =
-    inr (same_where_known known.config facts.config is.config_is some.0, is.amount_is some.1)
-
--- so it is with a sale that is asked
-asked_priced : (unit : ReaderUnit) (begins : Beginning) (command : Command) (before : List Act)
-    (facts : Facts) (its : ReaderCommand) → IsTrue (known_of begins unit before) facts
-    → own unit command ≡ Some its → unvalued unit begins (acts.Ask command ∷ before) ≡ 0
-    → IsSalePriced (otherwise facts (known_of begins unit before)) facts its
-asked_priced unit begins command before facts its true_of is none =
-    let known = known_of begins unit before in
-    sale_priced its known facts true_of
-    (sale_known (asks_sale (Some its)) known.config known.amount
-    (subst (λ (o : Option ReaderCommand). one_if (asks_sale o && is_unpriced known) ≡ 0) is
-    (first_none (unvalued_by unit known (acts.Ask command)) (unvalued unit begins before) none)))
-
--- so it is, too, where the answer to that ask comes next
-answered_priced : (unit : ReaderUnit) (begins : Beginning) (command : Command)
-    (later before : List Act) (facts : Facts) (its : ReaderCommand)
-    → later ≡ acts.Ask command ∷ before → IsTrue (known_of begins unit later) facts
-    → own unit command ≡ Some its → unvalued unit begins later ≡ 0
-    → IsSalePriced (otherwise facts (known_of begins unit later)) facts its
-answered_priced unit begins command later before facts its order =
-    subst (λ (l : List Act). IsTrue (known_of begins unit l) facts → own unit command ≡ Some its
-    → unvalued unit begins l ≡ 0
-    → IsSalePriced (otherwise facts (known_of begins unit l)) facts its) (sym order)
-    (asked_priced unit begins command before facts its)
-
 -- there are no amounts, or they have a value
 amounts_known : {X : Type 0} (setup : Option X) (count : ℕ) → amounts.unvalued_by setup count ≡ 0
     → (count ≡ 0) ⊎ IsSome setup
@@ -103,129 +113,140 @@ amounts_known None count none = inl none
 amounts_known (Some setup) count none = inr (setup, refl)
 
 -- what a reply to this reader tells
-said : (unit : ReaderUnit) (command : Command) (reply : Reply) (its : ReaderCommand)
+pub said : (unit : ReaderUnit) (command : Command) (reply : Reply) (its : ReaderCommand)
     → own unit command ≡ Some its → messages_by unit (acts.Reply command reply) ≡ messages_of reply
 said unit command reply its is =
     ap (λ (o : Option ReaderCommand).
     let messages : List ReaderMsg = elim o [ Some c ↦ messages_of reply | None ↦ [] ] in messages)
     is
 
--- it has no message 05, or a config message is known that they are valued by
-reply_known : (unit : ReaderUnit) (known : KnownFacts) (command : Command) (reply : Reply)
-    (its : ReaderCommand) → own unit command ≡ Some its
-    → unvalued_by unit known (acts.Reply command reply) ≡ 0
-    → (approvals (messages_of reply) ≡ 0) ⊎ IsSome (config_after reply known.config)
-reply_known unit known command reply its is none =
-    amounts_known (config_after reply known.config) (approvals (messages_of reply))
-    (subst (λ (ms : List ReaderMsg).
-    amounts.unvalued_by (or_else (last_said config_in ms) known.config) (approvals ms) ≡ 0)
-    (said unit command reply its is) none)
+module _ (unit : ReaderUnit) (begins : Beginning) where
+  -- the config message that is known, and the amount
+  abbrev pub known_config : List Act → Option ReaderConfig
+  known_config acts = (known_of begins unit acts).config
 
--- which is the same in the whole recording
-reply_priced : (unit : ReaderUnit) (known : KnownFacts) (command : Command) (reply : Reply)
-    (facts : Facts) (its : ReaderCommand) → IsTrue known facts → own unit command ≡ Some its
-    → unvalued_by unit known (acts.Reply command reply) ≡ 0
-    → (approvals (messages_of reply) ≡ 0)
-    ⊎ (config_after reply known.config ≡ config_after reply facts.config)
-reply_priced unit known command reply facts its true_of is none =
-    elim (reply_known unit known command reply its is none) [
-      | inl nothing ↦ inl nothing
-      | inr some ↦ inr (same_after (last_said config_in (messages_of reply)) known.config
-          facts.config true_of.config_is some)
-    ]
+  abbrev amount_of : List Act → Option ℕ
+  amount_of acts = last_told (amount_by unit) acts
 
--- a config message that is known stays known
-some_more : {X : Type 0} (told found : Option X) → IsSome found → IsSome (or_else told found)
-some_more (Some x) found some = (x, refl)
-some_more None found some = some
+  abbrev IsValued : List Act → Type 0
+  IsValued acts = unvalued unit begins acts ≡ 0
 
--- through all acts that follow
-stays_known : (unit : ReaderUnit) (begins : Beginning) (again before : List Act)
-    → IsSome (known_of begins unit before).config
-    → IsSome (known_of begins unit (again ++ before)).config
-stays_known unit begins [] before some = some
-stays_known unit begins (act ∷ again) before some =
-    subst (λ (k : KnownFacts). IsSome k.config) (goes_on unit begins act (again ++ before))
-    (some_more (config_by unit act) (known_of begins unit (again ++ before)).config
-    (stays_known unit begins again before some))
+  -- a command is no sale, or has a value after acts
+  abbrev IsSaleKnown : ReaderCommand → List Act → Type 0
+  IsSaleKnown its acts =
+      (asks_sale (Some its) ≡ false) ⊎ (IsSome (known_config acts) × IsSome (amount_of acts))
 
--- Where acts leave no amount without a value, those before them don't.
-rest_unvalued : (unit : ReaderUnit) (begins : Beginning) (again before : List Act)
-    → unvalued unit begins (again ++ before) ≡ 0 → unvalued unit begins before ≡ 0
-rest_unvalued unit begins [] before none = none
-rest_unvalued unit begins (act ∷ again) before none =
-    rest_unvalued unit begins again before
-    (second_none (unvalued_by unit (known_of begins unit (again ++ before)) act)
-    (unvalued unit begins (again ++ before)) none)
+  -- the parts of a sum that is 0
+  first_valued : (act : Act) (before : List Act) → IsValued (act ∷ before)
+      → unvalued_by unit (known_of begins unit before) act ≡ 0
+  first_valued act before none = omega (arith, none)
 
--- the config message of a reply is known after it
-known_after : (unit : ReaderUnit) (begins : Beginning) (command : Command) (reply : Reply)
-    (before : List Act) (its : ReaderCommand) → own unit command ≡ Some its
-    → IsSome (config_after reply (known_of begins unit before).config)
-    → IsSome (known_of begins unit (acts.Reply command reply ∷ before)).config
-known_after unit begins command reply before its is some =
-    subst (λ (k : KnownFacts). IsSome k.config)
-    (goes_on unit begins (acts.Reply command reply) before)
-    (subst (λ (ms : List ReaderMsg).
-    IsSome (or_else (last_said config_in ms) (known_of begins unit before).config))
-    (sym (said unit command reply its is)) some)
+  pub rest_valued : (again before : List Act) → IsValued (again ++ before) → IsValued before
+  rest_valued [] before none = none
+  rest_valued (act ∷ again) before none = rest_valued again before (omega (arith, none))
 
--- so it is known when the controller acknowledges the reply, where that has messages 05
-acked_known : (unit : ReaderUnit) (begins : Beginning) (command : Command) (reply : Reply)
-    (again before : List Act) (its : ReaderCommand) → own unit command ≡ Some its
-    → unvalued unit begins (again ++ (acts.Reply command reply ∷ before)) ≡ 0
-    → (approvals (messages_of reply) ≡ 0)
-    ⊎ IsSome (known_of begins unit (again ++ (acts.Reply command reply ∷ before))).config
-acked_known unit begins command reply again before its is none =
-    let here = rest_unvalued unit begins again (acts.Reply command reply ∷ before) none in
-    let known = known_of begins unit before in
-    elim (reply_known unit known command reply its is
-    (first_none (unvalued_by unit known (acts.Reply command reply)) (unvalued unit begins before)
-    here)) [
-      | inl nothing ↦ inl nothing
-      | inr some ↦ inr (stays_known unit begins again (acts.Reply command reply ∷ before)
-          (known_after unit begins command reply before its is some))
-    ]
+  -- a command that is asked
+  asked_known : (command : Command) (before : List Act) (its : ReaderCommand)
+      → own unit command ≡ Some its → IsValued (acts.Ask command ∷ before)
+      → IsSaleKnown its before
+  asked_known command before its is none =
+      sale_known (asks_sale (Some its)) (known_config before) (amount_of before)
+      (subst (λ (o : Option ReaderCommand).
+      one_if (asks_sale o && is_unpriced (known_of begins unit before)) ≡ 0) is
+      (first_valued (acts.Ask command) before none))
 
--- and is the same in the whole recording
-acked_priced : (unit : ReaderUnit) (begins : Beginning) (command : Command) (reply : Reply)
-    (later again before : List Act) (facts : Facts) (its : ReaderCommand)
-    → later ≡ again ++ (acts.Reply command reply ∷ before)
-    → IsTrue (known_of begins unit later) facts → own unit command ≡ Some its
-    → unvalued unit begins later ≡ 0
-    → (approvals (messages_of reply) ≡ 0) ⊎ ((known_of begins unit later).config ≡ facts.config)
-acked_priced unit begins command reply later again before facts its order true_of is none =
-    elim (acked_known unit begins command reply again before its is
-    (subst (λ (l : List Act). unvalued unit begins l ≡ 0) order none)) [
-      | inl nothing ↦ inl nothing
-      | inr some ↦ inr (same_where_known (known_of begins unit later).config facts.config
-          true_of.config_is
-          (subst (λ (l : List Act). IsSome (known_of begins unit l).config) (sym order) some))
-    ]
+  -- one that is answered
+  answered_known : (command : Command) (later before : List Act) (its : ReaderCommand)
+      → later ≡ acts.Ask command ∷ before → own unit command ≡ Some its → IsValued later
+      → IsSaleKnown its later
+  answered_known command later before its order is =
+      subst (λ l. IsValued l → IsSaleKnown its l) (sym order) (asked_known command before its is)
 
--- each act has its price
-pub priced : (unit : ReaderUnit) (begins : Beginning) (later : List Act) (act : Act)
-    (facts : Facts) → IsTrue (known_of begins unit later) facts → AnswersLast act later
-    → unvalued unit begins (act ∷ later) ≡ 0
-    → IsPriced unit (otherwise facts (known_of begins unit later)) facts act
-priced unit begins later (acts.Ask c) facts true_of answers none =
-    λ its is. asked_priced unit begins c later facts its true_of is none
-priced unit begins later (acts.Ack c) facts true_of answers none =
-    λ its is. answered_priced unit begins c later answers.0 facts its answers.1 true_of is
-    (second_none (unvalued_by unit (known_of begins unit later) (acts.Ack c))
-    (unvalued unit begins later) none)
-priced unit begins later (acts.Reply c r) facts true_of answers none =
-    let by_reply = unvalued_by unit (known_of begins unit later) (acts.Reply c r) in
-    let rest = unvalued unit begins later in
-    λ its is. (
-      answered_priced unit begins c later answers.0 facts its answers.1 true_of is
-          (second_none by_reply rest none),
-      reply_priced unit (known_of begins unit later) c r facts its true_of is
-          (first_none by_reply rest none),
-    )
-priced unit begins later (acts.VmcAck c r) facts true_of answers none =
-    λ its is. acked_priced unit begins c r later answers.again answers.before facts its
-    answers.order true_of is
-    (second_none (unvalued_by unit (known_of begins unit later) (acts.VmcAck c r))
-    (unvalued unit begins later) none)
-priced unit begins later act facts true_of answers none = tt
+  -- a reply has no message 05, or a config message is known that they are valued by
+  reply_known : (command : Command) (reply : Reply) (before : List Act) (its : ReaderCommand)
+      → own unit command ≡ Some its → IsValued (acts.Reply command reply ∷ before)
+      → (approvals (messages_of reply) ≡ 0) ⊎ IsSome (config_with reply (known_config before))
+  reply_known command reply before its is none =
+      amounts_known (config_with reply (known_config before)) (approvals (messages_of reply))
+      (subst (λ (ms : List ReaderMsg).
+      amounts.unvalued_by (or_else (last_said config_in ms) (known_config before)) (approvals ms)
+      ≡ 0)
+      (said unit command reply its is) (first_valued (acts.Reply command reply) before none))
+
+  -- which is known after it
+  known_after : (command : Command) (reply : Reply) (again before : List Act)
+      (its : ReaderCommand) → own unit command ≡ Some its
+      → IsSome (config_with reply (known_config before))
+      → IsSome (known_config (again ++ (acts.Reply command reply ∷ before)))
+  known_after command reply (act ∷ again) before its is some =
+      stays (config_by unit act)
+      (last_told (config_by unit) (again ++ (acts.Reply command reply ∷ before)))
+      (known_before (λ setups. config_known setups unit) begins)
+      (known_after command reply again before its is some)
+  known_after command reply [] before its is some =
+      let last : Option ReaderConfig = last_told (config_by unit) before in
+      let elsewhere : Option ReaderConfig =
+      known_before (λ setups. config_known setups unit) begins in
+      subst (λ (ms : List ReaderMsg).
+      IsSome (or_else (or_else (last_said config_in ms) last) elsewhere))
+      (sym (said unit command reply its is))
+      (subst IsSome (first_of_three (last_said config_in (messages_of reply)) last elsewhere) some)
+
+  -- so it is where the controller acknowledges the reply
+  acked_known : (command : Command) (reply : Reply) (again before : List Act)
+      (its : ReaderCommand) → own unit command ≡ Some its
+      → IsValued (again ++ (acts.Reply command reply ∷ before))
+      → (approvals (messages_of reply) ≡ 0)
+      ⊎ IsSome (known_config (again ++ (acts.Reply command reply ∷ before)))
+  acked_known command reply again before its is none =
+      elim (reply_known command reply before its is
+      (rest_valued again (acts.Reply command reply ∷ before) none)) [
+        | inl nothing ↦ inl nothing
+        | inr some ↦ inr (known_after command reply again before its is some)
+      ]
+
+  -- ---- the same prices
+
+  abbrev pub prices_known : List Act → Prices
+  prices_known acts =
+      record { config = known_config acts; amount = unwrap_or (amount_of acts) 0 }
+
+  -- Those of the whole recording are the same, where they are known.
+  pub record Counts (later : List Act) (whole : Prices) : Type 0 where
+    pub config : (config : ReaderConfig) → known_config later ≡ Some config
+        → whole.config ≡ Some config
+    pub amount : (amount : ℕ) → amount_of later ≡ Some amount → whole.amount ≡ amount
+
+  sale_priced : (later : List Act) (whole : Prices) (its : ReaderCommand) → Counts later whole
+      → IsSaleKnown its later → IsSalePriced (prices_known later) whole its
+  sale_priced later whole its count (inl none) = inl none
+  sale_priced later whole its count (inr (config, amount)) = inr (same_prices
+      (config.1 ∙ sym (count.config config.0 config.1))
+      (ap (λ last. unwrap_or last 0) amount.1 ∙ sym (count.amount amount.0 amount.1)))
+
+  pub priced : (later : List Act) (whole : Prices) (act : Act) → Counts later whole
+      → AnswersLast act later → IsValued (act ∷ later)
+      → IsPriced unit (prices_known later) whole act
+  priced later whole (acts.Ask c) count answers none =
+      λ its is. sale_priced later whole its count (asked_known c later its is none)
+  priced later whole (acts.Ack c) count answers none =
+      λ its is. sale_priced later whole its count (answered_known c later answers.0 its answers.1 is
+      (rest_valued (acts.Ack c ∷ []) later none))
+  priced later whole (acts.Reply c r) count answers none =
+      λ its is. (
+        sale_priced later whole its count (answered_known c later answers.0 its answers.1 is
+            (rest_valued (acts.Reply c r ∷ []) later none)),
+        elim (reply_known c r later its is none) [
+          | inl nothing ↦ inl nothing
+          | inr some ↦ inr (same_after (last_said config_in (messages_of r)) (known_config later)
+              whole.config count.config some)
+        ],
+      )
+  priced later whole (acts.VmcAck c r) count answers none =
+      λ its is. elim (acked_known c r answers.again answers.before its is
+      (subst IsValued answers.order (rest_valued (acts.VmcAck c r ∷ []) later none))) [
+        | inl nothing ↦ inl nothing
+        | inr some ↦ inr (same_after None (known_config later) whole.config count.config
+            (subst (λ l. IsSome (known_config l)) (sym answers.order) some))
+      ]
+  priced later whole act count answers none = tt

@@ -1,5 +1,5 @@
 -- What the validator does, it may do in mid-session: what is so of its conduct.
-use Rattle.std.proofs.Common.{◌≡◌, ℕ, zero, suc, ◌<◌, true, false, List, [], ◌∷◌, refl, ap, sym, subst, ◌∙◌}
+use Rattle.std.proofs.Common.{◌≡◌, inl, inr, ℕ, zero, suc, ◌<◌, true, false, List, [], ◌∷◌, refl, ap, sym, subst, ◌∙◌}
 use Rattle.std.specs.List.{AllByRecursion}
 use Rattle.mdb_msgs.specs.declared.command.Device.TheVariants as devices
 use Rattle.mdb_msgs.specs.declared.setups.Setups.{Setups}
@@ -123,9 +123,15 @@ pub validator_stays : (begins : Beginning) (setups : Setups)
     → MayJoinLate begins setups devices.Bill
 validator_stays begins setups = record {
   starts = told_first tables conduct Fits steady begins;
+  starts_anew = λ so_far state told. tt;
   goes_on = told_on tables conduct Fits steady begins;
-  step = λ later front act choice before after gains names levels told step.
+  step = λ later front act choice before after gains names told step.
       let goes = step_in_end tables conduct Fits steady begins setups later front act choice before
       after gains names told step in
-      record { other = goes.other; step = goes.step; valued = goes.valued; alike = goes.alike };
+      record {
+        other = goes.other;
+        step = goes.step;
+        valued = λ are answers none. goes.same (inl (are, answers, none));
+        alike = λ power_on empty none. goes.same (inr (power_on, empty, none));
+      };
 }

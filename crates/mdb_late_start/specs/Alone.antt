@@ -3,31 +3,41 @@
 -- written newest first, lists of events oldest first.
 use Rattle.std.specs.Prelude.{◌≡◌, ◌⊎◌, ℕ, List, ◌++◌, All, Result, Ok, Err}
 use Rattle.mdb_words.specs.declared.event.Event.{Event}
-use Rattle.mdb_msgs.specs.declared.command.Device.{Device}
 use Rattle.mdb_msgs.specs.declared.setups.Setups.{Setups}
 use Rattle.mdb_bus.specs.declared.fault.Rule.TheVariants as rule
+use Rattle.mdb_bus.specs.declared.levels.Levels.{Levels}
+use Rattle.mdb_bus.specs.declared.levels.ReaderLevels.{ReaderLevels}
 use Rattle.mdb_bus.specs.declared.scope.Profile.TheVariants.{Base}
 use Rattle.mdb_bus.specs.declared.scope.Scope.{Scope}
 use Rattle.mdb_bus.specs.Acts.{IsForeignWord}
-use Rattle.mdb_bus.specs.ActLists.{HasActList, IsActList, Piece, acts_of}
-use Rattle.mdb_bus.specs.Scopes.{profile_of}
+use Rattle.mdb_bus.specs.ActLists.{HasActList, IsActList, Piece, levels_of}
+use Rattle.mdb_bus.specs.Scopes.{levels_before, profile_of}
 use Rattle.mdb_text.specs.declared.outcome.Outcome.{Outcome}
 use Rattle.mdb_text.specs.declared.outcome.Outcome.TheVariants.{Yes, No}
 use Rattle.mdb_verdict.specs.declared.fault.RunFault.{RunFault}
 use Rattle.mdb_verdict.specs.Rows.{AreRows}
 use Rattle.mdb_late_start.specs.Cuts.{BeginAnew, joined_with}
-use Rattle.mdb_late_start.specs.MidSession.{TellsLevelsAsKnown}
+use Rattle.mdb_late_start.specs.MidSession.{IsNothingOr}
 
--- Setup data tell of levels and of always idle what is known in front of an end, or nothing. What
--- stands in the end before it begins anew (`words`) belongs to what began in front.
+-- of a reader's levels is known nothing, or the same
+pub record IsLessOfReader (one other : ReaderLevels) : Type 0 where
+  pub asked : IsNothingOr one.asked other.asked
+  pub told : IsNothingOr one.told other.told
+
+pub record IsLessKnown (one other : Levels) : Type 0 where
+  pub first : IsLessOfReader one.first other.first
+  pub second : IsLessOfReader one.second other.second
+
+-- Setup data tell of levels what is known in front of an end, or nothing. What stands in the end
+-- before it begins anew (`words`) belongs to what began in front.
 abbrev pub TellsLevelsOfFront : Scope → Setups → List Event → List Event → Type 0
 TellsLevelsOfFront scope setups front end =
     (words rest : List Event) (before : List Piece) → end ≡ words ++ rest
     → All IsForeignWord words → BeginAnew rest → IsActList scope before (front ++ words)
-    → (device : Device) → TellsLevelsAsKnown setups scope.begins device (acts_of before)
+    → IsLessKnown (levels_before (joined_with setups scope))
+    (levels_of (profile_of scope.begins) (levels_before scope) before)
 
--- An end has an act list by itself, and what is told of levels and of always idle was known in
--- front of it.
+-- An end has an act list by itself, and what is told of levels was known in front of it.
 pub record IsReadAlone (scope : Scope) (setups : Setups) (front end : List Event) : Type 0 where
   pub act_list : HasActList (joined_with setups scope) end
   pub tells : TellsLevelsOfFront scope setups front end

@@ -3,7 +3,7 @@
 //!
 //! By the base profile each end may be read by itself. By the extended one feature levels tell how
 //! a reader's reply is read, and an end may not show them. There an end may be read by itself if it
-//! has an act list, told nothing of levels and always idle but what was known in front of it.
+//! has an act list, told nothing of levels but what was known in front of it.
 
 ghost use Rattle.std.specs.Prelude.{◌≡◌, ℕ, [], ◌∷◌, ◌++◌, List, Result, Ok};
 ghost use Rattle.mdb_words.specs.declared.event.Event.{Event};
@@ -42,26 +42,11 @@ ghost use Rattle.mdb_late_start.specs.Middle.{HasMiddle};
 ghost use Rattle.mdb_late_start.specs.MidSession.{MayJoinLate, TellsOnlyWhatIsSo};
 ghost use Rattle.mdb_late_start.specs.Told.{AreToldBy, WereTold, told_later};
 ghost use Rattle.mdb_late_start.specs.inner.EndLaws.{EndLaws};
-ghost use Rattle.mdb_late_start.specs.inner.Splits.{MayBeLinkedAlone, Splits};
 
 use mdb_bus::laws as links;
 use mdb_follow::laws as follow;
 use mdb_msgs::laws as messages;
 use mdb_words::laws as rows;
-
-/// How the end of a recording is split off, where the link may read it by itself.
-fn ends_are_split_off()
-    ensures { (scope : Scope) (setups : Setups) (front end : List Event) (pieces : List Piece)
-        → MayBeLinkedAlone scope setups front end → IsActList scope pieces (front ++ end)
-        → Splits scope setups front end pieces }
-{
-    messages::first_byte_tells_the_device();
-    messages::need_leaves_a_command_open();
-    messages::need_leaves_another_command_open();
-    links::transcripts_have_one_act_list();
-    links::fronts_of_act_lists_have_act_lists();
-    links::open_replies_are_read_as_at_any_levels();
-}
 
 /// The end of a recording that may be read by itself has the acts of the whole, wherever the
 /// recording is cut. Checked as a recording that begins while the machine was running, it has the
@@ -71,7 +56,12 @@ pub fn ends_of_transcripts_have_act_lists()
         → MayBeReadAlone scope setups front end → IsActList scope pieces (front ++ end)
         → SplitsAt scope setups front end pieces }
 {
-    ends_are_split_off();
+    messages::first_byte_tells_the_device();
+    messages::need_leaves_a_command_open();
+    messages::need_leaves_another_command_open();
+    links::transcripts_have_one_act_list();
+    links::fronts_of_act_lists_have_act_lists();
+    links::open_replies_are_read_as_at_any_levels();
 }
 
 /// So it has where feature levels are told that the controller had told the readers in front of the
@@ -105,7 +95,7 @@ pub fn act_lists_from_power_on_are_joined_ones()
         → IsActList (from_power_on profile without) pieces rows
         → IsActList (joined_by profile setups without) pieces rows }
 {
-    ends_are_split_off();
+    ends_of_transcripts_have_act_lists();
 }
 
 /// Every step of the changer from power-on is allowed in a recording that begins while it was
@@ -123,8 +113,7 @@ pub fn the_validator_stays_in_mid_session()
 {}
 
 /// Every step of a reader from power-on is allowed in a recording that begins while it was running,
-/// by any profile, if nothing else is told of its levels and always idle than what was known in
-/// front of it. By the base profile nothing of these counts.
+/// by any profile, whatever is told of its levels.
 pub fn a_reader_stays_in_mid_session()
     ensures { (begins : Beginning) (setups : Setups) (unit : ReaderUnit)
         → MayJoinLate begins setups (devices.Reader unit) }
@@ -134,7 +123,7 @@ pub fn a_reader_stays_in_mid_session()
 fn end_laws()
     ensures { EndLaws }
 {
-    ends_are_split_off();
+    ends_of_transcripts_have_act_lists();
     ends_have_act_lists_with_the_levels_told_in_front();
     the_changer_stays_in_mid_session();
     the_validator_stays_in_mid_session();

@@ -6,7 +6,7 @@ use Rattle.mdb_msgs.specs.declared.reply.Reply.{Reply}
 use Rattle.mdb_bus.specs.declared.act.Act.{Act}
 use Rattle.mdb_bus.specs.declared.act.Act.TheVariants as acts
 use Rattle.mdb_machine.specs.declared.choice.Choice.{Choice}
-use Rattle.mdb_machine.specs.declared.choice.Choice.TheVariants.{Plain, Lost, Restart}
+use Rattle.mdb_machine.specs.declared.choice.Choice.TheVariants.{Plain, Lost, Restart, Again}
 use Rattle.mdb_machine.specs.declared.gains.Gains.{Gains}
 use Rattle.mdb_machine.specs.declared.kept.Part.{Part}
 use Rattle.mdb_machine.specs.Choices.{CanStand}
@@ -222,6 +222,8 @@ plain_alone conduct facts poll parts command reply before after gains never Lost
     absurd stands
 plain_alone conduct facts poll parts command reply before after gains never Restart stands step =
     absurd (never step.has_news.read)
+plain_alone conduct facts poll parts command reply before after gains never Again stands step =
+    absurd step.has_news.read
 
 pub unread : {T Own Setup Asked M State : Type 0} (tables : Tables Own Setup Asked M)
     (conduct : Conduct Own Setup Asked M State) (part_of : T → Part M) (messages : List T)

@@ -85,6 +85,5 @@ free_acked choice kept free = ap (holds_acked choice kept) free ∙ never choice
   where
     never : {M : Type 0} (choice : Choice) (kept : List M) → holds_acked choice kept false ≡ false
     never choice [] = refl
-    never Plain (message ∷ kept) = refl
     never Lost (message ∷ kept) = refl
-    never Restart (message ∷ kept) = refl
+    never choice (message ∷ kept) = refl

@@ -1,14 +1,14 @@
 -- The steps that an act may be, by the choices that can stand on it.
-use Rattle.std.proofs.Common.{ap, not, ◌≡◌, ◌≢◌, ◌↔◌, ◌⊎◌, inl, inr, ℕ, Bool, true, false, IsTrue, List, Option, Some, IfSome, refl, sym, subst, ◌∙◌}
+use Rattle.std.proofs.Common.{ap, not, ◌≡◌, ◌≢◌, ◌↔◌, ◌⊎◌, inl, inr, ℕ, Bool, true, false, IsTrue, List, Option, Some, None, IfSome, refl, sym, subst, ◌∙◌}
 use Rattle.std.specs.Bool.{OnFalse}
-use Rattle.std.proofs.lemmas.Option.{same_Some}
+use Rattle.std.proofs.lemmas.Option.{none-some, same_Some}
 use Rattle.std.specs.List.{Contains}
 use Rattle.mdb_msgs.specs.declared.command.Device.{Device}
 use Rattle.mdb_bus.specs.declared.act.Act.{Act}
 use Rattle.mdb_bus.specs.declared.act.Act.TheVariants as acts
 use Rattle.mdb_bus.specs.declared.scope.Beginning.{Beginning}
 use Rattle.mdb_machine.specs.declared.choice.Choice.{Choice}
-use Rattle.mdb_machine.specs.declared.choice.Choice.TheVariants.{Plain, Lost, Restart}
+use Rattle.mdb_machine.specs.declared.choice.Choice.TheVariants.{Plain, Lost, Restart, Again}
 use Rattle.mdb_machine.specs.declared.gains.Gains.{Gains}
 use Rattle.mdb_machine.specs.Choices.{CanStand}
 use Rattle.mdb_machine.specs.Machine.{Machine}
@@ -20,6 +20,7 @@ pub plain_or_not : (choice : Choice) → (choice ≡ Plain) ⊎ (choice ≢ Plai
 plain_or_not Plain = inl refl
 plain_or_not Lost = inr (λ same. absurd cc)
 plain_or_not Restart = inr (λ same. absurd cc)
+plain_or_not Again = inr (λ same. absurd cc)
 
 -- an act of another device isn't the device's own
 pub not_its_own : (device : Device) (act : Act) → IsOfAnother device act → IsActOf device act → ⊥
@@ -40,26 +41,71 @@ still_elsewhere device its machine act false is same own =
     (λ of. let never : false ≡ true = own.1 (subst (λ d. IsActOf d act) (sym same) of) in
     absurd cc)
 
+-- The step by any choice but the plain one is one by the other choice that is found: a reply that
+-- approves a sale leads nowhere else as one that tells of a restart.
+pub by_second : {State : Type 0} {device : Device} (machine : Machine State)
+    → IsMachineOf device machine → (so_far : List Act) (act : Act) (found : Option Choice)
+    (second : Choice) → found ≡ Some second
+    → ((any : Choice) → found ≡ Some any → CanStand act any × (any ≢ Plain))
+    → ((any : Choice) → CanStand act any → any ≢ Plain
+    → (found ≡ Some any) ⊎ ((any ≡ Restart) × (found ≡ Some Again)))
+    → (any : Choice) → CanStand act any → any ≢ Plain → (before after : State) (gains : Gains)
+    → machine.Step so_far act any before after gains
+    → machine.Step so_far act second before after gains
+by_second machine is so_far act found second same stands only any can other before after gains step
+    =
+    elim (only any can other) [
+      | inl one ↦ subst (λ c. machine.Step so_far act c before after gains)
+          (same_Some any second (sym one ∙ same)) step
+      | inr restart ↦
+          let again : Again ≡ second = same_Some Again second (sym restart.1 ∙ same) in
+          subst (λ c. machine.Step so_far act c before after gains) again
+          (is.restarts so_far act before after gains (stands Again restart.1).0
+          (subst (λ c. machine.Step so_far act c before after gains) restart.0 step))
+    ]
+
+-- where no other choice is found, the plain one can stand alone
+pub plain_only : (act : Act) (found : Option Choice) → found ≡ None
+    → ((any : Choice) → CanStand act any → any ≢ Plain
+    → (found ≡ Some any) ⊎ ((any ≡ Restart) × (found ≡ Some Again)))
+    → (choice : Choice) → CanStand act choice → choice ≡ Plain
+plain_only act found none only choice can =
+    elim (plain_or_not choice) [
+      | inl same ↦ same
+      | inr not ↦ absurd (elim (only choice can not) [
+        | inl is ↦ none-some choice (sym none ∙ is)
+        | inr restart ↦ none-some Again (sym none ∙ restart.1)
+      ])
+    ]
+
+-- a step between codes is another, where each step is
+pub step_as : {State : Type 0} {code_of : State → ℕ} {One Other : State → State → Gains → Type 0}
+    {code next : ℕ} {gains : Gains}
+    → ((before after : State) (gains : Gains) → One before after gains → Other before after gains)
+    → IsStep code_of One code next gains → IsStep code_of Other code next gains
+step_as {gains = gains} each is = record {
+  before = is.before;
+  after = is.after;
+  starts = is.starts;
+  ends = is.ends;
+  step = each is.before is.after gains is.step;
+}
+
 -- the steps by the one other choice that there is
 pub by_other : {State : Type 0} (device : Device) (act : Act) (code_of : State → ℕ)
-    (Step : Choice → State → State → Gains → Type 0) (code : ℕ) (found : Option Choice)
-    (choice : Choice) (step : Option (ℕ × Gains)) → found ≡ Some choice
-    → ((other : Choice) → (found ≡ Some other) ↔ CanStand act other × (other ≢ Plain))
+    (Step : Choice → State → State → Gains → Type 0) (code : ℕ) (choice : Choice)
+    (step : Option (ℕ × Gains)) → CanStand act choice × (choice ≢ Plain)
+    → ((any : Choice) → CanStand act any → any ≢ Plain → (before after : State) (gains : Gains)
+    → Step any before after gains → Step choice before after gains)
     → ((next : ℕ) (gains : Gains) → (step ≡ Some (next, gains))
     ↔ IsChosenStep device act code_of Step choice code next gains)
     → (next : ℕ) (gains : Gains) → (step ≡ Some (next, gains))
     ↔ IsOtherMove act code_of Step code next gains
-by_other device act code_of Step code found choice step is only steps next gains =
-    let stands = (only choice).0 is in (
-      λ made. (choice, stands.0, stands.1, ((steps next gains).0 made).1),
-      λ move.
-          let same : choice ≡ move.0 =
-          same_Some choice move.0 (sym is ∙ (only move.0).1 (move.1, move.2)) in
-          (steps next gains).1 (
-            inl stands.0,
-            subst (λ c. IsStep code_of (Step c) code next gains) (sym same) move.3,
-          ),
-    )
+by_other device act code_of Step code choice step stands leads steps next gains = (
+  λ made. (choice, stands.0, stands.1, ((steps next gains).0 made).1),
+  λ move.
+      (steps next gains).1 (inl stands.0, step_as (leads move.0 move.1 move.2) move.3),
+)
 
 -- the plain step and the one by the other choice are the moves
 pub both_moves : {State : Type 0} (device : Device) (act : Act) (code_of : State → ℕ)

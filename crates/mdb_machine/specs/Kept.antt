@@ -6,7 +6,7 @@ use Rattle.std.specs.List.{filter_map, list_any}
 use Rattle.mdb_machine.specs.declared.kept.Part.{Part}
 use Rattle.mdb_machine.specs.declared.kept.Part.TheVariants as part
 use Rattle.mdb_machine.specs.declared.choice.Choice.{Choice}
-use Rattle.mdb_machine.specs.declared.choice.Choice.TheVariants.{Lost, Restart}
+use Rattle.mdb_machine.specs.declared.choice.Choice.TheVariants.{Lost, Restart, Again}
 
 -- what a message says that is kept
 abbrev pub kept_by : {M : Type 0} → Part M → Option M
@@ -42,9 +42,11 @@ pub record IsSummary {M : Type 0} (kept : List M) (reset early : Bool)
   pub early_is : early ≡ keeps_early parts
 
 -- A reply can be read as telling of a restart where there is a reset message, and no kept message
--- in front of the first one. As plain, each can be read.
+-- in front of the first one. As plain, each can be read. What a device tells again, it holds: that
+-- is never chosen.
 abbrev pub CanBeRead : Choice → Bool → Bool → Type 0
 CanBeRead Restart reset early = (reset ≡ true) × (early ≡ false)
+CanBeRead Again reset early = ⊥
 CanBeRead choice reset early = Unit {0}
 
 abbrev pub MayBeRead : {M : Type 0} → Choice → List (Part M) → Type 0

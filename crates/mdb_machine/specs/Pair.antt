@@ -1,14 +1,14 @@
 -- A device and the controller, as states with codes and as steps. This serves the trait `Pair`.
-use Rattle.std.specs.Prelude.{◌≡◌, ◌≢◌, ◌⊎◌, ◌↔◌, ℕ, List, Option, Some, None}
+use Rattle.std.specs.Prelude.{◌≡◌, ◌≢◌, ◌⊎◌, ◌↔◌, ℕ, true, List, Option, Some, None}
 use Rattle.mdb_msgs.specs.declared.command.Device.{Device}
 use Rattle.mdb_bus.specs.declared.act.Act.{Act}
 use Rattle.mdb_bus.specs.declared.act.Act.TheVariants as acts
 use Rattle.mdb_bus.specs.declared.act.Act.TheVariants.{Break}
 use Rattle.mdb_bus.specs.LeavingOut.{acts_with, device_in}
 use Rattle.mdb_machine.specs.declared.choice.Choice.{Choice}
-use Rattle.mdb_machine.specs.declared.choice.Choice.TheVariants.{Plain}
+use Rattle.mdb_machine.specs.declared.choice.Choice.TheVariants.{Plain, Restart, Again}
 use Rattle.mdb_machine.specs.declared.gains.Gains.{Gains}
-use Rattle.mdb_machine.specs.Choices.{CanStand}
+use Rattle.mdb_machine.specs.Choices.{CanStand, approves}
 use Rattle.mdb_machine.specs.Machine.{Machine}
 use Rattle.mdb_machine.specs.Gains.{Stays, no_gains}
 
@@ -83,7 +83,8 @@ IsOtherMove act code_of Step code next gains =
 -- machine does after acts depends on the device's own acts among them alone, and not on what the
 -- controller and other devices said to each other; by a break there is always a step, whatever the
 -- choice; a break leads to no other state than one in which the machine may start, and adds
--- nothing; and a choice that can't stand on an act leads nowhere else than the plain one.
+-- nothing; a choice that can't stand on an act leads nowhere else than the plain one; and a reply
+-- that approves a sale leads nowhere else as one that tells of a restart than as one told again.
 pub record IsMachineOf {State : Type 0} (device : Device) (machine : Machine State) : Type 0 where
   pub elsewhere : (acts : List Act) (act : Act) (choice : Choice) (before after : State)
       (gains : Gains) → (IsActOf device act → ⊥)
@@ -102,3 +103,6 @@ pub record IsMachineOf {State : Type 0} (device : Device) (machine : Machine Sta
       (gains : Gains) → (CanStand act choice → ⊥)
       → machine.Step acts act choice before after gains
       → machine.Step acts act Plain before after gains
+  pub restarts : (acts : List Act) (act : Act) (before after : State) (gains : Gains)
+      → approves act ≡ true → machine.Step acts act Restart before after gains
+      → machine.Step acts act Again before after gains

@@ -104,6 +104,7 @@ impl<M: KeptMessage + Drop, const CAP: usize> Summary<M, CAP> {
         match choice {
             Choice::Plain | Choice::Lost => true,
             Choice::Restart => self.reset && !self.early,
+            Choice::Again => false,
         }
     }
 
@@ -180,7 +181,7 @@ pub fn holds_read(choice: Choice, holds: bool) -> bool
     ensures { result ≡ spec.holds_read choice holds }
 {
     match choice {
-        Choice::Plain | Choice::Lost => holds,
+        Choice::Plain | Choice::Lost | Choice::Again => holds,
         Choice::Restart => false,
     }
 }
@@ -205,7 +206,7 @@ pub fn holds_acked<M>(choice: Choice, kept: &[M], holds: bool) -> bool
 {
     match choice {
         Choice::Lost => holds,
-        Choice::Plain | Choice::Restart => holds && kept.is_empty(),
+        Choice::Plain | Choice::Restart | Choice::Again => holds && kept.is_empty(),
     }
 }
 

@@ -16,6 +16,6 @@ pub mod laws;
 mod pair;
 pub mod past;
 
-pub use choice::{Choice, other_choice};
+pub use choice::{Choice, approves, other_choice};
 pub use gains::{Gains, SLOTS, amount_at};
 pub use pair::{HasCode, Pair, can_stand_for, coded};

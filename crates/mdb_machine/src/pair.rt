@@ -18,7 +18,7 @@ ghost use Rattle.mdb_machine.specs.Pair.{CanStandFor, IsActOf, IsChosenStep, IsM
 use super::choice::{Choice, other_choice};
 use super::gains::Gains;
 use arrayvec::ArrayVec;
-use mdb_bus::{Act, Beginning};
+use mdb_bus::{Act, Beginning, Profile};
 use mdb_msgs::Device;
 
 /// A device and the controller's dealings with it: its states as codes, its facts, and its steps.
@@ -65,6 +65,11 @@ pub trait Pair {
     /// Whether it may start in a state, where a recording begins so.
     fn may_start(begins: &Beginning, state: Self::State) -> bool
         ensures { IsTrue result ↔ (machine begins.now).Starts state };
+
+    /// The one state in which it starts at power-on, by a profile.
+    fn power_on(profile: Profile) -> Self::State
+        ensures { (state : Self.State)
+            → (machine (PowerOn profile)).Starts state ↔ (state ≡ result) };
 
     /// The facts after no act, where a recording begins so.
     fn facts_start(begins: &Beginning) -> Self::Facts

@@ -144,10 +144,6 @@ is_enable_options _ = false
 abbrev pub AskForOtherMoney : List ℕ → Type 0
 AskForOtherMoney options = IsBitSet (slice_index options 3) 1 ⊎ IsBitSet (slice_index options 3) 2
 
--- whether options ask for always idle, by Y5: bit 5
-abbrev pub ask_for_always_idle : List ℕ → Bool
-ask_for_always_idle options = not (bit_and (slice_index options 3) 0x20 == 0)
-
 -- a command that asks for what this profile doesn't follow: ENABLE OPTIONS with other money
 abbrev pub EnablesMore : Command → Type 0
 EnablesMore (Reader unit (reader.EnableOptions options)) = AskForOtherMoney options

@@ -1,7 +1,7 @@
 -- What a device's answer to SETUP tells of how it is set up, and what the controller's SETUP config
 -- and ENABLE OPTIONS tell of a reader (MDB/ICP 4.3, coin changer, bill validator and cashless
 -- device; that it may be known from an earlier recording, this profile).
-use Rattle.std.specs.Prelude.{◌≡◌, ℕ, Bool, false, List, [], ◌∷◌, Option, Some, None, option_map, is_some}
+use Rattle.std.specs.Prelude.{◌≡◌, ℕ, Bool, true, false, List, [], ◌∷◌, Option, Some, None, option_map, is_some}
 use Rattle.std.specs.Option.{option_or}
 use Rattle.mdb_blocks.specs.Block.{IsBlock}
 use Rattle.mdb_msgs.specs.declared.command.BillCommand.TheVariants as bill
@@ -21,7 +21,7 @@ use Rattle.mdb_msgs.specs.declared.setups.ReaderConfig.{ReaderConfig}
 use Rattle.mdb_msgs.specs.declared.setups.ReaderSetup.{ReaderSetup}
 use Rattle.mdb_msgs.specs.declared.setups.Setups.{Setups}
 use Rattle.mdb_msgs.specs.declared.reading.Reading.TheVariants.{Base}
-use Rattle.mdb_msgs.specs.Commands.{EnablesMore, Spells, ask_for_always_idle, device_of}
+use Rattle.mdb_msgs.specs.Commands.{EnablesMore, Spells, device_of}
 use Rattle.mdb_msgs.specs.Reader.{last_level}
 use Rattle.mdb_msgs.specs.Replies.{IsIn, SpellsReply}
 use Rattle.mdb_msgs.specs.Setups.{reader_known, with_reader}
@@ -88,13 +88,12 @@ pub record IsSetupOf (device : Device) (bytes : List ℕ) (before after : Setups
   pub told : option_map (leveled device answer) (known_with before device answer) ≡ Some after
 
 -- what is known with a block of the controller, if it tells anything of a reader: SETUP config its
--- feature level (Y2), ENABLE OPTIONS whether always idle is switched on (bit 5 of Y5)
+-- feature level (Y2), ENABLE OPTIONS that its options are known
 abbrev pub known_by : Setups → Command → Option Setups
 known_by known (command.Reader unit (reader.SetupConfig level columns rows display)) =
     Some (with_reader known unit (record (reader_known known unit) { asked = Some level }))
 known_by known (command.Reader unit (reader.EnableOptions options)) =
-    Some (with_reader known unit
-    (record (reader_known known unit) { always_idle = Some (ask_for_always_idle options) }))
+    Some (with_reader known unit (record (reader_known known unit) { options = true }))
 known_by known other = None
 
 -- whether that is known
@@ -102,7 +101,7 @@ abbrev pub has_ask : Setups → Command → Bool
 has_ask known (command.Reader unit (reader.SetupConfig level columns rows display)) =
     is_some (reader_known known unit).asked
 has_ask known (command.Reader unit (reader.EnableOptions options)) =
-    is_some (reader_known known unit).always_idle
+    (reader_known known unit).options
 has_ask known other = false
 
 -- These bytes, their sum included, are a block of the controller to a reader that tells something

@@ -1,5 +1,5 @@
 -- What is known from elsewhere of how the devices are set up (this profile).
-use Rattle.std.specs.Prelude.{ℕ, Bool, Option, Some, None, is_some}
+use Rattle.std.specs.Prelude.{ℕ, Bool, false, Option, Some, None, is_some}
 use Rattle.mdb_msgs.specs.declared.command.Device.{Device}
 use Rattle.mdb_msgs.specs.declared.command.Device.TheVariants.{Changer, Bill, Reader}
 use Rattle.mdb_msgs.specs.declared.command.ReaderUnit.{ReaderUnit}
@@ -10,7 +10,7 @@ use Rattle.mdb_msgs.specs.declared.setups.Setups.{Setups}
 
 -- nothing is known
 abbrev pub none_known : ReaderSetup
-none_known = record { config = None; asked = None; told = None; always_idle = None }
+none_known = record { config = None; asked = None; told = None; options = false }
 
 abbrev pub nothing_known : Setups
 nothing_known =

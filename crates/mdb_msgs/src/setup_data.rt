@@ -6,7 +6,6 @@ ghost use Rattle.mdb_msgs.specs.SetupData.{IsSetupOf};
 ghost use Rattle.mdb_msgs.specs.Reader.{last_level, level_in};
 ghost use Rattle.mdb_msgs.specs.SetupData as spec;
 ghost use Rattle.mdb_msgs.specs.declared.setups.Setups.{Setups};
-ghost use Rattle.mdb_msgs.specs.Commands.{ask_for_always_idle};
 ghost use Rattle.mdb_msgs.specs.inner.SetupAsked.{setup_of};
 
 use crate::command::{BillCommand, ChangerCommand, Command, Device, ReaderCommand, ReaderUnit};
@@ -78,8 +77,8 @@ impl Setups {
     }
 
     /// Learns what a command to a reader reports (MDB/ICP 4.3, cashless device): SETUP config the
-    /// controller's feature level, ENABLE OPTIONS whether always idle is switched on. Returns
-    /// whether the command is one of these. If it isn't, nothing changes.
+    /// controller's feature level, ENABLE OPTIONS that its options are known. Returns whether the
+    /// command is one of these. If it isn't, nothing changes.
     pub fn learn_ask(&mut self, command: &Command) -> bool
         ensures told { result ≡ true → spec.known_by self.old command.now ≡ Some self.new }
         ensures untold { result ≡ false → spec.known_by self.old command.now ≡ None }
@@ -91,9 +90,7 @@ impl Setups {
         let mut reader = self.reader(unit);
         match asked {
             ReaderCommand::SetupConfig { level, .. } => reader.asked = Some(level),
-            ReaderCommand::EnableOptions(options) => {
-                reader.always_idle = Some(asks_for_always_idle(&options));
-            }
+            ReaderCommand::EnableOptions(_) => reader.options = true,
             _ => return false,
         }
         self.set_reader(unit, reader);
@@ -108,19 +105,10 @@ impl Setups {
             Command::Reader(unit, ReaderCommand::SetupConfig { .. }) => {
                 self.reader(unit).asked.is_some()
             }
-            Command::Reader(unit, ReaderCommand::EnableOptions(_)) => {
-                self.reader(unit).always_idle.is_some()
-            }
+            Command::Reader(unit, ReaderCommand::EnableOptions(_)) => self.reader(unit).options,
             _ => false,
         }
     }
-}
-
-/// Whether the options of ENABLE OPTIONS ask for always idle.
-fn asks_for_always_idle(options: &[u8; 4]) -> bool
-    ensures { result ≡ ask_for_always_idle options.now }
-{
-    options[3] & 0x20 != 0
 }
 
 /// The command that asks a device how it is set up. What it reports to a reader doesn't matter.

@@ -23,12 +23,12 @@ pub struct ReaderSetup {
     /// What counts of its answer to SETUP config.
     pub config: Option<ReaderConfig>,
     /// The feature level that the controller told it last (Y2 of SETUP config). This level, the
-    /// next one and the option count by the extended profile alone.
+    /// next one and the options count by the extended profile alone.
     pub asked: Option<u8>,
     /// The feature level that it told last (Z2 of a config message).
     pub told: Option<u8>,
-    /// Whether always idle is switched on, if its options are known (bit 5 of ENABLE OPTIONS).
-    pub always_idle: Option<bool>,
+    /// Whether its options are known (ENABLE OPTIONS).
+    pub options: bool,
 }
 
 impl ReaderSetup {
@@ -37,7 +37,7 @@ impl ReaderSetup {
         config: None,
         asked: None,
         told: None,
-        always_idle: None,
+        options: false,
     };
 }
 

@@ -139,7 +139,7 @@ reader_with answer told = record {
   config = answer.config;
   asked = told.asked;
   told = option_or told.told answer.told;
-  always_idle = told.always_idle;
+  options = told.options;
 }
 
 -- what is known by answers, and by what is told of the readers

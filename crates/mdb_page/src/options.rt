@@ -191,7 +191,7 @@ fn reader_with(answer: ReaderSetup, told: ReaderSetup) -> ReaderSetup
         config: answer.config,
         asked: told.asked,
         told: told.told.or(answer.told),
-        always_idle: told.always_idle,
+        options: told.options,
     }
 }
 

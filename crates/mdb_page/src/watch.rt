@@ -8,7 +8,7 @@ ghost use Rattle.mdb_follow.specs.SilenceSteps.{AreFew};
 
 use crate::rows::Rows;
 use mdb_bus::{Act, Beginning};
-use mdb_cashless::{Reader, ReaderKnown};
+use mdb_cashless::{KnownByProfile, ReaderByProfile};
 use mdb_follow::{ROWS_MAX, Silences};
 use mdb_machine::Pair;
 use mdb_msgs::{Device, ReaderUnit};
@@ -58,8 +58,8 @@ impl Unanswered {
 /// The silences so far, and what is known of the readers.
 #[derive(Drop)]
 struct Counted {
-    first_reader: ReaderKnown,
-    second_reader: ReaderKnown,
+    first_reader: KnownByProfile,
+    second_reader: KnownByProfile,
     silences: Silences,
     /// How many acts were followed.
     acts: u64,
@@ -71,8 +71,8 @@ impl Counted {
     /// Those before the first act of a recording that begins so.
     fn start(begins: &Beginning) -> Counted {
         Counted {
-            first_reader: Reader::<0>::facts_start(begins),
-            second_reader: Reader::<1>::facts_start(begins),
+            first_reader: ReaderByProfile::<0>::facts_start(begins),
+            second_reader: ReaderByProfile::<1>::facts_start(begins),
             silences: Silences::NONE,
             acts: 0,
         }
@@ -80,8 +80,8 @@ impl Counted {
 
     /// Follows an act whose last word started at a time.
     fn follow(&mut self, act: &Act, at: Time) {
-        Reader::<0>::learn(&mut self.first_reader, act);
-        Reader::<1>::learn(&mut self.second_reader, act);
+        ReaderByProfile::<0>::learn(&mut self.first_reader, act);
+        ReaderByProfile::<1>::learn(&mut self.second_reader, act);
         // A recording has no more acts than rows.
         if self.acts < ROWS_MAX {
             self.silences

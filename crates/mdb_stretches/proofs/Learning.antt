@@ -21,6 +21,7 @@ use Rattle.mdb_bus.specs.declared.act.Act.TheVariants as acts
 use Rattle.mdb_bus.specs.declared.scope.Beginning.{Beginning}
 use Rattle.mdb_bus.specs.declared.scope.Beginning.TheVariants.{PowerOn, Joined}
 use Rattle.mdb_bus.specs.declared.scope.Profile.{Profile}
+use Rattle.mdb_bus.specs.declared.scope.Profile.TheVariants as profiles
 use Rattle.mdb_bus.specs.ActLists.{Piece, Whole, acts_of, levels_by, levels_of, levels_told}
 use Rattle.mdb_bus.specs.Scopes.{profile_of}
 use Rattle.mdb_cash.specs.BillFacts as bill
@@ -28,6 +29,8 @@ use Rattle.mdb_cash.specs.ChangerFacts as changer
 use Rattle.mdb_machine.specs.Keeper.{setup_by}
 use Rattle.mdb_machine.specs.Known.{known_before}
 use Rattle.mdb_machine.specs.Past.{last_told, or_else}
+use Rattle.mdb_cashless.specs.ByProfile.{config_of, facts_of}
+use Rattle.mdb_cashless.specs.ExtendedFacts as extended
 use Rattle.mdb_cashless.specs.ReaderFacts as reader
 use Rattle.mdb_cashless.specs.ReaderMessages.{config_in, last_said}
 use Rattle.mdb_stretches.specs.declared.told.Told.{Told}
@@ -195,18 +198,57 @@ second_step profile (acts.Reply (commands.Reader First command) reply) told = re
 second_step profile (acts.Reply (commands.Reader Second command) reply) told = refl
 second_step profile act told = refl
 
+-- the config that a reader's machine knows, by either profile
+or_else_one : {X : Type 0} (told last : Option X) (before after : Option X)
+    → or_else last before ≡ after → or_else (or_else told last) before ≡ or_else told after
+or_else_one (Some x) last before after same = refl
+or_else_one None last before after same = same
+
+config_told : (begins : Beginning) (unit : ReaderUnit) (acts : List Act)
+    → or_else (last_told (reader.config_by unit) acts)
+    (known_before (λ setups. config_known setups unit) begins)
+    ≡ (extended.facts_of begins unit acts).config
+config_told (PowerOn profile) unit [] = refl
+config_told (Joined setups profile) unit [] = refl
+config_told begins unit (act ∷ before) =
+    or_else_one (reader.config_by unit act) (last_told (reader.config_by unit) before)
+    (known_before (λ setups. config_known setups unit) begins) _ (config_told begins unit before)
+    ∙ told_by_act unit act (extended.facts_of begins unit before)
+  where
+    told_by_act : (unit : ReaderUnit) (act : Act) (facts : extended.Facts)
+        → or_else (reader.config_by unit act) facts.config
+        ≡ (extended.facts_after unit act facts).config
+    told_by_act unit (acts.Ask command) facts = refl
+    told_by_act unit (acts.Reply command reply) facts = refl
+    told_by_act unit (acts.VmcAck command reply) facts = refl
+    told_by_act unit (acts.Break length) facts = refl
+    told_by_act unit act facts = refl
+
+same_known : (begins : Beginning) (unit : ReaderUnit) (acts : List Act)
+    → or_else (last_told (reader.config_by unit) acts)
+    (known_before (λ setups. config_known setups unit) begins)
+    ≡ config_of (facts_of begins unit acts)
+same_known (PowerOn profiles.Base) unit acts = refl
+same_known (PowerOn profiles.Extended) unit acts =
+    config_told (PowerOn profiles.Extended) unit acts
+same_known (Joined setups profiles.Base) unit acts = refl
+same_known (Joined setups profiles.Extended) unit acts =
+    config_told (Joined setups profiles.Extended) unit acts
+
 config_known_of : (begins : Beginning) (told : Told) (acts : List Act) (unit : ReaderUnit)
     → told.setups ≡ setups_of begins
     → config_known (told_after begins told acts).setups unit
-    ≡ (reader.known_of begins unit acts).config
+    ≡ config_of (facts_of begins unit acts)
 config_known_of begins told acts First is =
     known_last (λ setups. config_known setups First) (reader.config_by First) begins
     (first_step (profile_of begins)) told
     (known_first (λ setups. config_known setups First) refl begins told is) acts
+    ∙ same_known begins First acts
 config_known_of begins told acts Second is =
     known_last (λ setups. config_known setups Second) (reader.config_by Second) begins
     (second_step (profile_of begins)) told
     (known_first (λ setups. config_known setups Second) refl begins told is) acts
+    ∙ same_known begins Second acts
 
 pub setups_after : (begins : Beginning) (told : Told) (acts : List Act)
     → told.setups ≡ setups_of begins → AreKnown begins (told_after begins told acts).setups acts

@@ -1,12 +1,11 @@
 mod Asked
 mod Feeding
-mod Handed
 mod Leading
 mod Learning
 mod OneSurvey
+mod OptionsTold
 mod Parts
 mod Standing
 mod Sums
-mod Switches
 mod Unanswered
 mod Within

@@ -1,6 +1,6 @@
 -- What the rows so far tell of how the devices are set up (this profile). Lists of acts stand
 -- newest first.
-use Rattle.std.specs.Prelude.{List, [], ◌∷◌, Bool, false, Option, Some, None, ℕ, nat_lt}
+use Rattle.std.specs.Prelude.{List, [], ◌∷◌, Bool, true, false, Option, Some, None, ℕ, nat_lt, if◌then◌else◌}
 use Rattle.mdb_msgs.specs.declared.command.Device.{Device}
 use Rattle.mdb_msgs.specs.declared.command.Device.TheVariants as devices
 use Rattle.mdb_msgs.specs.declared.command.ReaderUnit.{ReaderUnit}
@@ -20,10 +20,9 @@ use Rattle.mdb_bus.specs.declared.scope.Profile.{Profile}
 use Rattle.mdb_bus.specs.declared.scope.Profile.TheVariants.{Base, Extended}
 use Rattle.mdb_bus.specs.declared.scope.Scope.{Scope}
 use Rattle.mdb_bus.specs.ActLists.{levels_after, levels_told}
-use Rattle.mdb_bus.specs.Scopes.{levels_before, profile_of}
-use Rattle.mdb_stretches.specs.declared.options.ReaderOptions.{ReaderOptions}
+use Rattle.mdb_bus.specs.Scopes.{first_levels, levels_before, profile_of}
 use Rattle.mdb_stretches.specs.declared.told.Told.{Told}
-use Rattle.mdb_stretches.specs.Options.{idle_told, options_before, options_by}
+use Rattle.mdb_stretches.specs.Options.{options_after, options_before}
 
 -- the setup data that are known before a recording that begins so
 abbrev pub setups_of : Beginning → Setups
@@ -66,10 +65,10 @@ learnt_by profile (acts.Reply command reply) told =
     (record told { levels = levels_told profile command reply told.levels })
 learnt_by profile act told = told
 
--- the same with what the act tells of the readers' options, in a recording that begins so
+-- the same with what the act tells of whose options are known, in a recording that begins so
 abbrev pub told_by : Beginning → Act → Told → Told
 told_by begins act told = record (learnt_by (profile_of begins) act told) {
-  options = options_by begins act told.levels told.options;
+  options = options_after act told.options;
 }
 
 -- what is told after an act, if there is one
@@ -82,14 +81,26 @@ abbrev pub told_after : Beginning → Told → List Act → Told
 told_after begins told [] = told
 told_after begins told (act ∷ acts) = told_by begins act (told_after begins told acts)
 
--- What a stretch is told of a reader by the extended profile: the last levels, and how always idle
--- is switched where the reader's options are told.
-abbrev pub setup_on : ReaderSetup → ReaderLevels → ReaderOptions → ReaderSetup
+-- whether a level is known, and below 2
+abbrev pub is_below_2 : Option ℕ → Bool
+is_below_2 None = false
+is_below_2 (Some level) = nat_lt level 2
+
+-- The level that the controller told a reader, as a stretch is told of it. A fault may hide a SETUP
+-- that tells a higher one: so one below 2 is told only where the reader's is below 2 too.
+abbrev pub asked_on : ReaderLevels → Option ℕ
+asked_on levels =
+    if is_below_2 levels.asked then if is_below_2 levels.told then levels.asked else None
+    else levels.asked
+
+-- What a stretch is told of a reader by the extended profile: the last levels, and whether its
+-- options are known.
+abbrev pub setup_on : ReaderSetup → ReaderLevels → Bool → ReaderSetup
 setup_on known levels options = record {
   config = known.config;
-  asked = levels.asked;
+  asked = asked_on levels;
   told = levels.told;
-  always_idle = idle_told levels options;
+  options = options;
 }
 
 -- the setup data that a stretch is told
@@ -100,10 +111,14 @@ setups_on Extended told = record told.setups {
   second_reader = setup_on told.setups.second_reader told.levels.second told.options.second;
 }
 
--- what is told as a stretch begins so: of setup data and options what it is told
+-- what is told as a stretch begins so: of setup data and options what it is told, and by the
+-- extended profile of levels too
 abbrev pub told_on : Beginning → Told → Told
-told_on begins told =
-    record told { setups = setups_of begins; options = options_before begins }
+told_on begins told = record told {
+  setups = setups_of begins;
+  levels = first_levels begins told.levels;
+  options = options_before begins;
+}
 
 -- the levels that a stretch is told beside its setup data: by the base profile those of the
 -- controller that no config message has answered; by the extended one the setup data have them, and
@@ -124,5 +139,4 @@ level_of Second levels = levels.second.asked
 
 -- whether the last one is below 2
 abbrev pub is_told_below_2 : Told → ReaderUnit → Bool
-is_told_below_2 told unit =
-    elim (level_of unit told.levels) [ Some level ↦ nat_lt level 2 | None ↦ false ]
+is_told_below_2 told unit = is_below_2 (level_of unit told.levels)

@@ -19,7 +19,6 @@ mod told;
 mod totals;
 
 pub use counts::FaultCounts;
-pub use options::{Options, ReaderOptions};
 pub use stretch::{Ended, Stretch};
 pub use summary::Summary;
 pub use surveyor::Surveyor;

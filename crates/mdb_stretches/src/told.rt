@@ -6,10 +6,10 @@ ghost use Rattle.mdb_bus.specs.declared.act.Act.TheVariants.{Ask};
 ghost use Rattle.mdb_bus.specs.Bus.{ended_act};
 ghost use Rattle.mdb_msgs.specs.SetupData.{known_with};
 ghost use Rattle.mdb_bus.specs.declared.scope.Profile.{Profile};
-ghost use Rattle.mdb_stretches.specs.Told.{answered, is_told_below_2, learnt_by, levels_on, setup_on, setups_of, setups_on, told_before, told_by, told_if, told_on, with_answer};
+ghost use Rattle.mdb_stretches.specs.Told.{answered, asked_on, is_below_2, is_told_below_2, learnt_by, levels_on, setup_on, setups_of, setups_on, told_before, told_by, told_if, told_on, with_answer};
 
-use crate::options::{Options, ReaderOptions};
-use mdb_bus::{Act, Beginning, Levels, Profile, ReaderLevels, Scope};
+use crate::options::{after, before};
+use mdb_bus::{Act, Beginning, KnownOptions, Levels, Profile, ReaderLevels, Scope};
 use mdb_msgs::{Command, Device, ReaderCommand, ReaderSetup, ReaderUnit, Reply, Setups};
 
 /// What the rows so far tell of how the devices are set up, for the next stretch (this profile).
@@ -24,9 +24,10 @@ pub struct Told {
     /// The level of the last whole SETUP config ask, where no config message of that reader came
     /// after it.
     pub unanswered: Levels,
-    /// The options of each reader by the stretch that runs. They count by the extended profile
+    /// Whose options are known: ENABLE OPTIONS was accepted, or was known before the stretch that
+    /// runs, and since then came no break and no accepted RESET. They count by the extended profile
     /// alone.
-    pub options: Options,
+    pub options: KnownOptions,
 }
 
 impl Told {
@@ -38,7 +39,7 @@ impl Told {
             setups: setups_of(&scope.begins),
             levels: scope.levels_before(),
             unanswered: scope.levels,
-            options: Options::before(&scope.begins),
+            options: before(&scope.begins),
         }
     }
 
@@ -57,7 +58,7 @@ impl Told {
     pub fn learn(&mut self, begins: &Beginning, act: &Act)
         ensures { self.new ≡ told_by begins.now act.now self.old }
     {
-        self.options.note(begins, self.levels, act);
+        self.options = after(self.options, act);
         self.learn_setups(begins.profile(), act);
     }
 
@@ -127,12 +128,16 @@ impl Told {
         setups
     }
 
-    /// Begins a stretch, which is told of setup data and options what its beginning has.
+    /// Begins a stretch, which is told of setup data and options what its beginning has, and by the
+    /// extended profile of levels too.
     pub(crate) fn begin(&mut self, begins: &Beginning)
         ensures { self.new ≡ told_on begins.now self.old }
     {
         self.setups = setups_of(begins);
-        self.options = Options::before(begins);
+        self.options = before(begins);
+        if let Beginning::Joined(setups, Profile::Extended) = begins {
+            self.levels = Levels::known(setups);
+        }
     }
 
     /// Whether the controller has told a reader a feature level below 2, and no other since.
@@ -143,10 +148,25 @@ impl Told {
             ReaderUnit::First => self.levels.first.asked,
             ReaderUnit::Second => self.levels.second.asked,
         };
-        match level {
-            Some(level) => level < 2,
-            None => false,
-        }
+        is_below_2(level)
+    }
+}
+
+/// Whether a level is known, and below 2.
+fn is_below_2(level: Option<u8>) -> bool
+    ensures { result ≡ is_below_2 level }
+{
+    level.is_some_and(|level| level < 2)
+}
+
+/// The level that the controller told a reader, as a stretch is told of it.
+fn asked_on(levels: ReaderLevels) -> Option<u8>
+    ensures { result ≡ asked_on levels }
+{
+    if is_below_2(levels.asked) && !is_below_2(levels.told) {
+        None
+    } else {
+        levels.asked
     }
 }
 
@@ -161,14 +181,14 @@ pub fn setups_of(begins: &Beginning) -> Setups
 }
 
 /// What a stretch is told of a reader by the extended profile, of which this is known.
-fn setup_on(known: ReaderSetup, levels: ReaderLevels, options: ReaderOptions) -> ReaderSetup
+fn setup_on(known: ReaderSetup, levels: ReaderLevels, options: bool) -> ReaderSetup
     ensures { result ≡ setup_on known levels options }
 {
     ReaderSetup {
         config: known.config,
-        asked: levels.asked,
+        asked: asked_on(levels),
         told: levels.told,
-        always_idle: options.idle_told(levels),
+        options,
     }
 }
 

@@ -166,7 +166,7 @@ const READER: ReaderSetup = ReaderSetup {
     }),
     asked: None,
     told: None,
-    always_idle: None,
+    options: false,
 };
 
 /// So do those of a recording that begins in mid-session, and the words of devices after them.

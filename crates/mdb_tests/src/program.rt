@@ -80,7 +80,7 @@ const REPLAY_HELP: &[u8] =
 < EXPLANATION; all: mdbcheck manual replay\n";
 
 /// What is told of one that asks for the version.
-const VERSION: &[u8] = b"mdbcheck 0.9.0\n";
+const VERSION: &[u8] = b"mdbcheck 0.10.0\n";
 
 /// A recording whose row isn't followed, its report, and what is told of it.
 const REVALUE: &[u8] = b"1000,M,115\n";
@@ -91,7 +91,7 @@ const REVALUE_TOLD: &[u8] = b"mdbcheck: row 1: the controller sends a command th
 (leave out the device that it is sent to: --without DEVICE)\n";
 
 /// Runs of the program.
-static RUNS: [Run; 36] = [
+static RUNS: [Run; 37] = [
     // Recordings with a verdict.
     (CHECK, ROWS, (0, REPORT, b"")),
     (CHECK, WRONG_SUM, (1, WRONG_SUM_REPORT, b"")),
@@ -118,6 +118,11 @@ static RUNS: [Run; 36] = [
     (
         REPLAY,
         b"1,L,-\n1000,M,108\n",
+        (2, b"", b"mdbcheck: no such mark may stand at row 1\n"),
+    ),
+    (
+        REPLAY,
+        b"1,C,-\n1000,M,108\n",
         (2, b"", b"mdbcheck: no such mark may stand at row 1\n"),
     ),
     // Texts with a record that is no row, of which its number and each of the reasons is told.

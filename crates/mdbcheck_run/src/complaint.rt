@@ -77,11 +77,11 @@ fn form_of(fault: RunFault, wanted: Wanted, row: &Record<'_>) -> &'static str {
             ..
         }
     );
-    let is_for_mark = row.len() == 3 && matches!(row.get(1), Some([b'L' | b'R']));
-    if wanted == Wanted::MarkOrRow && is_for_mark && !is_misplaced {
-        "ROW,L,- or ROW,R,-"
-    } else {
-        "TIME,LINE,VALUE"
+    let may_be_mark = wanted == Wanted::MarkOrRow && row.len() == 3 && !is_misplaced;
+    match row.get(1) {
+        Some([b'L' | b'R']) if may_be_mark => "ROW,L,- or ROW,R,-",
+        Some([b'C']) if may_be_mark => "ROW,C,-",
+        _ => "TIME,LINE,VALUE",
     }
 }
 

@@ -171,6 +171,8 @@ REPLAY
     35,L,-           The acknowledgement in row 35 was lost on its way.
     41,R,-           The answer that ends in row 41 reports a restart of its
                      device.
+    89,C,-           In the answer that ends in row 89 a reader repeats its
+                     approval, and gives no new one (--extended).
 
     Rows are counted from 1, without the marks.
 
@@ -319,8 +321,8 @@ DIAGNOSTICS
                      Marks count too, with replay.
     no such mark may stand at row 36
                      The row isn't an acknowledgement, and isn't the end of an
-                     answer that can report a restart. Or the marks aren't in
-                     rising order.
+                     answer that can report a restart or, with --extended,
+                     approves a sale. Or the marks aren't in rising order.
 
 SEE ALSO
     mdbimport(1), sigrok-cli(1)

@@ -1,6 +1,6 @@
 -- That acts of other devices change nothing and tell nothing, so that facts and steps depend on its
 -- own acts alone. This proves laws of the trait `Pair` for the validator.
-use Rattle.std.specs.Prelude.{◌≡◌, ◌↔◌, true, List, [], ◌∷◌, Option, Some, None, refl, option_map}
+use Rattle.std.specs.Prelude.{◌≡◌, ◌≢◌, ◌↔◌, true, List, [], ◌∷◌, Option, Some, None, refl, option_map}
 use Rattle.std.specs.List.{All}
 use Rattle.std.specs.declared.convert.Infallible.{Infallible}
 use Rattle.std.proofs.Common.{ap, ◌∙◌, inl}
@@ -14,7 +14,7 @@ use Rattle.mdb_cash.specs.declared.bill.activity.BillActivity.{BillActivity}
 use Rattle.mdb_cash.specs.declared.bill.activity.BillActivity.TheVariants as activity
 use Rattle.mdb_cash.specs.declared.bill.activity.BillActivity.TheVariants.{Stacked}
 use Rattle.mdb_cash.specs.declared.bill.state.Escrow.{Escrow}
-use Rattle.mdb_machine.specs.declared.choice.Choice.TheVariants.{Plain}
+use Rattle.mdb_machine.specs.declared.choice.Choice.TheVariants.{Plain, Restart, Again}
 use Rattle.mdb_cash.specs.declared.bill.state.BillState.{BillState}
 use Rattle.mdb_machine.specs.declared.choice.Choice.{Choice}
 use Rattle.mdb_machine.specs.declared.gains.Gains.{Gains}
@@ -31,7 +31,7 @@ use Rattle.mdb_machine.specs.KeeperValues.{settled}
 use Rattle.mdb_machine.specs.Past.{last_list, last_told}
 use Rattle.mdb_machine.specs.Pair.{IsActOf, IsBreak, IsMachineOf, own_acts}
 use Rattle.mdb_machine.specs.shared.StepWays as step_ways
-use Rattle.mdb_machine.specs.shared.StepWays.{IsOwnOf}
+use Rattle.mdb_machine.specs.shared.StepWays.{IsOwnOf, no_approval}
 
 -- commands that aren't to it are none of its own
 is_own : IsOwnOf devices.Bill own
@@ -44,10 +44,18 @@ pub elsewhere : (facts : Facts) (act : Act) (choice : Choice) (before after : Bi
     → BillStep facts act choice before after gains ↔ Stays before after gains
 elsewhere facts = step_ways.elsewhere own _ is_own
 
+-- new messages that tell of no restart leave what is in escrow
+news_as_plain : (facts : Facts) (choice : Choice) (news : List BillActivity)
+    (before after : BillState) → choice ≢ Restart
+    → conduct.TellsNews facts choice news before after
+    → conduct.TellsNews facts Plain news before after
+news_as_plain facts Restart news before after runs step = absurd (runs refl)
+news_as_plain facts choice news before after runs step = step
+
 looks_away : LooksAway conduct
 looks_away = record {
-  acks = λ facts command before after gains step. step;
-  tells_news = λ facts news before after step. step;
+  acks = λ facts command choice before after gains heard step. step;
+  tells_news = news_as_plain;
 }
 
 -- what the validator does of its own overlooks what it isn't known that it holds
@@ -98,6 +106,11 @@ is_machine begins = record {
   as_plain = λ so_far act choice before after gains barred.
       as_choice tables conduct (known_of begins so_far) act choice Plain before after gains
       (λ facts. as_plain tables conduct looks_away facts act choice before after gains barred);
+  restarts = λ so_far act before after gains approving.
+      as_choice tables conduct (known_of begins so_far) act Restart Again before after gains
+      (λ facts step. let other = no_approval devices.Bill (λ unit same. absurd cc) act approving in
+      (elsewhere facts act Again before after gains other).1
+      ((elsewhere facts act Restart before after gains other).0 step));
 }
 
 pub some_start : (begins : Beginning) → (state : BillState) × (machine begins).Starts state

@@ -1,6 +1,6 @@
 -- That acts of other devices change nothing and tell nothing, so that facts and steps depend on its
 -- own acts alone. This proves laws of the trait `Pair` for the changer.
-use Rattle.std.specs.Prelude.{◌≡◌, ◌↔◌, ◌⊎◌, ◌&&◌, ℕ, Bool, true, false, List, [], ◌∷◌, Option, Some, None, refl, option_map, if◌then◌else◌}
+use Rattle.std.specs.Prelude.{◌≡◌, ◌≢◌, ◌↔◌, ◌⊎◌, ◌&&◌, ℕ, Bool, true, false, List, [], ◌∷◌, Option, Some, None, refl, option_map, if◌then◌else◌}
 use Rattle.std.specs.List.{All, AllByRecursion}
 use Rattle.std.proofs.Common.{ap, sym, ◌∙◌, inl, inr}
 use Rattle.std.proofs.lemmas.Bool.{eq-eqb}
@@ -16,7 +16,7 @@ use Rattle.mdb_cash.specs.declared.changer.activity.ChangerActivity.{ChangerActi
 use Rattle.mdb_cash.specs.declared.changer.activity.ChangerActivity.TheVariants.{CashBox, Dispensed, Tube}
 use Rattle.mdb_cash.specs.declared.changer.state.ChangerState.{ChangerState}
 use Rattle.mdb_machine.specs.declared.choice.Choice.{Choice}
-use Rattle.mdb_machine.specs.declared.choice.Choice.TheVariants.{Plain, Restart}
+use Rattle.mdb_machine.specs.declared.choice.Choice.TheVariants.{Plain, Lost, Restart, Again}
 use Rattle.mdb_machine.specs.declared.gains.Gains.{Gains}
 use Rattle.mdb_cash.specs.Changer.{AskStep, ChangerStep, MayBeNew, TakeStep, conduct, dispensed_value, is_last, machine, power_on, unvalued}
 use Rattle.mdb_cash.specs.ChangerFacts.{Facts, KnownFacts, asked_of, known_of, own, tables}
@@ -31,7 +31,7 @@ use Rattle.mdb_machine.specs.KeeperValues.{settled}
 use Rattle.mdb_machine.specs.Past.{last_list, last_told}
 use Rattle.mdb_machine.specs.Pair.{IsActOf, IsBreak, IsMachineOf, own_acts}
 use Rattle.mdb_machine.specs.shared.StepWays as step_ways
-use Rattle.mdb_machine.specs.shared.StepWays.{IsOwnOf}
+use Rattle.mdb_machine.specs.shared.StepWays.{IsOwnOf, no_approval}
 
 -- commands that aren't to it are none of its own
 is_own : IsOwnOf devices.Changer own
@@ -44,18 +44,18 @@ pub elsewhere : (facts : Facts) (act : Act) (choice : Choice) (before after : Ch
     → ChangerStep facts act choice before after gains ↔ Stays before after gains
 elsewhere facts = step_ways.elsewhere own _ is_own
 
--- an ACK of the changer tells of no restart
-as_ack : (facts : Facts) (command : ChangerCommand) (before after : ChangerState) (gains : Gains)
-    → TakeStep facts command Restart before after gains
+-- an ACK of the changer is heard or lost
+as_ack : (facts : Facts) (command : ChangerCommand) (choice : Choice) (before after : ChangerState)
+    (gains : Gains) → choice ≢ Lost → TakeStep facts command choice before after gains
     → TakeStep facts command Plain before after gains
-as_ack facts changer.Reset before after gains step = step
-as_ack facts (changer.Dispense coins) before after gains step = step
-as_ack facts _ before after gains step = step
+as_ack facts (changer.Dispense coins) Lost before after gains heard step = absurd (heard refl)
+as_ack facts (changer.Dispense coins) choice before after gains heard step = step
+as_ack facts command choice before after gains heard step = step
 
 looks_away : LooksAway conduct
 looks_away = record {
   acks = as_ack;
-  tells_news = λ facts news before after step. step;
+  tells_news = λ facts choice news before after runs step. step;
 }
 
 -- what the changer does of its own overlooks what it isn't known that it holds, and an ask for
@@ -149,6 +149,12 @@ is_machine begins = record {
   as_plain = λ so_far act choice before after gains barred.
       as_choice tables conduct (known_of begins so_far) act choice Plain before after gains
       (λ facts. as_plain tables conduct looks_away facts act choice before after gains barred);
+  restarts = λ so_far act before after gains approving.
+      as_choice tables conduct (known_of begins so_far) act Restart Again before after gains
+      (λ facts step. let other = no_approval devices.Changer (λ unit same. absurd cc) act approving
+      in
+      (elsewhere facts act Again before after gains other).1
+      ((elsewhere facts act Restart before after gains other).0 step));
 }
 
 pub some_start : (begins : Beginning) → (state : ChangerState) × (machine begins).Starts state

@@ -100,7 +100,7 @@ impl Escrow {
         ensures { result ≡ spec.escrow_read choice self }
     {
         match choice {
-            Choice::Plain | Choice::Lost => self,
+            Choice::Plain | Choice::Lost | Choice::Again => self,
             Choice::Restart => Escrow::Empty,
         }
     }

@@ -156,7 +156,7 @@ fn owed_acked(choice: Choice, owed: bool) -> bool
 {
     match choice {
         Choice::Lost => owed,
-        Choice::Plain | Choice::Restart => false,
+        Choice::Plain | Choice::Restart | Choice::Again => false,
     }
 }
 

@@ -1,7 +1,7 @@
 -- Steps of a reader where not all is known, from steps after facts: there are facts that may be,
 -- and what holds of the steps after any holds of these. This proves laws of the trait `Pair`.
-use Rattle.std.specs.Prelude.{◌≡◌, ◌↔◌, ◌&&◌, Bool, true, false, List, [], ◌∷◌, Option, Some, None, refl, unwrap_or}
-use Rattle.std.proofs.Common.{ap, ◌∙◌}
+use Rattle.std.specs.Prelude.{◌≡◌, ◌↔◌, Bool, true, false, List, [], ◌∷◌, Option, Some, None, refl, unwrap_or}
+use Rattle.std.proofs.Common.{ap}
 use Rattle.mdb_bus.specs.declared.act.Act.{Act}
 use Rattle.mdb_bus.specs.declared.act.Act.TheVariants as acts
 use Rattle.mdb_bus.specs.declared.scope.Beginning.{Beginning}
@@ -19,9 +19,8 @@ use Rattle.mdb_cashless.specs.declared.reader.messages.ReaderActivity.{ReaderAct
 use Rattle.mdb_cashless.specs.declared.reader.messages.ReaderActivity.TheVariants.{VendDenied}
 use Rattle.mdb_cashless.specs.declared.reader.state.ReaderState.{ReaderState}
 use Rattle.mdb_cashless.specs.Reader.{ReaderStep, StepKnowing, power_on}
-use Rattle.mdb_cashless.specs.ReaderFacts.{AllowsFacts, Facts, KnownFacts, is_refused, known_idle, known_of, known_requested}
-use Rattle.mdb_cashless.specs.ReaderValues.{is_known, known_in, knows_idle, settled}
-use Rattle.mdb_cashless.specs.shared.PowerOnReader.{idle_known}
+use Rattle.mdb_cashless.specs.ReaderFacts.{AllowsFacts, Facts, KnownFacts, known_of}
+use Rattle.mdb_cashless.specs.ReaderValues.{known_in, settled}
 
 -- a reader may start in its power-on state, wherever a recording begins
 pub starts_in : (begins : Beginning) (state : ReaderState) → state ≡ power_on
@@ -34,10 +33,6 @@ some_of : {X : Type 0} (known : Known (Option X)) → (x : Option X) × Allows k
 some_of Unknown = (None, tt)
 some_of (Is x) = (x, refl)
 
-some_bool : (known : Known Bool) → (b : Bool) × Allows known b
-some_bool Unknown = (false, tt)
-some_bool (Is b) = (b, refl)
-
 some_kept : (known : Known (List ReaderActivity)) (holds : Bool)
     → (kept : List ReaderActivity) × AllowsKept known holds kept
 some_kept Unknown holds = (VendDenied ∷ [], λ held empty. absurd cc)
@@ -48,17 +43,12 @@ pub some_facts : (known : KnownFacts) (holds : Bool)
 some_facts known holds =
     let asked = some_of known.asked in
     let taken = some_of known.taken in
-    let idle = some_bool (known_idle known.extended) in
-    let request = some_bool (known_requested known.extended) in
     let kept = some_kept known.past.last_kept holds in (
       record {
         config = known.config;
         asked = asked.0;
         taken = taken.0;
         amount = unwrap_or known.amount 0;
-        refused = is_refused known.extended;
-        always_idle = idle.0;
-        requested = request.0 && idle.0;
         past = record { reset_owed = known.past.reset_owed; last_kept = kept.0 };
       },
       record {
@@ -66,11 +56,6 @@ some_facts known holds =
         asked = asked.1;
         taken = taken.1;
         amount = refl;
-        refused = refl;
-        always_idle = idle.1;
-        request = request.0;
-        is_request = request.1;
-        requested = refl;
         past = record { reset_owed = refl; last_kept = kept.1 };
       },
     )
@@ -99,19 +84,18 @@ as_choice unit known act choice other before after gains each step =
     record { facts = step.facts; allowed = step.allowed; step = each step.facts step.step }
 
 -- from power-on all is known
-all_known : {X : Type 0} (profile : Profile) (knows : Bool) (x none : X) (told : Option X)
+pub all_known : {X : Type 0} (profile : Profile) (knows : Bool) (x none : X) (told : Option X)
     → if_known knows x ≡ known_by (PowerOn profile) none told → knows ≡ true
 all_known profile true x none told same = refl
 all_known profile false x none (Some y) same = absurd cc
 all_known profile false x none None same = absurd cc
 
 settles : (unit : ReaderUnit) (known : ReaderKnown) (act : Act) → known.knows_asked ≡ true
-    → known.knows_taken ≡ true → known.knows_kept ≡ true → knows_idle known ≡ true
-    → settled unit known act ≡ true
-settles unit known (acts.Ask command) asked taken kept idle = rw asked refl
-settles unit known (acts.Ack command) asked taken kept idle = rw (taken, idle) refl
-settles unit known (acts.Reply command reply) asked taken kept idle = rw (taken, kept, idle) refl
-settles unit known act asked taken kept idle = refl
+    → known.knows_taken ≡ true → known.knows_kept ≡ true → settled unit known act ≡ true
+settles unit known (acts.Ask command) asked taken kept = rw asked refl
+settles unit known (acts.Ack command) asked taken kept = rw taken refl
+settles unit known (acts.Reply command reply) asked taken kept = rw (taken, kept) refl
+settles unit known act asked taken kept = refl
 
 pub settled_from_power_on : (unit : ReaderUnit) (profile : Profile) (known : ReaderKnown)
     (so_far : List Act) (act : Act) → known_in known ≡ known_of (PowerOn profile) unit so_far
@@ -120,4 +104,3 @@ settled_from_power_on unit profile known so_far act is = settles unit known act
     (all_known profile known.knows_asked _ None _ (ap (λ (k : KnownFacts). k.asked) is))
     (all_known profile known.knows_taken _ None _ (ap (λ (k : KnownFacts). k.taken) is))
     (all_known profile known.knows_kept _ [] _ (ap (λ (k : KnownFacts). k.past.last_kept) is))
-    (ap (λ (k : KnownFacts). is_known (known_idle k.extended)) is ∙ idle_known unit profile so_far)

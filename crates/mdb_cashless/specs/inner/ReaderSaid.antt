@@ -3,7 +3,6 @@ use Rattle.std.specs.Prelude.{◌≡◌, Bool, List, map}
 use Rattle.std.specs.List.{list_any}
 use Rattle.std.specs.Option.{is_some}
 use Rattle.mdb_msgs.specs.declared.reply.reader.ReaderMsg.{ReaderMsg}
-use Rattle.mdb_msgs.specs.Reader.{level_in}
 use Rattle.mdb_machine.specs.Kept.{IsSummary, kept_by}
 use Rattle.mdb_machine.specs.Past.{is_out_of_sequence}
 use Rattle.mdb_cashless.specs.declared.reader.messages.Said.{Said}
@@ -21,4 +20,3 @@ pub record IsSaid (said : Said) (messages : List ReaderMsg) : Type 0 where
   pub amount_is : said.amount ≡ last_said amount_in messages
   pub begins_is : said.begins ≡ begin_session messages
   pub refused_is : said.refused ≡ list_any is_out_of_sequence messages
-  pub level_is : said.level ≡ last_said level_in messages

@@ -1,7 +1,7 @@
 -- That acts of other devices change nothing and tell nothing, so that a reader's facts and steps
 -- depend on its own acts alone. This proves laws of the trait `Pair` for the readers.
-use Rattle.std.specs.Prelude.{◌≡◌, ◌↔◌, ℕ, ◌+◌, Bool, true, false, ◌&&◌, ◌||◌, List, [], ◌∷◌, map, sum_by, Option, Some, None, option_map, refl, if◌then◌else◌, unwrap_or}
-use Rattle.std.specs.List.{All, list_any}
+use Rattle.std.specs.Prelude.{◌≡◌, ◌↔◌, ℕ, ◌+◌, Bool, true, false, ◌&&◌, List, [], ◌∷◌, sum_by, Option, Some, None, option_map, refl, if◌then◌else◌}
+use Rattle.std.specs.List.{All}
 use Rattle.std.proofs.Common.{ap, subst, sym, ◌∙◌}
 use Rattle.std.proofs.Math.Nat.{zero-add}
 use Rattle.mdb_msgs.specs.declared.command.Command.{Command}
@@ -13,23 +13,18 @@ use Rattle.mdb_msgs.specs.declared.command.ReaderUnit.TheVariants.{First, Second
 use Rattle.mdb_msgs.specs.declared.reply.Reply.{Reply}
 use Rattle.mdb_msgs.specs.declared.reply.reader.ReaderMsg.{ReaderMsg}
 use Rattle.mdb_msgs.specs.declared.setups.ReaderConfig.{ReaderConfig}
-use Rattle.mdb_msgs.specs.declared.setups.ReaderSetup.{ReaderSetup}
-use Rattle.mdb_msgs.specs.Setups.{config_known, reader_known}
-use Rattle.mdb_msgs.specs.Reader.{level_in}
+use Rattle.mdb_msgs.specs.Setups.{config_known}
 use Rattle.mdb_bus.specs.declared.act.Act.{Act}
 use Rattle.mdb_bus.specs.declared.act.Act.TheVariants as acts
 use Rattle.mdb_bus.specs.declared.scope.Beginning.{Beginning}
-use Rattle.mdb_bus.specs.declared.scope.Beginning.TheVariants.{PowerOn, Joined}
-use Rattle.mdb_bus.specs.declared.scope.Profile.TheVariants.{Base, Extended}
 use Rattle.mdb_machine.specs.declared.choice.Choice.{Choice}
-use Rattle.mdb_machine.specs.declared.choice.Choice.TheVariants.{Plain}
+use Rattle.mdb_machine.specs.declared.choice.Choice.TheVariants.{Plain, Restart, Again}
 use Rattle.mdb_machine.specs.declared.gains.Gains.{Gains}
-use Rattle.mdb_machine.specs.declared.past.Effect.TheVariants as effects
+use Rattle.mdb_machine.specs.Choices.{is_approval}
 use Rattle.mdb_machine.specs.Gains.{no_gains}
 use Rattle.mdb_machine.specs.Known.{known_before, known_by}
 use Rattle.mdb_machine.specs.Pair.{IsActOf, IsBreak, IsMachineOf, own_acts}
 use Rattle.mdb_machine.specs.Past.{last_told, or_else, powers_on, resets, taken_by, tells_out_of_sequence}
-use Rattle.mdb_machine.specs.PastValues.{known_more, known_past_after}
 use Rattle.mdb_machine.specs.Unvalued as amounts
 use Rattle.mdb_machine.specs.Unvalued.{one_if}
 use Rattle.mdb_machine.specs.shared.OwnWays.{IsOfOwn, part_of_none, same_known}
@@ -37,19 +32,17 @@ use Rattle.mdb_machine.specs.shared.PastWays as past_ways
 use Rattle.mdb_cashless.specs.declared.reader.state.ReaderState.{ReaderState}
 use Rattle.mdb_cashless.specs.declared.reader.transaction.Transaction.{Transaction}
 use Rattle.mdb_cashless.specs.inner.KnowingReader.{as_choice, some_facts, starts_in, stays}
-use Rattle.mdb_cashless.specs.inner.PlainReader.{as_plain}
+use Rattle.mdb_cashless.specs.inner.PlainReader.{as_plain, restarts}
 use Rattle.mdb_machine.specs.shared.StepWays as step_ways
 use Rattle.mdb_machine.specs.shared.StepWays.{IsOwnOf}
-use Rattle.mdb_cashless.specs.Reader.{ReaderStep, StepKnowing, asks_sale, is_approval, is_unpriced, machine, power_on, unvalued, unvalued_by}
-use Rattle.mdb_cashless.specs.ReaderFacts.{Facts, KnownFacts, asked_by, asks_for_always_idle, config_by, effect_of, effect_of_own, extended_of, extended_since, known_of, level_asked_by, level_of, level_told_by, messages_by, own_of, own_transaction, parts_by, powered_known, refusal_by, request_told, switched, taken_told}
-use Rattle.mdb_cashless.specs.ReaderMessages.{amount_in, begin_session, config_in, last_said, messages_of, part_of, refuses}
-use Rattle.mdb_cashless.specs.ReaderValues.{extended_after, extended_taking, extended_with, known_with}
-use Rattle.mdb_cashless.specs.Transactions.{is_request}
+use Rattle.mdb_cashless.specs.Reader.{ReaderStep, StepKnowing, asks_sale, is_unpriced, machine, power_on, unvalued, unvalued_by}
+use Rattle.mdb_cashless.specs.ReaderFacts.{Facts, KnownFacts, asked_by, config_by, effect_of, effect_of_own, known_of, messages_by, own_of, own_transaction, parts_by, taken_told}
+use Rattle.mdb_cashless.specs.ReaderMessages.{config_in, last_said, messages_of}
+use Rattle.mdb_cashless.specs.ReaderValues.{known_with}
 use Rattle.mdb_cashless.specs.Units.{own}
-use Rattle.mdb_cashless.specs.declared.reader.extended.ExtendedFacts.{ExtendedFacts}
 
 -- a command to another device is none to this reader
-no_own : (unit : ReaderUnit) → IsOwnOf (devices.Reader unit) (own unit)
+pub no_own : (unit : ReaderUnit) → IsOwnOf (devices.Reader unit) (own unit)
 no_own First (commands.Changer c) other = refl
 no_own First (commands.Bill c) other = refl
 no_own First (commands.Reader First c) other = absurd (other refl)
@@ -67,38 +60,11 @@ pub elsewhere : (unit : ReaderUnit) (facts : Facts) (act : Act) (choice : Choice
     ↔ (after ≡ before) × (gains ≡ no_gains)
 elsewhere unit facts = step_ways.elsewhere (own unit) _ (no_own unit)
 
--- what is known after one act more, by what that act is to the reader
-abbrev more : KnownFacts → List ReaderMsg → Option Transaction → Option ℕ → Option Bool
-    → Option ReaderCommand → Bool → KnownFacts
-more known messages asked level refused taken powers =
-    record {
-      config = or_else (last_said config_in messages) known.config;
-      asked = known_more (option_map (λ transaction. Some transaction) asked) known.asked;
-      taken = known_more (if powers || begin_session messages then Some None
-          else option_map (λ transaction. Some transaction) (own_transaction taken)) known.taken;
-      amount = or_else (last_said amount_in messages) known.amount;
-      extended =
-          extended_after level (last_said level_in messages) refused
-          (extended_taking powers taken known.extended);
-      past = known_past_after powers (map part_of messages) known.past;
-    }
-
--- an act that is nothing to the reader leaves it
+-- an act that is nothing to the reader leaves what is known
 still_known : (unit : ReaderUnit) (act : Act) (known : KnownFacts) → messages_by unit act ≡ []
-    → asked_by unit act ≡ None → level_asked_by unit act ≡ None → refusal_by unit act ≡ None
-    → own_of unit (taken_by act) ≡ None
+    → asked_by unit act ≡ None → own_of unit (taken_by act) ≡ None
     → powers_on (effect_of unit) act ≡ false → known ≡ known_with unit act known
-still_known unit act known messages asked level refused taken powers =
-    sym (ap (λ m. more known m (asked_by unit act) (level_asked_by unit act) (refusal_by unit act)
-    (own_of unit (taken_by act)) (powers_on (effect_of unit) act)) messages
-    ∙ ap (λ a. more known [] a (level_asked_by unit act) (refusal_by unit act)
-    (own_of unit (taken_by act)) (powers_on (effect_of unit) act)) asked
-    ∙ ap (λ l. more known [] None l (refusal_by unit act) (own_of unit (taken_by act))
-    (powers_on (effect_of unit) act)) level
-    ∙ ap (λ r. more known [] None None r (own_of unit (taken_by act))
-    (powers_on (effect_of unit) act)) refused
-    ∙ ap (λ t. more known [] None None None t (powers_on (effect_of unit) act)) taken
-    ∙ ap (λ b. more known [] None None None None b) powers)
+still_known unit act known messages asked taken powers = rw (messages, asked, taken, powers) refl
 
 -- the reader takes no command to another device, whatever the answer tells
 answered_none : (unit : ReaderUnit) (command : Command) (reply : Reply) → own unit command ≡ None
@@ -112,41 +78,28 @@ answered_none unit command reply none = either (tells_out_of_sequence reply)
 known_still : (unit : ReaderUnit) (known : KnownFacts) (act : Act)
     → (IsActOf (devices.Reader unit) act → ⊥) → known ≡ known_with unit act known
 known_still unit known (acts.Ask c) other =
-    let none = no_own unit c other in
-    still_known unit (acts.Ask c) known refl (ap own_transaction none) (ap level_of none)
-    (ap (λ o. option_map (λ t. false) (own_transaction o)) none) refl refl
+    still_known unit (acts.Ask c) known refl (ap own_transaction (no_own unit c other)) refl refl
 known_still unit known (acts.Ack c) other =
     let none = no_own unit c other in
-    still_known unit (acts.Ack c) known refl refl refl refl none
-    (ap (λ o. resets (effect_of_own o)) none)
-known_still unit known (acts.Nak c) other =
-    let none = no_own unit c other in
-    still_known unit (acts.Nak c) known refl refl refl
-    (ap (λ o. option_map (λ t. true) (own_transaction o)) none) refl refl
+    still_known unit (acts.Ack c) known refl refl none (ap (λ o. resets (effect_of_own o)) none)
 known_still unit known (acts.Reply c r) other =
     let none = no_own unit c other in
     let effect = past_ways.answered_still (effect_of unit) c r (ap effect_of_own none) in
     still_known unit (acts.Reply c r) known
-    (ap (λ found. elim found [ Some c ↦ messages_of r | None ↦ [] ]) none) refl refl refl
+    (ap (λ found. elim found [ Some c ↦ messages_of r | None ↦ [] ]) none) refl
     (answered_none unit c r none) (ap resets effect)
-known_still unit known (acts.VmcAck c r) other =
-    let none = no_own unit c other in
-    still_known unit (acts.VmcAck c r) known refl refl refl
-    (ap (λ found. if list_any refuses (elim found [ Some c ↦ messages_of r | None ↦ [] ])
-    then Some true else None) none) refl refl
 known_still unit known (acts.Break n) other = absurd (other tt)
-known_still unit known act other = still_known unit act known refl refl refl refl refl refl
+known_still unit known act other = still_known unit act known refl refl refl refl
 
 -- what is known is the same where its fields are
 pub same_fields : {one other : KnownFacts} → one.config ≡ other.config → one.asked ≡ other.asked
-    → one.taken ≡ other.taken → one.amount ≡ other.amount → one.extended ≡ other.extended
-    → one.past ≡ other.past → one ≡ other
-same_fields {one} {other} config asked taken amount extended past =
+    → one.taken ≡ other.taken → one.amount ≡ other.amount → one.past ≡ other.past → one ≡ other
+same_fields {one} {other} config asked taken amount past =
     let same : record one { config = one.config } ≡ record other { config = other.config } =
-    cc (config, asked, taken, amount, extended, past) in
+    cc (config, asked, taken, amount, past) in
     same
 
-first_of_three : {X : Type 0} (first second third : Option X)
+pub first_of_three : {X : Type 0} (first second third : Option X)
     → or_else first (or_else second third) ≡ or_else (or_else first second) third
 first_of_three (Some x) second third = refl
 first_of_three None second third = refl
@@ -157,103 +110,6 @@ asked_more : (first second : Option Transaction)
     ≡ option_map (λ (t : Transaction). Some t) (or_else first second)
 asked_more (Some x) second = refl
 asked_more None second = refl
-
--- what counts by the extended profile goes on act by act
-since_more : (facts : ExtendedFacts) (refused one : Option Bool)
-    (one_asked one_told : Option ℕ)
-    → extended_after one_asked one_told one
-    (Some (record facts { refused = unwrap_or refused facts.joined }))
-    ≡ Some (record facts {
-      asked = or_else one_asked facts.asked;
-      told = or_else one_told facts.told;
-      refused = unwrap_or (or_else one refused) facts.joined;
-    })
-since_more facts refused None None None = refl
-since_more facts refused None (Some level) one_told = refl
-since_more facts refused None None (Some level) = refl
-since_more facts refused (Some one) (Some level) one_told = refl
-since_more facts refused (Some one) None (Some level) = refl
-since_more facts refused (Some one) None None = refl
-
-taking_more : (facts : ExtendedFacts) (powers : Bool) (taken : Option ReaderCommand)
-    (requested first : Option Bool)
-    → extended_taking powers taken (Some (record facts { requested = or_else requested first }))
-    ≡ Some (record facts {
-      switched_on = if powers then Some false
-          else if asks_for_always_idle taken
-          then switched facts.joined facts.asked facts.told facts.switched_on
-          else facts.switched_on;
-      requested = or_else (or_else (if powers then Some false
-          else option_map (λ transaction. is_request (Some transaction)) (own_transaction taken))
-          requested) first;
-    })
-taking_more facts true taken requested first = refl
-taking_more facts false None requested first = refl
-taking_more facts false (Some command) requested first =
-    ap (λ r. Some (record facts {
-      switched_on = if asks_for_always_idle (Some command)
-          then switched facts.joined facts.asked facts.told facts.switched_on
-          else facts.switched_on;
-      requested = r;
-    })) (first_of_three (option_map (λ transaction. is_request (Some transaction))
-    (own_transaction (Some command))) requested first)
-
-extended_more : (begins : Beginning) (unit : ReaderUnit) (act : Act) (so_far : List Act)
-    → extended_with unit act (extended_of begins unit so_far)
-    ≡ extended_of begins unit (act ∷ so_far)
-extended_more begins unit act so_far = by begins
-  where
-    taken : Option ReaderCommand
-    taken = own_of unit (taken_by act)
-
-    powers : Bool
-    powers = powers_on (effect_of unit) act
-
-    asked : Option ℕ
-    asked = level_asked_by unit act
-
-    told : Option ℕ
-    told = level_told_by unit act
-
-    since : (joined : Bool) (known : ReaderSetup)
-        → extended_with unit act (Some (extended_since joined known unit so_far))
-        ≡ Some (extended_since joined known unit (act ∷ so_far))
-    since joined known =
-        let facts = extended_since joined known unit so_far in
-        let after = extended_since joined known unit (act ∷ so_far) in
-        ap (extended_after asked told (refusal_by unit act))
-        (taking_more facts powers taken (last_told (request_told unit) so_far)
-        (if joined then None else Some false))
-        ∙ since_more (record facts {
-          switched_on = after.switched_on;
-          requested = after.requested;
-        }) (last_told (refusal_by unit) so_far) (refusal_by unit act) asked told
-        ∙ ap (λ a. Some (record after { asked = a; told = or_else told facts.told }))
-        (first_of_three asked (last_told (level_asked_by unit) so_far) known.asked)
-        ∙ ap (λ t. Some (record after { told = t }))
-        (first_of_three told (last_told (level_told_by unit) so_far) known.told)
-
-    none_taken : (powers : Bool) (taken : Option ReaderCommand)
-        → extended_taking powers taken None ≡ None
-    none_taken false None = refl
-    none_taken false (Some command) = refl
-    none_taken true taken = refl
-
-    none_after : (asked told : Option ℕ) (refused : Option Bool)
-        → extended_after asked told refused None ≡ None
-    none_after None None None = refl
-    none_after asked told refused = refl
-
-    none : extended_with unit act None ≡ None
-    none = ap (extended_after asked told (refusal_by unit act)) (none_taken powers taken)
-        ∙ none_after asked told (refusal_by unit act)
-
-    by : (begins : Beginning) → extended_with unit act (extended_of begins unit so_far)
-        ≡ extended_of begins unit (act ∷ so_far)
-    by (PowerOn Extended) = since false powered_known
-    by (Joined setups Extended) = since true (reader_known setups unit)
-    by (PowerOn Base) = none
-    by (Joined setups Base) = none
 
 -- what is known after one act more, from what was known before it
 pub goes_on : (unit : ReaderUnit) (begins : Beginning) (act : Act) (so_far : List Act)
@@ -268,7 +124,6 @@ goes_on unit begins act so_far = same_fields
     (asked_more (asked_by unit act) (last_told (asked_by unit) so_far)))
     (past_ways.known_by_more begins None (taken_told unit act) (last_told (taken_told unit) so_far))
     refl
-    (extended_more begins unit act so_far)
     (past_ways.known_past_more begins (effect_of unit) (parts_by unit) act so_far)
 
 pub unmoved : (unit : ReaderUnit) (begins : Beginning) (known : KnownFacts) (before : List Act)
@@ -294,7 +149,7 @@ pub same_facts : (begins : Beginning) (unit : ReaderUnit) (so_far other : List A
 same_facts begins unit = same_known (known_of begins unit) (of_own unit begins)
 
 -- an act of another device tells no amount
-none_unvalued : (config : Option ReaderConfig) → amounts.unvalued_by config 0 ≡ 0
+pub none_unvalued : (config : Option ReaderConfig) → amounts.unvalued_by config 0 ≡ 0
 none_unvalued None = refl
 none_unvalued (Some config) = refl
 
@@ -376,6 +231,9 @@ is_machine unit begins = record {
   as_plain = λ so_far act choice before after gains barred.
       as_choice unit (known_of begins unit so_far) act choice Plain before after gains
       (λ facts. as_plain unit facts act choice before after gains barred);
+  restarts = λ so_far act before after gains approving.
+      as_choice unit (known_of begins unit so_far) act Restart Again before after gains
+      (λ facts. restarts unit facts act before after gains approving);
 }
 
 pub some_start : (unit : ReaderUnit) (begins : Beginning)

@@ -18,12 +18,11 @@ ghost use Rattle.mdb_cashless.specs.ReaderView as reader_view;
 ghost use Rattle.mdb_cashless.specs.Transactions.{amounts};
 
 use super::device::DeviceState;
-use super::extended::{self, is_always_idle};
 use super::facts::ReaderFacts;
 use super::messages::{ReaderActivity, Said, is_kept, messages_of, tells_of_reset};
 use super::state::ReaderState;
 use super::taking::{is_poll, sold, take};
-use super::transaction::{Ended, is_request, transaction_of};
+use super::transaction::{Ended, Transaction, transaction_of};
 use super::values::{all_approved, approved_to};
 use super::view::View;
 use mdb_machine::kept::{held, holds_after};
@@ -47,7 +46,7 @@ fn read(choice: Choice, before: ReaderState) -> ReaderState
     ensures { result ≡ spec.read choice before }
 {
     match choice {
-        Choice::Plain | Choice::Lost => before,
+        Choice::Plain | Choice::Lost | Choice::Again => before,
         Choice::Restart => ReaderState {
             device: DeviceState::Inactive,
             view: before.view,
@@ -90,18 +89,14 @@ fn owes_reset(facts: &ReaderFacts, command: Option<ReaderCommand>) -> bool
     }
 }
 
-/// Whether the last transaction is a VEND REQUEST, once a command is taken, if one is.
+/// The last transaction, once a command is taken, if one is.
 #[inline(always)]
-fn is_requested(facts: &ReaderFacts, command: Option<ReaderCommand>) -> bool
-    ensures { result ≡ spec.is_requested (facts_in facts.now) command }
+fn last_transaction(facts: &ReaderFacts, command: Option<ReaderCommand>) -> Option<Transaction>
+    ensures { result ≡ spec.last_transaction (facts_in facts.now) command }
 {
-    let own = match command {
-        None => None,
-        Some(command) => transaction_of(command),
-    };
-    match own {
-        None => is_request(facts.taken) || extended::is_requested(facts.extended),
-        _ => is_request(own),
+    match command {
+        None => facts.taken,
+        Some(command) => transaction_of(command).or(facts.taken),
     }
 }
 
@@ -130,12 +125,7 @@ pub(crate) fn answer(
     let middle = take_any(facts, taken, start);
     let held = held(middle.holds, facts.past.last_kept.as_slice());
     let new = summary.news(is_poll(command), choice, owes_reset(facts, taken), held)?;
-    let device = all_told(
-        is_always_idle(facts.extended),
-        is_requested(facts, taken),
-        new,
-        middle.device,
-    )?;
+    let device = all_told(last_transaction(facts, taken), new, middle.device)?;
     let after = ReaderState {
         device,
         view: before.view,
@@ -157,21 +147,21 @@ fn may_be_read(choice: Choice, reply: &Reply) -> bool
     match choice {
         Choice::Plain | Choice::Lost => true,
         Choice::Restart => tells_of_reset(reply),
+        Choice::Again => false,
     }
 }
 
 /// What new kept messages make of the reader; `None` where they are impossible.
 fn all_told(
-    always_idle: bool,
-    requested: bool,
+    last: Option<Transaction>,
     news: &[ReaderActivity],
     before: DeviceState,
 ) -> Option<DeviceState>
-    ensures { result ≡ reader_device.all_told always_idle requested news.now before }
+    ensures { result ≡ reader_device.all_told last news.now before }
 {
     let mut device = before;
     for message in news {
-        device = device.told_by(always_idle, requested, *message)?;
+        device = device.told(last, *message)?;
     }
     Some(device)
 }
@@ -255,6 +245,6 @@ fn holds_on(choice: Choice, keeps: bool, holds: bool) -> bool
 {
     match choice {
         Choice::Lost => holds,
-        Choice::Plain | Choice::Restart => holds & !keeps,
+        Choice::Plain | Choice::Restart | Choice::Again => holds & !keeps,
     }
 }

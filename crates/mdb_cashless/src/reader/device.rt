@@ -6,6 +6,7 @@ ghost use Rattle.mdb_cashless.specs.shared.ReaderCodes as codes;
 ghost use Rattle.mdb_cashless.specs.ReaderDevice as spec;
 
 use super::messages::ReaderActivity;
+use super::transaction::{Transaction, is_request};
 use mdb_msgs::ReaderCommand;
 
 /// Where a reader returns to at the end of a session (this profile).
@@ -116,23 +117,6 @@ impl DeviceState {
         }
     }
 
-    /// The state after taking a command, with always idle or without.
-    #[inline(always)]
-    pub(crate) fn after_by(self, always_idle: bool, command: ReaderCommand) -> DeviceState
-        ensures { result ≡ spec.effect_by always_idle command self }
-    {
-        if !always_idle {
-            return self.after(command);
-        }
-        match (command, self) {
-            (ReaderCommand::VendRequest { .. }, DeviceState::Enabled) => {
-                DeviceState::Vend(Home::Enabled)
-            }
-            (ReaderCommand::VendCancel, DeviceState::Idle(_)) => self,
-            _ => self.after(command),
-        }
-    }
-
     /// The state after READER ENABLE.
     fn enabled(self) -> DeviceState
         ensures { result ≡ spec.effect reader.Enable self }
@@ -194,43 +178,21 @@ impl DeviceState {
         matches!(self, DeviceState::Approved(_))
     }
 
-    /// The state after a new kept message, with always idle or without, where the last transaction
-    /// taken is a VEND REQUEST or isn't; `None` where the message is impossible.
-    pub(crate) fn told_by(
+    /// The state after a new kept message, where this was the last transaction taken; `None` where
+    /// the message is impossible.
+    pub(crate) fn told(
         self,
-        always_idle: bool,
-        requested: bool,
+        last: Option<Transaction>,
         message: ReaderActivity,
     ) -> Option<DeviceState>
-        ensures { result ≡ spec.told_by always_idle requested message self }
-    {
-        match self.told(requested, message) {
-            None if always_idle => self.told_at_any_time(message),
-            after => after,
-        }
-    }
-
-    /// The state after a message that may come at any time with always idle, where it is impossible
-    /// without.
-    fn told_at_any_time(self, message: ReaderActivity) -> Option<DeviceState>
-        ensures { result ≡ spec.told_at_any_time message self }
-    {
-        match (message, self) {
-            (ReaderActivity::VendApproved { .. }, _) | (_, DeviceState::Inactive) => None,
-            _ => Some(self),
-        }
-    }
-
-    /// The state after a new kept message without always idle.
-    fn told(self, requested: bool, message: ReaderActivity) -> Option<DeviceState>
-        ensures { result ≡ spec.told requested message self }
+        ensures { result ≡ spec.told last message self }
     {
         match (message, self) {
             (
                 ReaderActivity::SessionBegun { .. } | ReaderActivity::SessionBegunLong { .. },
                 DeviceState::Enabled,
             ) => Some(DeviceState::Idle(Home::Enabled)),
-            (ReaderActivity::VendApproved { .. }, DeviceState::Vend(home)) if requested => {
+            (ReaderActivity::VendApproved { .. }, DeviceState::Vend(home)) if is_request(last) => {
                 Some(DeviceState::Approved(home))
             }
             (ReaderActivity::VendDenied, DeviceState::Vend(home)) => Some(DeviceState::Idle(home)),

@@ -3,10 +3,7 @@
 ghost use Rattle.std.specs.Prelude.{◌≡◌, ◌≤◌, length, List, Some};
 ghost use Rattle.mdb_cashless.specs.ReaderFacts.{effect_of_own};
 
-use super::extended::{
-    ExtendedFacts, powered_on, start, with_asked, with_refused, with_taken, with_told,
-};
-use super::messages::{ReaderActivity, Said, messages_of, refuses};
+use super::messages::{ReaderActivity, Said, messages_of};
 use super::transaction::{Transaction, transaction_of};
 use super::unit::own;
 use arrayvec::ArrayVec;
@@ -26,14 +23,12 @@ pub struct ReaderFacts {
     pub(crate) taken: Option<Transaction>,
     /// The amount of the last approval, in units of the scale factor, where there was one.
     pub(crate) amount: Option<u16>,
-    /// What counts by the extended profile alone; `None` by the base profile.
-    pub(crate) extended: Option<ExtendedFacts>,
     /// The reset message, and the last kept list.
     pub(crate) past: Past<ReaderActivity, 35>,
 }
 
 impl ReaderFacts {
-    ghost use Rattle.std.specs.Prelude.{◌≤◌, Option, [], None, Some, false, true, length, option_map};
+    ghost use Rattle.std.specs.Prelude.{◌≤◌, None, length};
     ghost use Rattle.mdb_msgs.specs.Setups.{config_known};
     ghost use Rattle.mdb_bus.specs.declared.act.Act.TheVariants as acts;
     ghost use Rattle.mdb_machine.specs.Known.{known_before};
@@ -43,8 +38,7 @@ impl ReaderFacts {
     ghost use Rattle.mdb_machine.specs.Past.{or_else};
     ghost use Rattle.mdb_msgs.specs.declared.reply.reader.ReaderMsg.{ReaderMsg};
     ghost use Rattle.mdb_cashless.specs.inner.ReaderSaid.{IsSaid};
-    ghost use Rattle.mdb_cashless.specs.ReaderFacts.{extended_of};
-    ghost use Rattle.mdb_cashless.specs.ReaderValues.{asked, denied, extended_after, extended_taking, facts_in, heard, powered, taken, told, told_in, told_with};
+    ghost use Rattle.mdb_cashless.specs.ReaderValues.{facts_in, powered, taken, told, told_in, told_with};
     ghost use Rattle.mdb_cashless.specs.inner.Guesses.{keeping};
     ghost use Rattle.mdb_cashless.specs.Transactions.{transaction_of as transaction};
 
@@ -56,17 +50,14 @@ impl ReaderFacts {
         ensures asked { result.asked ≡ None }
         ensures taken { result.taken ≡ None }
         ensures amount { result.amount ≡ None }
-        ensures extended { result.extended ≡ extended_of begins.now unit [] }
         ensures past { past_in result.past ≡ first_past begins.now }
     {
-        let extended = start(begins, unit);
         match begins {
             Beginning::PowerOn(_) => ReaderFacts {
                 config: None,
                 asked: None,
                 taken: None,
                 amount: None,
-                extended,
                 past: Past::start(),
             },
             Beginning::Joined(setups, _) => ReaderFacts {
@@ -74,7 +65,6 @@ impl ReaderFacts {
                 asked: None,
                 taken: None,
                 amount: None,
-                extended,
                 past: Past::running(),
             },
         }
@@ -89,7 +79,6 @@ impl ReaderFacts {
             asked: self.asked,
             taken: self.taken,
             amount: self.amount,
-            extended: self.extended,
             past: self.past.copy(),
         }
     }
@@ -131,9 +120,7 @@ impl ReaderFacts {
         match act {
             Act::Ask(command) => self.ask(unit, command),
             Act::Ack(command) => self.acknowledge(unit, command),
-            Act::Nak(command) => self.deny(unit, command),
             Act::Reply(command, reply) => self.reply(unit, command, reply),
-            Act::VmcAck(command, reply) => self.hear(unit, command, reply),
             Act::Break(_) => self.power_on(),
             _ => {}
         }
@@ -146,97 +133,9 @@ impl ReaderFacts {
             ≡ told_with unit (acts.Ask command.now) (told_in self.old) }
     {
         if let Some(command) = own(unit, command) {
-            self.note_asked(command);
-        }
-    }
-
-    /// The controller sends the reader a command.
-    #[inline(always)]
-    fn note_asked(&mut self, command: ReaderCommand)
-        ensures { told_in self.new ≡ asked command (told_in self.old) }
-    {
-        match command {
-            // What most asks are tells nothing.
-            ReaderCommand::Poll => {}
-            ReaderCommand::SetupConfig { level, .. } => self.note_level(level),
-            _ => self.note_sent(command),
-        }
-    }
-
-    /// The controller tells the reader its level.
-    // Not inlined, like its siblings below that few acts need.
-    #[inline(never)]
-    fn note_level(&mut self, level: u8)
-        ensures { self.new ≡ record self.old {
-          extended = extended_after (Some level) None None self.old.extended;
-        } }
-    {
-        self.extended = with_asked(self.extended, level);
-    }
-
-    /// The controller sends the reader a command that tells no level.
-    #[inline(never)]
-    fn note_sent(&mut self, command: ReaderCommand)
-        ensures { told_in self.new ≡ record (told_in self.old) {
-          asked = or_else (transaction command) self.old.asked;
-          extended = extended_after None None
-              (option_map (λ transaction. false) (transaction command)) self.old.extended;
-        } }
-    {
-        if let Some(transaction) = transaction_of(command) {
-            self.asked = Some(transaction);
-            self.note_refused(false);
-        }
-    }
-
-    /// Whether the reader has refused the last transaction command is now this.
-    #[inline(never)]
-    fn note_refused(&mut self, refused: bool)
-        ensures { self.new ≡ record self.old {
-          extended = extended_after None None (Some refused) self.old.extended;
-        } }
-    {
-        self.extended = with_refused(self.extended, refused);
-    }
-
-    /// A device refuses a command by NAK.
-    #[inline(never)]
-    fn deny(&mut self, unit: ReaderUnit, command: &Command)
-        ensures { told_in self.new
-            ≡ told_with unit (acts.Nak command.now) (told_in self.old) }
-    {
-        if let Some(command) = own(unit, command) {
-            self.note_denied(command);
-        }
-    }
-
-    /// The reader refuses a command by NAK.
-    fn note_denied(&mut self, command: ReaderCommand)
-        ensures { told_in self.new ≡ denied command (told_in self.old) }
-    {
-        if transaction_of(command).is_some() {
-            self.note_refused(true);
-        }
-    }
-
-    /// The controller acknowledges a reply of a device.
-    #[inline(never)]
-    fn hear(&mut self, unit: ReaderUnit, command: &Command, reply: &Reply)
-        ensures { told_in self.new
-            ≡ told_with unit (acts.VmcAck command.now reply.now) (told_in self.old) }
-    {
-        if own(unit, command).is_some() {
-            self.note_heard(reply);
-        }
-    }
-
-    /// The controller acknowledges a reply of the reader.
-    #[inline(always)]
-    fn note_heard(&mut self, reply: &Reply)
-        ensures { told_in self.new ≡ heard (messages_of reply.now) (told_in self.old) }
-    {
-        if self.extended.is_some() && refuses(messages_of(reply)) {
-            self.note_refused(true);
+            if let Some(transaction) = transaction_of(command) {
+                self.asked = Some(transaction);
+            }
         }
     }
 
@@ -258,48 +157,20 @@ impl ReaderFacts {
     {
         self.past.take(effect_of(command));
         match command {
-            ReaderCommand::Poll => {}
-            ReaderCommand::Reset => self.forget_taken(),
+            ReaderCommand::Reset => self.taken = None,
             _ => self.note_taken(command),
         }
     }
 
-    /// The reader has taken RESET, or a break came: what it took before counts no more.
-    #[inline(never)]
-    fn forget_taken(&mut self)
-        ensures { (command : Option ReaderCommand) → self.new ≡ record self.old {
-          taken = None;
-          extended = extended_taking true command self.old.extended;
-        } }
-    {
-        self.taken = None;
-        self.extended = powered_on(self.extended);
-    }
-
     /// The reader takes a command that isn't RESET.
-    #[inline(never)]
+    #[inline(always)]
     fn note_taken(&mut self, command: ReaderCommand)
-        ensures { self.new ≡ record self.old {
-          taken = or_else (transaction command) self.old.taken;
-          extended = extended_taking false (Some command) self.old.extended;
-        } }
+        ensures { self.new
+            ≡ record self.old { taken = or_else (transaction command) self.old.taken } }
     {
         if let Some(transaction) = transaction_of(command) {
             self.taken = Some(transaction);
         }
-        if self.extended.is_some() {
-            self.note_taken_extended(command);
-        }
-    }
-
-    /// The same of what counts by the extended profile alone.
-    #[inline(never)]
-    fn note_taken_extended(&mut self, command: ReaderCommand)
-        ensures { self.new ≡ record self.old {
-          extended = extended_taking false (Some command) self.old.extended;
-        } }
-    {
-        self.extended = with_taken(self.extended, command);
     }
 
     /// A break puts the reader into its power-on state.
@@ -307,7 +178,7 @@ impl ReaderFacts {
         ensures { told_in self.new ≡ powered (told_in self.old) }
     {
         self.past.power_on();
-        self.forget_taken();
+        self.taken = None;
     }
 
     /// A device replies.
@@ -344,7 +215,6 @@ impl ReaderFacts {
     {
         self.config = said.config.or(self.config);
         self.amount = said.amount.or(self.amount);
-        self.extended = with_told(self.extended, said.level);
         if said.begins {
             self.taken = None;
         }

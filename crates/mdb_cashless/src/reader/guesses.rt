@@ -2,7 +2,7 @@
 //!
 //! A step after facts that may be is one after a few guesses of them.
 
-ghost use Rattle.std.specs.Prelude.{◌≡◌, ◌<◌, ◌≤◌, ◌+◌, ◌++◌, ◌↔◌, ◌⊎◌, Contains, IfSome, length, Option, Some, false, true};
+ghost use Rattle.std.specs.Prelude.{◌≡◌, ◌<◌, ◌≤◌, ◌+◌, ◌↔◌, ◌⊎◌, Contains, IfSome, Option, Some, false, true};
 ghost use Rattle.arrayvec.specs.ArrayVec.{array_vec_len};
 ghost use Rattle.mdb_machine.specs.declared.gains.Gains.{Gains};
 ghost use Rattle.mdb_machine.specs.Gains.{IsSmall};
@@ -12,7 +12,7 @@ ghost use Rattle.mdb_machine.specs.PastValues.{if_known};
 ghost use Rattle.mdb_cashless.specs.declared.reader.state.ReaderState.{ReaderState};
 ghost use Rattle.mdb_cashless.specs.Reader as spec;
 ghost use Rattle.mdb_cashless.specs.ReaderFacts.{own_transaction};
-ghost use Rattle.mdb_cashless.specs.ReaderValues.{facts_in, known_in, knows_idle, settled};
+ghost use Rattle.mdb_cashless.specs.ReaderValues.{facts_in, known_in, settled};
 ghost use Rattle.mdb_cashless.specs.inner.Guesses as guesses;
 
 use super::answers::answer;
@@ -54,64 +54,7 @@ pub(crate) fn steps(
     act: &Act,
     choice: Choice,
     before: ReaderState,
-) -> ArrayVec<(ReaderState, Gains), 144>
-    ensures steps { (after : ReaderState) (gains : Gains) → Contains result.items (after, gains)
-        ↔ spec.StepKnowing unit (known_in known.now) act.now choice before after gains }
-    ensures small { (after : ReaderState) (gains : Gains) → Contains result.items (after, gains)
-        → IsSmall gains }
-{
-    let mut steps = ArrayVec::new();
-    if known.knows_idle() {
-        add_steps(&mut steps, unit, known, act, choice, before);
-        return steps;
-    }
-    add_steps(&mut steps, unit, &known.idling(true), act, choice, before);
-    add_steps(&mut steps, unit, &known.idling(false), act, choice, before);
-    steps
-}
-
-/// Adds to others the steps by an act where it is known if always idle is on.
-fn add_steps(
-    steps: &mut ArrayVec<(ReaderState, Gains), 144>,
-    unit: ReaderUnit,
-    known: &ReaderKnown,
-    act: &Act,
-    choice: Choice,
-    before: ReaderState,
-)
-    requires room { array_vec_len steps.old ≤ 72 }
-    requires idle { knows_idle known.now ≡ true }
-    ensures items { (after : ReaderState) (gains : Gains) → Contains steps.new.items (after, gains)
-        ↔ Contains steps.old.items (after, gains)
-        ⊎ spec.StepKnowing unit (known_in known.now) act.now choice before after gains }
-    ensures room { array_vec_len steps.new ≤ array_vec_len steps.old + 72 }
-    ensures small { ((after : ReaderState) (gains : Gains)
-        → Contains steps.old.items (after, gains) → IsSmall gains)
-        → (after : ReaderState) (gains : Gains)
-        → Contains steps.new.items (after, gains) → IsSmall gains }
-{
-    let more = steps_idling(unit, known, act, choice, before);
-    add_all(steps, more.as_slice());
-}
-
-/// Adds steps to others.
-fn add_all(steps: &mut ArrayVec<(ReaderState, Gains), 144>, more: &[(ReaderState, Gains)])
-    requires { array_vec_len steps.old + length more.now ≤ 144 }
-    ensures items { steps.new.items ≡ steps.old.items ++ more.now }
-    ensures room { array_vec_len steps.new ≡ array_vec_len steps.old + length more.now }
-{
-    let _ = steps.try_extend_from_slice(more);
-}
-
-/// The steps by an act where it is known if always idle is on.
-fn steps_idling(
-    unit: ReaderUnit,
-    known: &ReaderKnown,
-    act: &Act,
-    choice: Choice,
-    before: ReaderState,
 ) -> ArrayVec<(ReaderState, Gains), 72>
-    requires { knows_idle known.now ≡ true }
     ensures steps { (after : ReaderState) (gains : Gains) → Contains result.items (after, gains)
         ↔ spec.StepKnowing unit (known_in known.now) act.now choice before after gains }
     ensures small { (after : ReaderState) (gains : Gains) → Contains result.items (after, gains)
@@ -165,7 +108,6 @@ fn add_asks(
 )
     requires room { array_vec_len steps.old ≡ 0 }
     requires unknown { known.now.knows_asked ≡ false }
-    requires idle { knows_idle known.now ≡ true }
     ensures steps { (after : ReaderState) (gains : Gains)
         → Contains steps.new.items (after, gains)
         ↔ guesses.OfSome (known_in known.now) before.holds
@@ -196,7 +138,6 @@ fn add_acks(
 )
     requires room { array_vec_len steps.old ≡ 0 }
     requires unknown { known.now.knows_taken ≡ false }
-    requires idle { knows_idle known.now ≡ true }
     ensures steps { (after : ReaderState) (gains : Gains)
         → Contains steps.new.items (after, gains)
         ↔ guesses.OfSome (known_in known.now) before.holds
@@ -220,8 +161,7 @@ fn add_replies(
     choice: Choice,
     before: ReaderState,
 )
-    requires room { array_vec_len steps.old ≡ 0 }
-    requires idle { knows_idle known.now ≡ true }
+    requires { array_vec_len steps.old ≡ 0 }
     ensures steps { (after : ReaderState) (gains : Gains)
         → Contains steps.new.items (after, gains)
         ↔ guesses.OfSome (known_in known.now) before.holds

@@ -10,7 +10,6 @@ ghost use Rattle.mdb_cashless.specs.ReaderMessages.{parts_of};
 ghost use Rattle.mdb_cashless.specs.ReaderValues as values;
 ghost use Rattle.mdb_cashless.specs.Units as units;
 
-use super::extended::{idling, knows_idle};
 use super::facts::ReaderFacts;
 use super::messages::{Said, messages_of};
 use super::taking::drops;
@@ -34,7 +33,7 @@ pub struct ReaderKnown {
 }
 
 impl ReaderKnown {
-    ghost use Rattle.std.specs.Prelude.{◌||◌, true, option_map, List, [], ◌∷◌};
+    ghost use Rattle.std.specs.Prelude.{◌||◌, option_map, List, [], ◌∷◌};
     ghost use Rattle.mdb_bus.specs.declared.act.Act.{Act};
     ghost use Rattle.mdb_bus.specs.declared.scope.Beginning.{Beginning};
     ghost use Rattle.mdb_cashless.specs.ReaderFacts.{asked_by, known_of, parts_by, taken_told};
@@ -63,25 +62,6 @@ impl ReaderKnown {
             knows_taken: self.knows_taken,
             knows_kept: self.knows_kept,
         }
-    }
-
-    /// The same, where always idle is switched on, or isn't.
-    pub(crate) fn idling(&self, on: bool) -> ReaderKnown
-        ensures known { known_in result ≡ record (known_in self.now) {
-          extended = values.idling on (known_in self.now).extended;
-        } }
-        ensures idle { values.knows_idle result ≡ true }
-    {
-        let mut known = self.copy();
-        known.facts.extended = idling(known.facts.extended, on);
-        known
-    }
-
-    /// Whether it is known if always idle is on.
-    pub(crate) fn knows_idle(&self) -> bool
-        ensures { result ≡ values.knows_idle self.now }
-    {
-        knows_idle(self.facts.extended)
     }
 
     /// The decimal places of the reader's amounts: Z6 of its last config message, where one is
@@ -160,14 +140,9 @@ impl ReaderKnown {
     {
         match act {
             Act::Ask(command) => self.knows_asked || own_transaction(unit, command).is_none(),
-            Act::Ack(command) => {
-                (self.knows_taken && self.knows_idle()) || own_transaction(unit, command).is_none()
-            }
+            Act::Ack(command) => self.knows_taken || own_transaction(unit, command).is_none(),
             Act::Reply(command, _) => {
-                (self.knows_taken
-                    && self.knows_kept
-                    && (self.knows_idle() || own_transaction(unit, command).is_none()))
-                    || own(unit, command).is_none()
+                (self.knows_taken && self.knows_kept) || own(unit, command).is_none()
             }
             _ => true,
         }

@@ -3,7 +3,6 @@
 ghost use Rattle.std.specs.Prelude.{◌≡◌, ◌≤◌, length};
 ghost use Rattle.std.specs.List.{list_any};
 ghost use Rattle.std.specs.Option.{is_some};
-ghost use Rattle.mdb_msgs.specs.Reader.{level_in};
 ghost use Rattle.mdb_machine.specs.Kept.{IsSummary, is_reset, kept_by};
 ghost use Rattle.mdb_cashless.specs.ReaderMessages as spec;
 
@@ -111,8 +110,6 @@ pub(crate) struct Said {
     pub(crate) begins: bool,
     /// Whether the command came out of sequence.
     pub(crate) refused: bool,
-    /// The feature level of the last config message.
-    pub(crate) level: Option<u8>,
 }
 
 impl Said {
@@ -135,7 +132,6 @@ impl Said {
             amount: None,
             begins: false,
             refused: false,
-            level: None,
         }
     }
 
@@ -168,23 +164,20 @@ impl Said {
         ensures amount { self.new.amount ≡ or_else (spec.amount_in message) self.old.amount }
         ensures begins { self.new.begins ≡ (spec.begins_session message || self.old.begins) }
         ensures refused { self.new.refused ≡ (is_out_of_sequence message || self.old.refused) }
-        ensures level { self.new.level ≡ or_else (level_in message) self.old.level }
     {
         self.summary.add(part_of(message));
         match message {
             ReaderMsg::Config {
-                level,
                 scale,
                 decimals,
                 response,
                 ..
             } => {
-                self.level = Some(level);
                 self.config = Some(ReaderConfig {
                     scale,
                     decimals,
                     response,
-                });
+                })
             }
             ReaderMsg::BeginSession { .. } | ReaderMsg::BeginSessionLong { .. } => {
                 self.begins = true
@@ -223,29 +216,4 @@ fn tells_reset(message: ReaderMsg) -> bool
     ensures { result ≡ is_reset (spec.part_of message) }
 {
     matches!(message, ReaderMsg::JustReset)
-}
-
-/// Whether one of a reader's messages refuses what the controller sent before.
-// Not inlined, since only the extended profile asks so.
-#[inline(never)]
-pub(crate) fn refuses(messages: ReaderIter<'_>) -> bool
-    ensures { result ≡ list_any spec.refuses messages.entry }
-{
-    for message in messages {
-        if is_refusal(message) {
-            return true;
-        }
-    }
-    false
-}
-
-/// Whether a message is 0B with a status 01 to 04, or with none.
-fn is_refusal(message: ReaderMsg) -> bool
-    ensures { result ≡ spec.refuses message }
-{
-    match message {
-        ReaderMsg::OutOfSequence => true,
-        ReaderMsg::OutOfSequenceIn(status) => 0 < status && status < 5,
-        _ => false,
-    }
 }

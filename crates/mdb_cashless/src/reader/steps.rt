@@ -17,7 +17,6 @@ ghost use Rattle.mdb_cashless.specs.ReaderValues.{changes_view, facts_in};
 ghost use Rattle.mdb_cashless.specs.Transactions.{amounts};
 
 use super::answers::{answer, vmc_ack};
-use super::extended::{is_always_idle, is_refused};
 use super::facts::ReaderFacts;
 use super::messages::tells_of_reset;
 use super::state::ReaderState;
@@ -96,13 +95,7 @@ fn asked(facts: &ReaderFacts, command: ReaderCommand, view: View) -> Option<View
     match command {
         ReaderCommand::Reset => Some(View::NoSession),
         _ => match transaction_of(command) {
-            Some(transaction) => {
-                let as_in_idle = view.may_as_in_idle(
-                    is_always_idle(facts.extended),
-                    is_refused(facts.extended),
-                );
-                view.sent(as_in_idle, facts.asked, transaction)
-            }
+            Some(transaction) => view.sent(facts.asked, transaction),
             None => Some(view),
         },
     }

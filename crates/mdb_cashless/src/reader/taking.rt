@@ -7,7 +7,6 @@ ghost use Rattle.mdb_cashless.specs.Reader as spec;
 ghost use Rattle.mdb_cashless.specs.ReaderValues.{facts_in};
 ghost use Rattle.mdb_cashless.specs.Transactions.{amounts};
 
-use super::extended::is_always_idle;
 use super::facts::ReaderFacts;
 use super::state::ReaderState;
 use super::transaction::{Ended, ended_by, is_again, transaction_of};
@@ -22,7 +21,7 @@ pub(crate) fn view_heard(choice: Choice, command: ReaderCommand, view: View) -> 
 {
     match choice {
         Choice::Lost => view,
-        Choice::Plain | Choice::Restart => match transaction_of(command) {
+        Choice::Plain | Choice::Restart | Choice::Again => match transaction_of(command) {
             Some(_) => view.taken(),
             None => view,
         },
@@ -67,9 +66,7 @@ pub(crate) fn take(facts: &ReaderFacts, command: ReaderCommand, before: ReaderSt
         return before;
     }
     ReaderState {
-        device: before
-            .device
-            .after_by(is_always_idle(facts.extended), command),
+        device: before.device.after(command),
         view: before.view,
         holds: before.holds && !drops(command),
     }

@@ -1,6 +1,7 @@
 //! Amounts without a value: nothing tells yet how the reader is set up.
 
 ghost use Rattle.std.specs.Prelude.{◌≡◌, ◌≤◌, Some, length, sum_by};
+ghost use Rattle.mdb_machine.specs.Choices.{is_approval};
 ghost use Rattle.mdb_machine.specs.Past.{or_else};
 ghost use Rattle.mdb_machine.specs.Unvalued as amounts;
 ghost use Rattle.mdb_machine.specs.Unvalued.{one_if};
@@ -35,7 +36,7 @@ pub(crate) fn unvalued_by(unit: ReaderUnit, known: &ReaderKnown, act: &Act) -> u
 }
 
 /// Whether the controller tells of an amount by a command to the reader.
-fn asks_sale(command: ReaderCommand) -> bool
+pub(crate) fn asks_sale(command: ReaderCommand) -> bool
     ensures { result ≡ spec.asks_sale (Some command) }
 {
     match transaction_of(command) {
@@ -53,10 +54,10 @@ fn is_unpriced(known: &ReaderKnown) -> bool
 
 /// How many amounts without a value a reply of the reader tells, where this is the last config
 /// message before it.
-fn unvalued_in(config: Option<ReaderConfig>, reply: &Reply) -> u64
+pub(crate) fn unvalued_in(config: Option<ReaderConfig>, reply: &Reply) -> u64
     ensures count { result
         ≡ amounts.unvalued_by (or_else (last_said config_in (messages_of reply.now)) config)
-        (sum_by (λ message. one_if (spec.is_approval message)) (messages_of reply.now)) }
+        (sum_by (λ message. one_if (is_approval message)) (messages_of reply.now)) }
     ensures small { result ≤ 35 }
 {
     if config.is_some() {
@@ -74,7 +75,7 @@ fn unvalued_in(config: Option<ReaderConfig>, reply: &Reply) -> u64
 fn approvals(messages: ReaderIter<'_>) -> u64
     requires { length messages ≤ 35 }
     ensures count { result
-        ≡ sum_by (λ message. one_if (spec.is_approval message)) messages.entry }
+        ≡ sum_by (λ message. one_if (is_approval message)) messages.entry }
     ensures small { result ≤ 35 }
 {
     let mut count = 0;

@@ -64,37 +64,9 @@ impl View {
     }
 
     /// The view after a transaction command that the controller sends in it, where this was the
-    /// last one sent, and it may send what it may in Idle, or not; `None` where it may not send the
-    /// command.
-    pub(crate) fn sent(
-        self,
-        as_in_idle: bool,
-        last: Option<Transaction>,
-        transaction: Transaction,
-    ) -> Option<View>
-        ensures { result ≡ spec.sent as_in_idle last transaction self }
-    {
-        match self.sent_in_turn(last, transaction) {
-            None if as_in_idle => View::Idle.sent_in_turn(last, transaction),
-            view => view,
-        }
-    }
-
-    /// Whether the controller may send in it what it may in Idle, too.
-    pub(crate) fn may_as_in_idle(self, always_idle: bool, refused: bool) -> bool
-        ensures { result ≡ spec.may_as_in_idle always_idle refused self }
-    {
-        match self {
-            View::NoSession => always_idle,
-            View::Idle | View::Approved => false,
-            View::Asked | View::Waiting | View::SuccessOwed | View::FailureOwed | View::Ending =>
-                refused,
-        }
-    }
-
-    /// The view after a transaction command that the controller sends where it wasn't refused.
-    fn sent_in_turn(self, last: Option<Transaction>, transaction: Transaction) -> Option<View>
-        ensures { result ≡ spec.sent_in_turn last transaction self }
+    /// last one sent; `None` where it may not send it.
+    pub(crate) fn sent(self, last: Option<Transaction>, transaction: Transaction) -> Option<View>
+        ensures { result ≡ spec.sent last transaction self }
     {
         match (self, transaction) {
             (View::Idle, Transaction::Request { .. }) => Some(View::Asked),

@@ -23,16 +23,16 @@ use super::paths::{self, Paths};
 use crate::Mark;
 use mdb_bus::{Act, Profile};
 use mdb_cash::{BILL_STATES, Bill, BillKnown, CHANGER_STATES, Changer, ChangerKnown};
-use mdb_cashless::{READER_STATES, Reader, ReaderKnown};
+use mdb_cashless::{KnownByProfile, ReaderByProfile, STATES_BY_PROFILE};
 use mdb_follow::{Goal, Owner, Report, owner_of};
 use mdb_msgs::{Device, ReaderUnit};
 use std::alloc::{AllocError, Global};
 
 /// The reader at 10H.
-type FirstReader = Reader<0>;
+type FirstReader = ReaderByProfile<0>;
 
 /// The reader at 60H.
-type SecondReader = Reader<1>;
+type SecondReader = ReaderByProfile<1>;
 
 /// The best ways of each device and the controller, in a recording that begins at power-on, with
 /// the chains of their marks. The size of each is the number of states.
@@ -41,8 +41,8 @@ pub(crate) struct AllPaths {
     chains: Chains,
     changer: Paths<ChangerKnown, CHANGER_STATES>,
     bill: Paths<BillKnown, BILL_STATES>,
-    first_reader: Paths<ReaderKnown, READER_STATES>,
-    second_reader: Paths<ReaderKnown, READER_STATES>,
+    first_reader: Paths<KnownByProfile, STATES_BY_PROFILE>,
+    second_reader: Paths<KnownByProfile, STATES_BY_PROFILE>,
 }
 
 /// What the gains of a device count for a goal: nothing, where the goal is of another device.

@@ -70,7 +70,7 @@ pub(crate) fn marks_of(choice: Choice) -> u64
 {
     match choice {
         Choice::Plain => 0,
-        Choice::Lost | Choice::Restart => 1,
+        Choice::Lost | Choice::Restart | Choice::Again => 1,
     }
 }
 

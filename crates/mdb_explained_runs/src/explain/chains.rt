@@ -88,6 +88,7 @@ impl Chains {
             Choice::Plain => Ok(chain),
             Choice::Lost => self.push(chain, row, Mark::Lost),
             Choice::Restart => self.push(chain, row, Mark::Restart),
+            Choice::Again => self.push(chain, row, Mark::Again),
         }
     }
 

@@ -13,16 +13,16 @@ use Rattle.mdb_bus.specs.LeavingOut.{with_foreign}
 use Rattle.mdb_bus.specs.Loss.{Loss, LossFits}
 use Rattle.mdb_follow.specs.Arrivals.{EachArrives}
 use Rattle.mdb_follow.specs.Runs.{AllSums, IsWay, States}
+use Rattle.mdb_late_start.specs.Alone.{MayBeReadAlone}
 use Rattle.mdb_late_start.specs.Cuts.{SplitsAt}
 use Rattle.mdb_late_start.specs.MidSession.{MayJoinLate}
 use Rattle.mdb_late_start.specs.Told.{AreToldBy, told_later}
-use Rattle.mdb_late_start.specs.inner.Splits.{MayBeLinkedAlone, Splits}
 
 -- what the crates below say of runs, and this one of cuts and of each device
 pub record EndLaws : Type 0 where
   pub splits_rows : (scope : Scope) (setups : Setups) (front end : List Event)
-      (pieces : List Piece) → MayBeLinkedAlone scope setups front end
-      → IsActList scope pieces (front ++ end) → Splits scope setups front end pieces
+      (pieces : List Piece) → MayBeReadAlone scope setups front end
+      → IsActList scope pieces (front ++ end) → SplitsAt scope setups front end pieces
   pub told : (scope : Scope) (setups : Setups) (levels : Levels) (front end : List Event)
       (pieces : List Piece) → IsActList scope pieces (front ++ end)
       → (cut : SplitsAt scope setups front end pieces)

@@ -10,18 +10,17 @@ ghost use Rattle.mdb_bus.specs.declared.scope.Profile.TheVariants.{Base, Extende
 ghost use Rattle.mdb_bus.specs.declared.scope.Scope.{Scope};
 ghost use Rattle.mdb_bus.specs.ActLists.{Piece, acts_of, levels_of};
 ghost use Rattle.mdb_bus.specs.LinkFaults.{blame_on};
-ghost use Rattle.mdb_bus.specs.Scopes.{IsFollowed, IsLeftOut, profile_of};
-ghost use Rattle.mdb_cashless.specs.declared.reader.extended.ExtendedFacts.{ExtendedFacts};
-ghost use Rattle.mdb_cashless.specs.ReaderFacts.{extended_of};
+ghost use Rattle.mdb_bus.specs.Scopes.{IsFollowed, IsLeftOut, levels_before, profile_of};
+ghost use Rattle.mdb_bus.specs.WideMoney.{first_known};
 ghost use Rattle.mdb_stretches.specs.declared.stretch.Ended.{Ended};
 ghost use Rattle.mdb_stretches.specs.declared.stretch.Stretch.{Stretch};
 ghost use Rattle.mdb_stretches.specs.declared.told.Told.{Told};
 ghost use Rattle.mdb_follow.specs.declared.offence.Offence.{Offence};
-ghost use Rattle.mdb_stretches.specs.Learning.{AreKnown, AreOptionsTold, IsHandedOn, IsReaderKnown};
+ghost use Rattle.mdb_stretches.specs.Learning.{AreKnown, AreOptionsTold};
 ghost use Rattle.mdb_stretches.specs.Options.{options_at};
 ghost use Rattle.mdb_stretches.specs.Parts.{EndBefore, IsReaderAsked, IsReaderBeyond};
 ghost use Rattle.mdb_stretches.specs.Stretches.{IsCutAt, IsSurvey, LeadFrom, StretchStart, scope_after};
-ghost use Rattle.mdb_stretches.specs.Told.{level_of, setups_of, told_after, told_on};
+ghost use Rattle.mdb_stretches.specs.Told.{asked_on, level_of, levels_at, setups_of, told_after, told_on};
 ghost use Rattle.mdb_stretches.specs.Unanswered.{IsNeither, IsUnanswered};
 
 use mdb_follow::laws;
@@ -80,9 +79,9 @@ pub fn left_out_are_those_of_the_start_and_readers_beyond_this_profile()
 /// What the rows tell for the next stretch is what was said last: `levels` the levels that the bus
 /// reads replies by, and `setups` what the machines of the devices know. By the base profile a
 /// level is told on, as `unanswered`, exactly where no config message of its reader came after it.
-/// By the extended profile a reader's levels, and its always idle in `options`, are those that its
-/// machine knows. `options` says when its options are told, and `handed_on` that the next stretch
-/// begins with the same levels, and of always idle with the same or nothing.
+/// `options` says when a reader's options are told. `handed_on` says what the bus of the next
+/// stretch knows by the extended profile: these options, and these levels, but for the
+/// controller's where `asked_on` keeps it back.
 pub fn what_is_told_is_what_was_said_last()
     ensures levels { (begins : Beginning) (told : Told) (pieces : List Piece)
         → (told_after begins told (acts_of pieces)).levels
@@ -94,18 +93,17 @@ pub fn what_is_told_is_what_was_said_last()
         (level : ℕ) → (level_of unit (told_after begins told acts).unanswered ≡ Some level)
         ↔ (IsUnanswered unit level acts
         ⊎ (All (IsNeither unit) acts × (level_of unit told.unanswered ≡ Some level))) }
-    ensures extended { (begins : Beginning) (told : Told) (acts : List Act) (unit : ReaderUnit)
-        (before after : ExtendedFacts) → extended_of begins unit [] ≡ Some before
-        → extended_of begins unit acts ≡ Some after → IsReaderKnown unit told before
-        → IsReaderKnown unit (told_after begins told acts) after }
     ensures options { (begins : Beginning) (told : Told) (acts : List Act) (unit : ReaderUnit)
-        → profile_of begins ≡ Extended → AreOptionsTold unit acts
-        (options_at unit told.options).told
-        (options_at unit (told_after begins told acts).options).told }
+        → AreOptionsTold unit acts (options_at unit told.options)
+        (options_at unit (told_after begins told acts).options) }
     ensures handed_on { (told : Told) (fault : Offence) (asked : Option ReaderUnit) (scope : Scope)
-        (unit : ReaderUnit) (left begun : ExtendedFacts) → profile_of scope.begins ≡ Extended
-        → IsReaderKnown unit told left
-        → extended_of (scope_after told fault asked scope).begins unit [] ≡ Some begun
-        → IsHandedOn (options_at unit told.options).told left begun
-        × IsReaderKnown unit (told_on (scope_after told fault asked scope).begins told) begun }
+        → profile_of scope.begins ≡ Extended
+        → (first_known (scope_after told fault asked scope).begins ≡ told.options)
+        × ((unit : ReaderUnit)
+        → levels_at unit (levels_before (scope_after told fault asked scope))
+        ≡ record (levels_at unit told.levels) { asked = asked_on (levels_at unit told.levels) }) }
+    ensures begun { (told : Told) (fault : Offence) (asked : Option ReaderUnit) (scope : Scope)
+        → profile_of scope.begins ≡ Extended
+        → (told_on (scope_after told fault asked scope).begins told).levels
+        ≡ levels_before (scope_after told fault asked scope) }
 {}

@@ -1,4 +1,4 @@
-use Rattle.mdb_cashless.specs.shared.ReaderWays.{same_facts, same_unvalued}
+use Rattle.mdb_cashless.proofs.ByProfileKnown.{same_facts, same_unvalued}
 use Rattle.mdb_cashless.proofs.laws.a_readers_facts_are_of_its_own_acts.Goals as goal
 
 pub returns-clause-known : goal.returns-clause-known

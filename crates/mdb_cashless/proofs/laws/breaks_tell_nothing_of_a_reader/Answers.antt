@@ -1,4 +1,4 @@
-use Rattle.mdb_cashless.specs.shared.ReaderWays.{no_config, none_told}
+use Rattle.mdb_cashless.proofs.ByProfileKnown.{no_config, none_told}
 use Rattle.mdb_cashless.proofs.laws.breaks_tell_nothing_of_a_reader.Goals as goal
 
 pub returns-clause-config : goal.returns-clause-config

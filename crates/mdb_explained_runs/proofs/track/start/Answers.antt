@@ -1,4 +1,4 @@
-use Rattle.std.proofs.Common.{arith, refl, sym, ◌∙◌, ◌≡◌}
+use Rattle.std.proofs.Common.{arith, refl, sym, ◌≡◌}
 use Rattle.mdb_follow.specs.declared.cell.TheConstants.Cell.{NOTHING}
 use Rattle.mdb_follow.specs.Sums.{no_sums}
 use Rattle.mdb_follow.proofs.Starts.{nothing-is, nothing-within}
@@ -8,13 +8,10 @@ pub returns-clause-stands : goal.returns-clause-stands
 returns-clause-stands g c = record {
   facts = c.facts_start.ensures;
   sums = no_sums;
-  way = ((c.requires.starts c.state.result).1 c.state.ensures, refl);
-  only = λ state other way. (
-    g.met.P.Pair.apart _ _ ((c.requires.starts state).0 way.0 ∙ sym c.state.ensures),
-    way.1,
-  );
+  way = ((c.power_on.ensures c.power_on.result).1 refl, refl);
+  only = λ state other way. ((c.power_on.ensures state).0 way.0, way.1);
   cell = nothing-is (λ other. other ≡ no_sums) NOTHING refl refl (λ sums is. is);
-  counted = sym c.requires.none;
+  counted = sym c.requires;
 }
 
 pub returns-clause-within : goal.returns-clause-within

@@ -4,6 +4,7 @@ use Rattle.std.proofs.lemmas.List.Elements.{All-append}
 use Rattle.mdb_machine.specs.declared.gains.Gains.{Gains}
 use Rattle.mdb_machine.specs.Gains.{IsSmall}
 use Rattle.mdb_machine.specs.Pair.{IsMove}
+use Rattle.mdb_machine.proofs.Ways.{by_second, plain_only}
 use Rattle.mdb_follow.specs.declared.cell.Cell.{Cell}
 use Rattle.mdb_follow.specs.inner.Entries.{with_moves}
 use Rattle.mdb_follow.proofs.Led.{moves-below, moves-small, with_moves-append}
@@ -60,6 +61,7 @@ both-led old middle new cell one other first second =
 pub returns-in-Some-clause-entries : goal.returns-in-Some-clause-entries
 returns-in-Some-clause-entries g c =
     let p = g.P.Pair in
+    let second = c.other_choice.ensures in
     let one = c.as_slice.result.now in
     let other = c.as_slice-in-Some.result.now in
     record {
@@ -71,8 +73,10 @@ returns-in-Some-clause-entries g c =
           (ap (λ s. s ++ c.steps-other.result.items) (sym c.as_slice.ensures.value)
           ∙ ap (λ s. one ++ s) (sym c.as_slice-in-Some.ensures.value))
           (all-moves c.args.act.now p.code_of ((p.machine begins).Step acts c.args.act.now)
-          c.args.code c.other_choice.result c.in-Some.choice c.steps-plain.result.items
-          c.steps-other.result.items c.in-Some.is c.other_choice.ensures
+          c.args.code c.in-Some.choice c.steps-plain.result.items c.steps-other.result.items
+          (second.stands c.in-Some.choice c.in-Some.is).0
+          (by_second (p.machine begins) (g.met.P.Pair.is_machine begins) acts c.args.act.now
+          c.other_choice.result c.in-Some.choice c.in-Some.is second.stands second.only)
           (c.steps-plain.ensures.steps begins acts stands)
           (c.steps-other.ensures.steps begins acts stands));
       below = All-append (λ (move : ℕ × Gains). move.0 < g.row.N) one other
@@ -100,8 +104,9 @@ returns-in_default-clause-entries g c =
           ↔ IsMove c.args.act.now p.code_of ((p.machine begins).Step acts c.args.act.now)
           c.args.code next gains) (sym c.as_slice.ensures.value)
           (plain-moves c.args.act.now p.code_of ((p.machine begins).Step acts c.args.act.now)
-          c.args.code c.other_choice.result c.steps-plain.result.items c.in_default.is
-          c.other_choice.ensures (c.steps-plain.ensures.steps begins acts stands));
+          c.args.code c.steps-plain.result.items
+          (plain_only c.args.act.now c.other_choice.result c.in_default.is
+          c.other_choice.ensures.only) (c.steps-plain.ensures.steps begins acts stands));
       below = moves-below g.row.N _ c.steps-plain.result.items one c.requires.size
           c.as_slice.ensures.value c.steps-plain.ensures.below;
       small = moves-small _ c.steps-plain.result.items one c.as_slice.ensures.value

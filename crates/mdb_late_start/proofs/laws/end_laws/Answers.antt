@@ -3,7 +3,7 @@ use Rattle.mdb_late_start.proofs.laws.end_laws.Goals as goal
 
 pub returns : goal.returns
 returns c = record {
-  splits_rows = c.ends_are_split_off.ensures;
+  splits_rows = c.ends_of_transcripts_have_act_lists.ensures;
   told = c.ends_have_act_lists_with_the_levels_told_in_front.ensures;
   one = c.transcripts_have_one_act_list.ensures;
   names = c.acts_name_replies_of_their_commands.ensures;

@@ -4,5 +4,4 @@ use Rattle.mdb_cashless.proofs.reader.answers.all_told.Given as goal
 
 abbrev pub invariant-loop-message : goal.invariant-loop-message
 invariant-loop-message l =
-    all_told l.always_idle l.requested (drop l.message-index l.news) l.device
-    ≡ all_told l.always_idle l.requested l.news l.fn.before
+    all_told l.last (drop l.message-index l.news) l.device ≡ all_told l.last l.news l.fn.before

@@ -2,7 +2,7 @@ use Rattle.std.proofs.Common.{◌∙◌, ap, subst, sym}
 use Rattle.mdb_machine.specs.Gains.{device_gains, in_slots}
 use Rattle.mdb_machine.specs.Kept.{held, holds_after}
 use Rattle.mdb_machine.specs.Past.{or_else}
-use Rattle.mdb_cashless.specs.Reader.{is_requested, owes_reset, sold_any, take_any, taken}
+use Rattle.mdb_cashless.specs.Reader.{last_transaction, owes_reset, sold_any, take_any, taken}
 use Rattle.mdb_cashless.specs.inner.ReaderSaid.{IsSaid}
 use Rattle.mdb_cashless.specs.ReaderValues.{facts_in}
 use Rattle.mdb_cashless.proofs.Answered.{Looked, told, untold}
@@ -58,9 +58,9 @@ returns-clause-step c =
       summary = said.summary_is;
     } in
     let told_is = sym c.all_told.ensures ∙ c.in_ok-device.was in
-    let requested_is =
-    c.is_requested.ensures
-    ∙ ap (is_requested (facts_in c.args.facts.now))
+    let last_is =
+    c.last_transaction.ensures
+    ∙ ap (last_transaction (facts_in c.args.facts.now))
     (c.taken-taken.ensures c.args.reply.now said.refused_is) in
     let after_holds_is =
     c.holds_after.ensures
@@ -73,7 +73,7 @@ returns-clause-step c =
     (c.taken-taken.ensures c.args.reply.now said.refused_is)
     ∙ ap (sold_any (facts_in c.args.facts.now) (taken c.args.command c.args.reply.now))
     c.read-start.ensures) in
-    told looked c.in_ok-new.ensures.found c.in_ok-new.ensures.only c.is_always_idle.ensures
-    requested_is told_is after_holds_is config_is c.all_approved-approved.ensures.value sold_is
+    told looked c.in_ok-new.ensures.found c.in_ok-new.ensures.only last_is told_is after_holds_is
+    config_is c.all_approved-approved.ensures.value sold_is
     (c.of_device.ensures.gains
     ∙ ap (λ list. device_gains (in_slots list)) c.amounts.ensures.amounts)

@@ -37,8 +37,7 @@ returns-clause-steps c =
     (adds_one c.add_step.new.steps.items c.add_step-2.new.steps.items Two c.ack-2.result second
     c.add_step-2.ensures.items))
     (λ after gains.
-    acks_some known command c.args.choice c.args.before after gains c.requires.unknown
-    c.requires.idle)
+    acks_some known command c.args.choice c.args.before after gains c.requires.unknown)
 
 pub returns-clause-small : goal.returns-clause-small
 returns-clause-small c =

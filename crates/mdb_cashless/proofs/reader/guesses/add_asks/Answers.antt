@@ -24,8 +24,7 @@ returns-clause-steps c =
     (λ f. spec.AskStep f c.args.command c.args.before after gains)) c.requires.room
     (adds_one c.args.steps.now.items c.add_step.new.steps.items
     (spec.AskStep facts c.args.command c.args.before) c.ask.result only c.add_step.ensures.items)
-    (λ after gains. asks_some known c.args.command c.args.before after gains c.requires.unknown
-    c.requires.idle)
+    (λ after gains. asks_some known c.args.command c.args.before after gains c.requires.unknown)
 
 pub returns-clause-small : goal.returns-clause-small
 returns-clause-small c =

@@ -16,14 +16,14 @@ returns-then-known-clause-steps c =
     (guesses.IsReplyKeeping base (if_known known.knows_kept base.past.last_kept) c.args.command
     c.args.reply.now c.args.choice c.args.before)
     (λ after gains. guesses.OfSome (known_in known) c.args.before.holds (λ f. spec.ReplyStep f
-    c.args.command c.args.reply.now c.args.choice c.args.before after gains)) c.requires.room
+    c.args.command c.args.reply.now c.args.choice c.args.before after gains)) c.requires
     c.add_keeping.ensures.items
     (λ after gains. replies_known known c.args.command c.args.reply.now c.args.choice c.args.before
-    after gains c.if-known.true c.requires.idle)
+    after gains c.if-known.true)
 
 pub returns-then-known-clause-small : goal.returns-then-known-clause-small
 returns-then-known-clause-small c =
-    c.add_keeping.ensures.small (none_small c.args.steps.now.items c.requires.room)
+    c.add_keeping.ensures.small (none_small c.args.steps.now.items c.requires)
 
 pub returns-clause-steps : goal.returns-clause-steps
 returns-clause-steps c =
@@ -39,7 +39,7 @@ returns-clause-steps c =
     let new = c.add_keeping-3.new.steps.items in
     adds_first old new (λ after gains. Keeps other after gains ⊎ Keeps same after gains)
     (λ after gains. guesses.OfSome (known_in known) c.args.before.holds (λ f. spec.ReplyStep f
-    c.args.command c.args.reply.now c.args.choice c.args.before after gains)) c.requires.room
+    c.args.command c.args.reply.now c.args.choice c.args.before after gains)) c.requires
     (adds_two old mid new (Keeps other) (Keeps same)
     (subst (λ (f : Facts). Adds old mid (Keeps f)) c.taking-other.ensures
     c.add_keeping-2.ensures.items)
@@ -47,9 +47,9 @@ returns-clause-steps c =
     (c.taking-same.ensures ∙ ap (λ t. record base { taken = Some t })
     (c.again.ensures ∙ ap guesses.again c.taken_by.ensures)) c.add_keeping-3.ensures.items))
     (λ after gains. replies_some known c.args.command c.args.reply.now c.args.choice c.args.before
-    after gains c.if-known.false c.requires.idle)
+    after gains c.if-known.false)
 
 pub returns-clause-small : goal.returns-clause-small
 returns-clause-small c =
     c.add_keeping-3.ensures.small
-    (c.add_keeping-2.ensures.small (none_small c.args.steps.now.items c.requires.room))
+    (c.add_keeping-2.ensures.small (none_small c.args.steps.now.items c.requires))

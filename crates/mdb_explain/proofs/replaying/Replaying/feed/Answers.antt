@@ -1,5 +1,6 @@
-use Rattle.std.proofs.Common.{arith, refl, sym, ◌∙◌}
+use Rattle.std.proofs.Common.{arith, inr, refl, sym, ◌∙◌}
 use Rattle.mdb_explain.proofs.MarkSteps as steps
+use Rattle.mdb_explain.proofs.OneReplayAnswer.{row_not_mark}
 use Rattle.mdb_explain.proofs.replaying.Replaying.feed.Goals as goal
 
 pub returns-in-Err-clause-taken : goal.returns-in-Err-clause-taken
@@ -29,3 +30,16 @@ returns-else-is_some-clause-taken c scope earlier has =
     (c.in-Ok.ensures.has_run has.part.rows has.part.passed has.stands) c.in-Ok.ensures.counted
     c.feed.ensures.scope refl refl (steps.passed_none c.next_mark-mark.result
     c.args.self.now.passed (sym c.is_some.ensures ∙ c.if-is_some.false))
+
+pub returns-then-rows-ge-ROWS_MAX-clause-taken : goal.returns-then-rows-ge-ROWS_MAX-clause-taken
+returns-then-rows-ge-ROWS_MAX-clause-taken c scope earlier has = record {
+  part = has.part;
+  are = has.are;
+  can_be = has.can_be;
+  is = λ fields own. inr (
+    row_not_mark fields c.args.event own,
+    omega (arith, c.if-rows-ge-ROWS_MAX.true, c.rows.ensures, has.counted, has.can_be.few_rows),
+  );
+  no_write = λ same. cc;
+  no_read = λ same. cc;
+}

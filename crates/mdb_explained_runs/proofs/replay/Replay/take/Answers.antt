@@ -1,6 +1,8 @@
 use Rattle.std.proofs.Common.{List, ◌+◌, ◌*◌, ◌^◌, ◌∷◌, ◌++◌, [], ℕ, Some, None, ap, arith, refl, subst, sym, ◌∙◌}
 use Rattle.mdb_words.specs.declared.event.Event.{Event}
 use Rattle.mdb_bus.specs.Bus.{ended_act}
+use Rattle.mdb_bus.specs.Scopes.{profile_of}
+use Rattle.mdb_bus.specs.Untimely.{untimely_of}
 use Rattle.mdb_explained_runs.specs.declared.mark.Mark.{Mark}
 use Rattle.mdb_explained_runs.specs.ReplayFaults.{IsReplayFault}
 use Rattle.mdb_explained_runs.specs.Replays.{StandsFor, scope_of}
@@ -17,7 +19,9 @@ returns-then-not-may_stand_at-clause-fault c events marks on =
     mark-fault c.ways_with_choices_join.ensures c.ways_split_with_choices.ensures
     c.transcripts_have_one_act_list.ensures c.args.self.now c.feed_into.new.self events marks
     c.args.event (ended_act c.in-Ok.ended c.feed_into.new.act) c.args.mark on
-    (c.in-Ok.ensures.goes_on on.pieces on.on_bus) c.feed_into.ensures.scope
+    (c.in-Ok.ensures.goes_on on.pieces on.on_bus) c.feed_into.ensures.scope c.profile_by.result
+    (c.profile_by.ensures (profile_of (scope_of c.args.self.now).begins)
+    (untimely_of (scope_of c.args.self.now) on.pieces) on.untimely)
     (not-may c.may_stand_at.result _ c.may_stand_at.ensures c.if-not-may_stand_at.true)
 
 pub invariant_of-self-then-not-ended-clause-within
@@ -31,8 +35,9 @@ returns-then-not-ended-clause-reached c events marks on =
     let goes = by-none c.feed_into.new.self on.pieces c.args.event c.in-Ok.ended
     c.feed_into.new.act c.if-not-ended.true (c.in-Ok.ensures.goes_on on.pieces on.on_bus) in
     subst (StandsFor _ (events ++ c.args.event ∷ []))
-    (sym (none-then c.may_stand_at.result c.args.mark c.in-Ok.ended c.feed_into.new.act
-    (c.args.self.now.rows + 1) marks c.may_stand_at.ensures c.if-not-may_stand_at.false
+    (sym (none-then c.profile_by.result c.may_stand_at.result c.args.mark c.in-Ok.ended
+    c.feed_into.new.act (c.args.self.now.rows + 1) marks c.may_stand_at.ensures
+    c.if-not-may_stand_at.false
     c.if-not-ended.true))
     (stands-still c.args.self.now _ events marks c.args.event on goes c.feed_into.ensures.scope refl
     refl refl refl
@@ -57,9 +62,9 @@ returns-then-follow-clause-reached c events marks on =
     c.feed_into.new.act c.if-not-ended.false (c.in-Ok.ensures.goes_on on.pieces on.on_bus) in
     let stands = stands-on c.args.self.now _ c.follow.new.self events marks c.args.event
     c.feed_into.new.act
-    c.args.mark on goes c.feed_into.ensures.scope refl refl refl refl
-    (may-then c.may_stand_at.result c.args.mark c.in-Ok.ended c.feed_into.new.act
-    c.may_stand_at.ensures c.if-not-may_stand_at.false c.if-not-ended.false)
+    c.args.mark on goes c.feed_into.ensures.scope refl refl refl refl c.profile_by.result
+    (may-then c.profile_by.result c.may_stand_at.result c.args.mark c.in-Ok.ended
+    c.feed_into.new.act c.may_stand_at.ensures c.if-not-may_stand_at.false c.if-not-ended.false)
     c.choice_by.result c.choice_by.ensures has
     c.note_untimely-then-follow.new.counts c.self-then-follow-1.given.1.1.1.0
     (times-on (scope_of c.args.self.now) (scope_of c.follow.new.self) on.pieces c.args.event
@@ -96,8 +101,10 @@ returns-else-follow-clause-fault c =
     machine-offence c.ways_with_choices_join.ensures c.ways_split_with_choices.ensures
     c.marks_tell_what_is_chosen.ensures c.transcripts_have_one_act_list.ensures
     c.args.self.now _ c.follow.new.self events marks c.args.event c.feed_into.new.act c.args.mark
-    fault on goes c.feed_into.ensures.scope refl refl
-    (may-then c.may_stand_at.result c.args.mark c.in-Ok.ended c.feed_into.new.act
-    c.may_stand_at.ensures c.if-not-may_stand_at.false c.if-not-ended.false)
+    fault on goes c.feed_into.ensures.scope refl refl c.profile_by.result
+    (c.profile_by.ensures (profile_of (scope_of c.args.self.now).begins)
+    (untimely_of (scope_of c.args.self.now) on.pieces) on.untimely)
+    (may-then c.profile_by.result c.may_stand_at.result c.args.mark c.in-Ok.ended
+    c.feed_into.new.act c.may_stand_at.ensures c.if-not-may_stand_at.false c.if-not-ended.false)
     c.choice_by.result c.choice_by.ensures has)
     c.if-follow.ensures.stopped

@@ -1,8 +1,11 @@
 use Rattle.std.proofs.Common.{[]}
+use Rattle.mdb_msgs.specs.declared.command.ReaderUnit.TheVariants.{First, Second}
+use Rattle.mdb_bus.specs.declared.scope.Beginning.TheVariants.{PowerOn}
 use Rattle.mdb_explained_runs.specs.declared.tracks.Tracks.{Tracks}
 use Rattle.mdb_explained_runs.specs.Tracks.{IsTrackOf, track_in}
 use Rattle.mdb_explained_runs.specs.inner.TrackSteps.{IsTrackWithin}
 use Rattle.mdb_follow.proofs.ByDevice.{each}
+use Rattle.mdb_follow.proofs.OwnKnown.{none_unvalued}
 use Rattle.mdb_explained_runs.proofs.tracks.Tracks.start.Goals as goal
 
 pub returns-clause-stands : goal.returns-clause-stands
@@ -27,3 +30,9 @@ returns-clause-within c =
     } in
     each (λ device. IsTrackWithin 0 (track_in tracks device)) c.start.ensures.within
     c.start-2.ensures.within c.start-3.ensures.within c.start-4.ensures.within
+
+pub start-requires-3 : goal.start-requires-3
+start-requires-3 c = none_unvalued First (PowerOn c.args.profile)
+
+pub start-requires-4 : goal.start-requires-4
+start-requires-4 c = none_unvalued Second (PowerOn c.args.profile)

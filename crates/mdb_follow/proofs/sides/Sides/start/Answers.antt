@@ -1,8 +1,10 @@
-use Rattle.std.proofs.Common.{[]}
+use Rattle.std.proofs.Common.{[], arith, refl}
+use Rattle.mdb_msgs.specs.declared.command.ReaderUnit.TheVariants.{First, Second}
 use Rattle.mdb_follow.specs.declared.sides.Sides.{Sides}
 use Rattle.mdb_follow.specs.Sides.{IsSideOf, side_in}
 use Rattle.mdb_follow.specs.inner.SideSteps.{IsWithin}
 use Rattle.mdb_follow.proofs.ByDevice.{each}
+use Rattle.mdb_follow.proofs.OwnKnown.{none_unvalued}
 use Rattle.mdb_follow.proofs.sides.Sides.start.Goals as goal
 
 pub returns-clause-stands : goal.returns-clause-stands
@@ -27,3 +29,9 @@ returns-clause-within c =
     } in
     each (λ device. IsWithin device 0 sides) c.start.ensures.within c.start-2.ensures.within
     c.start-3.ensures.within c.start-4.ensures.within
+
+pub start-requires-3 : goal.start-requires-3
+start-requires-3 c = (omega arith, (refl, none_unvalued First c.args.begins.now))
+
+pub start-requires-4 : goal.start-requires-4
+start-requires-4 c = (omega arith, (refl, none_unvalued Second c.args.begins.now))

@@ -5,4 +5,4 @@ pub returns : goal.returns
 returns c =
     known_first c.args.unit c.args.begins.now c.start.result c.is_power_on-knows.result
     c.is_power_on-knows.ensures c.start.ensures.config c.start.ensures.asked c.start.ensures.taken
-    c.start.ensures.amount c.start.ensures.extended c.start.ensures.past
+    c.start.ensures.amount c.start.ensures.past

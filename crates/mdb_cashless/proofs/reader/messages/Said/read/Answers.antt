@@ -16,7 +16,6 @@ loop-message-preserved c =
       said =
           said_more c.loop-message.self c.add.new.self before c.in-Some.message
           c.loop-message.invariant.said c.add.ensures.summary c.add.ensures.config
-          c.add.ensures.amount c.add.ensures.begins c.add.ensures.refused
-          c.add.ensures.level;
+          c.add.ensures.amount c.add.ensures.begins c.add.ensures.refused;
       room = omega (arith, more, c.add.ensures.room, c.loop-message.invariant.room);
     }

@@ -1,0 +1,423 @@
+-- By the extended profile a sale may be told exactly where it is approved: what an act makes of the
+-- sale under way, and so what the acts make of it.
+use Rattle.std.proofs.Common.{arith, zero, suc, ◌≡◌, ◌≢◌, ◌⊎◌, ◌∙◌, ◌∷◌, ◌++◌, ◌||◌, ◌&&◌, ◌==◌, not, ℕ, Bool, true, false, List, [], Some, None, Option, All, Contains, refl, ap, sym, subst, inl, inr}
+use Rattle.std.specs.Cmp.Derive.{both_true}
+use Rattle.std.specs.List.{list_any}
+use Rattle.std.specs.Option.{option_map_or}
+use Rattle.std.proofs.lemmas.Bool.{and_parts, eq-eqb, eqb-true, or_cases}
+use Rattle.std.proofs.lemmas.Bool.Decides.{eqb_tells}
+use Rattle.std.proofs.lemmas.List.Elements.{All-head, All-nil, All-tail}
+use Rattle.std.proofs.lemmas.List.Folds.{Any-from_list_any}
+use Rattle.mdb_msgs.specs.declared.command.Command.{Command}
+use Rattle.mdb_msgs.specs.declared.command.Command.TheVariants as commands
+use Rattle.mdb_msgs.specs.declared.command.ReaderCommand.{ReaderCommand}
+use Rattle.mdb_msgs.specs.declared.command.ReaderCommand.TheVariants as reader
+use Rattle.mdb_msgs.specs.declared.command.ReaderUnit.{ReaderUnit}
+use Rattle.mdb_msgs.specs.declared.reply.Reply.{Reply}
+use Rattle.mdb_msgs.specs.declared.reply.reader.ReaderMsg.{ReaderMsg}
+use Rattle.mdb_msgs.specs.declared.reply.reader.ReaderMsg.TheVariants as messages
+use Rattle.mdb_bus.specs.declared.act.Act.{Act}
+use Rattle.mdb_bus.specs.declared.act.Act.TheVariants as acts
+use Rattle.mdb_bus.specs.declared.scope.Beginning.{Beginning}
+use Rattle.mdb_bus.specs.declared.scope.Beginning.TheVariants.{PowerOn, Joined}
+use Rattle.mdb_machine.specs.Choices.{is_approval}
+use Rattle.mdb_cashless.specs.declared.approvals.sale.Sale.{Sale}
+use Rattle.mdb_cashless.specs.declared.approvals.sale.Sale.TheVariants.{Unknown, Unawaited, Awaited, Asked, Approved, Sold}
+use Rattle.mdb_cashless.specs.declared.reader.transaction.Transaction.{Transaction}
+use Rattle.mdb_cashless.specs.declared.reader.transaction.Transaction.TheVariants.{Cancel, Success}
+use Rattle.mdb_cashless.specs.ExtendedFacts.{Facts, facts_after, facts_of, sale_all_heard, sale_asked, sale_heard}
+use Rattle.mdb_cashless.specs.ExtendedReader.{IsEarlier, MaySell}
+use Rattle.mdb_cashless.specs.ExtendedSales.{AcksAreOfReplies, IsApproved, SalesAreApproved, asks_request, hears_approval, is_open, leaves_asked, leaves_sale}
+use Rattle.mdb_cashless.specs.ReaderFacts.{own_messages, own_transaction}
+use Rattle.mdb_cashless.specs.ReaderMessages.{messages_of}
+use Rattle.mdb_cashless.specs.Sales as base
+use Rattle.mdb_cashless.specs.Sales.{LeavesSale, MayBeRequestedBefore}
+use Rattle.mdb_cashless.specs.Transactions.{is_request, is_same}
+use Rattle.mdb_cashless.specs.Units.{own}
+use Rattle.mdb_cashless.specs.inner.Approvals.{is_sale_known}
+use Rattle.mdb_cashless.specs.shared.ApprovalWays.{known_or_earlier}
+use Rattle.mdb_cashless.proofs.Sales.{own_is, own_of_unit, still_approved, still_requested}
+
+-- whether an approval makes a sale approved, and whether VEND SUCCESS of an item may be told of it
+abbrev awaits : Sale → Bool
+awaits Awaited = true
+awaits Asked = true
+awaits sale = false
+
+abbrev is_for : ℕ → Sale → Bool
+is_for item (Approved amount) = true
+is_for item (Sold last) = item == last
+is_for item sale = false
+
+-- whether an act is VEND SUCCESS of an item
+abbrev sells_by : ℕ → Option ReaderCommand → Bool
+sells_by item command = option_map_or (is_same (Success item)) (own_transaction command) false
+
+abbrev sells : ReaderUnit → ℕ → Act → Bool
+sells unit item (acts.Ask command) = sells_by item (own unit command)
+sells unit item act = false
+
+-- what messages make of a sale that the controller acknowledges, with a 05 among them or without
+abbrev HeardAs : Bool → Sale → Sale → Type 0
+HeardAs approval before after = (awaits after ≡ (not approval && awaits before))
+    × ((item : ℕ) → is_for item after ≡ ((approval && awaits before) || is_for item before))
+
+heard_one : (m : ReaderMsg) (sale : Sale) → HeardAs (is_approval m) sale (sale_heard m sale)
+heard_one messages.JustReset Awaited = (refl, λ item. refl)
+heard_one messages.JustReset sale = (refl, λ item. refl)
+heard_one messages.VendDenied Awaited = (refl, λ item. refl)
+heard_one messages.VendDenied sale = (refl, λ item. refl)
+heard_one (messages.VendApproved amount) Awaited = (refl, λ item. refl)
+heard_one (messages.VendApproved amount) sale = (refl, λ item. refl)
+heard_one m sale = (refl, λ item. refl)
+
+deaf : (a b c : Bool) → (not b && (not a && c)) ≡ (not (a || b) && c)
+deaf true true c = refl
+deaf true false c = refl
+deaf false b c = refl
+
+approves_first : (a b c d : Bool)
+    → ((b && (not a && c)) || ((a && c) || d)) ≡ (((a || b) && c) || d)
+approves_first true true c d = refl
+approves_first true false c d = refl
+approves_first false b c d = refl
+
+heard_all : (told : List ReaderMsg) (sale : Sale)
+    → HeardAs (list_any is_approval told) sale (sale_all_heard told sale)
+heard_all [] sale = (refl, λ item. refl)
+heard_all (m ∷ told) sale =
+    let one = heard_one m sale in
+    let rest = heard_all told (sale_heard m sale) in
+    let any = list_any is_approval told in (
+      rest.0 ∙ ap (λ b. not any && b) one.0 ∙ deaf (is_approval m) any (awaits sale),
+      λ item.
+          rest.1 item ∙ ap (λ b. (any && b) || is_for item (sale_heard m sale)) one.0
+          ∙ ap (λ b. (any && (not (is_approval m) && awaits sale)) || b) (one.1 item)
+          ∙ approves_first (is_approval m) any (awaits sale) (is_for item sale),
+    )
+
+-- what a command makes of it that the controller asks
+absorb : (a b : Bool) → a ≡ (a && (a || b))
+absorb true b = refl
+absorb false b = refl
+
+asked : (command : Option ReaderCommand) (sale : Sale)
+    → (awaits (sale_asked command sale)
+    ≡ (is_request (own_transaction command) || (leaves_asked Cancel command && awaits sale)))
+    × ((item : ℕ) → is_for item (sale_asked command sale)
+    ≡ (leaves_asked (Success item) command && (sells_by item command || is_for item sale)))
+asked (Some reader.VendCancel) Awaited = (refl, λ item. refl)
+asked (Some reader.VendCancel) sale = (refl, λ item. refl)
+asked (Some (reader.VendSuccess last)) sale =
+    (refl, λ item. absorb (item == last) (is_for item sale))
+asked (Some command) sale = (refl, λ item. refl)
+asked None sale = (refl, λ item. refl)
+
+never : (b : Bool) → (b ≡ true → ⊥) → not b ≡ true
+never true none = absurd (none refl)
+never false none = refl
+
+always : (a b : Bool) → (a || (b || true)) ≡ true
+always true b = refl
+always false true = refl
+always false false = refl
+
+module _ (unit : ReaderUnit) where
+  -- what an act makes of the sale under way
+  abbrev opens : Act → Bool → Bool
+  opens act before = asks_request unit act
+      || (leaves_sale unit Cancel act && (not (hears_approval unit act) && before))
+
+  after_act : (act : Act) (facts : Facts) → let after = facts_after unit act facts in
+      (awaits after.sale ≡ opens act (awaits facts.sale))
+      × ((item : ℕ) → is_for item after.sale ≡ ((hears_approval unit act && awaits facts.sale)
+      || (leaves_sale unit (Success item) act && (sells unit item act || is_for item facts.sale))))
+      × (after.earlier ≡ (not (asks_request unit act) && facts.earlier))
+  after_act (acts.Ask command) facts =
+      let is = asked (own unit command) facts.sale in (is.0, is.1, refl)
+  after_act (acts.VmcAck command reply) facts =
+      let is = heard_all (own_messages unit command (messages_of reply)) facts.sale in (
+        is.0,
+        is.1,
+        refl,
+      )
+  after_act (acts.Break length) facts = (refl, λ item. refl, refl)
+  after_act act facts = (refl, λ item. refl, refl)
+
+  -- the acts that are VEND SUCCESS of an item, and VEND REQUEST
+  sells_is : (item : ℕ) (act : Act) → sells unit item act ≡ true
+      → act ≡ acts.Ask (commands.Reader unit (reader.VendSuccess item))
+  sells_is item (acts.Ask command) is =
+      ap acts.Ask (own_is unit command (reader.VendSuccess item) (by (own unit command) is))
+    where
+      by : (found : Option ReaderCommand) → sells_by item found ≡ true
+          → found ≡ Some (reader.VendSuccess item)
+      by (Some (reader.VendSuccess last)) is =
+          ap (λ i. Some (reader.VendSuccess i)) (sym (eqb-true item last is))
+      by found is = absurd cc
+  sells_is item act is = absurd cc
+
+  requests_is : (act : Act) → asks_request unit act ≡ true → (price : ℕ) × (item : ℕ)
+      × (act ≡ acts.Ask (commands.Reader unit (reader.VendRequest price item)))
+  requests_is (acts.Ask command) is = by (own unit command) refl is
+    where
+      by : (found : Option ReaderCommand) → own unit command ≡ found
+          → is_request (own_transaction found) ≡ true → (price : ℕ) × (item : ℕ)
+          × (acts.Ask command ≡ acts.Ask (commands.Reader unit (reader.VendRequest price item)))
+      by (Some (reader.VendRequest price item)) found is =
+          (price, item, ap acts.Ask (own_is unit command (reader.VendRequest price item) found))
+      by found same is = absurd cc
+  requests_is act is = absurd cc
+
+  -- an act that leaves a sale that is approved asks no VEND REQUEST
+  no_request : (item : ℕ) (act : Act) → leaves_sale unit (Success item) act ≡ true
+      → asks_request unit act ≡ false
+  no_request item (acts.Ask command) leaves = by (own unit command) leaves
+    where
+      by : (found : Option ReaderCommand) → leaves_asked (Success item) found ≡ true
+          → is_request (own_transaction found) ≡ false
+      by (Some (reader.VendRequest price number)) leaves = absurd cc
+      by (Some command) leaves = refl
+      by None leaves = refl
+  no_request item act leaves = refl
+
+-- whether a sale may have been requested before the recording
+to_earlier : (unit : ReaderUnit) (begins : Beginning) (so_far : List Act)
+    → MayBeRequestedBefore begins unit so_far → (facts_of begins unit so_far).earlier ≡ true
+to_earlier unit (PowerOn profile) so_far may = absurd may
+to_earlier unit (Joined setups profile) [] may = refl
+to_earlier unit (Joined setups profile) (act ∷ so_far) may =
+    (after_act unit act (facts_of (Joined setups profile) unit so_far)).2
+    ∙ both_true (never (asks_request unit act) (λ asks.
+    let request = requests_is unit act asks in
+    may request.0 request.1 (zero, omega arith, request.2)))
+    (to_earlier unit (Joined setups profile) so_far (λ price item among.
+    may price item (suc among.0, omega (arith, among.1), among.2)))
+
+from_earlier : (unit : ReaderUnit) (begins : Beginning) (so_far : List Act)
+    → (facts_of begins unit so_far).earlier ≡ true → MayBeRequestedBefore begins unit so_far
+from_earlier unit (PowerOn profile) [] is = absurd cc
+from_earlier unit (PowerOn profile) (act ∷ so_far) is =
+    let after = (after_act unit act (facts_of (PowerOn profile) unit so_far)).2 in
+    from_earlier unit (PowerOn profile) so_far (and_parts _ _ (sym after ∙ is)).1
+from_earlier unit (Joined setups profile) [] is = λ price item among. omega (arith, among.1)
+from_earlier unit (Joined setups profile) (act ∷ so_far) is =
+    let after = (after_act unit act (facts_of (Joined setups profile) unit so_far)).2 in
+    let parts = and_parts _ _ (sym after ∙ is) in
+    by parts.0 (from_earlier unit (Joined setups profile) so_far parts.1)
+  where
+    by : not (asks_request unit act) ≡ true
+        → MayBeRequestedBefore (Joined setups profile) unit so_far
+        → MayBeRequestedBefore (Joined setups profile) unit (act ∷ so_far)
+    by none before price item (zero, few, same) =
+        let asks : asks_request unit act ≡ true =
+        ap (asks_request unit) same ∙ ap (λ o. is_request (own_transaction o))
+        (own_of_unit unit (reader.VendRequest price item)) in
+        absurd cc
+    by none before price item (suc n, few, same) =
+        before price item (n, omega (arith, few), same)
+
+module _ (unit : ReaderUnit) (begins : Beginning) where
+  abbrev facts : List Act → Facts
+  facts so_far = facts_of begins unit so_far
+
+  opened : (so_far : List Act) → awaits (facts so_far).sale ≡ is_open unit so_far
+  opened [] = elim begins as (λ b. awaits (facts_of b unit []).sale ≡ false) [
+    | PowerOn profile ↦ refl
+    | Joined setups profile ↦ refl
+  ]
+  opened (act ∷ so_far) = (after_act unit act (facts so_far)).0
+      ∙ ap (opens unit act) (opened so_far)
+
+  approved_for : (item : ℕ) (so_far : List Act) → IsApproved unit item so_far
+      → is_for item (facts so_far).sale ≡ true
+  approved_for item [] is = absurd is
+  approved_for item (act ∷ so_far) (inl is) =
+      (after_act unit act (facts so_far)).1 item ∙ rw is.0 (rw (opened so_far ∙ is.2) refl)
+  approved_for item (act ∷ so_far) (inr is) =
+      (after_act unit act (facts so_far)).1 item ∙ rw is.0 (rw (approved_for item so_far is.1)
+      (always _ _))
+
+  -- a sale is approved, or may have been
+  abbrev May : ℕ → List Act → Type 0
+  May item so_far = IsApproved unit item so_far ⊎ MayBeRequestedBefore begins unit so_far
+
+  goes_on : (item : ℕ) (act : Act) (so_far : List Act)
+      → leaves_sale unit (Success item) act ≡ true → May item so_far → May item (act ∷ so_far)
+  goes_on item act so_far leaves (inl is) = inl (inr (leaves, is))
+  goes_on item act so_far leaves (inr may) = inr (from_earlier unit begins (act ∷ so_far)
+      ((after_act unit act (facts so_far)).2 ∙ rw (no_request unit item act leaves) (to_earlier
+      unit begins so_far may)))
+
+  for_approved : (item : ℕ) (so_far : List Act) → AcksAreOfReplies so_far
+      → SalesAreApproved begins unit so_far → is_for item (facts so_far).sale ≡ true
+      → May item so_far
+  for_approved item [] acks sales is =
+      absurd (elim begins as (λ b. is_for item (facts_of b unit []).sale ≡ true → ⊥) [
+        | PowerOn profile ↦ λ never. cc
+        | Joined setups profile ↦ λ never. cc
+      ] is)
+  for_approved item (act ∷ so_far) acks sales is =
+      elim (or_cases _ _ (sym ((after_act unit act (facts so_far)).1 item) ∙ is)) [
+        | inl heard ↦
+            let parts = and_parts _ _ heard in
+            inl (inl (parts.0, acks.0, sym (opened so_far) ∙ parts.1))
+        | inr left ↦
+            let parts = and_parts _ _ left in
+            goes_on item act so_far parts.0 (elim (or_cases _ _ parts.1) [
+              | inl sold ↦ sales [] so_far item
+                  (ap (λ (a : Act). a ∷ so_far) (sells_is unit item act sold))
+              | inr before ↦ for_approved item so_far acks.1 (λ later rest number order.
+                  sales (act ∷ later) rest number (ap (λ (l : List Act). act ∷ l) order)) before
+            ])
+      ]
+
+  -- where VEND SUCCESS may be asked, its sale is approved, or may have been requested before
+  pub may_be_told : (so_far : List Act) (item worth : ℕ) → AcksAreOfReplies so_far
+      → SalesAreApproved begins unit so_far
+      → MaySell (facts so_far) item (facts so_far).sale worth → May item so_far
+  may_be_told so_far item worth acks sales may =
+      elim (by (facts so_far).sale may (known_or_earlier begins unit so_far)) [
+        | inl is ↦ for_approved item so_far acks sales is
+        | inr is ↦ inr (from_earlier unit begins so_far is)
+      ]
+    where
+      by : (s : Sale) → MaySell (facts so_far) item s worth
+          → (is_sale_known s || (facts so_far).earlier) ≡ true
+          → (is_for item s ≡ true) ⊎ ((facts so_far).earlier ≡ true)
+      by Unknown may known = inr known
+      by Unawaited may known = inr known
+      by (Approved amount) may known = inl refl
+      by (Sold last) (inl same) known = inl (eq-eqb item last (sym same.0))
+      by (Sold last) (inr other) known = inr other.1.0
+      by s may known = inr may.0
+
+  -- where it is, VEND SUCCESS may be asked
+  pub is_told : (so_far : List Act) (item : ℕ) → May item so_far
+      → (worth : ℕ) × MaySell (facts so_far) item (facts so_far).sale worth
+  is_told so_far item (inl is) = by (facts so_far).sale (approved_for item so_far is)
+    where
+      by : (s : Sale) → is_for item s ≡ true → (worth : ℕ) × MaySell (facts so_far) item s worth
+      by (Approved amount) is = (_, refl)
+      by (Sold last) is = (0, inl (sym (eqb-true item last is), refl))
+      by s is = absurd cc
+  is_told so_far item (inr may) = by (facts so_far).sale
+    where
+      earlier : (worth : ℕ) × IsEarlier (facts so_far) worth
+      earlier = (_, (to_earlier unit begins so_far may, refl))
+
+      by : (s : Sale) → (worth : ℕ) × MaySell (facts so_far) item s worth
+      by Unknown = (0, inl refl)
+      by Unawaited = (0, inl refl)
+      by (Approved amount) = (_, refl)
+      by (Sold last) = elim (eqb_tells last item) [
+        | inl same ↦ (0, inl (same.1, refl))
+        | inr other ↦ (earlier.0, inr (other.1, earlier.1))
+      ]
+      by s = earlier
+
+-- a sale that is approved so is one by the papers' law
+module _ (unit : ReaderUnit) where
+  leaves : (may : Transaction) (May : Transaction → Type 0) (act : Act)
+      → leaves_sale unit may act ≡ true
+      → ((t : Transaction) → is_same may t ≡ true → May t) → LeavesSale unit May act
+  leaves may May (acts.Ask command) is all = by (own unit command) is
+    where
+      by : (found : Option ReaderCommand) → leaves_asked may found ≡ true
+          → (found ≢ Some reader.Reset) × ((t : Transaction) → own_transaction found ≡ Some t
+          → May t)
+      by (Some reader.Reset) is = absurd cc
+      by (Some command) is = (
+        λ same. absurd cc,
+        λ t sent. all t (subst (λ o. option_map_or (is_same may) o true ≡ true) sent is),
+      )
+      by None is = (λ same. absurd cc, λ t sent. absurd cc)
+  leaves may May (acts.Break length) is all = absurd cc
+  leaves may May act is all = tt
+
+  is_cancel : (t : Transaction) → is_same Cancel t ≡ true → t ≡ Cancel
+  is_cancel Cancel is = refl
+  is_cancel t is = absurd cc
+
+  is_success : (item : ℕ) (t : Transaction) → is_same (Success item) t ≡ true → t ≡ Success item
+  is_success item (Success last) is = ap Success (sym (eqb-true item last is))
+  is_success item t is = absurd cc
+
+  requested : (so_far : List Act) → is_open unit so_far ≡ true → base.IsRequested unit so_far
+  requested [] is = absurd cc
+  requested (act ∷ so_far) is = elim (or_cases _ _ is) [
+    | inl asks ↦
+        let request = requests_is unit act asks in
+        record {
+          price = request.0;
+          item = request.1;
+          since = [];
+          before = so_far;
+          order = ap (λ (a : Act). a ∷ so_far) request.2;
+          undecided = All-nil _;
+        }
+    | inr stays ↦
+        let parts = and_parts _ _ stays in
+        still_requested unit act so_far (requested so_far (and_parts _ _ parts.1).1)
+        (leaves Cancel _ act parts.0 (λ t same. inr (is_cancel t same)))
+  ]
+
+  abbrev Repeats : Command → Reply → Act → Type 0
+  Repeats command reply act = (act ≡ acts.VmcRet command reply) ⊎ (act ≡ acts.Repeat command reply)
+
+  replied : (command : Command) (reply : Reply) (again before : List Act)
+      → All (Repeats command reply) again
+      → is_open unit (again ++ (acts.Reply command reply ∷ before)) ≡ is_open unit before
+  replied command reply [] before all = refl
+  replied command reply (act ∷ again) before all =
+      let rest = again ++ (acts.Reply command reply ∷ before) in
+      let same : is_open unit (act ∷ rest) ≡ is_open unit rest =
+      elim (All-head (Repeats command reply) act again all) [
+        | inl is ↦ ap (λ (a : Act). is_open unit (a ∷ rest)) is
+        | inr is ↦ ap (λ (a : Act). is_open unit (a ∷ rest)) is
+      ] in
+      same ∙ replied command reply again before (All-tail (Repeats command reply) act again all)
+
+  approval_in : (told : List ReaderMsg) → list_any is_approval told ≡ true
+      → (amount : ℕ) × Contains told (messages.VendApproved amount)
+  approval_in told some =
+      let one = Any-from_list_any is_approval told some in
+      let is = by one.1 one.4 in
+      (is.0, subst (Contains told) is.1 (one.0, one.2, one.3))
+    where
+      by : (m : ReaderMsg) → is_approval m ≡ true → (amount : ℕ) × (m
+          ≡ messages.VendApproved amount)
+      by (messages.VendApproved amount) is = (amount, refl)
+      by m is = absurd cc
+
+  pub approved : (item : ℕ) (so_far : List Act) → IsApproved unit item so_far
+      → base.IsApproved unit item so_far
+  approved item [] is = absurd is
+  approved item (acts.VmcAck command reply ∷ so_far) (inl is) = by (own unit command) refl is.0
+    where
+      by : (found : Option ReaderCommand) → own unit command ≡ found
+          → list_any is_approval (elim found [ Some c ↦ messages_of reply | None ↦ [] ]) ≡ true
+          → base.IsApproved unit item (acts.VmcAck command reply ∷ so_far)
+      by None found hears = absurd cc
+      by (Some its) found hears =
+          let same = own_is unit command its found in
+          let ends = subst (λ (c : Command). base.EndsInReply c reply so_far) same is.1 in
+          let approval = approval_in (messages_of reply) hears in
+          record {
+            command = its;
+            reply = reply;
+            amount = approval.0;
+            since = [];
+            before = so_far;
+            order = ap (λ (c : Command). acts.VmcAck c reply ∷ so_far) same;
+            unsold = All-nil _;
+            replied = ends;
+            approves = approval.1;
+            requested = requested ends.before (sym (replied (commands.Reader unit its) reply
+                ends.again ends.before ends.repeats)
+                ∙ ap (is_open unit) (sym ends.order) ∙ is.2);
+          }
+  approved item (act ∷ so_far) (inl is) = absurd cc
+  approved item (act ∷ so_far) (inr is) =
+      still_approved unit item act so_far (approved item so_far is.1)
+      (leaves (Success item) _ act is.0 (is_success item))

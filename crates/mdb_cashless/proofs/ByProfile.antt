@@ -1,0 +1,248 @@
+-- Steps of a reader by either profile, from the steps by its own.
+use Rattle.std.specs.Prelude.{IfSome, IsSomeAnd}
+use Rattle.std.specs.List.{Contains}
+use Rattle.std.specs.Option.{option_map}
+use Rattle.std.proofs.Common.{◌≡◌, ◌↔◌, ℕ, List, [], ◌∷◌, Option, Some, None, refl, ap, subst, sym, ◌∙◌, arith, inl, inr}
+use Rattle.std.proofs.lemmas.List.Elements.{Contains-push, Contains-push_cases}
+use Rattle.mdb_msgs.specs.declared.command.ReaderUnit.{ReaderUnit}
+use Rattle.mdb_bus.specs.declared.act.Act.{Act}
+use Rattle.mdb_bus.specs.declared.act.Act.TheVariants.{Break}
+use Rattle.mdb_bus.specs.declared.scope.Beginning.{Beginning}
+use Rattle.mdb_bus.specs.declared.scope.Profile.{Profile}
+use Rattle.mdb_bus.specs.declared.scope.Profile.TheVariants as profiles
+use Rattle.mdb_bus.specs.Scopes.{profile_of}
+use Rattle.mdb_machine.specs.declared.choice.Choice.{Choice}
+use Rattle.mdb_machine.specs.declared.choice.Choice.TheVariants.{Plain}
+use Rattle.mdb_machine.specs.declared.gains.Gains.{Gains}
+use Rattle.mdb_machine.specs.Gains.{Stays, no_gains}
+use Rattle.mdb_machine.specs.Machine.{Machine}
+use Rattle.mdb_machine.specs.Pair.{IsOnlyStep, IsStep}
+use Rattle.mdb_machine.proofs.StepCodes.{AreCoded}
+use Rattle.mdb_cashless.specs.declared.approvals.state.ApprovalState.{ApprovalState}
+use Rattle.mdb_cashless.specs.declared.by_profile.facts.KnownByProfile.{KnownByProfile}
+use Rattle.mdb_cashless.specs.declared.by_profile.facts.KnownByProfile.TheVariants as values
+use Rattle.mdb_cashless.specs.declared.by_profile.state.StateByProfile.{StateByProfile}
+use Rattle.mdb_cashless.specs.declared.by_profile.state.StateByProfile.TheVariants.{Base, Extended}
+use Rattle.mdb_cashless.specs.declared.reader.state.ReaderState.{ReaderState}
+use Rattle.mdb_cashless.specs.ByProfile.{StepOf, base_state, by_base, by_extended, by_profile, extended_state, facts_of, known_in, machine, machine_in, strayed}
+use Rattle.mdb_cashless.specs.ExtendedFacts as extended_facts
+use Rattle.mdb_cashless.specs.ExtendedReader as extended
+use Rattle.mdb_cashless.specs.Reader as base
+use Rattle.mdb_cashless.specs.ReaderFacts as base_facts
+use Rattle.mdb_cashless.specs.shared.ByProfileCodes.{apart, code_of}
+use Rattle.mdb_cashless.specs.shared.ByProfileWays.{IsPart, base_part, extended_part, goes, of_each, power_on_in, still}
+
+-- what is known is of the profile
+pub is_base : (profile : Profile) {known its : base_facts.KnownFacts}
+    (facts : extended_facts.Facts)
+    → by_base known ≡ by_profile profile (by_base its) (by_extended facts)
+    → (profile ≡ profiles.Base) × (known ≡ its)
+is_base profiles.Base facts same = (refl, cc)
+is_base profiles.Extended facts same = absurd cc
+
+pub is_extended : (profile : Profile) {facts its : extended_facts.Facts}
+    (known : base_facts.KnownFacts)
+    → by_extended facts ≡ by_profile profile (by_base known) (by_extended its)
+    → (profile ≡ profiles.Extended) × (facts ≡ its)
+is_extended profiles.Base known same = absurd cc
+is_extended profiles.Extended known same = (refl, cc)
+
+-- a state that is none of the machine that is known of
+abbrev pub IsStray : KnownByProfile → StateByProfile → Type 0
+IsStray (values.Base known) before = base_state before ≡ None
+IsStray (values.Extended facts) before = extended_state before ≡ None
+
+module _ {State : Type 0} (its_state : StateByProfile → Option State) (part : IsPart its_state)
+    (power_on : StateByProfile) (machine : Machine State) (so_far : List Act) (act : Act)
+    (choice : Choice) where
+  abbrev Step : State → State → Gains → Type 0
+  Step = machine.Step so_far act choice
+
+  abbrev StepIn : StateByProfile → StateByProfile → Gains → Type 0
+  StepIn = (machine_in its_state power_on machine).Step so_far act choice
+
+  abbrev StepFrom : State → StateByProfile → Gains → Option State → Type 0
+  StepFrom its after gains two =
+      StepOf Step (Stays (strayed power_on act (part.into its)) after gains) (Some its) two gains
+
+  pub no_step : (its : State) (after : StateByProfile) (gains : Gains)
+      → ((to : State) (gains : Gains) → Step its to gains → ⊥)
+      → StepIn (part.into its) after gains → ⊥
+  no_step its after gains none = rw (part.again its) (by (its_state after))
+    where
+      by : (two : Option State) → StepFrom its after gains two → ⊥
+      by (Some to) step = none to gains step
+      by None step = step
+
+  -- its steps are those of the machine
+  pub only_step : (its : State) (found : Option (State × Gains)) → IsOnlyStep (Step its) found
+      → IsOnlyStep (StepIn (part.into its)) (option_map (λ step. (part.into step.0, step.1)) found)
+  only_step its None none = λ after gains. no_step its after gains none
+  only_step its (Some one) only = rw (part.again its) (
+    rw (part.again one.0) only.0,
+    λ after gains.
+        by after gains (its_state after) refl,
+  )
+    where
+      by : (after : StateByProfile) (gains : Gains) (two : Option State) → its_state after ≡ two
+          → StepFrom its after gains two
+          → (after ≡ part.into one.0) × (gains ≡ one.1)
+      by after gains (Some to) gone step =
+          let same = only.1 to gains step in
+          (part.only after to gone ∙ ap part.into same.0, same.1)
+      by after gains None gone step = absurd step
+
+  -- Steps by codes: those of the machine have a place among all.
+  pub placed_steps : (its_code : State → ℕ) (place : ℕ → ℕ)
+      → ((its : State) → code_of (part.into its) ≡ place (its_code its)) → (its : State)
+      (code all : ℕ) → its_code its ≡ code → all ≡ place code → (steps coded : List (ℕ × Gains))
+      → AreCoded place steps coded
+      → ((next : ℕ) (gains : Gains) → Contains steps (next, gains)
+      ↔ IsStep its_code Step code next gains)
+      → (next : ℕ) (gains : Gains) → Contains coded (next, gains)
+      ↔ IsStep code_of StepIn all next gains
+  placed_steps its_code place placed its code all of of_all steps coded are_placed are next gains =
+      (forth, back)
+    where
+      forth : Contains coded (next, gains) → IsStep code_of StepIn all next gains
+      forth has =
+          let found = (are_placed next gains).0 has in
+          let is = (are found.0 gains).0 found.2 in
+          record {
+            before = part.into is.before;
+            after = part.into is.after;
+            starts = placed is.before ∙ ap place is.starts ∙ sym of_all;
+            ends = placed is.after ∙ ap place is.ends ∙ found.1;
+            step = rw (part.again is.before, part.again is.after) is.step;
+          }
+
+      by : (after : StateByProfile) (two : Option State) → its_state after ≡ two
+          → code_of after ≡ next → StepFrom its after gains two → Contains coded (next, gains)
+      by after (Some to) gone ends step = (are_placed next gains).1 (
+        its_code to,
+        sym (placed to) ∙ ap code_of (sym (part.only after to gone)) ∙ ends,
+        (are (its_code to) gains).1
+            (record { before = its; after = to; starts = of; ends = refl; step = step }),
+      )
+      by after None gone ends step = absurd step
+
+      back : IsStep code_of StepIn all next gains → Contains coded (next, gains)
+      back is =
+          let same =
+          apart is.before (part.into its) (is.starts ∙ of_all ∙ ap place (sym of)
+          ∙ sym (placed its)) in
+          by is.after (its_state is.after) refl is.ends
+          (rw (← part.again its) (subst (λ before. StepIn before is.after gains) same is.step))
+
+-- what holds of a state by both machines, for each profile
+module _ (unit : ReaderUnit) (begins : Beginning) (so_far : List Act) (act : Act) where
+  abbrev pub BaseStep : Choice → ReaderState → ReaderState → Gains → Type 0
+  BaseStep = (base.machine unit begins).Step so_far act
+
+  abbrev pub ExtendedStep : Choice → ApprovalState → ApprovalState → Gains → Type 0
+  ExtendedStep = (extended.machine unit begins).Step so_far act
+
+  -- one in which it stays
+  pub stays_by : (choice : Choice) (before after : StateByProfile) (gains : Gains)
+      → ((length : ℕ) → act ≡ Break length → ⊥)
+      → IfSome (base_state before)
+      (λ its. (to : ReaderState) → BaseStep choice its to gains ↔ Stays its to gains)
+      → IfSome (extended_state before)
+      (λ its. (to : ApprovalState) → ExtendedStep choice its to gains ↔ Stays its to gains)
+      → (machine unit begins).Step so_far act choice before after gains ↔ Stays before after gains
+  stays_by choice before after gains other one two =
+      of_each (λ (its : Machine StateByProfile). its.Step so_far act choice before after gains
+      ↔ Stays before after gains) (profile_of begins)
+      (still base_state base_part (BaseStep choice) (Base base.power_on) act before after gains
+      other one)
+      (still extended_state extended_part (ExtendedStep choice) (Extended extended.power_on) act
+      before after gains other two)
+
+  -- one from which a choice leads as the plain one
+  pub plain_by : (choice : Choice) (before after : StateByProfile) (gains : Gains)
+      → IfSome (base_state before)
+      (λ its. (to : ReaderState) → BaseStep choice its to gains → BaseStep Plain its to gains)
+      → IfSome (extended_state before) (λ its. (to : ApprovalState)
+      → ExtendedStep choice its to gains → ExtendedStep Plain its to gains)
+      → (machine unit begins).Step so_far act choice before after gains
+      → (machine unit begins).Step so_far act Plain before after gains
+  plain_by choice before after gains one two =
+      of_each (λ (its : Machine StateByProfile). its.Step so_far act choice before after gains
+      → its.Step so_far act Plain before after gains) (profile_of begins)
+      (goes (BaseStep choice) (BaseStep Plain) _ (base_state before) (base_state after) gains one)
+      (goes (ExtendedStep choice) (ExtendedStep Plain) _ (extended_state before)
+      (extended_state after) gains two)
+
+  -- a step of one of the machines
+  pub base_step : (choice : Choice) (its : ReaderState) (found : Option (ReaderState × Gains))
+      {known : base_facts.KnownFacts} → by_base known ≡ facts_of begins unit so_far
+      → (known ≡ base_facts.known_of begins unit so_far → IsOnlyStep (BaseStep choice its) found)
+      → IsOnlyStep ((machine unit begins).Step so_far act choice (Base its))
+      (option_map (λ step. (Base step.0, step.1)) found)
+  base_step choice its found stands each =
+      let is = is_base (profile_of begins) _ stands in
+      rw is.0 (only_step base_state base_part (Base base.power_on) (base.machine unit begins) so_far
+      act choice its found (each is.1))
+
+  pub extended_step : (choice : Choice) (its : ApprovalState)
+      (found : Option (ApprovalState × Gains)) {facts : extended_facts.Facts}
+      → by_extended facts ≡ facts_of begins unit so_far
+      → (facts ≡ extended_facts.facts_of begins unit so_far
+      → IsOnlyStep (ExtendedStep choice its) found)
+      → IsOnlyStep ((machine unit begins).Step so_far act choice (Extended its))
+      (option_map (λ step. (Extended step.0, step.1)) found)
+  extended_step choice its found stands each =
+      let is = is_extended (profile_of begins) _ stands in
+      rw is.0 (only_step extended_state extended_part (Extended extended.power_on)
+      (extended.machine unit begins) so_far act choice its found (each is.1))
+
+  -- and one from a state of the other
+  pub stray_step : (choice : Choice) (known : KnownByProfile) (before : StateByProfile)
+      → IsStray known before → known_in known ≡ facts_of begins unit so_far
+      → (after : StateByProfile) (gains : Gains)
+      → (machine unit begins).Step so_far act choice before after gains
+      ↔ Stays (strayed (power_on_in known) act before) after gains
+  stray_step choice (values.Base known) before stray stands after gains =
+      rw ((is_base (profile_of begins) _ stands).0, stray) (λ step. step, λ step. step)
+  stray_step choice (values.Extended facts) before stray stands after gains =
+      rw ((is_extended (profile_of begins) _ stands).0, stray) (λ step. step, λ step. step)
+
+-- the one step from a state, by codes
+pub one_step : (From : StateByProfile → StateByProfile → Gains → Type 0)
+    (before to : StateByProfile) (code : ℕ) → code_of before ≡ code
+    → ((after : StateByProfile) (gains : Gains) → From before after gains ↔ Stays to after gains)
+    → (next : ℕ) (gains : Gains)
+    → Contains {X = ℕ × Gains} ((code_of to, no_gains) ∷ []) (next, gains)
+    ↔ IsStep code_of From code next gains
+one_step From before to code starts each next gains =
+    let one : ℕ × Gains = (code_of to, no_gains) in (
+      λ has. elim (Contains-push_cases [] one (next, gains) has) [
+        | inl none ↦ absurd (omega (arith, none.1))
+        | inr same ↦ record {
+          before = before;
+          after = to;
+          starts = starts;
+          ends = ap (λ (p : ℕ × Gains). p.0) same;
+          step = (each to gains).1 (refl, sym (ap (λ (p : ℕ × Gains). p.1) same));
+        }
+      ],
+      λ is.
+          let same = apart is.before before (is.starts ∙ sym starts) in
+          let found = (each is.after gains).0 (subst (λ b. From b is.after gains) same is.step) in
+          rw (← is.ends, found.0, found.1) (Contains-push [] one),
+    )
+
+-- the one state in which each starts at power-on
+pub alone_base : {Starts : ReaderState → Type 0} (one : ReaderState)
+    → ((state : ReaderState) → Starts state ↔ (state ≡ one)) → (state : StateByProfile)
+    → IsSomeAnd (base_state state) Starts ↔ (state ≡ Base one)
+alone_base one is (Base state) =
+    (λ starts. ap Base ((is state).0 starts), λ same. (is state).1 (cc same))
+alone_base one is (Extended state) = (λ none. absurd none, λ same. absurd (cc same))
+
+pub alone_extended : {Starts : ApprovalState → Type 0} (one : ApprovalState)
+    → ((state : ApprovalState) → Starts state ↔ (state ≡ one)) → (state : StateByProfile)
+    → IsSomeAnd (extended_state state) Starts ↔ (state ≡ Extended one)
+alone_extended one is (Base state) = (λ none. absurd none, λ same. absurd (cc same))
+alone_extended one is (Extended state) =
+    (λ starts. ap Extended ((is state).0 starts), λ same. (is state).1 (cc same))

@@ -1,0 +1,14 @@
+use Rattle.std.proofs.Common.{◌≡◌, ◌≤◌, ◌++◌, length}
+use Rattle.arrayvec.specs.ArrayVec.{array_vec_len}
+use Rattle.mdb_cashless.specs.ExtendedFacts.{approvals_in}
+use Rattle.mdb_cashless.proofs.approvals.facts.approvals.Given as goal
+
+abbrev pub invariant-loop-message : goal.invariant-loop-message
+invariant-loop-message l =
+    record {
+      next : (goal.iterator-loop-message).can_next l.message-iterator;
+      finite : (goal.iterator-loop-message).is_finite l.message-iterator;
+      all : l.fn.messages ≡ l.yielded ++ l.message-iterator;
+      list : l.list.items ++ approvals_in l.message-iterator ≡ approvals_in l.fn.messages;
+      room : array_vec_len l.list ≤ length l.yielded;
+    }

@@ -1,0 +1,11 @@
+use Rattle.std.proofs.Common.{◌≡◌}
+use Rattle.mdb_cashless.specs.ExtendedFacts.{sale_all_heard}
+use Rattle.mdb_cashless.proofs.approvals.sale.Sale.all_heard.Given as goal
+
+abbrev pub invariant-loop-message : goal.invariant-loop-message
+invariant-loop-message l =
+    record {
+      next : (goal.iterator-loop-message).can_next l.message-iterator;
+      finite : (goal.iterator-loop-message).is_finite l.message-iterator;
+      sale : sale_all_heard l.message-iterator l.sale ≡ sale_all_heard l.fn.messages l.fn.self;
+    }

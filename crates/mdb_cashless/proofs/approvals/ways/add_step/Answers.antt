@@ -1,0 +1,15 @@
+use Rattle.std.proofs.Common.{inl, inr, subst}
+use Rattle.std.specs.List.{Contains}
+use Rattle.std.proofs.lemmas.List.Elements.{Contains-push_cases}
+use Rattle.mdb_machine.specs.declared.gains.Gains.{Gains}
+use Rattle.mdb_machine.specs.Gains.{IsSmall}
+use Rattle.mdb_cashless.specs.declared.approvals.state.ApprovalState.{ApprovalState}
+use Rattle.mdb_cashless.proofs.approvals.ways.add_step.Goals as goal
+
+pub returns-in-Some-clause-small : goal.returns-in-Some-clause-small
+returns-in-Some-clause-small c were after gains among =
+    elim (Contains-push_cases c.args.steps.now.items c.in-Some.step (after, gains)
+    (subst (λ l. Contains l (after, gains)) c.push.ensures.items among)) [
+      | inl old ↦ were after gains old
+      | inr same ↦ subst (λ (s : ApprovalState × Gains). IsSmall s.1) same c.in-Some.ensures.small
+    ]

@@ -1,0 +1,12 @@
+use Rattle.std.proofs.Common.{◌+◌, ◌≤◌, take}
+use Rattle.arrayvec.specs.ArrayVec.{array_vec_len}
+use Rattle.mdb_cashless.specs.declared.reader.state.TheConstants.{READER_STATES}
+use Rattle.mdb_machine.proofs.StepCodes.{AreCoded}
+use Rattle.mdb_cashless.proofs.by_profile.raised.Given as goal
+
+abbrev pub invariant-loop-code : goal.invariant-loop-code
+invariant-loop-code l =
+    record {
+      codes : AreCoded (λ code. READER_STATES + code) (take l.code-index l.steps) l.raised.items;
+      room : array_vec_len l.raised ≤ l.code-index;
+    }

@@ -1,0 +1,526 @@
+-- What a reader does in the course of a recording, it may do in the end of that by itself, by the
+-- extended profile. Lists of acts stand newest first.
+use Rattle.std.proofs.Common.{◌≡◌, ◌⊎◌, ℕ, ◌+◌, Bool, true, false, not, ◌&&◌, ◌||◌, List, [], ◌∷◌, ◌++◌, Option, Some, None, drop, length, if◌then◌else◌, unwrap_or, refl, inl, inr, arith, ap, sum_by, sym, subst, ◌∙◌}
+use Rattle.std.specs.Option.{is_none}
+use Rattle.std.proofs.Math.Seq.{drop-nil}
+use Rattle.mdb_msgs.specs.declared.command.Command.{Command}
+use Rattle.mdb_msgs.specs.declared.command.ReaderCommand.{ReaderCommand}
+use Rattle.mdb_msgs.specs.declared.command.ReaderCommand.TheVariants as reader
+use Rattle.mdb_msgs.specs.declared.command.ReaderUnit.{ReaderUnit}
+use Rattle.mdb_msgs.specs.declared.reply.Reply.{Reply}
+use Rattle.mdb_msgs.specs.declared.reply.reader.ReaderMsg.{ReaderMsg}
+use Rattle.mdb_msgs.specs.declared.reply.reader.ReaderMsg.TheVariants as messages
+use Rattle.mdb_msgs.specs.declared.setups.ReaderConfig.{ReaderConfig}
+use Rattle.mdb_msgs.specs.declared.setups.Setups.{Setups}
+use Rattle.mdb_msgs.specs.Setups.{config_known}
+use Rattle.mdb_bus.specs.declared.act.Act.{Act}
+use Rattle.mdb_bus.specs.declared.act.Act.TheVariants as acts
+use Rattle.mdb_bus.specs.declared.scope.Beginning.{Beginning}
+use Rattle.mdb_bus.specs.declared.scope.Beginning.TheVariants.{PowerOn, Joined}
+use Rattle.mdb_bus.specs.Scopes.{profile_of}
+use Rattle.mdb_machine.specs.declared.choice.Choice.{Choice}
+use Rattle.mdb_machine.specs.declared.choice.Choice.TheVariants.{Again}
+use Rattle.mdb_machine.specs.declared.gains.Gains.{Gains}
+use Rattle.mdb_machine.specs.Gains.{controller_gains, device_gains, in_slots}
+use Rattle.mdb_machine.specs.Known.{Known, known_before}
+use Rattle.mdb_machine.specs.Past.{last_told, or_else, tells_out_of_sequence}
+use Rattle.mdb_machine.specs.PastValues.{known_more}
+use Rattle.mdb_machine.specs.Unvalued as amounts
+use Rattle.mdb_machine.specs.Unvalued.{one_if}
+use Rattle.mdb_cashless.specs.declared.approvals.sale.Sale.{Sale}
+use Rattle.mdb_cashless.specs.declared.approvals.sale.Sale.TheVariants.{Unknown, Unawaited, Nothing, Awaited, Asked, Approved, Sold}
+use Rattle.mdb_cashless.specs.declared.approvals.state.ApprovalState.{ApprovalState}
+use Rattle.mdb_cashless.specs.ExtendedFacts.{Facts, approvals_in, facts_after, facts_of}
+use Rattle.mdb_cashless.specs.ExtendedReader.{AckStep, AskStep, IsEarlier, MayAsk, MaySell, ReaderStep, ReplyStep, VmcAckStep, approved_to, last_value, may_be_again, may_be_either, news, read, sold, sold_by, unvalued, unvalued_by, worth}
+use Rattle.mdb_cashless.specs.Reader as base
+use Rattle.mdb_cashless.specs.Reader.{asks_sale, value}
+use Rattle.mdb_cashless.specs.ReaderFacts.{amount_by, config_by, known_of, messages_by, own_messages}
+use Rattle.mdb_cashless.specs.ReaderMessages.{messages_of}
+use Rattle.mdb_cashless.specs.Units.{own}
+use Rattle.mdb_cashless.specs.shared.ReaderWays.{first_of_three}
+use Rattle.mdb_machine.specs.Choices.{is_approval}
+use Rattle.mdb_late_start.specs.MidSession.{IsNothingOr}
+use Rattle.mdb_late_start.proofs.Covering.{Covers as IsKnownToo}
+use Rattle.mdb_late_start.proofs.Keepers.{AlsoSteps, allowed_end, as_same, by_own}
+use Rattle.mdb_late_start.proofs.ExtendedSales.{IsEarlierSale, IsSaleThere, hears_here, there_asked, there_heard, there_nothing}
+use Rattle.mdb_late_start.proofs.ReaderCovers as covers
+use Rattle.mdb_late_start.proofs.ReaderCovers.{IsCounted}
+use Rattle.mdb_late_start.proofs.ReaderOtherwise.{some_approved}
+use Rattle.mdb_late_start.proofs.ReaderPrices.{AreSaidPriced, IsPriced, IsSalePriced, Prices, approvals, config_with, prices_known, same_prices}
+
+-- the prices after facts
+abbrev pub prices_of : Facts → Prices
+prices_of facts = record { config = facts.config; amount = unwrap_or facts.amount 0 }
+
+-- What is known of a reader in the end is known in the whole, but for the config message and the
+-- amount.
+pub record Covers (here there : Facts) : Type 0 where
+  pub earlier : there.earlier ≡ true → here.earlier ≡ true
+  pub sale : IsSaleThere here.earlier here.sale there.sale
+  pub approvals : IsKnownToo here.approvals there.approvals
+
+-- ---- so it is with each act more
+
+both_earlier : (asks here there : Bool) → (there ≡ true → here ≡ true) → (asks && there) ≡ true
+    → (asks && here) ≡ true
+both_earlier true here there earlier is = earlier is
+both_earlier false here there earlier is = is
+
+known_too : {X : Type 0} (told : Option X) (here there : Known X) → IsKnownToo here there
+    → IsKnownToo (known_more told here) (known_more told there)
+known_too None here there too = too
+known_too (Some x) here there too = refl
+
+module _ (unit : ReaderUnit) where
+  covers_after : (act : Act) (here there : Facts) → Covers here there
+      → Covers (facts_after unit act here) (facts_after unit act there)
+  covers_after (acts.Ask command) here there known = record {
+    earlier = both_earlier _ here.earlier there.earlier known.earlier;
+    sale = there_asked (own unit command) here.earlier here.sale there.sale known.sale;
+    approvals = known.approvals;
+  }
+  covers_after (acts.Reply command reply) here there known = record {
+    earlier = known.earlier;
+    sale = known.sale;
+    approvals = known_too _ here.approvals there.approvals known.approvals;
+  }
+  covers_after (acts.VmcAck command reply) here there known = record {
+    earlier = known.earlier;
+    sale = there_heard (own_messages unit command (messages_of reply)) here.earlier here.sale
+        there.sale known.sale;
+    approvals = known.approvals;
+  }
+  covers_after (acts.Break length) here there known = record {
+    earlier = known.earlier;
+    sale = there_nothing here.earlier;
+    approvals = known.approvals;
+  }
+  covers_after act here there known = known
+
+  -- A sale that isn't approved, where no request was asked, is so again.
+  whole_after : (act : Act) (here there : Facts)
+      → IsSaleThere here.earlier there.sale there.sale
+      → IsSaleThere (facts_after unit act here).earlier (facts_after unit act there).sale
+      (facts_after unit act there).sale
+  whole_after (acts.Ask command) here there is =
+      there_asked (own unit command) here.earlier there.sale there.sale is
+  whole_after (acts.VmcAck command reply) here there is =
+      there_heard (own_messages unit command (messages_of reply)) here.earlier there.sale there.sale
+      is
+  whole_after (acts.Break length) here there is = there_nothing here.earlier
+  whole_after act here there is = is
+
+  -- the config message and the amount are those of the base profile
+  told_after : (act : Act) (facts : Facts)
+      → ((facts_after unit act facts).config ≡ or_else (config_by unit act) facts.config)
+      × ((facts_after unit act facts).amount ≡ or_else (amount_by unit act) facts.amount)
+  told_after (acts.Reply command reply) facts = (refl, refl)
+  told_after act facts = (refl, refl)
+
+  as_base : (begins : Beginning) (so_far : List Act)
+      → ((facts_of begins unit so_far).config ≡ (known_of begins unit so_far).config)
+      × ((facts_of begins unit so_far).amount ≡ last_told (amount_by unit) so_far)
+  as_base (PowerOn profile) [] = (refl, refl)
+  as_base (Joined setups profile) [] = (refl, refl)
+  as_base begins (act ∷ so_far) =
+      let before = as_base begins so_far in
+      let told = told_after act (facts_of begins unit so_far) in (
+        told.0 ∙ ap (or_else (config_by unit act)) before.0
+            ∙ first_of_three (config_by unit act) (last_told (config_by unit) so_far)
+            (known_before (λ setups. config_known setups unit) begins),
+        told.1 ∙ ap (or_else (amount_by unit act)) before.1,
+      )
+
+  prices_are : (begins : Beginning) (so_far : List Act)
+      → prices_of (facts_of begins unit so_far) ≡ prices_known unit begins so_far
+  prices_are begins so_far =
+      let base = as_base begins so_far in
+      same_prices base.0 (ap (λ last. unwrap_or last 0) base.1)
+
+-- ---- messages 05 of a reply
+
+none_in : (said : List ReaderMsg) → approvals said ≡ 0 → approvals_in said ≡ []
+none_in [] none = refl
+none_in (messages.VendApproved amount ∷ said) none = absurd (some_approved amount said none)
+none_in (message ∷ said) none = none_in said (omega (arith, none))
+
+none_new : (choice : Choice) (before : ApprovalState) (last new : List ℕ)
+    → news choice before last [] ≡ Some new → new ≡ []
+none_new Again before last new is = by (may_be_either before last []) is
+  where
+    by : (either : Bool) → (if either then Some [] else None) ≡ Some new → new ≡ []
+    by true is = cc
+    by false is = absurd cc
+none_new choice before last new is =
+    by (may_be_again before last [] && not (may_be_either before last [])) is
+  where
+    by : (again : Bool)
+        → (if again then Some (drop (length last) []) else Some []) ≡ Some new → new ≡ []
+    by true is =
+        let same : drop (length last) [] ≡ new = cc in sym same ∙ drop-nil (length last)
+    by false is = cc
+
+same_new : (here there : Facts) (reply : Reply) (choice : Choice) (before : ApprovalState)
+    (last new : List ℕ) → news choice before last (approvals_in (messages_of reply)) ≡ Some new
+    → AreSaidPriced reply (config_with reply here.config) (config_with reply there.config)
+    → worth here reply new ≡ worth there reply new
+same_new here there reply choice before last new is (inl none) =
+    let nothing : new ≡ [] = none_new choice before last new
+    (sym (ap (news choice before last) (none_in (messages_of reply) none)) ∙ is) in
+    ap (worth here reply) nothing ∙ sym (ap (worth there reply) nothing)
+same_new here there reply choice before last [] is (inr same) = refl
+same_new here there reply choice before last (amount ∷ new) is (inr same) =
+    ap (λ config. value config amount) same
+
+-- where there is none, the controller hears none
+unheard : (config : Option ReaderConfig) (said : List ReaderMsg) → approvals said ≡ 0
+    → approved_to config Awaited said ≡ 0
+unheard config [] none = refl
+unheard config (messages.VendApproved amount ∷ said) none =
+    absurd (some_approved amount said none)
+unheard config (messages.JustReset ∷ said) none = refl
+unheard config (messages.VendDenied ∷ said) none = refl
+unheard config (message ∷ said) none = unheard config said (omega (arith, none))
+
+same_heard : (one other : Option ReaderConfig) (said : List ReaderMsg) (sale : Sale)
+    → (approvals said ≡ 0) ⊎ (one ≡ other)
+    → approved_to one sale said ≡ approved_to other sale said
+same_heard one other said sale (inr same) = ap (λ config. approved_to config sale said) same
+same_heard one other said Awaited (inl none) =
+    unheard one said none ∙ sym (unheard other said none)
+same_heard one other said sale (inl none) = refl
+
+-- ---- each step
+
+module _ (here there : Facts) (known : Covers here there) where
+  -- what is sold has the same value
+  abbrev IsAlike : ReaderCommand → Type 0
+  IsAlike its = IsSalePriced (prices_of here) (prices_of there) its
+
+  -- a sale wasn't approved before the end
+  abbrev pub IsInEnd : Sale → Type 0
+  IsInEnd sale = (here.earlier ≡ false) ⊎ IsEarlierSale sale sale
+
+  -- A sale of an item may be asked in the end, and is worth the same there where that has its
+  -- price.
+  abbrev Sells : ℕ → Sale → Sale → ℕ → Type 0
+  Sells item sale its its_worth =
+      (other : ℕ) × MaySell here item sale other
+      × ((prices_of here ≡ prices_of there) × IsInEnd its → other ≡ its_worth)
+
+  -- one that was requested before the whole
+  before_whole : (its_worth : ℕ) → IsEarlier there its_worth → IsEarlier here (last_value here)
+      × ((prices_of here ≡ prices_of there) → last_value here ≡ its_worth)
+  before_whole its_worth is = (
+    (known.earlier is.0, refl),
+    λ same. ap (λ (p : Prices). value p.config p.amount) same ∙ sym is.1,
+  )
+
+  -- by the same sale
+  sells_same : (item : ℕ) (sale : Sale) (its_worth : ℕ) → MaySell there item sale its_worth
+      → Sells item sale sale its_worth
+  sells_same item (Approved amount) its_worth may = (
+    value here.config amount,
+    refl,
+    λ same. ap (λ (p : Prices). value p.config amount) same.0 ∙ sym may,
+  )
+  sells_same item (Sold last) its_worth (inl may) = (0, inl (may.0, refl), λ same. sym may.1)
+  sells_same item (Sold last) its_worth (inr may) =
+      let is = before_whole its_worth may.1 in
+      (last_value here, inr (may.0, is.0), λ same. is.1 same.0)
+  sells_same item Unknown its_worth (inl may) = (0, inl refl, λ same. sym may)
+  sells_same item Unknown its_worth (inr may) =
+      let is = before_whole its_worth may in (last_value here, inr is.0, λ same. is.1 same.0)
+  sells_same item Unawaited its_worth (inl may) = (0, inl refl, λ same. sym may)
+  sells_same item Unawaited its_worth (inr may) =
+      let is = before_whole its_worth may in (last_value here, inr is.0, λ same. is.1 same.0)
+  sells_same item sale its_worth may =
+      let is = before_whole its_worth may in (last_value here, is.0, λ same. is.1 same.0)
+
+  -- by one that was requested before the end
+  not_approved : {X : Type 0} (amount : ℕ) → here.earlier ≡ true → IsInEnd (Approved amount) → X
+  not_approved amount earlier (inl later) = absurd cc
+  not_approved amount earlier (inr never) = absurd never
+
+  -- by one that isn't known
+  sells_either : (item : ℕ) (its : Sale) (its_worth : ℕ) → here.earlier ≡ true
+      → MaySell there item its its_worth
+      → (other : ℕ) × ((other ≡ 0) ⊎ IsEarlier here other)
+      × ((prices_of here ≡ prices_of there) × IsInEnd its → other ≡ its_worth)
+  sells_either item (Approved amount) its_worth earlier may =
+      (last_value here, inr (earlier, refl), λ same. not_approved amount earlier same.1)
+  sells_either item (Sold last) its_worth earlier (inl may) = (0, inl refl, λ same. sym may.1)
+  sells_either item (Sold last) its_worth earlier (inr may) =
+      let is = before_whole its_worth may.1 in (last_value here, inr is.0, λ same. is.1 same.0)
+  sells_either item Unknown its_worth earlier may = sells_same item Unknown its_worth may
+  sells_either item Unawaited its_worth earlier may = sells_same item Unawaited its_worth may
+  sells_either item its its_worth earlier may =
+      let is = before_whole its_worth may in (last_value here, inr is.0, λ same. is.1 same.0)
+
+  sells : (item : ℕ) (is_earlier : Bool) (sale its : Sale) (its_worth : ℕ)
+      → here.earlier ≡ is_earlier → IsSaleThere is_earlier sale its
+      → MaySell there item its its_worth → Sells item sale its its_worth
+  sells item false sale its its_worth later is may =
+      subst (λ s. Sells item s its its_worth) (sym is) (sells_same item its its_worth may)
+  sells item true Unknown its its_worth earlier is may = sells_either item its its_worth earlier may
+  sells item true Unawaited its its_worth earlier is may = sells_either item its its_worth earlier
+      may
+  sells item true Nothing (Approved amount) its_worth earlier is may =
+      (last_value here, (earlier, refl), λ same. not_approved amount earlier same.1)
+  sells item true Nothing Asked its_worth earlier is may = sells_same item Asked its_worth may
+  sells item true Nothing Nothing its_worth earlier is may = sells_same item Nothing its_worth may
+  sells item true (Sold last) its its_worth earlier is may =
+      subst (λ s. Sells item s its its_worth) is (sells_same item its its_worth may)
+  sells item true sale its its_worth earlier is may = absurd is
+
+  -- what an ask values has the same value
+  abbrev pub IsAskAlike : ReaderCommand → Type 0
+  IsAskAlike its = (asks_sale (Some its) ≡ false)
+      ⊎ ((prices_of here ≡ prices_of there) × IsInEnd there.sale)
+
+  may_ask : (its : ReaderCommand) (its_worth : ℕ) → MayAsk there its its_worth
+      → (other : ℕ) × MayAsk here its other × (IsAskAlike its → other ≡ its_worth)
+  may_ask (reader.VendSuccess item) its_worth may =
+      let is = sells item here.earlier here.sale there.sale its_worth refl known.sale may in
+      (is.0, is.1, λ alike. elim alike [ inl none ↦ absurd cc | inr same ↦ is.2 same ])
+  may_ask its its_worth may = (0, refl, λ alike. sym may)
+
+  -- what the reader sold is the same
+  same_sold : (its : ReaderCommand) (before : ApprovalState) → IsAlike its
+      → sold here its before ≡ sold there its before
+  same_sold (reader.VendSuccess item) before (inl none) = absurd cc
+  same_sold (reader.VendSuccess item) before (inr same) =
+      ap (λ (p : Prices). if before.approved then value p.config p.amount else 0) same
+  same_sold its before alike = refl
+
+  same_sold_by : (its : ReaderCommand) (reply : Reply) (start : ApprovalState) → IsAlike its
+      → sold_by here its reply start ≡ sold_by there its reply start
+  same_sold_by its reply start alike =
+      ap (λ n. if tells_out_of_sequence reply then 0 else n) (same_sold its start alike)
+
+  ask_here : (its : ReaderCommand) (before after : ApprovalState) (gains : Gains)
+      → AskStep there its before after gains
+      → AlsoSteps (AskStep here its before after) (IsAskAlike its) gains
+  ask_here its before after gains step =
+      let ask = may_ask its step.0 step.1 in
+      record {
+        other = controller_gains (in_slots (0 ∷ ask.0 ∷ []));
+        step = (ask.0, ask.1, step.2, refl);
+        same = λ alike. ap (λ n. controller_gains (in_slots (0 ∷ n ∷ []))) (ask.2 alike)
+            ∙ sym step.3;
+      }
+
+  ack_here : (its : ReaderCommand) (before after : ApprovalState) (gains : Gains)
+      → AckStep there its before after gains
+      → AlsoSteps (AckStep here its before after) (IsAlike its) gains
+  ack_here its before after gains step = record {
+    other = device_gains (in_slots (0 ∷ sold here its before ∷ []));
+    step = (step.0, refl);
+    same = λ alike. ap (λ n. device_gains (in_slots (0 ∷ n ∷ []))) (same_sold its before alike)
+        ∙ sym step.1;
+  }
+
+  reply_here : (reply : Reply) (choice : Choice) (its : ReaderCommand)
+      (before after : ApprovalState) (gains : Gains)
+      → ReplyStep there its reply choice before after gains
+      → AlsoSteps (ReplyStep here its reply choice before after)
+      (IsAlike its
+      × AreSaidPriced reply (config_with reply here.config) (config_with reply there.config)) gains
+  reply_here reply choice its before after gains step =
+      let sale = sold_by here its reply (read choice before) in
+      record {
+        other = device_gains (in_slots (worth here reply step.new ∷ sale ∷ []));
+        step = record {
+          last = step.last;
+          may_be_last = allowed_end here.approvals there.approvals step.last known.approvals
+              step.may_be_last;
+          may_be_read = step.may_be_read;
+          new = step.new;
+          is_new = step.is_new;
+          to = step.to;
+          gained = refl;
+        };
+        same = λ alike. ap (λ n. device_gains (in_slots (n ∷ sale ∷ [])))
+            (same_new here there reply choice _ step.last step.new step.is_new alike.1)
+            ∙ ap (λ n. device_gains (in_slots (worth there reply step.new ∷ n ∷ [])))
+            (same_sold_by its reply (read choice before) alike.0)
+            ∙ sym step.gained;
+      }
+
+  vmc_ack_here : (reply : Reply) (choice : Choice) (its : ReaderCommand)
+      (before after : ApprovalState) (gains : Gains)
+      → VmcAckStep there reply choice before after gains
+      → AlsoSteps (VmcAckStep here reply choice before after)
+      (AreSaidPriced reply here.config there.config) gains
+  vmc_ack_here reply choice its before after gains step =
+      let said = messages_of reply in
+      let hears = hears_here here.earlier here.sale there.sale step.0 known.sale step.1 in
+      record {
+        other = controller_gains (in_slots (approved_to here.config hears.0 said ∷ 0 ∷ []));
+        step = (hears.0, hears.1, step.2, refl);
+        same = λ alike. ap (λ n. controller_gains (in_slots (n ∷ 0 ∷ [])))
+            (hears.2 here.config said ∙ same_heard here.config there.config said step.0 alike)
+            ∙ sym step.3;
+      }
+
+  -- what an act values has the same value
+  abbrev pub IsActAlike : ReaderUnit → Act → Type 0
+  IsActAlike unit (acts.Ask command) =
+      (its : ReaderCommand) → own unit command ≡ Some its → IsAskAlike its
+  IsActAlike unit act = IsPriced unit (prices_of here) (prices_of there) act
+
+  pub goes_here : (unit : ReaderUnit) (act : Act) (choice : Choice)
+      (before after : ApprovalState) (gains : Gains)
+      → ReaderStep unit there act choice before after gains
+      → AlsoSteps (ReaderStep unit here act choice before after) (IsActAlike unit act) gains
+  goes_here unit (acts.Ask c) choice before after gains step =
+      by_own (own unit c) _ _ _ before after gains (λ its is ask. as_same (λ alike. alike its is)
+      (ask_here its before after gains ask)) step
+  goes_here unit (acts.Ack c) choice before after gains step =
+      by_own (own unit c) _ _ _ before after gains (λ its is ack. as_same (λ alike. alike its is)
+      (ack_here its before after gains ack)) step
+  goes_here unit (acts.Reply c r) choice before after gains step =
+      by_own (own unit c) _ _ _ before after gains (λ its is reply.
+      as_same (λ alike. alike its is) (reply_here r choice its before after gains reply)) step
+  goes_here unit (acts.VmcAck c r) choice before after gains step =
+      by_own (own unit c) _ _ _ before after gains (λ its is ack. as_same (λ alike. alike its is)
+      (vmc_ack_here r choice its before after gains ack)) step
+  goes_here unit act choice before after gains step =
+      record { other = gains; step = step; same = λ alike. refl }
+
+-- ---- in the end
+
+-- by the base profile, too, all amounts have a value then
+valued_ask : (asks one other earlier : Bool) → one_if (asks && (one || other || earlier)) ≡ 0
+    → (one_if (asks && (one || other)) ≡ 0) × (asks ≡ true → earlier ≡ false)
+valued_ask false one other earlier none = (refl, λ asks. absurd cc)
+valued_ask true false false false none = (refl, λ asks. refl)
+valued_ask true true other earlier none = absurd (omega (arith, none))
+valued_ask true false true earlier none = absurd (omega (arith, none))
+valued_ask true false false true none = absurd (omega (arith, none))
+
+module _ (unit : ReaderUnit) (begins : Beginning) where
+  ask_valued : (command : Command) (so_far : List Act)
+      → unvalued_by unit (facts_of begins unit so_far) (acts.Ask command) ≡ 0
+      → (base.unvalued_by unit (known_of begins unit so_far) (acts.Ask command) ≡ 0)
+      × (asks_sale (own unit command) ≡ true → (facts_of begins unit so_far).earlier ≡ false)
+  ask_valued command so_far =
+      let same = as_base unit begins so_far in
+      let earlier : Bool = (facts_of begins unit so_far).earlier in
+      let Valued : Option ReaderConfig → Option ℕ → Type 0 = λ config amount.
+      one_if (asks_sale (own unit command)
+      && (is_none config || is_none amount || earlier)) ≡ 0 in
+      λ none. valued_ask (asks_sale (own unit command))
+      (is_none (known_of begins unit so_far).config)
+      (is_none (last_told (amount_by unit) so_far)) earlier
+      (subst (λ config. Valued config (last_told (amount_by unit) so_far)) same.0
+      (subst (λ amount. Valued (facts_of begins unit so_far).config amount) same.1 none))
+
+  valued_by : (act : Act) (so_far : List Act)
+      → unvalued_by unit (facts_of begins unit so_far) act ≡ 0
+      → base.unvalued_by unit (known_of begins unit so_far) act ≡ 0
+  valued_by (acts.Ask command) so_far none = (ask_valued command so_far none).0
+  valued_by act so_far none =
+      subst (λ config. amounts.unvalued_by (or_else (config_by unit act) config)
+      (sum_by (λ message. one_if (is_approval message)) (messages_by unit act)) ≡ 0)
+      (as_base unit begins so_far).0 none
+
+  valued : (so_far : List Act) → unvalued unit begins so_far ≡ 0
+      → base.unvalued unit begins so_far ≡ 0
+  valued [] none = none
+  valued (act ∷ so_far) none =
+      let first = valued_by act so_far (omega (arith, none)) in
+      let rest = valued so_far (omega (arith, none)) in
+      omega (arith, first, rest)
+
+module _ (unit : ReaderUnit) (begins : Beginning) (setups : Setups) (later front : List Act) where
+  abbrev joined : Beginning
+  joined = Joined setups (profile_of begins)
+
+  abbrev here : Facts
+  here = facts_of joined unit later
+
+  abbrev there : Facts
+  there = facts_of begins unit (later ++ front)
+
+  -- what is known in the end is known there
+  known_there : (later front : List Act)
+      → Covers (facts_of joined unit later) (facts_of begins unit (later ++ front))
+  known_there [] front = record { earlier = λ is. refl; sale = tt; approvals = tt }
+  known_there (act ∷ later) front = covers_after unit act (facts_of joined unit later)
+      (facts_of begins unit (later ++ front)) (known_there later front)
+
+  it : Covers here there
+  it = known_there later front
+
+  -- and where both are one recording from power-on on, no sale was approved before it
+  in_whole : (later front : List Act) → begins ≡ PowerOn (profile_of begins) → front ≡ []
+      → IsSaleThere (facts_of joined unit later).earlier (facts_of begins unit (later ++
+      front)).sale
+      (facts_of begins unit (later ++ front)).sale
+  in_whole [] front power_on empty =
+      subst (λ acts. IsEarlierSale (facts_of begins unit acts).sale (facts_of begins unit
+      acts).sale)
+      (sym empty)
+      (subst (λ b. IsEarlierSale (facts_of b unit []).sale (facts_of b unit []).sale) (sym power_on)
+      tt)
+  in_whole (act ∷ later) front power_on empty = whole_after unit act (facts_of joined unit later)
+      (facts_of begins unit (later ++ front)) (in_whole later front power_on empty)
+
+  in_end : (earlier : Bool) → here.earlier ≡ earlier
+      → IsSaleThere earlier there.sale there.sale → IsInEnd here there it there.sale
+  in_end true is never = inr never
+  in_end false is never = inl is
+
+  -- what an act values has the same value, where it has to
+  counted_base : (act : Act)
+      → IsCounted unit begins setups later front act (facts_of begins unit front).config
+      (unvalued unit joined (act ∷ later))
+      → IsPriced unit (prices_of here) (prices_of there) act
+  counted_base act counted =
+      subst (λ prices. IsPriced unit prices (prices_of there) act)
+      (sym (prices_are unit joined later))
+      (subst (λ prices. IsPriced unit (prices_known unit joined later) prices act)
+      (sym (prices_are unit begins (later ++ front)))
+      (covers.counted unit begins setups later front act (elim counted [
+        | inl (are, answers, none) ↦ inl (
+          subst (IsNothingOr (config_known setups unit)) (as_base unit begins front).0 are,
+          answers,
+          valued unit joined (act ∷ later) none,
+        )
+        | inr same ↦ inr same
+      ])))
+
+  ask_alike : (command : Command) (its : ReaderCommand) → own unit command ≡ Some its
+      → unvalued_by unit here (acts.Ask command) ≡ 0
+      → IsSalePriced (prices_of here) (prices_of there) its → IsAskAlike here there it its
+  ask_alike command its is none (inl no_sale) = inl no_sale
+  ask_alike command its is none (inr same) = by (asks_sale (Some its)) refl
+    where
+      by : (asks : Bool) → asks_sale (Some its) ≡ asks → IsAskAlike here there it its
+      by false no_sale = inl no_sale
+      by true asks =
+          inr (same, inl ((ask_valued unit joined command later none).1 (ap asks_sale is ∙ asks)))
+
+  counted_alike : (act : Act)
+      → IsCounted unit begins setups later front act (facts_of begins unit front).config
+      (unvalued unit joined (act ∷ later))
+      → IsActAlike here there it unit act
+  counted_alike (acts.Ask command) (inl (are, answers, none)) =
+      λ its is. ask_alike command its is (omega (arith, none))
+      (counted_base (acts.Ask command) (inl (are, answers, none)) its is)
+  counted_alike (acts.Ask command) (inr (power_on, empty, unknown)) =
+      λ its is. elim (counted_base (acts.Ask command) (inr (power_on, empty, unknown)) its is) [
+        | inl no_sale ↦ inl no_sale
+        | inr same ↦ inr (same, in_end here.earlier refl (in_whole later front power_on empty))
+      ]
+  counted_alike act counted = counted_base act counted
+
+  -- so each step is one in the end, which gains the same where it has to
+  pub extended_in_end : (act : Act) (choice : Choice) (before after : ApprovalState)
+      (gains : Gains) → ReaderStep unit there act choice before after gains
+      → AlsoSteps (ReaderStep unit here act choice before after)
+      (IsCounted unit begins setups later front act (facts_of begins unit front).config
+      (unvalued unit joined (act ∷ later))) gains
+  extended_in_end act choice before after gains step =
+      as_same (counted_alike act) (goes_here here there it unit act choice before after gains step)
