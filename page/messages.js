@@ -1,10 +1,11 @@
 // The messages of a reader's answer, by their lengths: docs/bench/commands-and-messages.md, extended-profile.md. In
 // which of these readings the answer was taken, the module says of each act (`acts.reading`). What isn't an act of the
-// extended profile is read as the base profile reads it.
+// extended profile is read as the base profile reads it. The bits: an identification has options; 03 and 0B are long.
 const READING = {
   BASE: 0,
   SHORT: 1,
-  LONG: 2
+  BARE_LONG: 2,
+  LONG: 3
 };
 const READER_LENGTHS = [1, 8, 99, 3, 1, 3, 1, 1, 1, 30, 2, 1];
 const READER_CONFIG = 1;
@@ -17,10 +18,9 @@ const isConfigAsk = ([first, second]) => (first & 7) === 1 && second === 0;
 
 // The length of the message with a first byte, where so many bytes are left from it on.
 function readerLength(first, left, reading) {
-  if (first === 9 && reading !== READING.BASE && left >= 34) return 34;
-  if (reading === READING.LONG && first === 3) return 10;
-  if (reading === READING.LONG && first === 0x0B) return Math.min(2, left);
-  if (reading === READING.LONG && first === 0x0F) return 3;
+  if (first === 9 && reading & READING.SHORT && left >= 34) return 34;
+  if (reading & READING.BARE_LONG && first === 3) return 10;
+  if (reading & READING.BARE_LONG && first === 0x0B) return Math.min(2, left);
   return READER_LENGTHS[first] ?? 1;
 }
 

@@ -49,7 +49,7 @@ class Formats:
             elif field == "config":
                 self.told[reader] = value[2]
             elif field == "setup":
-                found = cut(value[:-1], BASE)
+                found = in_lists(second.read_reply(bytes(value[:-1]), None, None, False)) if is_extended else cut(value[:-1], BASE)
                 self.own.update((reader, it[1]) for it in found or [] if it[0] == 1)
 
     def ask(self, reader, data):

@@ -170,20 +170,20 @@ def no_such_mark(row: int) -> NoAnswer:
 
 
 class Marks:
-    """The marks in front of the rows, in their order: `ROW,L,-`, `ROW,R,-` and `ROW,C,-`.
+    """The marks in front of the rows, in their order: `ROW,L,-` and `ROW,R,-`, and `ROW,C,-` with `--extended`.
 
     They are read before the first row, and then taken off one by one as their rows are read.
     """
 
-    def __init__(self):
+    def __init__(self, extended: bool):
+        self.letters = (b"L", b"R", b"C") if extended else (b"L", b"R")
         self.marks: list[tuple[int, str]] = []
         self.taken = 0
         #: The row of the next mark that isn't taken off; 0 where there is none.
         self.next_row = 0
 
-    @staticmethod
-    def is_mark(fields: list[bytes]) -> bool:
-        return len(fields) == 3 and fields[1] in (b"L", b"R", b"C")
+    def is_mark(self, fields: list[bytes]) -> bool:
+        return len(fields) == 3 and fields[1] in self.letters
 
     def read(self, fields: list[bytes], record: int):
         """Takes a mark that stands before the first row."""
@@ -376,7 +376,6 @@ def _messages_of(is_long: bool, has_options: bool) -> list:
     lengths[0x09] = _id_with_options if has_options else _id_without_options
     if is_long:
         lengths[0x03], lengths[0x0B], lengths[0x11] = 10, _status_if_any, 1
-        lengths[0x0D], lengths[0x0E], lengths[0x0F] = 1, 1, 3  # of revalue, which isn't followed
     return lengths
 
 
@@ -406,24 +405,16 @@ def read_messages(content: bytes, lengths: list) -> Reading:
     return messages, None
 
 
-def read_reply(content: bytes, sent: Optional[int], own: Optional[int], joined: bool,
-               session_may_be_told: bool = True) -> Reading:
+def read_reply(content: bytes, sent: Optional[int], own: Optional[int], joined: bool) -> Reading:
     """The messages of a reader's reply, by the levels of the controller and of the reader, if they are known."""
     levels = [level for level in (sent, own) if level is not None]
-    short, long = (read_list(content, READINGS[is_long, True], session_may_be_told) for is_long in (False, True))
-    if any(level < 2 for level in levels):
-        return short
-    if len(levels) == 2:
-        return long
-    return open_reading([short, long]) if joined else first_reading([short, long])
-
-
-def read_list(content: bytes, lengths: list, session_may_be_told: bool) -> Reading:
-    """The messages of a data block in one reading; those of a session stand in answers to some commands alone."""
-    messages, rule = read_messages(content, lengths)
-    if rule is None and not session_may_be_told and any(m[0] in _ONLY_IN_SESSIONS for m in messages):
-        rule = "Answer"
-    return messages, rule
+    if joined and len(levels) < 2 and all(level >= 2 for level in levels):
+        return open_reading([read_messages(content, lengths) for lengths in READINGS.values()])
+    has_options = all(level >= 3 for level in levels) if len(levels) == 2 else all(level >= 2 for level in levels)
+    long, short = (read_messages(content, READINGS[is_long, has_options]) for is_long in (True, False))
+    if len(levels) == 2 and min(levels) >= 2:
+        return first_reading([long, short])
+    return short if own is not None and own < 2 else first_reading([short, long])
 
 
 def first_reading(readings: list[Reading]) -> Reading:
@@ -432,18 +423,23 @@ def first_reading(readings: list[Reading]) -> Reading:
 
 
 def open_reading(readings: list[Reading]) -> Reading:
-    """How an open reply is read, by its readings."""
+    """How an open reply is read, by all its readings."""
     held = [one for one in readings if one[1] is None]
-    rules = {rule for _, rule in readings}
     if not held:
-        return ([], rules.pop()) if len(rules) == 1 else ([], PROFILE if PROFILE in rules else NO_MESSAGE)
-    return ([], PROFILE) if any(one != held[0] for one in held) else held[0]
+        return [], PROFILE if any(rule == PROFILE for _, rule in readings) else NO_MESSAGE
+    if any(what_counts(one[0]) != what_counts(held[0][0]) for one in held):
+        return [], PROFILE
+    return held[0]
+
+
+def what_counts(messages: list[bytes]) -> tuple:
+    """What two readings of an open reply have to say the same of."""
+    counting = [m for m in messages if m[0] in (0x00, 0x01, 0x05, 0x06)]
+    return counting, any(m[0] == _OUT_OF_SEQUENCE for m in messages)
 
 
 #: The messages of a session and a sale.
 _SESSION_MESSAGES = frozenset((0x03, 0x05, 0x06, 0x07))
-_REVALUE_MESSAGES = frozenset((0x0D, 0x0E, 0x0F))
-_ONLY_IN_SESSIONS = _SESSION_MESSAGES | {0x0D, 0x0E}
 _RESET, _CONFIG, _APPROVED, _DENIED = 0x00, 0x01, 0x05, 0x06
 _OUT_OF_SEQUENCE = 0x0B
 
@@ -724,8 +720,6 @@ class Link:
     def _judge_list(self, messages: list[bytes]):
         """Judges the messages of a reader that were read."""
         device = self.command.device
-        if any(m[0] in _REVALUE_MESSAGES for m in messages):
-            raise Broken(PROFILE, device)
         levels = [m[1] for m in messages if m[0] == _CONFIG]
         if not self.extended and self.sent_levels.get(device, 0) >= 2 and any(level >= 2 for level in levels):
             raise Broken(PROFILE, device)
@@ -743,8 +737,7 @@ class Link:
             return read_messages(content, _BILL_MESSAGES[self.extended])
         if not self.extended:
             return self._read_in_base(content)
-        return read_reply(content, self.sent_levels.get(device), self.told_levels.get(device), self.joined,
-                          self._session_may_be_told())
+        return read_reply(content, self.sent_levels.get(device), self.told_levels.get(device), self.joined)
 
     def _are_options_known(self, device: str) -> bool:
         """Whether they are, or the level is below 3."""
@@ -753,11 +746,12 @@ class Link:
 
     def _read_in_base(self, content: bytes) -> Reading:
         """A list of a reader by the base profile."""
-        return read_list(content, READER_MESSAGES, self._session_may_be_told())
-
-    def _session_may_be_told(self) -> bool:
-        """Whether the answer to the command may have messages of a session."""
-        return self.command.name == "POLL" or self.command.name in _TRANSACTIONS
+        messages, rule = read_messages(content, READER_MESSAGES)
+        if rule is None:
+            session_may_be_told = self.command.name == "POLL" or self.command.name in _TRANSACTIONS
+            if not session_may_be_told and any(m[0] in _SESSION_MESSAGES for m in messages):
+                rule = "Answer"
+        return messages, rule
 
     def _word_of_repeat(self, word: int) -> Optional[Act]:
         if word != self.words[self.repeated]:
@@ -1760,7 +1754,7 @@ def replay(text: bytes, without: set[str], extended: bool = False) -> tuple[int,
 
     `without` has the words of the devices that are left out.
     """
-    return _answer(text, without, extended, Marks())
+    return _answer(text, without, extended, Marks(extended))
 
 
 def check(
@@ -1866,7 +1860,7 @@ def _read_setup(value: str, extended: bool, told: Told, levels: dict[str, int]) 
         raise NoAnswer(f"--setup {value!r} isn't DEVICE BYTES")
     block = bytes.fromhex(found["block"])
     if not extended or block[0] not in _OPENINGS_TOLD.get(device, ()):
-        _learn_answer(device, block, told)
+        _learn_answer(device, block, extended, told)
         return device, "answer"
     command = _command_of(block)
     if command is None or len(block) != command.length or sum(block[:-1]) & 0xFF != block[-1]:
@@ -1887,9 +1881,9 @@ def _command_of(block: bytes) -> Optional[Command]:
     return command if is_told else None
 
 
-def _learn_answer(device: str, block: bytes, told: Told):
-    """Takes an answer to SETUP, which is read by the base profile as if nothing was said before."""
-    link = Link(set(), False)
+def _learn_answer(device: str, block: bytes, extended: bool, told: Told):
+    """Takes an answer to SETUP, which is read as if nothing was said before."""
+    link = Link(set(), extended)
     opening = link.openings[_SETUP_COMMANDS[device][0]]
     link.command = opening[0] if isinstance(opening, dict) else opening
     content = block[:-1]

@@ -14,6 +14,8 @@ import re
 import sys
 from typing import NamedTuple, Optional
 
+import second_replay
+
 DEVICES = ("changer", "bill", "cashless", "cashless-2")
 ADDRESSES = {"cashless": 0x10, "cashless-2": 0x60}  # of the readers: the first byte of a RESET
 
@@ -211,7 +213,7 @@ def setup_of(value, is_extended):
     address = ADDRESSES.get(device)
     if is_extended and address and content[0] in (address + 1, address + 7):
         return (device, block_of(content, address)), text
-    demand(is_answer(device, content))
+    demand(is_answer(device, bytes(content), is_extended))
     return (device, "answer"), text
 
 
@@ -224,17 +226,20 @@ def block_of(content, address):
     return "options"
 
 
-def is_answer(device, content):
+def is_answer(device, content, is_extended):
     """Whether a device may answer SETUP by these bytes."""
     if device == "changer":
         return 7 <= len(content) <= 23
     if device == "bill":
         return 11 <= len(content) <= 27 and content[10] in (0x00, 0xFF)
-    return len(content) <= 35 and b"\x01" in first_bytes(bytes(content))
+    if is_extended:
+        messages, fault = second_replay.read_reply(content, None, None, False)
+        return len(content) <= 35 and fault is None and any(message[0] == 1 for message in messages)
+    return len(content) <= 35 and b"\x01" in first_bytes(content)
 
 
 def first_bytes(content):
-    """The first bytes of the messages of a reader; none where it can't answer SETUP by them."""
+    """The first bytes of the messages of a reader by the base profile; none where it can't answer SETUP by them."""
     lengths, first = {0: 1, 1: 8, 4: 1, 8: 1, 9: 30, 0x0A: 2, 0x0B: 1}, b""
     while content:
         rest = len(content) if 2 <= len(content) <= 34 else None  # of a display request

@@ -231,7 +231,7 @@ fn commands(rt: &HostRuntime, calls: &mut Calls) -> io::Result<()> {
 /// What reading data bytes as the answer to a command gives by the base profile, or None where they
 /// are no block.
 fn reply_to(command: &Command, data: &[u8]) -> Option<Result<Reply, MsgFault>> {
-    Some(read_reply(Reading::Base, command, &seal(data).ok()?))
+    Some(read_reply(Reading::BASE, command, &seal(data).ok()?))
 }
 
 /// Commands, data bytes that answer none of them rightly, and the faults.
@@ -318,10 +318,10 @@ fn changer_poll(message: Option<ChangerMsg>) -> Reply {
     Reply::ChangerPoll(list)
 }
 
-/// Whether VEND DENIED as the answer to READER ENABLE is refused.
-fn is_denied_refused() -> bool {
+/// Whether VEND DENIED is written as the answer to READER ENABLE. The base profile doesn't read it.
+fn is_denied_written() -> bool {
     match ReaderList::new(&[ReaderMsg::VendDenied], &[0; 29], &[]) {
-        Ok(denied) => is_refused(&READER_ENABLE, &Reply::Reader(denied), MsgFault::Answer),
+        Ok(denied) => is_written(&READER_ENABLE, &Reply::Reader(denied), &[0x06, 0x06]),
         Err(_) => false,
     }
 }
@@ -357,7 +357,7 @@ fn written_replies(rt: &HostRuntime, calls: &mut Calls) -> io::Result<()> {
     let slugs = changer_poll(Some(ChangerMsg::Slugs(31)));
     let are_slugs = is_written(&CHANGER_POLL, &slugs, &[0x3F, 0x3F]);
     calls.count(rt, "write_reply", are_slugs)?;
-    calls.count(rt, "write_reply", is_denied_refused())
+    calls.count(rt, "write_reply", is_denied_written())
 }
 
 /// What a check within limits answers: the rows of a yes, or the fault; None for a no.

@@ -3,7 +3,7 @@ use Rattle.std.proofs.Common.{◌≡◌, ℕ, ◌-◌, ◌%◌, ◌<◌, ◌≤�
 use Rattle.std.proofs.lemmas.List.{length-take-le, get_or-take}
 use Rattle.std.proofs.lemmas.Grind.{get_or_default_zero}
 use Rattle.std.proofs.Math.Seq.{take-suc, take-length}
-use Rattle.mdb_blocks.specs.Block.{IsBlock}
+use Rattle.mdb_blocks.specs.BlockFaults.{IsBlock}
 
 split_last : (bytes : List ℕ) (n : ℕ) → length bytes ≡ suc n
     → bytes ≡ take n bytes ++ (slice_index bytes n ∷ [])

@@ -1,9 +1,7 @@
 -- Blocks of the bus (MDB/ICP 4.3, block format), and their words on each line.
-use Rattle.std.specs.Prelude.{◌≡◌, ◌≢◌, ℕ, ◌+◌, ◌%◌, ◌<◌, ◌≤◌, List, [], ◌∷◌, ◌++◌, length, sum, All}
+use Rattle.std.specs.Prelude.{ℕ, ◌+◌, ◌%◌, ◌<◌, ◌≤◌, List, [], ◌∷◌, ◌++◌, length, sum, All}
 use Rattle.mdb_words.specs.declared.word.Line.{Line}
 use Rattle.mdb_words.specs.declared.word.Line.TheVariants.{Controller, Peripheral}
-use Rattle.mdb_blocks.specs.declared.block.BlockFault.{BlockFault}
-use Rattle.mdb_blocks.specs.declared.block.BlockFault.TheVariants.{Empty, TooLong, BadSum}
 
 -- the block of a content: the content, and the sum of its bytes modulo 256
 abbrev pub block_of : List ℕ → List ℕ
@@ -14,12 +12,6 @@ pub record IsContent (content : List ℕ) : Type 0 where
   pub at_least : 1 ≤ length content
   pub at_most : length content ≤ 35
   pub in_range : All (λ byte. byte < 256) content
-
--- a block: a content and its sum, so 2 to 36 bytes in all
-pub record IsBlock (bytes : List ℕ) : Type 0 where
-  pub content : List ℕ
-  pub is_content : IsContent content
-  pub summed : bytes ≡ block_of content
 
 -- the words of the controller: the first alone is marked
 abbrev pub controller_words : List ℕ → List ℕ
@@ -36,18 +28,3 @@ peripheral_words (byte ∷ next ∷ bytes) = byte ∷ peripheral_words (next ∷
 abbrev pub words_on : Line → List ℕ → List ℕ
 words_on Controller bytes = controller_words bytes
 words_on Peripheral bytes = peripheral_words bytes
-
--- why a content has no block
-abbrev pub IsSealFault : List ℕ → BlockFault → Type 0
-IsSealFault content Empty = content ≡ []
-IsSealFault content TooLong = 35 < length content
-IsSealFault content BadSum = ⊥
-
--- why bytes are no block, the first reason that applies; with `BadSum` they are 2 to 36 bytes whose
--- last isn't the sum of the others modulo 256
-abbrev pub IsUnsealFault : List ℕ → BlockFault → Type 0
-IsUnsealFault bytes Empty = length bytes < 2
-IsUnsealFault bytes TooLong = 36 < length bytes
-IsUnsealFault bytes BadSum =
-    (front : List ℕ) × (last : ℕ) × (bytes ≡ front ++ last ∷ [])
-    × (1 ≤ length front) × (length front ≤ 35) × (last ≢ sum front % 256)

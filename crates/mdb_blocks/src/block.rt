@@ -1,7 +1,8 @@
 //! Blocks.
 
 ghost use Rattle.std.specs.Prelude.{◌≡◌, ◌+◌, ◌≤◌, ◌<◌, ◌%◌, ◌↔◌, if◌then◌else◌, length, slice_index, sum, IsOk, IfOk, IfErr};
-ghost use Rattle.mdb_blocks.specs.Block.{IsBlock, IsContent, IsUnsealFault, IsSealFault, block_of, words_on};
+ghost use Rattle.mdb_blocks.specs.Block.{IsContent, block_of, words_on};
+ghost use Rattle.mdb_blocks.specs.BlockFaults.{IsBlock, IsUnsealFault, IsSealFault};
 
 use arrayvec::ArrayVec;
 use mdb_words::{Line, Word};
@@ -19,7 +20,7 @@ pub struct Block {
 
 impl Model for Block {
     ghost use Rattle.std.specs.Prelude.{List, ℕ};
-    ghost use Rattle.mdb_blocks.specs.Block.{IsBlock};
+    ghost use Rattle.mdb_blocks.specs.BlockFaults.{IsBlock};
 
     ghost Value = { List ℕ };
 

@@ -1,5 +1,5 @@
 -- The bus after a row: what it stands for, and why a row is refused.
-use Rattle.std.proofs.Common.{refl, ap, sym, subst, ◌∙◌, ◌≡◌, ℕ, List, [], ◌∷◌, ◌++◌, Option, Result, Ok, Err, IfOk, IfErr, OnErr, inl, inr, Bool, true, false, Some, None}
+use Rattle.std.proofs.Common.{refl, ap, sym, subst, ◌∙◌, ◌≡◌, ℕ, List, Option, Result, Ok, Err, IfOk, IfErr, OnOk, inl, inr, Bool, true, false, nat_lt, if◌then◌else◌, Some, None}
 use Rattle.mdb_words.specs.declared.event.Event.{Event}
 use Rattle.mdb_words.specs.declared.event.Event.TheVariants.{Word, Break}
 use Rattle.mdb_words.specs.declared.word.Line.{Line}
@@ -14,15 +14,17 @@ use Rattle.mdb_bus.specs.declared.fault.Rule.{Rule}
 use Rattle.mdb_bus.specs.declared.levels.Levels.{Levels}
 use Rattle.mdb_bus.specs.declared.options.KnownOptions.{KnownOptions}
 use Rattle.mdb_bus.specs.declared.place.Place.{Place}
-use Rattle.mdb_bus.specs.shared.Step.{Step}
+use Rattle.mdb_bus.specs.shared.Step.{Step, EachStep}
 use Rattle.mdb_bus.specs.shared.Step as step
-use Rattle.mdb_bus.specs.ActLists.{ArePieces, HasActList, Piece, Position, Quiet, InAsk, Asked, InReply, Replied, Returned, InRepeat, InForeign, IsRepeatFront, acts_of, with_act, events_of, last_of, levels_after, levels_if, levels_of, position_of}
-use Rattle.mdb_bus.specs.WideMoney.{first_known, known_by, known_if, known_of, wide_at, wide_of}
+use Rattle.mdb_bus.specs.ActLists.{ArePieces, Piece, Quiet, InAsk, Asked, InReply, Replied, Returned, InRepeat, InForeign, acts_of, events_of, last_of, levels_after, levels_of, position_of}
+use Rattle.mdb_bus.specs.Positions.{Position}
+use Rattle.mdb_bus.specs.Pieces.{with_act, levels_if}
+use Rattle.mdb_bus.specs.ExtendedMoney.{first_known, known_by, known_if, known_of, wide_at, wide_of}
 use Rattle.mdb_bus.specs.Bus.{GoesOn, Grown, StandsFor, ended_act, position_at}
-use Rattle.mdb_bus.specs.inner.Gone.{HasGone}
-use Rattle.mdb_bus.specs.LinkFaults.{IsFirstBroken, IsLinkFault, RowBreaks, Situation, asked_device, fault_at, fault_of, situation_of}
-use Rattle.mdb_bus.specs.Haste.{haste_after, haste_by, haste_of, is_in_haste}
-use Rattle.mdb_bus.specs.Untimely.{untimely_of, untimely_sender, with_sender}
+use Rattle.mdb_bus.specs.inner.Gone.{HasGone, situation_at}
+use Rattle.mdb_bus.specs.LinkFaults.{IsFirstBroken, IsLinkFault, Situation, fault_at, fault_of, situation_of}
+use Rattle.mdb_bus.specs.ExtendedHaste.{haste_after, haste_by, haste_of, is_in_haste}
+use Rattle.mdb_bus.specs.ExtendedTimes.{is_untimely, untimely_of, untimely_sender, with_sender}
 use Rattle.mdb_bus.proofs.GrownTimes.{haste_on, untimely_by_step}
 use Rattle.mdb_bus.specs.shared.RulePlaces.{IsFirstByPlace}
 use Rattle.mdb_bus.proofs.Decided.{by_place}
@@ -30,7 +32,6 @@ use Rattle.mdb_bus.specs.shared.Steps.{HasAdvanced, IsAt, IsEnded, IsJudged, IsR
 use Rattle.mdb_bus.specs.declared.judged.Judged.{Judged}
 use Rattle.mdb_bus.specs.declared.judged.Judged.TheVariants as judged
 use Rattle.mdb_msgs.specs.declared.reply.Reply.{Reply}
-use Rattle.mdb_bus.specs.shared.Step.{EachStep}
 use Rattle.mdb_bus.proofs.EachSteps.{leads_of, some_each}
 use Rattle.mdb_bus.proofs.Forward.{forward}
 use Rattle.mdb_bus.proofs.Verdicts.{sealed}
@@ -41,40 +42,16 @@ use Rattle.mdb_bus.specs.Scopes.{levels_before, profile_of}
 use Rattle.mdb_bus.specs.declared.scope.Profile.{Profile}
 use Rattle.mdb_bus.specs.declared.scope.Profile.TheVariants.{Base, Extended}
 
--- the situation that a bus is in
-abbrev pub situation_at : Bus → Situation
-situation_at bus = record {
-  scope = bus.scope;
-  position = position_at bus.place;
-  last = bus.last;
-  levels = bus.levels;
-}
-
 -- it is that of the pieces that the bus stands for
 pub same_situation : (bus : Bus) (pieces : List Piece) → StandsFor bus pieces
     → situation_of bus.scope pieces ≡ situation_at bus
 same_situation bus pieces stands =
-    let make : Position → Option Event → Levels
-    → Situation = λ p l v. record {
-      scope = bus.scope;
-      position = p;
-      last = l;
-      levels = v;
-    } in
-    ap (λ p. make p (last_of (events_of pieces))
-    (levels_of (profile_of bus.scope.begins) (levels_before bus.scope) pieces))
-    stands.position
-    ∙ (ap (λ l. make (position_at bus.place) l
-    (levels_of (profile_of bus.scope.begins) (levels_before bus.scope) pieces)) stands.last
-    ∙ ap (λ v. make (position_at bus.place) bus.last v) stands.levels)
+    rw (stands.position, stands.last, stands.levels) refl
 
 -- and so is where it may find money of 32 bits
 same_wide : (bus : Bus) (pieces : List Piece) → StandsFor bus pieces
     → wide_of bus.scope pieces ≡ wide_at bus.options bus.levels
-same_wide bus pieces stands =
-    ap (λ known. wide_at known
-    (levels_of (profile_of bus.scope.begins) (levels_before bus.scope) pieces)) stands.options
-    ∙ ap (wide_at bus.options) stands.levels
+same_wide bus pieces stands = rw (stands.options, stands.levels) refl
 
 -- and its position is sound
 pub sound_at : (bus : Bus) (pieces : List Piece) → StandsFor bus pieces
@@ -88,44 +65,36 @@ word_at : (scope : Scope) (at : Position) (from : Option Event) (levels : Levels
     (word : ℕ) (next : Step)
     → WordLeads scope at from levels to line word next → IsAt at next
 word_at scope at from levels to line word (step.AskByte byte) leads = tt
-word_at scope (InAsk bytes) from levels to Controller word (step.Ask command) leads =
-    sealed bytes word command leads.1.spells
 word_at scope at from levels to line word step.Foreign leads = tt
 word_at scope at from levels to line word (step.Break length) leads = tt
-word_at scope (Asked command) from levels to line word step.Ack leads = tt
-word_at scope (Asked command) from levels to line word step.Nak leads = tt
-word_at scope (Asked command) from levels to line word (step.ReplyByte byte) leads = tt
-word_at scope (InReply command bytes) from levels to line word (step.ReplyByte byte) leads = tt
+word_at scope (InAsk bytes) from levels to Controller word (step.Ask command) leads =
+    sealed bytes word command leads.1.spells
+word_at scope (Asked command) from levels to Peripheral word step.Ack leads = tt
+word_at scope (Asked command) from levels to Peripheral word step.Nak leads = tt
+word_at scope (Asked command) from levels to Peripheral word (step.ReplyByte byte) leads = tt
+word_at scope (InReply command bytes) from levels to Peripheral word (step.ReplyByte byte) leads =
+    tt
 word_at scope (InReply command bytes) from levels to Peripheral word (step.Reply reply) leads =
     (leads.1, leads.2)
-word_at scope (Replied command reply) from levels to line word step.VmcAck leads = tt
-word_at scope (Replied command reply) from levels to line word step.VmcNak leads = tt
-word_at scope (Replied command reply) from levels to line word step.VmcRet leads = tt
-word_at scope (InRepeat command reply words) from levels to line word step.Repeat leads = tt
+word_at scope (Replied command reply) from levels to Controller word step.VmcAck leads = tt
+word_at scope (Replied command reply) from levels to Controller word step.VmcNak leads = tt
+word_at scope (Replied command reply) from levels to Controller word step.VmcRet leads = tt
+word_at scope (InRepeat command reply words) from levels to Peripheral word step.Repeat leads = tt
 word_at scope (Returned command reply) from levels to Peripheral word (step.RepeatWord said) leads =
-    let P : ℕ → Type 0 = λ w. IsRepeatFront reply (w ∷ []) in subst P leads.0 leads.1
+    rw (sym leads.0) leads.1
 word_at scope (InRepeat command reply words) from levels to Peripheral word (step.RepeatWord said)
-    leads =
-    let P : ℕ → Type 0 = λ w. IsRepeatFront reply (words ++ w ∷ []) in subst P leads.0 leads.1
+    leads = rw (sym leads.0) leads.1
 word_at scope Quiet from levels to Controller word next leads = absurd leads
-word_at scope Quiet from levels to Peripheral word next leads = absurd leads
-word_at scope (InAsk bytes) from levels to Controller word next leads = absurd leads
 word_at scope (InAsk bytes) from levels to Peripheral word next leads = absurd leads
 word_at scope (Asked command) from levels to Controller word next leads = absurd leads
-word_at scope (Asked command) from levels to Peripheral word next leads = absurd leads
 word_at scope (InReply command bytes) from levels to Controller word next leads = absurd leads
-word_at scope (InReply command bytes) from levels to Peripheral word next leads = absurd leads
-word_at scope (Replied command reply) from levels to Controller word next leads = absurd leads
 word_at scope (Replied command reply) from levels to Peripheral word next leads = absurd leads
 word_at scope (Returned command reply) from levels to Controller word next leads = absurd leads
-word_at scope (Returned command reply) from levels to Peripheral word next leads = absurd leads
 word_at scope (InRepeat command reply words) from levels to Controller word next leads =
-    absurd leads
-word_at scope (InRepeat command reply words) from levels to Peripheral word next leads =
     absurd leads
 word_at scope InForeign from levels to Controller word next (inl leads) = absurd leads
 word_at scope InForeign from levels to Controller word next (inr leads) = absurd leads.1
-word_at scope InForeign from levels to Peripheral word next leads = absurd leads
+word_at scope at from levels to line word next leads = absurd leads
 
 pub leads_at : (s : Situation) (row : Event) (next : Step) → Leads s row next → IsAt s.position next
 leads_at s (Word at line word) next leads =
@@ -148,12 +117,44 @@ haste_again : (profile : Profile) (position : Position) (from : Option Event) (r
 haste_again Base position from row haste = refl
 haste_again Extended position from row haste = refl
 
--- the bus stands for one row more
-stands_by : (old new : Bus) (pieces : List Piece) (row : Event) (next : Step) (act : Option Act)
+-- haste goes on as a row tells
+abbrev pub Hastens : Bus → Event → Bool → Type 0
+Hastens old row haste = haste ≡ haste_by (profile_of old.scope.begins)
+    (haste_after (position_at old.place) old.last row old.haste)
+
+-- a row in its time leaves no haste where there is none
+pub no_haste : (profile : Profile) (position : Position) (from : Option Event) (row : Event)
+    (haste : Bool) → haste ≡ false → is_untimely position from row ≡ false
+    → haste ≡ haste_by profile (haste_after position from row haste)
+no_haste Base position from row haste none timely = none
+no_haste Extended position from row haste none timely =
+    none ∙ sym (ap (haste_after position from row) none ∙ after position row timely)
+  where
+    either : (low early : Bool) → early ≡ false → (if low then false else early) ≡ false
+    either true early is = refl
+    either false early is = is
+
+    none_either : (low : Bool) → (if low then false else false) ≡ false
+    none_either true = refl
+    none_either false = refl
+
+    after : (position : Position) (row : Event) → is_untimely position from row ≡ false
+        → haste_after position from row false ≡ false
+    after position (Break at length) timely = refl
+    after position (Word at Peripheral word) timely = refl
+    after (Asked command) (Word at Controller word) timely = either (nat_lt word 256) _ timely
+    after (Returned command reply) (Word at Controller word) timely =
+        either (nat_lt word 256) _ timely
+    after position (Word at Controller word) timely = none_either (nat_lt word 256)
+
+-- the bus stands for one row more, once its haste is told
+stands_by : (old new : Bus) (haste : Bool) (pieces : List Piece) (row : Event) (next : Step)
+    (act : Option Act)
     → StandsFor old pieces
     → Leads (situation_at old) row next
-    → (IsAt (position_at old.place) next → HasGone old next row new act) → GoesOn new pieces row act
-stands_by old new pieces row next act stands leads gone =
+    → (IsAt (position_at old.place) next → HasGone old next row new act) → Hastens old row haste
+    → GoesOn (record new { haste = haste }) pieces row act
+stands_by old new haste pieces row next act stands leads gone hastens =
     let went : HasGone old next row new act = gone (leads_at (situation_at old) row next leads) in
     let There : Situation → Type 0 = λ s. Leads s row next in
     let profile = profile_of old.scope.begins in
@@ -189,7 +190,7 @@ stands_by old new pieces row next act stands leads gone =
             ∙ (ap (λ p. haste_by profile (haste_after p (last_of (events_of pieces)) row old.haste))
             stands.position
             ∙ (ap (λ l. haste_by profile (haste_after (position_at old.place) l row old.haste))
-            stands.last ∙ sym went.haste)))));
+            stands.last ∙ sym hastens)))));
       };
       rows = more.rows;
       acts = more.acts ∙ acts_same stands.position went.advanced.act;
@@ -221,36 +222,18 @@ stands_by old new pieces row next act stands leads gone =
         ap (λ p. with_act (act_after p next) (acts_of pieces)) position
         ∙ ap (λ a. with_act a (acts_of pieces)) (sym ended)
 
-pub stands_on : (old new : Bus) (pieces : List Piece) (row : Event) (found : Judged)
+pub stands_on : (old new : Bus) (haste : Bool) (pieces : List Piece) (row : Event) (found : Judged)
     (act : Option Act) → StandsFor old pieces
     → (found ≡ judged.Reply → ⊥)
     → IsJudged (situation_at old) row (Ok found)
     → EachStep found row (λ next. IsAt (position_at old.place) next → HasGone old next row new act)
-    → GoesOn new pieces row act
-stands_on old new pieces row found act stands other judged gone =
+    → Hastens old row haste
+    → GoesOn (record new { haste = haste }) pieces row act
+stands_on old new haste pieces row found act stands other judged gone hastens =
     let both = some_each found row (Leads (situation_at old) row)
     (λ next. IsAt (position_at old.place) next → HasGone old next row new act)
     (leads_of found (situation_at old) row other judged) gone in
-    stands_by old new pieces row both.0 act stands both.1 both.2
-
--- the bus stands for one row more, where a reply has ended and was read
-pub stands_read : (old new : Bus) (pieces : List Piece) (row : Event) (reply : Reply)
-    (act : Option Act) → StandsFor old pieces
-    → IsEnded (situation_at old) row
-    → IsReadAt old.scope.begins (position_at old.place) old.levels (Ok reply)
-    → HasGone old (step.Reply reply) row new act
-    → GoesOn new pieces row act
-stands_read old new pieces row reply act stands ended read gone =
-    let leads = ended (Ok reply) read in
-    stands_by old new pieces row (step.Reply reply) act stands leads (λ _. gone)
-
--- a reply that has ended breaks the rule that is told of it
-pub read_breaks : (old : Bus) (pieces : List Piece) (row : Event) (broken : Rule)
-    → StandsFor old pieces
-    → IsEnded (situation_at old) row
-    → IsReadAt old.scope.begins (position_at old.place) old.levels (Err broken)
-    → IsFirstByPlace (situation_at old) row broken
-read_breaks old pieces row broken stands ended read = ended (Err broken) read
+    stands_by old new haste pieces row both.0 act stands both.1 both.2 hastens
 
 -- the fault of a row that is refused
 same_fault : (old : Bus) (pieces : List Piece) (row : Event) (first : Rule) → StandsFor old pieces
@@ -258,14 +241,7 @@ same_fault : (old : Bus) (pieces : List Piece) (row : Event) (first : Rule) → 
     first
     ≡ fault_of old.scope pieces row first
 same_fault old pieces row first stands =
-    ap (λ p. fault_at p old.asked (wide_at old.options old.levels) old.haste row first)
-    (sym stands.position)
-    ∙ (ap (λ a. fault_at (position_of old.scope pieces) a (wide_at old.options old.levels) old.haste
-    row first) (sym stands.asked)
-    ∙ (ap (λ w. fault_at (position_of old.scope pieces) (asked_device pieces) w old.haste row first)
-    (sym (same_wide old pieces stands))
-    ∙ ap (λ h. fault_at (position_of old.scope pieces) (asked_device pieces)
-    (wide_of old.scope pieces) h row first) (sym stands.haste)))
+    rw (stands.position, stands.asked, stands.options, stands.levels, stands.haste) refl
 
 pub has_fault : (old : Bus) (pieces : List Piece) (row : Event) (first : Rule) (told : LinkFault)
     → StandsFor old pieces → IsFirstByPlace (situation_at old) row first
@@ -273,11 +249,10 @@ pub has_fault : (old : Bus) (pieces : List Piece) (row : Event) (first : Rule) (
     row first
     → IsLinkFault old.scope pieces row told.rule told.blame
 has_fault old pieces row first told stands judged is =
-    let There : Situation → Type 0 = λ s. IsFirstBroken s row first in
     let same = is ∙ same_fault old pieces row first stands in
     record {
       first = first;
-      rule = subst There (sym (same_situation old pieces stands))
+      rule = subst (λ s. IsFirstBroken s row first) (sym (same_situation old pieces stands))
           (by_place (situation_at old) row first judged);
       counts = ap (λ (f : LinkFault). f.rule) same;
       blame = ap (λ (f : LinkFault). f.blame) same;
@@ -288,72 +263,54 @@ has_fault old pieces row first told stands judged is =
 pub ended_by : (old : Bus) (row : Event) (found : Judged) → found ≡ judged.Reply
     → IsJudged (situation_at old) row (Ok found)
     → IsEnded (situation_at old) row
-ended_by old row found is judged =
-    let P : Judged → Type 0 = λ f. IsJudged (situation_at old) row (Ok f) in
-    subst P is judged
+ended_by old row found is judged = rw is at judged
 
-pub read_goes_on : (old new : Bus) (pieces : List Piece) (row : Event) (act : Act)
-    (result : Result Bool LinkFault)
-    → StandsFor old pieces → IsEnded (situation_at old) row
+pub read_goes_on : (old new : Bus) (haste : Bool) (pieces : List Piece) (row : Event) (act : Act)
+    (result : Result Bool Rule)
+    → StandsFor old pieces → IsEnded (situation_at old) row → Hastens old row haste
     → IfOk result (λ ends. (reply : Reply)
     × IsReadAt old.scope.begins (position_at old.place) old.levels (Ok reply)
     × HasGone old (step.Reply reply) row new (ended_act ends act))
-    → IfOk result (λ ends. GoesOn new pieces row (ended_act ends act))
-read_goes_on old new pieces row act (Ok ends) stands ended h =
-    stands_read old new pieces row h.0 (ended_act ends act) stands ended h.1 h.2
-read_goes_on old new pieces row act (Err fault) stands ended h = tt
+    → IfOk result (λ ends. GoesOn (record new { haste = haste }) pieces row (ended_act ends act))
+read_goes_on old new haste pieces row act (Ok ends) stands ended hastens h =
+    stands_by old new haste pieces row (step.Reply h.0) (ended_act ends act) stands
+    (ended (Ok h.0) h.1) (λ _. h.2) hastens
+read_goes_on old new haste pieces row act (Err broken) stands ended hastens h = tt
 
-pub read_has_fault : (old : Bus) (pieces : List Piece) (row : Event)
-    (result : Result Bool LinkFault)
-    → StandsFor old pieces → IsEnded (situation_at old) row
-    → IfErr result (λ fault. (first : Rule)
-    × IsReadAt old.scope.begins (position_at old.place) old.levels (Err first)
-    × (fault ≡ fault_at (position_at old.place) old.asked (wide_at old.options old.levels)
-    old.haste row first))
-    → IfErr result (λ fault. IsLinkFault old.scope pieces row fault.rule fault.blame)
-read_has_fault old pieces row (Ok act) stands ended read = tt
-read_has_fault old pieces row (Err fault) stands ended read =
-    has_fault old pieces row read.0 fault stands
-    (read_breaks old pieces row read.0 stands ended read.1) read.2
+pub read_breaks : (old : Bus) (row : Event) (result : Result Bool Rule)
+    → IsEnded (situation_at old) row
+    → IfErr result (λ first. IsReadAt old.scope.begins (position_at old.place) old.levels
+    (Err first))
+    → IfErr result (IsFirstByPlace (situation_at old) row)
+read_breaks old row (Ok ends) ended read = tt
+read_breaks old row (Err first) ended read = ended (Err first) read
 
--- what is refused ends the act list
-pub fault_ends : ((scope : Scope) (pieces : List Piece) (row : Event) (broken : Rule)
-    → ArePieces scope pieces → RowBreaks (situation_of scope pieces) row broken
-    → HasActList scope (events_of pieces ++ row ∷ []) → ⊥)
-    → (old : Bus) (pieces : List Piece) (row : Event) (result : Result Bool LinkFault)
-    → StandsFor old pieces
-    → IfErr result (λ fault. IsLinkFault old.scope pieces row fault.rule fault.blame)
-    → OnErr result (HasActList old.scope (events_of pieces ++ row ∷ []) → ⊥)
-fault_ends law old pieces row (Ok act) stands faulty = tt
-fault_ends law old pieces row (Err fault) stands faulty =
-    λ has. law old.scope pieces row faulty.first stands.in_order faulty.rule.breaks has
+-- what holds anyway holds where a row was taken
+pub on_ok : {P : Type 0} (result : Result Bool Rule) → P → OnOk result P
+on_ok (Ok ends) holds = holds
+on_ok (Err broken) holds = tt
+
+-- a row in its time has no sender that would be counted
+pub sends_none : (bus : Bus) (pieces : List Piece) (row : Event) → StandsFor bus pieces
+    → is_untimely (position_at bus.place) bus.last row ≡ false
+    → untimely_sender bus.scope pieces row ≡ None
+sends_none bus pieces row stands timely = rw (stands.position, stands.last, timely) refl
 
 -- the act that an ask ends
 asks : (at : Position) (command : Command) → IsAt at (step.Ask command)
     → act_after at (step.Ask command) ≡ Some (acts.Ask command)
-asks Quiet command there = absurd there
 asks (InAsk bytes) command there = refl
-asks (Asked other) command there = absurd there
-asks (InReply other bytes) command there = absurd there
-asks (Replied other reply) command there = absurd there
-asks (Returned other reply) command there = absurd there
-asks (InRepeat other reply words) command there = absurd there
-asks InForeign command there = absurd there
+asks at command there = absurd there
 
 ended_is : (ended : Bool) (act told : Act) → ended_act ended act ≡ Some told → act ≡ told
 ended_is true act told is = cc
 ended_is false act told is = absurd (cc)
 
--- haste goes on as a row tells
-abbrev pub Hastens : Bus → Bus → Event → Type 0
-Hastens old new row = new.haste ≡ haste_by (profile_of old.scope.begins)
-    (haste_after (position_at old.place) old.last row old.haste)
-
 -- a bus has gone by the ask that its place has advanced by, where it keeps what the act tells
 pub gone_ask : (old new : Bus) (place : Place) (row : Event) (found : Judged) (ended : Bool)
     (act : Act)
     → found ≡ judged.Ask → new.place ≡ place
-    → new.scope ≡ old.scope → new.last ≡ Some row → Hastens old new row
+    → new.scope ≡ old.scope → new.last ≡ Some row
     → new.options ≡ old.options
     → ((command : Command) → act ≡ acts.Ask command → new.levels ≡ levels_after command old.levels)
     → ((command : Command) → act ≡ acts.Ask command → new.asked ≡ Some (device_of command))
@@ -361,7 +318,7 @@ pub gone_ask : (old new : Bus) (place : Place) (row : Event) (found : Judged) (e
     → HasAdvanced (position_at old.place) next (position_at place) (ended_act ended act))
     → EachStep found row (λ next. IsAt (position_at old.place) next
     → HasGone old next row new (ended_act ended act))
-gone_ask old new place row judged.Ask ended act is there scope last haste options levels asked
+gone_ask old new place row judged.Ask ended act is there scope last options levels asked
     advanced =
     λ command at.
     let Led : Place → Type 0 = λ p.
@@ -373,7 +330,6 @@ gone_ask old new place row judged.Ask ended act is there scope last haste option
       scope = scope;
       advanced = has;
       last = last;
-      haste = haste;
       levels = levels command told
           ∙ ap (λ a. levels_if (profile_of old.scope.begins) a old.levels)
           (sym (asks (position_at old.place) command at) ∙ sym has.act);
@@ -382,7 +338,7 @@ gone_ask old new place row judged.Ask ended act is there scope last haste option
           (sym (asks (position_at old.place) command at) ∙ sym has.act);
       asked = asked command told;
     }
-gone_ask old new place row found ended act is there scope last haste options levels asked advanced =
+gone_ask old new place row found ended act is there scope last options levels asked advanced =
     absurd (cc)
 
 -- a step that ends neither an ask nor a reply
@@ -396,28 +352,8 @@ tells_none : (profile : Profile) (at : Position) (next : Step) (levels : Levels)
     → levels_if profile (act_after at next) levels ≡ levels
 tells_none profile at (step.Ask command) levels quiet = absurd quiet
 tells_none profile at (step.Reply reply) levels quiet = absurd quiet
-tells_none profile (InAsk bytes) (step.AskByte byte) levels quiet = refl
-tells_none profile at (step.AskByte byte) levels quiet = refl
-tells_none profile (InAsk bytes) step.Foreign levels quiet = refl
-tells_none profile at step.Foreign levels quiet = refl
-tells_none profile (InAsk bytes) (step.Break length) levels quiet = refl
-tells_none profile at (step.Break length) levels quiet = refl
-tells_none profile (Asked command) step.Ack levels quiet = refl
-tells_none profile at step.Ack levels quiet = refl
-tells_none profile (Asked command) step.Nak levels quiet = refl
-tells_none profile at step.Nak levels quiet = refl
-tells_none profile (Asked command) (step.ReplyByte byte) levels quiet = refl
-tells_none profile at (step.ReplyByte byte) levels quiet = refl
-tells_none profile (Replied command reply) step.VmcAck levels quiet = refl
-tells_none profile at step.VmcAck levels quiet = refl
-tells_none profile (Replied command reply) step.VmcNak levels quiet = refl
-tells_none profile at step.VmcNak levels quiet = refl
-tells_none profile (Replied command reply) step.VmcRet levels quiet = refl
-tells_none profile at step.VmcRet levels quiet = refl
-tells_none profile (Returned command reply) (step.RepeatWord word) levels quiet = refl
-tells_none profile at (step.RepeatWord word) levels quiet = refl
-tells_none profile (InRepeat command reply words) step.Repeat levels quiet = refl
-tells_none profile at step.Repeat levels quiet = refl
+tells_none profile (InAsk bytes) next levels quiet = refl
+tells_none profile at next levels quiet = refl
 
 -- so levels that stay are those after it
 stay : (old new : Bus) (next : Step) (act : Option Act) → new.levels ≡ old.levels
@@ -443,24 +379,8 @@ settles_none at (step.Ask command) known idle = absurd idle
 settles_none at (step.Reply reply) known idle = absurd idle
 settles_none at step.Ack known idle = absurd idle
 settles_none at (step.Break length) known idle = absurd idle
-settles_none (InAsk bytes) (step.AskByte byte) known idle = refl
-settles_none at (step.AskByte byte) known idle = refl
-settles_none (InAsk bytes) step.Foreign known idle = refl
-settles_none at step.Foreign known idle = refl
-settles_none (Asked command) step.Nak known idle = refl
-settles_none at step.Nak known idle = refl
-settles_none (Asked command) (step.ReplyByte byte) known idle = refl
-settles_none at (step.ReplyByte byte) known idle = refl
-settles_none (Replied command reply) step.VmcAck known idle = refl
-settles_none at step.VmcAck known idle = refl
-settles_none (Replied command reply) step.VmcNak known idle = refl
-settles_none at step.VmcNak known idle = refl
-settles_none (Replied command reply) step.VmcRet known idle = refl
-settles_none at step.VmcRet known idle = refl
-settles_none (Returned command reply) (step.RepeatWord word) known idle = refl
-settles_none at (step.RepeatWord word) known idle = refl
-settles_none (InRepeat command reply words) step.Repeat known idle = refl
-settles_none at step.Repeat known idle = refl
+settles_none (InAsk bytes) next known idle = refl
+settles_none at next known idle = refl
 
 -- so options that stay are those after it
 unsettled : (old new : Bus) (next : Step) (act : Option Act) → new.options ≡ old.options
@@ -490,17 +410,16 @@ broken_off at length = refl
 
 -- a bus has gone by a step that tells no level
 gone_quiet : (old new : Bus) (row : Event) (next : Step) (act : Option Act)
-    → new.scope ≡ old.scope → new.last ≡ Some row → Hastens old new row
+    → new.scope ≡ old.scope → new.last ≡ Some row
     → new.levels ≡ old.levels
     → new.options ≡ known_if act old.options
     → new.asked ≡ asked_after old.asked next → IsQuiet next
     → HasAdvanced (position_at old.place) next (position_at new.place) act
     → HasGone old next row new act
-gone_quiet old new row next act scope last haste levels options asked quiet advanced = record {
+gone_quiet old new row next act scope last levels options asked quiet advanced = record {
   scope = scope;
   advanced = advanced;
   last = last;
-  haste = haste;
   levels = stay old new next act levels quiet advanced.act;
   options = options;
   asked = asked;
@@ -509,57 +428,57 @@ gone_quiet old new row next act scope last haste levels options asked quiet adva
 -- a bus has gone by the ACK that its place has advanced by
 pub gone_ack : (old new : Bus) (row : Event) (found : Judged) (ended : Bool) (act : Act)
     → found ≡ judged.Ack
-    → new.scope ≡ old.scope → new.last ≡ Some row → Hastens old new row
+    → new.scope ≡ old.scope → new.last ≡ Some row
     → new.levels ≡ old.levels
     → new.options ≡ known_by act old.options → new.asked ≡ old.asked
     → EachStep found row (λ next. IsAt (position_at old.place) next
     → HasAdvanced (position_at old.place) next (position_at new.place) (ended_act ended act))
     → EachStep found row (λ next. IsAt (position_at old.place) next
     → HasGone old next row new (ended_act ended act))
-gone_ack old new row judged.Ack ended act is scope last haste levels options asked advanced = λ at.
+gone_ack old new row judged.Ack ended act is scope last levels options asked advanced = λ at.
     let told = acked (position_at old.place) at in
-    gone_quiet old new row _ (ended_act ended act) scope last haste levels
+    gone_quiet old new row _ (ended_act ended act) scope last levels
     (settled ended act (acts.Ack told.0) old.options new.options ((advanced at).act ∙ told.1)
     options) asked tt (advanced at)
-gone_ack old new row found ended act is scope last haste levels options asked advanced =
+gone_ack old new row found ended act is scope last levels options asked advanced =
     absurd (cc is)
 
 -- by the foreign word
 pub gone_foreign : (old new : Bus) (row : Event) (found : Judged) (act : Option Act)
     → found ≡ judged.Foreign
-    → new.scope ≡ old.scope → new.last ≡ Some row → Hastens old new row
+    → new.scope ≡ old.scope → new.last ≡ Some row
     → new.levels ≡ old.levels
     → new.options ≡ old.options → new.asked ≡ None
     → EachStep found row (λ next. IsAt (position_at old.place) next
     → HasAdvanced (position_at old.place) next (position_at new.place) act)
     → EachStep found row (λ next. IsAt (position_at old.place) next → HasGone old next row new act)
-gone_foreign old new row judged.Foreign act is scope last haste levels options asked advanced =
+gone_foreign old new row judged.Foreign act is scope last levels options asked advanced =
     λ at.
-    gone_quiet old new row _ act scope last haste levels
+    gone_quiet old new row _ act scope last levels
     (unsettled old new step.Foreign act options tt (advanced at).act) asked tt (advanced at)
-gone_foreign old new row found act is scope last haste levels options asked advanced =
+gone_foreign old new row found act is scope last levels options asked advanced =
     absurd (cc is)
 
 -- by the break
 pub gone_break : (old new : Bus) (row : Event) (found : Judged) (ended : Bool) (act : Act)
     → found ≡ judged.Break
-    → new.scope ≡ old.scope → new.last ≡ Some row → Hastens old new row
+    → new.scope ≡ old.scope → new.last ≡ Some row
     → new.levels ≡ old.levels
     → new.options ≡ known_by act old.options → new.asked ≡ None
     → EachStep found row (λ next. IsAt (position_at old.place) next
     → HasAdvanced (position_at old.place) next (position_at new.place) (ended_act ended act))
     → EachStep found row (λ next. IsAt (position_at old.place) next
     → HasGone old next row new (ended_act ended act))
-gone_break old new (Break start length) judged.Break ended act is scope last haste levels options
+gone_break old new (Break start length) judged.Break ended act is scope last levels options
     asked
     advanced = λ at.
-    gone_quiet old new (Break start length) _ (ended_act ended act) scope last haste levels
+    gone_quiet old new (Break start length) _ (ended_act ended act) scope last levels
     (settled ended act (acts.Break length) old.options new.options
     ((advanced at).act ∙ broken_off (position_at old.place) length) options) asked tt (advanced at)
-gone_break old new (Word at line word) judged.Break ended act is scope last haste levels options
+gone_break old new (Word at line word) judged.Break ended act is scope last levels options
     asked
     advanced = tt
-gone_break old new row found ended act is scope last haste levels options asked advanced =
+gone_break old new row found ended act is scope last levels options asked advanced =
     absurd (cc is)
 
 -- by another step that its place has advanced by, which changes neither the levels, the options
@@ -567,56 +486,22 @@ gone_break old new row found ended act is scope last haste levels options asked 
 pub gone_on : (old new : Bus) (row : Event) (found : Judged) (act : Option Act)
     → (found ≡ judged.Ask → ⊥) → (found ≡ judged.Ack → ⊥) → (found ≡ judged.Foreign → ⊥)
     → (found ≡ judged.Break → ⊥)
-    → new.scope ≡ old.scope → new.last ≡ Some row → Hastens old new row
+    → new.scope ≡ old.scope → new.last ≡ Some row
     → new.levels ≡ old.levels
     → new.options ≡ old.options → new.asked ≡ old.asked
     → EachStep found row (λ next. IsAt (position_at old.place) next
     → HasAdvanced (position_at old.place) next (position_at new.place) act)
     → EachStep found row (λ next. IsAt (position_at old.place) next → HasGone old next row new act)
-gone_on old new row judged.Ask act ask ack foreign pause scope last haste levels options asked
-    advanced =
+gone_on old new row judged.Ask act ask ack foreign pause scope last levels options asked advanced =
     absurd (ask refl)
-gone_on old new row judged.Ack act ask ack foreign pause scope last haste levels options asked
-    advanced =
+gone_on old new row judged.Ack act ask ack foreign pause scope last levels options asked advanced =
     absurd (ack refl)
-gone_on old new row judged.Foreign act ask ack foreign pause scope last haste levels options asked
-    advanced =
-    absurd (foreign refl)
-gone_on old new row judged.Break act ask ack foreign pause scope last haste levels options asked
-    advanced =
-    absurd (pause refl)
-gone_on old new row judged.Reply act ask ack foreign pause scope last haste levels options asked
+gone_on old new row judged.Foreign act ask ack foreign pause scope last levels options asked
+    advanced = absurd (foreign refl)
+gone_on old new row judged.Break act ask ack foreign pause scope last levels options asked
+    advanced = absurd (pause refl)
+gone_on old new row judged.Reply act ask ack foreign pause scope last levels options asked
     advanced = tt
-gone_on old new row judged.AskByte act ask ack foreign pause scope last haste levels options asked
-    advanced = λ at.
-    gone_quiet old new row _ act scope last haste levels
-    (unsettled old new _ act options tt (advanced at).act) asked tt (advanced at)
-gone_on old new row judged.Nak act ask ack foreign pause scope last haste levels options asked
-    advanced = λ at.
-    gone_quiet old new row _ act scope last haste levels
-    (unsettled old new _ act options tt (advanced at).act) asked tt (advanced at)
-gone_on old new row judged.ReplyByte act ask ack foreign pause scope last haste levels options asked
-    advanced = λ at.
-    gone_quiet old new row _ act scope last haste levels
-    (unsettled old new _ act options tt (advanced at).act) asked tt (advanced at)
-gone_on old new row judged.VmcAck act ask ack foreign pause scope last haste levels options asked
-    advanced = λ at.
-    gone_quiet old new row _ act scope last haste levels
-    (unsettled old new _ act options tt (advanced at).act) asked tt (advanced at)
-gone_on old new row judged.VmcNak act ask ack foreign pause scope last haste levels options asked
-    advanced = λ at.
-    gone_quiet old new row _ act scope last haste levels
-    (unsettled old new _ act options tt (advanced at).act) asked tt (advanced at)
-gone_on old new row judged.VmcRet act ask ack foreign pause scope last haste levels options asked
-    advanced = λ at.
-    gone_quiet old new row _ act scope last haste levels
-    (unsettled old new _ act options tt (advanced at).act) asked tt (advanced at)
-gone_on old new row judged.RepeatWord act ask ack foreign pause scope last haste levels options
-    asked
-    advanced = λ at.
-    gone_quiet old new row _ act scope last haste levels
-    (unsettled old new _ act options tt (advanced at).act) asked tt (advanced at)
-gone_on old new row judged.Repeat act ask ack foreign pause scope last haste levels options asked
-    advanced = λ at.
-    gone_quiet old new row _ act scope last haste levels
+gone_on old new row found act ask ack foreign pause scope last levels options asked advanced =
+    λ at. gone_quiet old new row _ act scope last levels
     (unsettled old new _ act options tt (advanced at).act) asked tt (advanced at)

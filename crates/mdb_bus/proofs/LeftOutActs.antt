@@ -14,7 +14,8 @@ use Rattle.mdb_bus.specs.declared.act.Act.TheVariants as acts
 use Rattle.mdb_bus.specs.declared.scope.Scope.{Scope}
 use Rattle.mdb_bus.specs.ActLists.{Piece, Whole, ArePieces, acts_of, piece_events}
 use Rattle.mdb_bus.specs.LeavingOut.{acts_with, breaks_among, device_in, has_part, is_break, is_left_out, is_one_left_out, is_this, leave_out, with_foreign}
-use Rattle.mdb_bus.specs.Scopes.{IsFollowed, IsLeftOut}
+use Rattle.mdb_bus.specs.Scopes.{IsFollowed}
+use Rattle.mdb_bus.specs.LeavingOut.{IsLeftOut}
 use Rattle.mdb_bus.proofs.Named.{IsOneFollowed, in_act}
 
 -- a device that is left out is another than one that isn't

@@ -3,12 +3,12 @@
 use Rattle.std.proofs.Common.{arith, ap, refl, sym, subst, ◌∙◌, ◌≡◌, ◌≤◌, ◌++◌, inl, inr, Bool, true, false, if◌then◌else◌, List, [], ◌∷◌, Option, Some, None, append_assoc}
 use Rattle.std.proofs.lemmas.Bool.{cond_both}
 use Rattle.std.proofs.lemmas.List.{append-nil}
-use Rattle.mdb_words.specs.declared.limits.TheConstants.{NEW_BLOCK_GAP_MIN}
+use Rattle.mdb_words.specs.declared.limits.TheConstants.{NEW_BLOCK_GAP_MIN, WORD_GAP_MIN}
 use Rattle.mdb_words.specs.declared.event.Event.{Event}
 use Rattle.mdb_words.specs.declared.event.Event.TheVariants.{Word, Break}
 use Rattle.mdb_words.specs.declared.word.Line.TheVariants.{Controller, Peripheral}
 use Rattle.mdb_blocks.specs.Answer.{answer_word}
-use Rattle.mdb_blocks.specs.Block.{block_of, controller_words}
+use Rattle.mdb_blocks.specs.Block.{block_of}
 use Rattle.mdb_blocks.specs.declared.answer.Answer.TheVariants as answers
 use Rattle.mdb_msgs.specs.declared.command.Command.{Command}
 use Rattle.mdb_msgs.specs.declared.command.Command.TheVariants as commands
@@ -19,7 +19,7 @@ use Rattle.mdb_msgs.specs.declared.command.ReaderUnit.TheVariants.{First, Second
 use Rattle.mdb_msgs.specs.declared.device_set.DeviceSet.{DeviceSet}
 use Rattle.mdb_msgs.specs.Commands.{IsByte, command_bytes, device_of}
 use Rattle.mdb_msgs.specs.DeviceSets.{has}
-use Rattle.mdb_msgs.specs.Reader.{last_level}
+use Rattle.mdb_msgs.specs.ExtendedLevels.{last_level}
 use Rattle.mdb_bus.specs.declared.act.Act.TheVariants as acts
 use Rattle.mdb_bus.specs.declared.levels.Levels.{Levels}
 use Rattle.mdb_bus.specs.declared.levels.ReaderLevels.{ReaderLevels}
@@ -31,12 +31,14 @@ use Rattle.mdb_bus.specs.declared.scope.Beginning.TheVariants.{PowerOn, Joined}
 use Rattle.mdb_bus.specs.declared.scope.Profile.{Profile}
 use Rattle.mdb_bus.specs.declared.scope.Profile.TheVariants as profiles
 use Rattle.mdb_bus.specs.declared.format.Format.{Format}
-use Rattle.mdb_bus.specs.Formats.{IsReadAs, format_at, format_by, levels_for, untold_format}
+use Rattle.mdb_bus.specs.Formats.{IsReadAs, format_by, levels_for}
+use Rattle.mdb_bus.specs.ExtendedFormats.{format_at, untold_format}
 use Rattle.mdb_bus.specs.declared.scope.Scope.{Scope}
-use Rattle.mdb_bus.specs.Acts.{IsForeign, Say, reply_words}
-use Rattle.mdb_bus.specs.ActLists.{Piece, Whole, AskTail, ReplyTail, RepeatTail, Position, Quiet, InAsk, Asked, InReply, Replied, Returned, InRepeat, InForeign, ArePieces, AreSpaced, BlockMayCome, ForeignMayCome, IsInProfile, IsLow, IsPiece, IsSaid, MayCome, MayStand, NotBefore, PieceFits, ReplyFits, events_of, first_position, last_of, left_by, levels_after, levels_of, levels_told, piece_events, position_of}
+use Rattle.mdb_bus.specs.Acts.{IsForeign, reply_words}
+use Rattle.mdb_bus.specs.ActLists.{Piece, Whole, AskTail, ReplyTail, RepeatTail, Position, Quiet, InAsk, Asked, InReply, Replied, Returned, InRepeat, InForeign, ArePieces, AreSpaced, BlockMayCome, ForeignMayCome, IsInProfile, IsLow, IsSaid, MayCome, NotBefore, PieceFits, ReplyFits, events_of, first_position, last_of, left_by, levels_after, levels_of, levels_told, piece_events, position_of}
 use Rattle.mdb_bus.specs.LeavingOut.{LeavesOutMore, begin_left_out, is_left_out, is_one_left_out, leave_out, position_without, with_foreign}
-use Rattle.mdb_bus.specs.Scopes.{HasCommand, IsFollowed, IsLeftOut, first_levels, levels_before, profile_of}
+use Rattle.mdb_bus.specs.Scopes.{HasCommand, IsFollowed, first_levels, levels_before, profile_of}
+use Rattle.mdb_bus.specs.LeavingOut.{IsLeftOut}
 use Rattle.mdb_bus.specs.Times.{break_least, rest_after}
 use Rattle.mdb_bus.specs.shared.Steps.{IsCommandFront}
 use Rattle.mdb_msgs.proofs.CommandBytes.{spelled_low}
@@ -112,17 +114,14 @@ block_waits profile position from to comes = comes
 -- a piece that leaves a command open is of its device
 of_its_device : (scope : Scope) (piece : Piece) (device : Device)
     → device_at (left_by piece) ≡ Some device → is_left_out scope piece ≡ has scope.without device
-of_its_device scope (Whole (acts.Ask command) events) device is = ap (is_one_left_out scope) is
-of_its_device scope (Whole (acts.Reply command reply) events) device is =
-    ap (is_one_left_out scope) is
-of_its_device scope (Whole (acts.VmcRet command reply) events) device is =
-    ap (is_one_left_out scope) is
-of_its_device scope (Whole (acts.Repeat command reply) events) device is =
-    ap (is_one_left_out scope) is
-of_its_device scope (ReplyTail command bytes events) device is = ap (is_one_left_out scope) is
-of_its_device scope (RepeatTail command reply words events) device is =
-    ap (is_one_left_out scope) is
-of_its_device scope piece device is = cc
+of_its_device scope (Whole (acts.Ack command) events) device is = cc
+of_its_device scope (Whole (acts.Nak command) events) device is = cc
+of_its_device scope (Whole (acts.VmcAck command reply) events) device is = cc
+of_its_device scope (Whole (acts.VmcNak command reply) events) device is = cc
+of_its_device scope (Whole acts.Foreign events) device is = cc
+of_its_device scope (Whole (acts.Break length) events) device is = cc
+of_its_device scope (AskTail bytes events) device is = cc
+of_its_device scope piece device is = ap (is_one_left_out scope) is
 
 -- Where the bus is without further devices, by where it is with them.
 pub record Moves (scope : Scope) (position without : Position) : Type 0 where
@@ -143,14 +142,12 @@ none_at_first (Joined setups profile) = refl
 first_moves : (less more : Scope) → LeavesOutMore less more
     → Moves more (first_position less.begins) (first_position more.begins)
 first_moves less more wider =
-    let same : first_position less.begins ≡ first_position more.begins =
-    ap first_position wider.begins in
-    let none = none_at_first less.begins in
+    let same = ap first_position wider.begins in
     record {
-      block = λ from to comes.
-          subst (λ (p : Position). BlockMayCome (profile_of more.begins) p from to) same comes;
+      block = λ from to comes. rw (sym same) comes;
       stays = λ device is followed. sym same;
-      leaves = λ device is out. let both : None ≡ Some device = sym none ∙ is in cc both;
+      leaves = λ device is out.
+          let both : None ≡ Some device = sym (none_at_first less.begins) ∙ is in cc both;
       foreign = λ is. sym same ∙ is;
     }
 
@@ -222,38 +219,17 @@ pub comes_as_it_did : (scope : Scope) (piece : Piece) (position without : Positi
     → Moves scope position without → is_left_out scope piece ≡ false
     → MayCome (profile_of scope.begins) piece position from to
     → MayCome (profile_of scope.begins) piece without from to
-comes_as_it_did scope (Whole (acts.Ask command) events) position without from to moved kept comes =
-    moved.block from to comes
-comes_as_it_did scope (Whole (acts.Ack command) events) position without from to moved kept comes =
-    (moved.stays (device_of command) (ap device_at comes.0) kept ∙ comes.0, comes.1)
-comes_as_it_did scope (Whole (acts.Nak command) events) position without from to moved kept comes =
-    (moved.stays (device_of command) (ap device_at comes.0) kept ∙ comes.0, comes.1)
-comes_as_it_did scope (Whole (acts.Reply command reply) events) position without from to moved kept
-    comes =
-    (moved.stays (device_of command) (ap device_at comes.0) kept ∙ comes.0, comes.1)
-comes_as_it_did scope (Whole (acts.VmcAck command reply) events) position without from to moved kept
-    comes =
-    (moved.stays (device_of command) (ap device_at comes.0) kept ∙ comes.0, comes.1)
-comes_as_it_did scope (Whole (acts.VmcNak command reply) events) position without from to moved kept
-    comes =
-    (moved.stays (device_of command) (ap device_at comes.0) kept ∙ comes.0, comes.1)
-comes_as_it_did scope (Whole (acts.VmcRet command reply) events) position without from to moved kept
-    comes =
-    (moved.stays (device_of command) (ap device_at comes.0) kept ∙ comes.0, comes.1)
-comes_as_it_did scope (Whole (acts.Repeat command reply) events) position without from to moved kept
-    comes =
-    (moved.stays (device_of command) (ap device_at comes.0) kept ∙ comes.0, comes.1)
-comes_as_it_did scope (Whole acts.Foreign events) position without from to moved kept comes =
-    foreign_moves scope position without from to moved comes
-comes_as_it_did scope (Whole (acts.Break length) events) position without from to moved kept comes =
-    comes
-comes_as_it_did scope (AskTail bytes events) position without from to moved kept comes =
-    moved.block from to comes
-comes_as_it_did scope (ReplyTail command bytes events) position without from to moved kept comes =
-    (moved.stays (device_of command) (ap device_at comes.0) kept ∙ comes.0, comes.1)
-comes_as_it_did scope (RepeatTail command reply words events) position without from to moved kept
-    comes =
-    (moved.stays (device_of command) (ap device_at comes.0) kept ∙ comes.0, comes.1)
+comes_as_it_did scope piece position without from to moved kept comes = by piece kept comes
+  where
+    by : (piece : Piece) → is_left_out scope piece ≡ false
+        → MayCome (profile_of scope.begins) piece position from to
+        → MayCome (profile_of scope.begins) piece without from to
+    by (Whole (acts.Ask command) events) kept comes = moved.block from to comes
+    by (Whole acts.Foreign events) kept comes =
+        foreign_moves scope position without from to moved comes
+    by (Whole (acts.Break length) events) kept comes = comes
+    by (AskTail bytes events) kept comes = moved.block from to comes
+    by piece kept comes = (moved.stays _ (ap device_at comes.0) kept ∙ comes.0, comes.1)
 
 -- what is of a device that is left out becomes foreign acts
 becomes : FirstTells → (less more : Scope) → LeavesOutMore less more → (piece : Piece)
@@ -261,82 +237,74 @@ becomes : FirstTells → (less more : Scope) → LeavesOutMore less more → (pi
     → is_left_out more piece ≡ true → IsSaid less piece → piece_events piece ≡ first ∷ others
     → Moves more position without → MayCome (profile_of more.begins) piece position from first
     → Becomes more without from first others
-becomes law less more wider (Whole (acts.Ask command) events) position without from first others
-    out said are moved comes =
-    let block = block_of (command_bytes command) in
-    as_block more block without from first others
-    (law block command said.0.spells more.without ∙ out)
-    (spelled_low command block said.0.spells)
-    (subst (Say Controller (controller_words block)) are said.1)
-    (moved.block from first comes)
-becomes law less more wider (Whole (acts.Ack command) events) position without from first others
-    out said are moved comes =
-    as_words more without from first others
-    (subst AreForeignWords are
-    (peripheral_foreign (answer_word Peripheral answers.Ack ∷ []) events said))
-    (moved.leaves (device_of command) (ap device_at comes.0) out) comes.1.0
-becomes law less more wider (Whole (acts.Nak command) events) position without from first others
-    out said are moved comes =
-    as_words more without from first others
-    (subst AreForeignWords are
-    (peripheral_foreign (answer_word Peripheral answers.Nak ∷ []) events said))
-    (moved.leaves (device_of command) (ap device_at comes.0) out) comes.1.0
-becomes law less more wider (Whole (acts.Reply command reply) events) position without from first
-    others out said are moved comes =
-    as_words more without from first others
-    (subst AreForeignWords are (peripheral_foreign (reply_words reply) events said.1))
-    (moved.leaves (device_of command) (ap device_at comes.0) out) comes.1.0
-becomes law less more wider (Whole (acts.VmcAck command reply) events) position without from first
-    others out said are moved comes =
-    as_words more without from first others
-    (subst AreForeignWords are
-    (answer_foreign (answer_word Controller answers.Ack) events (omega arith) said))
-    (moved.leaves (device_of command) (ap device_at comes.0) out) comes.1.0
-becomes law less more wider (Whole (acts.VmcNak command reply) events) position without from first
-    others out said are moved comes =
-    as_words more without from first others
-    (subst AreForeignWords are
-    (answer_foreign (answer_word Controller answers.Nak) events (omega arith) said))
-    (moved.leaves (device_of command) (ap device_at comes.0) out) comes.1.0
-becomes law less more wider (Whole (acts.VmcRet command reply) events) position without from first
-    others out said are moved comes =
-    as_words more without from first others
-    (subst AreForeignWords are
-    (answer_foreign (answer_word Controller answers.Ret) events (omega arith) said))
-    (moved.leaves (device_of command) (ap device_at comes.0) out) comes.1.0
-becomes law less more wider (Whole (acts.Repeat command reply) events) position without from first
-    others out said are moved comes =
-    as_words more without from first others
-    (subst AreForeignWords are (peripheral_foreign (reply_words reply) events said))
-    (moved.leaves (device_of command) (ap device_at comes.0) out) comes.1.0
-becomes law less more wider (Whole acts.Foreign events) position without from first others
-    out said are moved comes =
-    as_foreign less more without from first others
-    (ap (begin_left_out more) (sym are) ∙ out) (subst (IsForeign less) are said)
-    (foreign_moves more position without from first moved comes)
-becomes law less more wider (Whole (acts.Break length) events) position without from first others
-    out said are moved comes =
-    cc out
-becomes law less more wider (AskTail bytes events) position without from first others
-    out said are moved comes =
-    let front = said.0 in
-    as_block more bytes without from first others out
-    (all_front IsByte bytes front.rest
-    (spelled_low front.command (bytes ++ front.rest) front.spelled.spells))
-    (subst (Say Controller (controller_words bytes)) are said.1)
-    (moved.block from first comes)
-becomes law less more wider (ReplyTail command bytes events) position without from first others
-    out said are moved comes =
-    as_words more without from first others
-    (subst AreForeignWords are (peripheral_foreign bytes events said.1))
-    (moved.leaves (device_of command) (ap device_at comes.0) out) comes.1.0
-becomes law less more wider (RepeatTail command reply words events) position without from first
-    others out said are moved comes =
-    as_words more without from first others
-    (subst AreForeignWords are (peripheral_foreign words events said.1))
-    (moved.leaves (device_of command) (ap device_at comes.0) out) comes.1.0
+becomes law less more wider piece position without from first others out said are moved comes =
+    by piece out said are comes
+  where
+    words : {events : List Event} (device : Device) → AreForeignWords events
+        → events ≡ first ∷ others → device_at position ≡ Some device → IsLeftOut more device
+        → NotBefore WORD_GAP_MIN from first → Becomes more without from first others
+    words device foreign are here out comes = as_words more without from first others
+        (subst AreForeignWords are foreign) (moved.leaves device here out) comes
 
--- further words of foreign traffic stand, each an act by itself
+    by : (piece : Piece) → is_left_out more piece ≡ true → IsSaid less piece
+        → piece_events piece ≡ first ∷ others
+        → MayCome (profile_of more.begins) piece position from first
+        → Becomes more without from first others
+    by (Whole (acts.Ask command) events) out said are comes =
+        let block = block_of (command_bytes command) in
+        as_block more block without from first others
+        (law block command said.0.spells more.without ∙ out)
+        (spelled_low command block said.0.spells) (rw are at said.1) (moved.block from first comes)
+    by (Whole (acts.Ack command) events) out said are comes =
+        words _ (peripheral_foreign (answer_word Peripheral answers.Ack ∷ []) events said) are
+        (ap device_at comes.0) out comes.1.0
+    by (Whole (acts.Nak command) events) out said are comes =
+        words _ (peripheral_foreign (answer_word Peripheral answers.Nak ∷ []) events said) are
+        (ap device_at comes.0) out comes.1.0
+    by (Whole (acts.Reply command reply) events) out said are comes =
+        words _ (peripheral_foreign (reply_words reply) events said.1) are (ap device_at comes.0)
+        out comes.1.0
+    by (Whole (acts.VmcAck command reply) events) out said are comes =
+        words _ (answer_foreign (answer_word Controller answers.Ack) events (omega arith) said) are
+        (ap device_at comes.0) out comes.1.0
+    by (Whole (acts.VmcNak command reply) events) out said are comes =
+        words _ (answer_foreign (answer_word Controller answers.Nak) events (omega arith) said) are
+        (ap device_at comes.0) out comes.1.0
+    by (Whole (acts.VmcRet command reply) events) out said are comes =
+        words _ (answer_foreign (answer_word Controller answers.Ret) events (omega arith) said) are
+        (ap device_at comes.0) out comes.1.0
+    by (Whole (acts.Repeat command reply) events) out said are comes =
+        words _ (peripheral_foreign (reply_words reply) events said) are (ap device_at comes.0) out
+        comes.1.0
+    by (Whole acts.Foreign events) out said are comes =
+        as_foreign less more without from first others (ap (begin_left_out more) (sym are) ∙ out)
+        (rw are at said) (foreign_moves more position without from first moved comes)
+    by (Whole (acts.Break length) events) out said are comes = cc out
+    by (AskTail bytes events) out said are comes =
+        let front = said.0 in
+        as_block more bytes without from first others out
+        (all_front IsByte bytes front.rest
+        (spelled_low front.command (bytes ++ front.rest) front.spelled.spells)) (rw are at said.1)
+        (moved.block from first comes)
+    by (ReplyTail command bytes events) out said are comes =
+        words _ (peripheral_foreign bytes events said.1) are (ap device_at comes.0) out comes.1.0
+    by (RepeatTail command reply words_said events) out said are comes =
+        words _ (peripheral_foreign words_said events said.1) are (ap device_at comes.0) out
+        comes.1.0
+
+-- a foreign word stands as an act by itself
+word_stands : (scope : Scope) (event : Event) (pieces : List Piece) → ArePieces scope pieces
+    → IsForeign scope (event ∷ [])
+    → ForeignMayCome (profile_of scope.begins) (position_of scope pieces)
+    (last_of (events_of pieces)) event
+    → ArePieces scope (Whole acts.Foreign (event ∷ []) ∷ pieces)
+word_stands scope event pieces are said comes = (
+  record { said = said; spaced = tt },
+  record { first = event; others = []; begins = refl; comes = comes; levels = tt },
+  are,
+)
+
+-- so do further words of foreign traffic
 words_stand : (scope : Scope) (from : Event) (events : List Event) (pieces : List Piece)
     → ArePieces scope pieces → position_of scope pieces ≡ InForeign
     → last_of (events_of pieces) ≡ Some from
@@ -344,45 +312,21 @@ words_stand : (scope : Scope) (from : Event) (events : List Event) (pieces : Lis
     → ArePieces scope (with_foreign events pieces)
 words_stand scope from [] pieces are here last spaced words = are
 words_stand scope from (event ∷ events) pieces are here last spaced words =
-    let Late : Option Event → Type 0 = λ before. NotBefore (rest_after before) before event in
-    let piece : IsPiece scope (Whole acts.Foreign (event ∷ [])) = record {
-      said = inr (event, refl, words.0);
-      spaced = tt;
-    } in
-    let stands : MayStand scope pieces (Whole acts.Foreign (event ∷ [])) = record {
-      first = event;
-      others = [];
-      begins = refl;
-      comes = inr (
-        words.0,
-        here,
-        subst Late (sym last) (word_waits (Some from) event spaced.0.0),
-      );
-      levels = tt;
-    } in
-    words_stand scope event events (Whole acts.Foreign (event ∷ []) ∷ pieces) (piece, stands, are)
+    words_stand scope event events (Whole acts.Foreign (event ∷ []) ∷ pieces)
+    (word_stands scope event pieces are (inr (event, refl, words.0))
+    (inr (words.0, here, rw last (word_waits (Some from) event spaced.0.0))))
     refl (last_push (events_of pieces) event) spaced.1 words.1
 
--- so do all words of what is left out
+-- and all words of what is left out
 all_stand : (scope : Scope) (first : Event) (others : List Event) (pieces : List Piece)
     → ArePieces scope pieces
     → Becomes scope (position_of scope pieces) (last_of (events_of pieces)) first others
     → AreSpaced (profile_of scope.begins) (first ∷ others)
     → ArePieces scope (with_foreign (first ∷ others) pieces)
 all_stand scope first others pieces are become spaced =
-    let piece : IsPiece scope (Whole acts.Foreign (first ∷ [])) = record {
-      said = become.act;
-      spaced = tt;
-    } in
-    let stands : MayStand scope pieces (Whole acts.Foreign (first ∷ [])) = record {
-      first = first;
-      others = [];
-      begins = refl;
-      comes = become.comes;
-      levels = tt;
-    } in
-    words_stand scope first others (Whole acts.Foreign (first ∷ []) ∷ pieces) (piece, stands, are)
-    refl (last_push (events_of pieces) first) spaced become.words
+    words_stand scope first others (Whole acts.Foreign (first ∷ []) ∷ pieces)
+    (word_stands scope first pieces are become.act become.comes) refl
+    (last_push (events_of pieces) first) spaced become.words
 
 -- a command tells its own reader a level, and not the other
 first_alone : (asked : ReaderCommand) (levels : Levels)
@@ -398,8 +342,6 @@ second_alone asked levels = refl
 told_another : (set : DeviceSet) (command asked : Command) (levels : Levels)
     → has set (device_of command) ≡ false → has set (device_of asked) ≡ true
     → levels_for command (levels_after asked levels) ≡ levels_for command levels
-told_another set (commands.Changer command) asked levels followed out = refl
-told_another set (commands.Bill command) asked levels followed out = refl
 told_another set (commands.Reader First command) (commands.Reader First asked) levels followed out =
     cc
 told_another set (commands.Reader First command) (commands.Reader Second asked) levels followed
@@ -408,7 +350,7 @@ told_another set (commands.Reader Second command) (commands.Reader First asked) 
     out = second_alone asked levels
 told_another set (commands.Reader Second command) (commands.Reader Second asked) levels followed
     out = cc
-told_another set (commands.Reader unit command) asked levels followed out = refl
+told_another set command asked levels followed out = refl
 
 -- nor does a reply tell the level of another reader
 first_telling : (profile : Profile) (asked : ReaderCommand) (reply : Reply) (levels : Levels)
@@ -425,8 +367,7 @@ told_by_another : (profile : Profile) (set : DeviceSet) (command asked : Command
     (levels : Levels)
     → has set (device_of command) ≡ false → has set (device_of asked) ≡ true
     → levels_for command (levels_told profile asked reply levels) ≡ levels_for command levels
-told_by_another profile set (commands.Changer command) asked reply levels followed out = refl
-told_by_another profile set (commands.Bill command) asked reply levels followed out = refl
+told_by_another profiles.Base set command asked reply levels followed out = refl
 told_by_another profile set (commands.Reader First command) (commands.Reader First asked) reply
     levels followed out = cc
 told_by_another profile set (commands.Reader First command) (commands.Reader Second asked) reply
@@ -435,17 +376,12 @@ told_by_another profile set (commands.Reader Second command) (commands.Reader Fi
     levels followed out = second_telling profile asked reply levels
 told_by_another profile set (commands.Reader Second command) (commands.Reader Second asked) reply
     levels followed out = cc
-told_by_another profiles.Base set (commands.Reader unit command) asked reply levels followed out =
-    refl
-told_by_another profiles.Extended set (commands.Reader unit command) asked reply levels followed
-    out = refl
+told_by_another profile set command asked reply levels followed out = refl
 
 -- after a command, levels are the same for a reader if they were before it
 same_after : (command asked : Command) (one other : Levels)
     → levels_for command one ≡ levels_for command other
     → levels_for command (levels_after asked one) ≡ levels_for command (levels_after asked other)
-same_after (commands.Changer command) asked one other same = refl
-same_after (commands.Bill command) asked one other same = refl
 same_after (commands.Reader First command)
     (commands.Reader First (readers.SetupConfig level columns rows display)) one other same =
     ap (λ (levels : ReaderLevels). record levels { asked = Some level }) same
@@ -457,15 +393,13 @@ same_after (commands.Reader Second command)
 same_after (commands.Reader Second command) (commands.Reader First asked) one other same =
     second_alone asked one ∙ (same ∙ sym (second_alone asked other))
 same_after (commands.Reader unit command) asked one other same = same
+same_after command asked one other same = refl
 
 -- and after a reply
 same_telling : (profile : Profile) (command asked : Command) (reply : Reply) (one other : Levels)
     → levels_for command one ≡ levels_for command other
     → levels_for command (levels_told profile asked reply one)
     ≡ levels_for command (levels_told profile asked reply other)
-same_telling profiles.Base command asked reply one other same = same
-same_telling profiles.Extended (commands.Changer command) asked reply one other same = refl
-same_telling profiles.Extended (commands.Bill command) asked reply one other same = refl
 same_telling profiles.Extended (commands.Reader First command) (commands.Reader First asked)
     (replies.Reader list) one other same =
     ap (λ (levels : ReaderLevels).
@@ -482,7 +416,7 @@ same_telling profiles.Extended (commands.Reader Second command) (commands.Reader
     one other same =
     second_telling profiles.Extended asked reply one
     ∙ (same ∙ sym (second_telling profiles.Extended asked reply other))
-same_telling profiles.Extended (commands.Reader unit command) asked reply one other same = same
+same_telling profile command asked reply one other same = same
 
 -- foreign acts tell no level
 pub foreign_levels : (profile : Profile) (told : Levels) (events : List Event)
@@ -492,55 +426,43 @@ foreign_levels profile told [] pieces = refl
 foreign_levels profile told (event ∷ events) pieces =
     foreign_levels profile told events (Whole acts.Foreign (event ∷ []) ∷ pieces)
 
--- a piece goes on from levels that are the same for a command
-levels_go_on : (profile : Profile) (told : Levels) (command : Command) (piece : Piece)
-    (one other : List Piece)
-    → levels_for command (levels_of profile told one)
-    ≡ levels_for command (levels_of profile told other)
-    → levels_for command (levels_of profile told (piece ∷ one))
-    ≡ levels_for command (levels_of profile told (piece ∷ other))
-levels_go_on profile told command (Whole (acts.Ask asked) events) one other same =
-    same_after command asked (levels_of profile told one) (levels_of profile told other) same
-levels_go_on profile told command (Whole (acts.Reply asked reply) events) one other same =
-    same_telling profile command asked reply (levels_of profile told one)
-    (levels_of profile told other) same
-levels_go_on profile told command (Whole act events) one other same = same
-levels_go_on profile told command piece one other same = same
+module _ (scope : Scope) (command : Command) where
+  abbrev Its : List Piece → ReaderLevels
+  Its pieces =
+      levels_for command (levels_of (profile_of scope.begins) (levels_before scope) pieces)
 
--- a piece of a device that is left out tells another reader nothing, and of it nothing
-levels_stay : (scope : Scope) (command : Command) (piece : Piece) (pieces : List Piece)
-    → IsFollowed scope (device_of command) → is_left_out scope piece ≡ true
-    → levels_for command
-    (levels_of (profile_of scope.begins) (levels_before scope) (piece ∷ pieces))
-    ≡ levels_for command (levels_of (profile_of scope.begins) (levels_before scope) pieces)
-levels_stay scope command (Whole (acts.Ask asked) events) pieces followed out =
-    told_another scope.without command asked
-    (levels_of (profile_of scope.begins) (levels_before scope) pieces) followed out
-levels_stay scope command (Whole (acts.Reply asked reply) events) pieces followed out =
-    told_by_another (profile_of scope.begins) scope.without command asked reply
-    (levels_of (profile_of scope.begins) (levels_before scope) pieces) followed out
-levels_stay scope command (Whole act events) pieces followed out = refl
-levels_stay scope command piece pieces followed out = refl
+  -- a piece goes on from levels that are the same for a command
+  levels_go_on : (piece : Piece) (one other : List Piece) → Its one ≡ Its other
+      → Its (piece ∷ one) ≡ Its (piece ∷ other)
+  levels_go_on (Whole (acts.Ask asked) events) one other same = same_after command asked _ _ same
+  levels_go_on (Whole (acts.Reply asked reply) events) one other same =
+      same_telling (profile_of scope.begins) command asked reply _ _ same
+  levels_go_on (Whole act events) one other same = same
+  levels_go_on piece one other same = same
 
--- so a reader that is followed was told the same
-same_level : (scope : Scope) (command : Command) (pieces : List Piece)
-    → IsFollowed scope (device_of command)
-    → levels_for command
-    (levels_of (profile_of scope.begins) (levels_before scope) (leave_out scope pieces))
-    ≡ levels_for command (levels_of (profile_of scope.begins) (levels_before scope) pieces)
-same_level scope command [] followed = refl
-same_level scope command (piece ∷ pieces) followed =
-    let profile = profile_of scope.begins in
-    let same = same_level scope command pieces followed in
-    cond_both (is_left_out scope piece)
-    (with_foreign (piece_events piece) (leave_out scope pieces)) (piece ∷ leave_out scope pieces)
-    (λ ps. levels_for command (levels_of profile (levels_before scope) ps)
-    ≡ levels_for command (levels_of profile (levels_before scope) (piece ∷ pieces)))
-    (λ out. ap (levels_for command)
-    (foreign_levels profile (levels_before scope) (piece_events piece) (leave_out scope pieces))
-    ∙ (same ∙ sym (levels_stay scope command piece pieces followed out)))
-    (λ kept. levels_go_on profile (levels_before scope) command piece (leave_out scope pieces)
-    pieces same)
+  -- a piece of a device that is left out tells another reader nothing, and of it nothing
+  levels_stay : (piece : Piece) (pieces : List Piece) → IsFollowed scope (device_of command)
+      → is_left_out scope piece ≡ true → Its (piece ∷ pieces) ≡ Its pieces
+  levels_stay (Whole (acts.Ask asked) events) pieces followed out =
+      told_another scope.without command asked _ followed out
+  levels_stay (Whole (acts.Reply asked reply) events) pieces followed out =
+      told_by_another (profile_of scope.begins) scope.without command asked reply _ followed out
+  levels_stay (Whole act events) pieces followed out = refl
+  levels_stay piece pieces followed out = refl
+
+  -- so a reader that is followed was told the same
+  same_level : (pieces : List Piece) → IsFollowed scope (device_of command)
+      → Its (leave_out scope pieces) ≡ Its pieces
+  same_level [] followed = refl
+  same_level (piece ∷ pieces) followed =
+      let same = same_level pieces followed in
+      cond_both (is_left_out scope piece)
+      (with_foreign (piece_events piece) (leave_out scope pieces)) (piece ∷ leave_out scope pieces)
+      (λ ps. Its ps ≡ Its (piece ∷ pieces))
+      (λ out. ap (levels_for command) (foreign_levels (profile_of scope.begins)
+      (levels_before scope) (piece_events piece) (leave_out scope pieces))
+      ∙ (same ∙ sym (levels_stay piece pieces followed out)))
+      (λ kept. levels_go_on piece (leave_out scope pieces) pieces same)
 
 -- a reply fits levels that are the same for its command
 fits_so : (profile : Profile) (untold : Format) (one other : Levels) (command : Command)
@@ -550,8 +472,7 @@ fits_so : (profile : Profile) (untold : Format) (one other : Levels) (command : 
     → IsReadAs (format_by profile untold one command) command reply
     × IsInProfile profile one command reply
 fits_so profiles.Base untold one other command reply same fits =
-    let Low : ReaderLevels → Type 0 = λ levels. IsLow levels.asked in
-    (fits.0, λ high. subst Low (sym same) (fits.1 high))
+    (fits.0, λ high. subst (λ (levels : ReaderLevels). IsLow levels.asked) (sym same) (fits.1 high))
 fits_so profiles.Extended untold one other (commands.Reader unit command) reply same fits =
     let Read : ReaderLevels → Type 0 = λ levels.
     IsReadAs (format_at untold levels.asked levels.told) (commands.Reader unit command) reply in
@@ -583,33 +504,22 @@ in_order law less more wider (piece ∷ pieces) order =
     let said = order.0.said in
     let stands = order.1 in
     let rest = leave_out more pieces in
-    let spaced : AreSpaced (profile_of more.begins) (piece_events piece) =
-    subst (λ begins. AreSpaced (profile_of begins) (piece_events piece)) wider.begins
-    order.0.spaced in
-    let came : MayCome (profile_of more.begins) piece (position_of less pieces)
-    (last_of (events_of pieces)) stands.first =
-    subst (λ begins. MayCome (profile_of begins) piece (position_of less pieces)
-    (last_of (events_of pieces)) stands.first) wider.begins stands.comes in
     let before = in_order law less more wider pieces order.2 in
     let moved = moves less more wider pieces order.2 in
-    let last : last_of (events_of rest) ≡ last_of (events_of pieces) =
-    ap last_of (same_rows more pieces) in
-    let Comes : Option Event → Type 0 =
-    λ from. MayCome (profile_of more.begins) piece (position_of more rest) from stands.first in
-    let Come : Option Event → Type 0 =
-    λ from. Becomes more (position_of more rest) from stands.first stands.others in
-    let Pieces : List Event → Type 0 = λ events. ArePieces more (with_foreign events rest) in
-    let Fits : Beginning → Levels → Type 0 =
-    λ begins told.
+    let spaced = subst (λ begins. AreSpaced (profile_of begins) (piece_events piece)) wider.begins
+    order.0.spaced in
+    let came = subst (λ begins. MayCome (profile_of begins) piece (position_of less pieces)
+    (last_of (events_of pieces)) stands.first) wider.begins stands.comes in
+    let last = sym (ap last_of (same_rows more pieces)) in
+    let Fits : Beginning → Levels → Type 0 = λ begins told.
     PieceFits begins (levels_of (profile_of begins) (first_levels begins told) pieces) piece in
     cond_both (is_left_out more piece) (with_foreign (piece_events piece) rest) (piece ∷ rest)
     (ArePieces more)
-    (λ out. subst Pieces (sym stands.begins)
+    (λ out. subst (λ events. ArePieces more (with_foreign events rest)) (sym stands.begins)
     (all_stand more stands.first stands.others rest before
-    (subst Come (sym last)
+    (subst (λ from. Becomes more (position_of more rest) from stands.first stands.others) last
     (becomes law less more wider piece (position_of less pieces) (position_of more rest)
-    (last_of (events_of pieces)) stands.first stands.others out said stands.begins moved
-    came))
+    (last_of (events_of pieces)) stands.first stands.others out said stands.begins moved came))
     (subst (AreSpaced (profile_of more.begins)) stands.begins spaced)))
     (λ kept. (
       record { said = said_stays law less more wider piece kept said; spaced = spaced },
@@ -617,9 +527,9 @@ in_order law less more wider (piece ∷ pieces) order =
         first = stands.first;
         others = stands.others;
         begins = stands.begins;
-        comes = subst Comes (sym last)
-            (comes_as_it_did more piece (position_of less pieces) (position_of more rest)
-            (last_of (events_of pieces)) stands.first moved kept came);
+        comes = subst (λ from. MayCome (profile_of more.begins) piece (position_of more rest) from
+            stands.first) last (comes_as_it_did more piece (position_of less pieces)
+            (position_of more rest) (last_of (events_of pieces)) stands.first moved kept came);
         levels = levels_fit more piece pieces kept (subst (Fits more.begins) wider.levels
             (subst (λ begins. Fits begins less.levels) wider.begins stands.levels));
       },

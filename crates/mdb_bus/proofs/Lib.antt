@@ -1,4 +1,5 @@
 pub mod Backward
+pub mod BaseAlone
 pub mod Commands
 pub mod Decided
 pub mod EachSteps

@@ -19,9 +19,9 @@ use Rattle.mdb_bus.specs.declared.scope.Scope.{Scope}
 use Rattle.mdb_bus.specs.ActLists.{Piece, Whole, ReplyTail, RepeatTail, Position, Asked, InReply, Replied, Returned, InRepeat, ArePieces, first_position, position_of}
 use Rattle.mdb_bus.specs.LeavingOut.{device_in}
 use Rattle.mdb_bus.specs.LinkFaults.{IsLinkFault, asked_device, blame_of, blame_on, fault_of, vmc_blame}
-use Rattle.mdb_bus.specs.Haste.{haste_of, is_excused}
+use Rattle.mdb_bus.specs.ExtendedHaste.{haste_of, is_excused}
 use Rattle.mdb_bus.specs.Scopes.{IsFollowed}
-use Rattle.mdb_bus.specs.WideMoney.{counted_as, wide_of}
+use Rattle.mdb_bus.specs.ExtendedMoney.{counted_as, wide_of}
 use Rattle.mdb_bus.specs.declared.fault.LinkFault.{LinkFault}
 
 -- the device of the command that is open at a position

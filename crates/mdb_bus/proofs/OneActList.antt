@@ -2,7 +2,8 @@
 use Rattle.std.proofs.Common.{refl, ap, sym, subst, ◌∙◌, ◌≡◌, List, [], ◌∷◌, ◌++◌, append_assoc}
 use Rattle.std.proofs.lemmas.List.{append-nil}
 use Rattle.mdb_words.specs.declared.event.Event.{Event}
-use Rattle.mdb_bus.specs.ActLists.{GoesOnFrom, HasActList, IsActList, Piece, acts_of, events_of, piece_events, position_of}
+use Rattle.mdb_bus.specs.ActLists.{IsActList, Piece, acts_of, events_of, piece_events, position_of}
+use Rattle.mdb_bus.specs.Pieces.{GoesOnFrom, HasActList}
 use Rattle.mdb_bus.specs.LinkFaults.{situation_of}
 use Rattle.mdb_bus.specs.shared.Steps.{Leads, act_after, pieces_after}
 use Rattle.mdb_bus.proofs.Backward.{backward, piece_some}

@@ -15,7 +15,7 @@ use Rattle.mdb_bus.specs.declared.options.KnownOptions.{KnownOptions}
 use Rattle.mdb_bus.specs.declared.scope.Scope.{Scope}
 use Rattle.mdb_bus.specs.ActLists.{Asked, InAsk, InReply, Piece, Position, acts_of, levels_of}
 use Rattle.mdb_bus.specs.Scopes.{levels_before, profile_of}
-use Rattle.mdb_bus.specs.WideMoney.{all_known, amounts_to, asked_with_amounts, counted_as, first_known, is_wide, known_after, known_by, known_of, reader_asked, refuses, wide_at, wide_of}
+use Rattle.mdb_bus.specs.ExtendedMoney.{all_known, amounts_to, asked_with_amounts, counted_as, first_known, is_wide, known_after, known_by, known_of, reader_asked, refuses, wide_at, wide_of}
 
 -- options that are all known stay so
 after_all : (command : Command) → known_after command all_known ≡ all_known

@@ -8,7 +8,8 @@ use Rattle.mdb_msgs.specs.declared.reading.Reading.{Reading}
 use Rattle.mdb_msgs.specs.declared.reply.Reply.{Reply}
 use Rattle.mdb_msgs.specs.Commands.{IsByte, Spells, command_bytes, is_enable_options}
 use Rattle.mdb_msgs.specs.Laws.{BlockHasOneReply, OpenIsAFront as PlainOpenIsAFront, OpenIsAnothersFront}
-use Rattle.mdb_msgs.specs.Needs.{IsOpen, IsShort, begins_options, IsTold, TellsLength, needed}
+use Rattle.mdb_msgs.specs.Needs.{begins_options, needed}
+use Rattle.mdb_msgs.specs.OpenBlocks.{IsOpen, IsShort, IsTold, TellsLength}
 use Rattle.mdb_msgs.specs.Replies.{IsIn, IsReplyTo, reply_bytes}
 use Rattle.mdb_bus.specs.declared.scope.Scope.{Scope}
 use Rattle.mdb_bus.specs.Scopes.{Asks, leaves_options, needed_in, profile_of}
@@ -112,8 +113,8 @@ open_front first law another scope bytes all wanting =
 
 -- for a command and a reading, data bytes have at most one reply
 pub one_reply : BlockHasOneReply → (reading : Reading) (command : Command) (one other : Reply)
-    → IsIn reading one → IsIn reading other → IsReplyTo command one → IsReplyTo command other
-    → reply_bytes one ≡ reply_bytes other → one ≡ other
+    → IsIn reading command one → IsIn reading command other → IsReplyTo command one
+    → IsReplyTo command other → reply_bytes one ≡ reply_bytes other → one ≡ other
 one_reply law reading command one other one_in other_in first second same =
     law reading command (block_of (reply_bytes one)) one other one_in other_in
     (record { answers = first; bytes = refl })

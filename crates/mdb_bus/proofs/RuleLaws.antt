@@ -3,7 +3,8 @@ use Rattle.std.proofs.Common.{refl, subst, ◌≡◌, List, [], ◌∷◌, ◌++
 use Rattle.mdb_words.specs.declared.event.Event.{Event}
 use Rattle.mdb_bus.specs.declared.fault.Rule.{Rule}
 use Rattle.mdb_bus.specs.shared.Step.{Step}
-use Rattle.mdb_bus.specs.ActLists.{Piece, ArePieces, HasActList, IsActList, events_of}
+use Rattle.mdb_bus.specs.ActLists.{Piece, ArePieces, IsActList, events_of}
+use Rattle.mdb_bus.specs.Pieces.{HasActList}
 use Rattle.mdb_bus.specs.LinkFaults.{RowBreaks, Situation, situation_of}
 use Rattle.mdb_bus.specs.shared.Steps.{IsSound, Leads}
 use Rattle.mdb_bus.proofs.Sound.{is_sound, last_is_long}

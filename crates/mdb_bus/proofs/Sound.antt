@@ -10,7 +10,8 @@ use Rattle.mdb_blocks.specs.Block.{words_on}
 use Rattle.mdb_blocks.specs.declared.answer.Answer.TheVariants as answers
 use Rattle.mdb_bus.specs.declared.act.Act.{Act}
 use Rattle.mdb_bus.specs.declared.act.Act.TheVariants as acts
-use Rattle.mdb_bus.specs.Acts.{IsForeign, IsForeignWord, IsReply, NamesAReply, Say, command_words, reply_words}
+use Rattle.mdb_bus.specs.Acts.{IsForeign, IsForeignWord, IsReply, Say, command_words, reply_words}
+use Rattle.mdb_bus.specs.Pieces.{NamesAReply}
 use Rattle.mdb_bus.specs.ActLists.{Piece, Whole, AskTail, ReplyTail, RepeatTail, Position, InRepeat, Replied, Returned, ArePieces, IsSaid, events_of, first_position, last_of, piece_events, position_of}
 use Rattle.mdb_bus.specs.shared.Steps.{IsSound}
 use Rattle.mdb_bus.proofs.Stops.{LastIsLong, lasts}

@@ -1,5 +1,5 @@
 -- What is made of a word, position by position.
-use Rattle.std.proofs.Common.{rules, arith, refl, ap, sym, subst, ◌∙◌, ◌≡◌, ◌≢◌, ◌+◌, ◌<◌, ◌≤◌, ◌%◌, ◌⊎◌, inl, inr, ℕ, zero, suc, List, [], ◌∷◌, ◌++◌, length, take, drop, slice_index, slice_get, sum, Option, Some, None, Result, Ok, Err, IfOk, get_or, append_assoc, length-append, length-drop, Fits, w8, ◌&&◌, ◌↔◌, Bool, true, false, IsTrue}
+use Rattle.std.proofs.Common.{rules, arith, refl, ap, sym, subst, ◌∙◌, ◌≡◌, ◌≢◌, ◌+◌, ◌<◌, ◌≤◌, ◌%◌, ◌⊎◌, inl, inr, ℕ, zero, suc, List, [], ◌∷◌, ◌++◌, length, take, drop, slice_index, slice_get, sum, Option, Some, None, Result, Ok, Err, IfOk, OnOk, get_or, append_assoc, length-append, length-drop, Fits, w8, ◌&&◌, ◌↔◌, Bool, true, false, IsTrue}
 use Rattle.std.proofs.lemmas.List.{same_from_push}
 use Rattle.std.proofs.lemmas.List.Elements.{All-append, All-from_get_or, All-from_recursion}
 use Rattle.std.proofs.lemmas.Option.{slice_get-get_or, slice_get_past, slice_get_within}
@@ -18,11 +18,11 @@ use Rattle.mdb_msgs.specs.declared.fault.MsgFault.TheVariants as reading
 use Rattle.mdb_msgs.specs.declared.need.Need.{Need}
 use Rattle.mdb_msgs.specs.declared.need.Need.TheVariants.{More, Exactly, Foreign, Outside}
 use Rattle.mdb_msgs.specs.declared.reply.Reply.{Reply}
-use Rattle.mdb_msgs.specs.declared.answer.DataForm.{DataForm}
-use Rattle.mdb_msgs.specs.Answers.{HasDataAnswer, IsDataLength}
+use Rattle.mdb_msgs.specs.Answers.{HasDataAnswer}
 use Rattle.mdb_msgs.specs.Commands.{EnablesMore, IsByte, Spells, command_bytes}
 use Rattle.mdb_msgs.specs.Laws.{BytesHaveOneFault, FrontIsOpen, OpenIsAFront, OpenIsAnothersFront, ReplyHasNoFault}
-use Rattle.mdb_msgs.specs.Needs.{IsOpen, IsShort, begins_options, needed}
+use Rattle.mdb_msgs.specs.Needs.{begins_options, needed}
+use Rattle.mdb_msgs.specs.OpenBlocks.{IsOpen, IsShort}
 use Rattle.mdb_bus.specs.declared.fault.Rule.{Rule}
 use Rattle.mdb_bus.specs.declared.fault.Rule.TheVariants as rule
 use Rattle.mdb_bus.specs.declared.levels.Levels.{Levels}
@@ -30,21 +30,22 @@ use Rattle.mdb_bus.specs.declared.place.Place.{Place}
 use Rattle.mdb_bus.specs.declared.judged.Judged.{Judged}
 use Rattle.mdb_bus.specs.declared.judged.Judged.TheVariants as judged
 use Rattle.mdb_bus.specs.Acts.{reply_words}
-use Rattle.mdb_bus.specs.ActLists.{Asked, InAsk, InReply, IsRepeatFront, NotBefore, NotPast}
+use Rattle.mdb_bus.specs.ActLists.{Asked, InAsk, InBlockTime, InReply, IsRepeatFront, NotBefore, NotPast, Position, IsAskFront}
 use Rattle.mdb_bus.specs.declared.phase.Phase.{Phase}
 use Rattle.mdb_bus.specs.declared.phase.Phase.TheVariants as phase
 use Rattle.mdb_bus.specs.Bus.{position_at, position_in}
-use Rattle.mdb_bus.specs.LinkFaults.{IsBefore, IsPast, OutOfOrder, RowBreaks, Situation, WrongLength}
+use Rattle.mdb_bus.specs.LinkFaults.{IsBefore, IsPast, LeavesProfile, OutOfOrder, RowBreaks, Situation, WrongLength}
 use Rattle.mdb_bus.specs.shared.RulePlaces.{IsFirstByPlace, place_of}
-use Rattle.mdb_bus.specs.shared.Steps.{Belongs, IsCommandFront, IsGoingOn, IsJudged, IsOpened, IsRead, IsReplyEnd, IsSettled, IsSound, IsUnknownExpansion, MayAsk}
+use Rattle.mdb_bus.specs.shared.Steps.{Belongs, Counts, Covers, IsCommandFront, IsGoingOn, IsJudged, IsJudgedBy, IsOpened, IsRead, IsReplyEnd, IsSettled, IsSound, IsTimely, IsUnknownExpansion, MayAsk}
 use Rattle.mdb_bus.specs.Times.{answer_most, block_most}
 use Rattle.mdb_bus.proofs.Needs.{at_least_two, at_most_32, not_left, stays, narrows}
 use Rattle.mdb_bus.specs.declared.scope.Scope.{Scope}
-use Rattle.mdb_bus.specs.ActLists.{IsAskFront}
 use Rattle.mdb_bus.specs.declared.format.Format.{Format}
 use Rattle.mdb_bus.specs.Formats.{HasFault, format_for}
 use Rattle.mdb_bus.proofs.FormatLaws.{none_as, one_bad, bad_length}
 use Rattle.mdb_bus.specs.declared.scope.Profile.{Profile}
+use Rattle.mdb_bus.specs.declared.scope.Profile.TheVariants.{Base, Extended}
+use Rattle.mdb_bus.specs.ExtendedTimes.{is_past, is_untimely}
 use Rattle.mdb_bus.specs.Scopes.{HasCommand, leaves_options, needed_by, needed_in, profile_of}
 use Rattle.mdb_bus.proofs.Masked.{AreKnown, TwoTell, another_known, begins_one, content_tells, front_known, known_front, known_need, more_known, none_of_both, one_need, options_more, unmasked}
 use Rattle.mdb_bus.proofs.Followed.{AreFollowed, FirstTells, ask_front_followed, asks_followed, expansion_opens, front_followed, needed_followed, plain_front, still_followed, within}
@@ -62,6 +63,45 @@ not_late None from to late = tt
 not_late (Some most) None to late = tt
 not_late (Some most) (Some before) to late = omega (arith, late)
 
+-- and in its block's time
+in_block_time : (profile : Profile) (from : Option Event) (to : Event)
+    → (IsBefore WORD_GAP_MIN from to → ⊥) → (IsPast (block_most profile) from to → ⊥)
+    → InBlockTime profile from to
+in_block_time profile from to early late =
+    (in_time WORD_GAP_MIN from to early, not_late (block_most profile) from to late)
+
+-- times cover those of the same profile
+pub covers_same : (times profile : Profile) → times ≡ profile → Covers times profile
+covers_same Extended Base same = absurd (cc same)
+covers_same times profile same = tt
+
+-- what counts for a profile is by times that cover its own
+pub counted : (times profile : Profile) (result : Result Judged Rule)
+    → Counts times profile result → Covers times profile
+counted times profile (Ok found) covers = covers
+counted times profile (Err broken) same = covers_same times profile same
+
+-- a word in its block's time, by such times, isn't late
+never_past : (most : Option ℕ) (from : Option Event) (to : Event) → NotPast most from to
+    → IsPast most from to → ⊥
+never_past None from to near past = past
+never_past (Some most) None to near past = past
+never_past (Some most) (Some before) to near past = omega (arith, near, past)
+
+pub block_covered : (times profile : Profile) (from : Option Event) (to : Event)
+    → Covers times profile → InBlockTime times from to → IsPast (block_most profile) from to → ⊥
+block_covered Base Base from to covers near = never_past (block_most Base) from to near.1
+block_covered Extended Base from to covers near = absurd covers
+block_covered times Extended from to covers near = λ past. past
+
+-- and it is timely
+pub block_timely : (times : Profile) (position : Position) (from : Option Event) (to : Event)
+    (result : Result Judged Rule)
+    → is_untimely position from to ≡ is_past (block_most Base) from to
+    → is_past (block_most times) from to ≡ false → OnOk result (IsTimely times position from to)
+block_timely Base position from to (Ok found) same near = same ∙ near
+block_timely times position from to result same near = search rules
+
 -- what fits a byte each are bytes
 pub are_bytes : (bytes : List ℕ) → ((i : ℕ) → Fits w8 (get_or bytes i 0)) → All IsByte bytes
 are_bytes bytes low = All-from_get_or IsByte bytes 0 (λ i within. search (rules, low i))
@@ -72,30 +112,23 @@ WhatItNeeds = (content : List ℕ) → All IsByte content
     → needed content ≡ Exactly (length content + 1)
     → (command : Command) × Spells command (block_of content)
 
+-- a need by which bytes leave a command open
+abbrev Wants : Need → Type 0
+Wants told = (told ≡ More) ⊎ ((n : ℕ) × (told ≡ Exactly n))
+
+some_there : (bytes : List ℕ) → 1 ≤ length bytes → bytes ≢ []
+some_there [] some none = absurd (omega (arith, some))
+some_there (byte ∷ bytes) some none = cc none
+
 -- what is open is the front of an ask, and the front of an ask is open
 pub front_of : OpenIsAFront → TwoTell → (profile : Profile) (bytes : List ℕ) → 2 ≤ length bytes
     → All IsByte bytes → IsOpen bytes → AreKnown profile bytes → IsCommandFront profile bytes
 front_of law tell profile bytes two low wanting known =
     let found = law bytes low wanting in
     record {
-      some = λ none. let e : length bytes ≡ 0 = ap length none in omega arith;
+      some = some_there bytes (omega (arith, two));
       command = found.0;
       known = known_front tell profile bytes found.1 found.0 two found.3 known;
-      rest = found.1;
-      open_end = found.2;
-      spelled = found.3;
-    }
-
--- of one byte, of another ask than ENABLE OPTIONS
-one_front : OpenIsAnothersFront → (profile : Profile) (byte : ℕ) → IsByte byte
-    → IsOpen (byte ∷ []) → IsCommandFront profile (byte ∷ [])
-one_front law profile byte low wanting =
-    let found = law (byte ∷ []) (All-from_recursion IsByte (byte ∷ []) (low, tt)) wanting
-    (begins_one byte) in
-    record {
-      some = λ none. cc none;
-      command = found.0;
-      known = another_known profile found.0 found.4;
       rest = found.1;
       open_end = found.2;
       spelled = found.3;
@@ -110,28 +143,30 @@ pub open_front : FrontIsOpen → (profile : Profile) (bytes : List ℕ) → IsCo
 open_front law profile bytes front =
     law bytes front.rest front.command (some_long bytes front.some) front.open_end front.spelled
 
--- a first byte that leaves a command open begins an ask
-begins : OpenIsAnothersFront → (profile : Profile) (word one byte : ℕ) (told : Need)
-    → one ≡ word % 256 → byte ≡ word % 256 → needed (one ∷ []) ≡ told
-    → (told ≡ More) ⊎ ((n : ℕ) × (told ≡ Exactly n)) → IsCommandFront profile (byte ∷ [])
-begins law profile word one byte told same again is wanting =
-    let P : ℕ → Type 0 = λ b. IsCommandFront profile (b ∷ []) in
-    subst P (same ∙ sym again)
-    (one_front law profile one (omega (arith, same)) (short wanting))
+-- a first byte that leaves a command open begins another ask than ENABLE OPTIONS
+begins : OpenIsAnothersFront → (profile : Profile) (byte : ℕ) (told : Need) → IsByte byte
+    → needed (byte ∷ []) ≡ told → Wants told → IsCommandFront profile (byte ∷ [])
+begins law profile byte told low is wanting =
+    let found = law (byte ∷ []) (All-from_recursion IsByte (byte ∷ []) (low, tt)) (short wanting)
+    (begins_one byte) in
+    record {
+      some = λ none. cc none;
+      command = found.0;
+      known = another_known profile found.0 found.4;
+      rest = found.1;
+      open_end = found.2;
+      spelled = found.3;
+    }
   where
-    short : (told ≡ More) ⊎ ((n : ℕ) × (told ≡ Exactly n)) → IsOpen (one ∷ [])
-    short (inl more) = let P : Need → Type 0 = λ need. IsShort need 1 in
-        subst P (sym (is ∙ more)) refl
-    short (inr exact) =
-        let P : Need → Type 0 = λ need. IsShort need 1 in
-        let two : 2 ≤ exact.0 = at_least_two (one ∷ []) exact.0 (omega arith) (is ∙ exact.1) in
-        subst P (sym (is ∙ exact.1)) (omega arith)
+    short : Wants told → IsOpen (byte ∷ [])
+    short (inl more) = subst (λ need. IsShort need 1) (sym (is ∙ more)) refl
+    short (inr exact) = subst (λ need. IsShort need 1) (sym (is ∙ exact.1))
+        (let two = at_least_two (byte ∷ []) exact.0 (omega arith) (is ∙ exact.1) in omega arith)
 
 -- what leaves a command open isn't foreign
-not_foreign : (told : Need) → (told ≡ More) ⊎ ((n : ℕ) × (told ≡ Exactly n)) → told ≢ Foreign
-not_foreign told (inl more) foreign = let clash : More ≡ Foreign = sym more ∙ foreign in cc clash
-not_foreign told (inr exact) foreign =
-    let clash : Exactly exact.0 ≡ Foreign = sym exact.1 ∙ foreign in cc clash
+not_foreign : (told : Need) → Wants told → told ≢ Foreign
+not_foreign told (inl more) foreign = cc
+not_foreign told (inr exact) foreign = let is = exact.1 in cc
 
 -- the same of a byte that is no address of a device that is left out
 pub begins_followed : FirstTells → OpenIsAnothersFront
@@ -140,11 +175,9 @@ pub begins_followed : FirstTells → OpenIsAnothersFront
     → (told ≡ More) ⊎ ((n : ℕ) × (told ≡ Exactly n)) → IsAskFront scope (byte ∷ [])
 begins_followed first law scope word one byte told same again is wanting =
     let plain = within scope (one ∷ []) told (sym is) (not_foreign told wanting) in
-    let There : ℕ → Type 0 = λ b. AreFollowed scope (b ∷ []) in
-    front_followed first scope (byte ∷ [])
-    (begins law (profile_of scope.begins) word one byte told same again
-    (sym (one_need (profile_of scope.begins) one) ∙ plain.1) wanting)
-    (subst There (same ∙ sym again) plain.0)
+    rw (again ∙ sym same) (front_followed first scope (one ∷ []) (begins law
+    (profile_of scope.begins) one told (omega (arith, same))
+    (sym (one_need (profile_of scope.begins) one) ∙ plain.1) wanting) plain.0)
 
 -- what two bytes don't tell a length of, the first leaves to the second
 left_by : (first word : ℕ) (told : Need) → needed (first ∷ []) ≡ told → IsShort told 1
@@ -154,39 +187,18 @@ left_by first word (Exactly n) is short other = absurd (other n ((narrows first)
 left_by first word Foreign is short other = absurd short
 left_by first word Outside is short other = absurd short
 
--- a second byte with which the bytes need no length
-second_other : (bytes : List ℕ) (first byte word : ℕ) (told other : Need) → bytes ≡ first ∷ []
-    → byte ≡ word % 256 → word < 256 → told ≡ needed (first ∷ byte ∷ []) → told ≡ other
-    → ((n : ℕ) → other ≡ Exactly n → ⊥) → IsOpen bytes
-    → (needed (first ∷ []) ≡ More) × (needed (first ∷ word ∷ []) ≡ other)
-second_other bytes first byte word told other is low small tell out unsaid begun =
-    let same : byte ≡ word = omega (arith, low) in
-    let two : needed (first ∷ word ∷ []) ≡ other =
-    ap (λ b. needed (first ∷ b ∷ [])) (sym same) ∙ (sym tell ∙ out) in
-    let Open : List ℕ → Type 0 = λ bs. IsOpen bs in
-    let alone : IsOpen (first ∷ []) = subst Open is begun in
-    let none : (n : ℕ) → needed (first ∷ word ∷ []) ≡ Exactly n
-    → ⊥ = λ n exact. unsaid n (sym two ∙ exact) in
-    (left_by first word (needed (first ∷ [])) refl alone none, two)
-
 -- what two bytes make foreign, the first leaves to the second
 left_foreign : (profile : Profile) (first word : ℕ) → IsOpen (first ∷ [])
     → needed_by profile (first ∷ word ∷ []) ≡ Foreign → needed (first ∷ []) ≡ More
-left_foreign profile first word alone foreign =
-    by (begins_options (first ∷ word ∷ [])) refl
+left_foreign profile first word alone foreign = by (begins_options (first ∷ word ∷ [])) refl
   where
-    plain : begins_options (first ∷ word ∷ []) ≡ false
-        → needed (first ∷ word ∷ []) ≡ needed_by profile (first ∷ word ∷ [])
-    plain none =
-        sym (known_need profile (first ∷ word ∷ [])
-        (none_of_both (leaves_options profile) (begins_options (first ∷ word ∷ [])) none))
-
     by : (begins : Bool) → begins_options (first ∷ word ∷ []) ≡ begins → needed (first ∷ []) ≡ More
     by true begins = options_more first word begins
-    by false none =
-        left_by first word (needed (first ∷ [])) refl alone
-        (λ n exact. let clash : Exactly n ≡ Foreign = sym exact
-        ∙ (plain none ∙ foreign) in cc clash)
+    by false none = left_by first word (needed (first ∷ [])) refl alone (λ n exact.
+        let clash : Exactly n ≡ Foreign = sym exact
+        ∙ (sym (known_need profile (first ∷ word ∷ [])
+        (none_of_both (leaves_options profile) (begins_options (first ∷ word ∷ [])) none))
+        ∙ foreign) in cc clash)
 
 -- a second byte that this profile leaves out
 pub second_outside : (profile : Profile) (bytes : List ℕ) (first byte word : ℕ) (told : Need)
@@ -194,18 +206,16 @@ pub second_outside : (profile : Profile) (bytes : List ℕ) (first byte word : �
     → told ≡ needed_by profile (first ∷ byte ∷ []) → told ≡ Outside → IsOpen bytes
     → (needed_by profile bytes ≡ More) × (needed_by profile (bytes ++ word ∷ []) ≡ Outside)
 second_outside profile bytes first byte word told is low small tell out begun =
-    let P : List ℕ → Type 0 = λ bs. (needed_by profile bs ≡ More)
-    × (needed_by profile (bs ++ word ∷ []) ≡ Outside) in
-    let unsaid : (n : ℕ) → Outside ≡ Exactly n → ⊥ = λ n same. cc same in
-    let plain = unmasked profile (first ∷ byte ∷ []) told (sym tell)
-    (λ foreign. let clash : Outside ≡ Foreign = sym out ∙ foreign in cc clash) in
-    let both = second_other bytes first byte word told Outside is low small (sym plain.1) out unsaid
-    begun in
-    let same : byte ≡ word = omega (arith, low, small) in
-    subst P (sym is) (
-      one_need profile first ∙ both.0,
-      ap (λ b. needed_by profile (first ∷ b ∷ [])) (sym same) ∙ (sym tell ∙ out),
-    )
+    let same : word ≡ byte = omega (arith, low) in
+    let unknown : needed_by profile (first ∷ byte ∷ []) ≡ Outside = sym tell ∙ out in
+    let plain = unmasked profile (first ∷ byte ∷ []) Outside unknown (λ foreign. cc foreign) in
+    let unsaid : (n : ℕ) → needed (first ∷ byte ∷ []) ≡ Exactly n → ⊥ = λ n exact.
+    let clash : Outside ≡ Exactly n = sym plain.1 ∙ exact in cc clash in
+    rw is (rw same (
+      one_need profile first ∙ left_by first byte (needed (first ∷ [])) refl
+          (rw is at begun) unsaid,
+      unknown,
+    ))
 
 -- a second byte that makes the block foreign
 pub second_foreign : (profile : Profile) (bytes : List ℕ) (first byte word : ℕ) (told : Need)
@@ -213,33 +223,29 @@ pub second_foreign : (profile : Profile) (bytes : List ℕ) (first byte word : �
     → told ≡ needed_by profile (first ∷ byte ∷ []) → told ≡ Foreign → IsOpen bytes
     → IsUnknownExpansion profile (bytes ++ word ∷ [])
 second_foreign profile bytes first byte word told is low small tell out begun =
-    let P : List ℕ → Type 0 = λ bs. IsUnknownExpansion profile (bs ++ word ∷ []) in
-    let same : byte ≡ word = omega (arith, low, small) in
-    let Open : List ℕ → Type 0 = λ bs. IsOpen bs in
-    let alone : IsOpen (first ∷ []) = subst Open is begun in
-    let foreign : needed_by profile (first ∷ word ∷ []) ≡ Foreign =
-    ap (λ b. needed_by profile (first ∷ b ∷ [])) (sym same) ∙ (sym tell ∙ out) in
-    subst P (sym is) (left_foreign profile first word alone foreign, foreign, small)
+    let same : word ≡ byte = omega (arith, low) in
+    let foreign : needed_by profile (first ∷ byte ∷ []) ≡ Foreign = sym tell ∙ out in
+    rw is (rw same (
+      left_foreign profile first byte (rw is at begun) foreign,
+      foreign,
+      rw same at small,
+    ))
 
 -- a second byte with which a command is open still
 second_short : (first byte : ℕ) (alone told : Need) → needed (first ∷ []) ≡ alone
-    → needed (first ∷ byte ∷ []) ≡ told
-    → IsShort alone 1
-    → (needed (first ∷ []) ≡ Exactly 2 → ⊥) → (told ≡ More) ⊎ ((n : ℕ) × (told ≡ Exactly n))
+    → needed (first ∷ byte ∷ []) ≡ told → IsShort alone 1 → (alone ≡ Exactly 2 → ⊥) → Wants told
     → IsShort told 2
 second_short first byte alone told is tell short other (inl more) =
     absurd (not_left (first ∷ byte ∷ []) (omega arith) (tell ∙ more))
 second_short first byte More told is tell short other (inr exact) =
-    let P : Need → Type 0 = λ need. IsShort need 2 in
-    subst P (sym exact.1) ((narrows first).left byte exact.0 is (tell ∙ exact.1))
+    rw exact.1 ((narrows first).left byte exact.0 is (tell ∙ exact.1))
 second_short first byte (Exactly m) told is tell short other (inr exact) =
-    let P : Need → Type 0 = λ need. IsShort need 2 in
-    let stays_so : needed (first ∷ byte ∷ []) ≡ Exactly m = (narrows first).known byte m is in
-    let e : Exactly m ≡ Exactly exact.0 = sym stays_so ∙ (tell ∙ exact.1) in
+    let e : Exactly m ≡ Exactly exact.0 =
+    sym ((narrows first).known byte m is) ∙ (tell ∙ exact.1) in
     let same : m ≡ exact.0 = cc in
-    let two : 2 ≤ m = at_least_two (first ∷ []) m (omega arith) is in
-    let not_two : m ≡ 2 → ⊥ = λ at. other (is ∙ ap Exactly at) in
-    subst P (sym exact.1) (omega arith)
+    let two = at_least_two (first ∷ []) m (omega arith) is in
+    let not_two : m ≡ 2 → ⊥ = λ at. other (ap Exactly at) in
+    rw exact.1 (omega arith)
 second_short first byte Foreign told is tell short other (inr exact) = absurd short
 second_short first byte Outside told is tell short other (inr exact) = absurd short
 
@@ -253,20 +259,16 @@ pub second_front : OpenIsAFront → TwoTell → (profile : Profile) (bytes : Lis
     → (word ≡ byte) × IsCommandFront profile (bytes ++ byte ∷ [])
 second_front opens tells profile bytes first one byte word alone told is low lone other same again
     small tell wanting begun =
-    let P : List ℕ → Type 0 = λ bs. IsOpen bs → IsCommandFront profile (bs ++ byte ∷ []) in
-    let fits : one ≡ byte = omega (arith, same, again) in
+    let fits : byte ≡ one = omega (arith, same, again) in
     let byte_low : byte < 256 = omega (arith, again) in
-    let by_profile : needed_by profile (first ∷ byte ∷ []) ≡ told =
-    ap (λ b. needed_by profile (first ∷ b ∷ [])) (sym fits) ∙ sym tell in
-    let plain = unmasked profile (first ∷ byte ∷ []) told by_profile (not_foreign told wanting) in
-    let both : told ≡ needed (first ∷ byte ∷ []) = sym plain.1 in
-    let Q : Need → Type 0 = λ need. IsShort need 2 in
-    let go : IsOpen (first ∷ []) → IsCommandFront profile (first ∷ byte ∷ []) = λ alone_open.
-    front_of opens tells profile (first ∷ byte ∷ []) (omega arith)
-    (All-from_recursion IsByte (first ∷ byte ∷ []) (low, (byte_low, tt)))
-    (subst Q both (second_short first byte (needed (first ∷ [])) told refl (sym both)
-    alone_open (λ two. other (lone ∙ two)) wanting)) plain.0 in
-    (omega (arith, again), subst P (sym is) go begun)
+    let plain = unmasked profile (first ∷ one ∷ []) told (sym tell) (not_foreign told wanting) in (
+      omega (arith, again),
+      rw is (rw fits (front_of opens tells profile (first ∷ one ∷ [])
+          (omega arith)
+          (All-from_recursion IsByte (first ∷ one ∷ []) (low, (rw fits at byte_low, tt)))
+          (rw plain.1 (second_short first one alone told (sym lone) plain.1
+          (rw (is, sym lone) at begun) other wanting)) plain.0)),
+    )
 
 -- a further byte with which a command is open still
 pub further_front : OpenIsAFront → TwoTell → (profile : Profile) (bytes : List ℕ) (byte n : ℕ)
@@ -274,12 +276,12 @@ pub further_front : OpenIsAFront → TwoTell → (profile : Profile) (bytes : Li
     → needed bytes ≡ Exactly n
     → length bytes + 1 < n → IsCommandFront profile (bytes ++ byte ∷ [])
 further_front opens tells profile bytes byte n two low byte_low known told short =
-    let long : length (bytes ++ byte ∷ []) ≡ length bytes + 1 = length-append bytes (byte ∷ []) in
-    let P : Need → Type 0 = λ need. IsShort need (length (bytes ++ byte ∷ [])) in
-    let still : needed (bytes ++ byte ∷ []) ≡ Exactly n = stays bytes (byte ∷ []) two ∙ told in
+    let long = length-append bytes (byte ∷ []) in
     front_of opens tells profile (bytes ++ byte ∷ []) (omega (arith, long, two))
     (All-append IsByte bytes (byte ∷ []) low (All-from_recursion IsByte (byte ∷ []) (byte_low, tt)))
-    (subst P (sym still) (omega arith)) (more_known profile bytes (byte ∷ []) two known)
+    (subst (λ need. IsShort need (length (bytes ++ byte ∷ [])))
+    (sym (stays bytes (byte ∷ []) two ∙ told)) (omega arith))
+    (more_known profile bytes (byte ∷ []) two known)
 
 -- where no further byte leaves a command open, the next one is its last
 ended : (bytes : List ℕ) (told : Need) → 2 ≤ length bytes → needed bytes ≡ told
@@ -300,47 +302,40 @@ further_end bytes told two is most begun =
     ended bytes (needed bytes) two refl begun (λ n exact. most n (is ∙ exact))
 
 -- bytes that need their sum alone are with it the block of a command
-ask_whole : WhatItNeeds → TwoTell → (bytes : List ℕ) (word : ℕ) → 1 ≤ length bytes
-    → All IsByte bytes → needed bytes ≡ Exactly (length bytes + 1) → word ≡ sum bytes % 256
-    → (profile : Profile) → AreKnown profile bytes
-    → (command : Command) × Spells command (block_of bytes) × Spells command (bytes ++ word ∷ [])
-    × HasCommand profile command
-ask_whole law tell bytes word some low told total profile known =
-    let found = law bytes low told in
-    let there : bytes ≢ [] = λ none. let e : length bytes ≡ 0 = ap length none in omega arith in
-    let P : List ℕ → Type 0 = λ b. Spells found.0 b in (
-      found.0,
-      found.1,
-      subst P (ap (λ w. bytes ++ w ∷ []) (sym total)) found.1,
-      ap (λ b. leaves_options profile && b) (sym (content_tells tell bytes found.0 there found.1))
-          ∙ known,
-    )
+module _ (law : WhatItNeeds) (tell : TwoTell) (bytes : List ℕ) (word : ℕ) (some : 1 ≤ length bytes)
+    (low : All IsByte bytes) (told : needed bytes ≡ Exactly (length bytes + 1))
+    (total : word ≡ sum bytes % 256) where
+  ask_whole : (profile : Profile) → AreKnown profile bytes
+      → (command : Command) × Spells command (block_of bytes) × Spells command (bytes ++ word ∷ [])
+      × HasCommand profile command
+  ask_whole profile known =
+      let found = law bytes low told in (
+        found.0,
+        found.1,
+        subst (λ w. Spells found.0 (bytes ++ w ∷ [])) (sym total) found.1,
+        ap (λ b. leaves_options profile && b)
+            (sym (content_tells tell bytes found.0 (some_there bytes some) found.1)) ∙ known,
+      )
 
--- which asks for more than is followed, or doesn't
-pub ask_more : WhatItNeeds → TwoTell → (bytes : List ℕ) (word : ℕ) → 1 ≤ length bytes
-    → All IsByte bytes → needed bytes ≡ Exactly (length bytes + 1) → word ≡ sum bytes % 256
-    → (more : Bool)
-    → ((command : Command) → Spells command (block_of bytes) → IsTrue more ↔ EnablesMore command)
-    → more ≡ true → (profile : Profile) → AreKnown profile bytes
-    → IsGoingOn profile bytes word (Err rule.Profile)
-ask_more law tell bytes word some low told total more means is profile known =
-    let ask = ask_whole law tell bytes word some low told total profile known in
-    inr (ask.0, ask.2, ask.3, (means ask.0 ask.1).0 is)
+  -- which asks for more than is followed, or doesn't
+  module _ (more : Bool)
+      (means : (command : Command) → Spells command (block_of bytes)
+      → IsTrue more ↔ EnablesMore command) where
+    pub ask_more : more ≡ true → (profile : Profile) → AreKnown profile bytes
+        → IsGoingOn profile bytes word (Err rule.Profile)
+    ask_more is profile known =
+        let ask = ask_whole profile known in inr (ask.0, ask.2, ask.3, (means ask.0 ask.1).0 is)
 
-pub ask_ends : WhatItNeeds → TwoTell → (bytes : List ℕ) (word : ℕ) → 1 ≤ length bytes
-    → All IsByte bytes → needed bytes ≡ Exactly (length bytes + 1) → word ≡ sum bytes % 256
-    → (more : Bool)
-    → ((command : Command) → Spells command (block_of bytes) → IsTrue more ↔ EnablesMore command)
-    → more ≡ false → (profile : Profile) → AreKnown profile bytes
-    → IsGoingOn profile bytes word (Ok judged.Ask)
-ask_ends law tell bytes word some low told total more means is profile known =
-    let ask = ask_whole law tell bytes word some low told total profile known in (
-      ask.0,
-      ask.2,
-      ask.3,
-      λ enables.
-          let clash : true ≡ false = sym ((means ask.0 ask.1).1 enables) ∙ is in cc clash,
-    )
+    pub ask_ends : more ≡ false → (profile : Profile) → AreKnown profile bytes
+        → IsGoingOn profile bytes word (Ok judged.Ask)
+    ask_ends is profile known =
+        let ask = ask_whole profile known in (
+          ask.0,
+          ask.2,
+          ask.3,
+          λ enables.
+              let clash : true ≡ false = sym ((means ask.0 ask.1).1 enables) ∙ is in cc clash,
+        )
 
 -- the last byte of a command's block is its sum
 pub last_is_sum : (bytes : List ℕ) (word : ℕ) (command : Command)
@@ -350,110 +345,91 @@ last_is_sum bytes word command spelled =
     let same = same_from_push bytes content word (sum content % 256) spelled.bytes in
     same.1 ∙ ap (λ bs. sum bs % 256) (sym same.0)
 
--- a controller's word inside its block breaks a rule
-abbrev AskBreaks : (scope : Scope) → List ℕ → Option Event → ℕ → ℕ → Levels → Rule → Type 0
-AskBreaks scope bytes from at word levels broken =
-    RowBreaks (record { scope = scope; position = InAsk bytes; last = from; levels = levels })
-    (Word at Controller word) broken
-
 -- bytes that leave a command open are some: none need nothing
 pub some_bytes : (bytes : List ℕ) → IsOpen bytes → bytes ≢ []
 some_bytes [] wanting none = wanting
 some_bytes (byte ∷ bytes) wanting none = cc none
 
 -- an unmarked word inside a block of the controller, in its time
-pub going_on : (scope : Scope) (bytes : List ℕ) (from : Option Event) (at word : ℕ)
-    (levels : Levels)
-    (result : Result Judged Rule)
-    → (OutOfOrder from (Word at Controller word) → ⊥)
-    → (IsBefore WORD_GAP_MIN from (Word at Controller word) → ⊥)
-    → (IsPast (block_most (profile_of scope.begins)) from (Word at Controller word) → ⊥)
-    → word < 256
-    → FirstTells → bytes ≢ [] → AreFollowed scope bytes
-    → IsGoingOn (profile_of scope.begins) bytes word result
-    → IsJudged (record { scope = scope; position = InAsk bytes; last = from; levels = levels })
-    (Word at Controller word) result
-going_on scope bytes from at word levels (Ok judged.AskByte) order early late small law some
-    followed h =
-    let soon = in_time WORD_GAP_MIN from (Word at Controller word) early in
-    let near = not_late (block_most (profile_of scope.begins)) from (Word at Controller word)
-    late in
-    let front = front_followed law scope (bytes ++ word % 256 ∷ []) h.1
-    (still_followed scope bytes (word % 256 ∷ []) some followed) in
-    (h.0, small, front, (soon, near))
-going_on scope bytes from at word levels (Ok judged.Ask) order early late small law some
-    followed h =
-    let soon = in_time WORD_GAP_MIN from (Word at Controller word) early in
-    let near = not_late (block_most (profile_of scope.begins)) from (Word at Controller word)
-    late in
-    let asks = asks_followed law scope h.0 (bytes ++ word ∷ []) h.1 h.2
-    (still_followed scope bytes (word ∷ []) some followed) in
-    (h.0, (small, asks, h.3, (soon, near)))
-going_on scope bytes from at word levels (Ok judged.Foreign) order early late small law some
-    followed h =
-    let soon = in_time WORD_GAP_MIN from (Word at Controller word) early in
-    let near = not_late (block_most (profile_of scope.begins)) from (Word at Controller word)
-    late in
-    let opening = expansion_opens scope (bytes ++ word ∷ []) h
-    (still_followed scope bytes (word ∷ []) some followed) in
-    (small, opening, (soon, near))
-going_on scope bytes from at word levels (Ok other) order early late small law some
-    followed h = absurd h
-going_on scope bytes from at word levels (Err rule.Sum) order early late small law some
-    followed h =
-    record { breaks = (needed_followed scope bytes followed ∙ h.0, h.1); first = first }
-  where
-    first : (other : Rule) → AskBreaks scope bytes from at word levels other
-        → place_of rule.Sum ≤ place_of other
-    first rule.Order b = absurd (order b)
-    first rule.Mode b = absurd (omega (arith, b))
-    first rule.Early b = absurd (early b)
-    first rule.Spacing b = absurd (late b)
-    first other b = search rules
-going_on scope bytes from at word levels (Err rule.Profile) order early late small law some
-    followed (inl h) =
-    record {
-      breaks = inl (
-        needed_followed scope bytes followed ∙ h.0,
-        needed_followed scope (bytes ++ word ∷ [])
-            (still_followed scope bytes (word ∷ []) some followed) ∙ h.1,
-      );
-      first = first;
-    }
-  where
-    first : (other : Rule) → AskBreaks scope bytes from at word levels other
-        → place_of rule.Profile ≤ place_of other
-    first rule.Order b = absurd (order b)
-    first rule.Mode b = absurd (omega (arith, b))
-    first rule.Early b = absurd (early b)
-    first rule.Spacing b = absurd (late b)
-    first rule.Sum b =
+module _ (scope : Scope) (bytes : List ℕ) (from : Option Event) (at word : ℕ)
+    (levels : Levels) where
+  abbrev Asking : Situation
+  Asking = record { scope = scope; position = InAsk bytes; last = from; levels = levels }
+
+  abbrev Said : Event
+  Said = Word at Controller word
+
+  asks_first : (broken : Rule) → place_of broken ≤ place_of rule.Profile
+      → (OutOfOrder from Said → ⊥) → (IsBefore WORD_GAP_MIN from Said → ⊥)
+      → (IsPast (block_most (profile_of scope.begins)) from Said → ⊥) → word < 256
+      → (RowBreaks Asking Said rule.Sum → place_of broken ≤ place_of rule.Sum)
+      → (other : Rule) → RowBreaks Asking Said other → place_of broken ≤ place_of other
+  asks_first broken most order early late small sum rule.Order b = absurd (order b)
+  asks_first broken most order early late small sum rule.Mode b = absurd (omega (arith, b))
+  asks_first broken most order early late small sum rule.Early b = absurd (early b)
+  asks_first broken most order early late small sum rule.Spacing b = absurd (late b)
+  asks_first broken most order early late small sum rule.Sum b = sum b
+  asks_first broken most order early late small sum rule.Profile b = most
+  asks_first broken most order early late small sum other b = absurd b
+
+  pub going_on : (result : Result Judged Rule)
+      → (OutOfOrder from (Word at Controller word) → ⊥)
+      → (IsBefore WORD_GAP_MIN from (Word at Controller word) → ⊥)
+      → (IsPast (block_most (profile_of scope.begins)) from (Word at Controller word) → ⊥)
+      → word < 256
+      → FirstTells → bytes ≢ [] → AreFollowed scope bytes
+      → IsGoingOn (profile_of scope.begins) bytes word result
+      → IsJudged (record { scope = scope; position = InAsk bytes; last = from; levels = levels })
+      (Word at Controller word) result
+  going_on (Ok judged.AskByte) order early late small law some followed h = (
+    h.0,
+    small,
+    front_followed law scope (bytes ++ word % 256 ∷ []) h.1
+        (still_followed scope bytes (word % 256 ∷ []) some followed),
+    in_block_time (profile_of scope.begins) from Said early late,
+  )
+  going_on (Ok judged.Ask) order early late small law some followed h = (
+    h.0,
+    (
+      small,
+      asks_followed law scope h.0 (bytes ++ word ∷ []) h.1 h.2
+          (still_followed scope bytes (word ∷ []) some followed),
+      h.3,
+      in_block_time (profile_of scope.begins) from Said early late,
+    ),
+  )
+  going_on (Ok judged.Foreign) order early late small law some followed h = (
+    small,
+    expansion_opens scope (bytes ++ word ∷ []) h
+        (still_followed scope bytes (word ∷ []) some followed),
+    in_block_time (profile_of scope.begins) from Said early late,
+  )
+  going_on (Err rule.Sum) order early late small law some followed h = record {
+    breaks = (needed_followed scope bytes followed ∙ h.0, h.1);
+    first = asks_first rule.Sum (omega arith) order early late small (λ b. omega arith);
+  }
+  going_on (Err rule.Profile) order early late small law some followed (inl h) = record {
+    breaks = inl (
+      needed_followed scope bytes followed ∙ h.0,
+      needed_followed scope (bytes ++ word ∷ [])
+          (still_followed scope bytes (word ∷ []) some followed) ∙ h.1,
+    );
+    first = asks_first rule.Profile (omega arith) order early late small (λ b.
         let clash : More ≡ Exactly (length bytes + 1) =
         sym h.0 ∙ (sym (needed_followed scope bytes followed) ∙ b.0) in
-        absurd (cc)
-    first other b = search rules
-going_on scope bytes from at word levels (Err rule.Profile) order early late small law some
-    followed (inr h) =
-    record {
-      breaks = inr (
-        h.0,
-        asks_followed law scope h.0 (bytes ++ word ∷ []) h.1 h.2
-            (still_followed scope bytes (word ∷ []) some followed),
-        h.3,
-      );
-      first = first;
-    }
-  where
-    first : (other : Rule) → AskBreaks scope bytes from at word levels other
-        → place_of rule.Profile ≤ place_of other
-    first rule.Order b = absurd (order b)
-    first rule.Mode b = absurd (omega (arith, b))
-    first rule.Early b = absurd (early b)
-    first rule.Spacing b = absurd (late b)
-    first rule.Sum b = absurd (b.1 (last_is_sum bytes word h.0 h.1))
-    first other b = search rules
-going_on scope bytes from at word levels (Err other) order early late small law some
-    followed h = absurd h
+        absurd cc);
+  }
+  going_on (Err rule.Profile) order early late small law some followed (inr h) = record {
+    breaks = inr (
+      h.0,
+      asks_followed law scope h.0 (bytes ++ word ∷ []) h.1 h.2
+          (still_followed scope bytes (word ∷ []) some followed),
+      h.3,
+    );
+    first = asks_first rule.Profile (omega arith) order early late small
+        (λ b. absurd (b.1 (last_is_sum bytes word h.0 h.1)));
+  }
+  going_on result order early late small law some followed h = absurd h
 
 -- what isn't read of an allowed number of bytes has no fault in that number
 length_read : (format : Format) (command : Command) (bytes : List ℕ)
@@ -462,8 +438,7 @@ length_read format command bytes has faulty =
     let bad = (bad_length format command bytes faulty).1 in
     let both : Some bad.0 ≡ Some has.0 = sym bad.1 ∙ has.1 in
     let same : has.0 ≡ bad.0 = cc in
-    let P : DataForm → Type 0 = λ form. IsDataLength form (length bytes) in
-    bad.2 (subst P same has.2)
+    bad.2 (rw same at has.2)
 
 -- a marked word that is no answer's
 pub no_answer : (scope : Scope) (command : Command) (from : Option Event) (at word byte : ℕ)
@@ -504,159 +479,111 @@ length_right : (command : Command) (bytes : List ℕ) (at word : ℕ) → 256 �
 length_right command bytes at word marked count (inl wrong) = omega (arith, wrong.0)
 length_right command bytes at word marked count (inr wrong) = wrong.1 count
 
--- a peripheral's word inside a reply breaks a rule
-abbrev Breaks : (scope : Scope) → Command → List ℕ → Option Event → ℕ → ℕ → Levels → Rule → Type 0
-Breaks scope command bytes from at word levels broken =
-    RowBreaks
-    (record { scope = scope; position = InReply command bytes; last = from; levels = levels })
-    (Word at Peripheral word)
-    broken
+-- a marked word that ends a reply, in its time
+module _ (scope : Scope) (one : BytesHaveOneFault) (none : ReplyHasNoFault) (command : Command)
+    (bytes : List ℕ) (from : Option Event) (at word : ℕ) (levels : Levels) where
+  abbrev Replying : Situation
+  Replying =
+      record { scope = scope; position = InReply command bytes; last = from; levels = levels }
 
--- the reply that a marked word has ended in its time, read
-reply_read : (scope : Scope) → BytesHaveOneFault → ReplyHasNoFault
-    → (command : Command) (bytes : List ℕ) (from : Option Event) (at word : ℕ) (levels : Levels)
-    (result : Result Reply Rule)
-    → (OutOfOrder from (Word at Peripheral word) → ⊥)
-    → (IsBefore WORD_GAP_MIN from (Word at Peripheral word) → ⊥)
-    → (IsPast (block_most (profile_of scope.begins)) from (Word at Peripheral word) → ⊥)
-    → 256 ≤ word → HasDataAnswer command (length bytes) → word ≡ 256 + sum bytes % 256
-    → IsRead scope.begins command bytes levels result
-    → IsSettled
-    (record { scope = scope; position = InReply command bytes; last = from; levels = levels })
-    (Word at Peripheral word)
-    result
-reply_read scope one none command bytes from at word levels (Ok reply) order early late marked has
-    total
-    h =
-    let soon = in_time WORD_GAP_MIN from (Word at Peripheral word) early in
-    let near = not_late (block_most (profile_of scope.begins)) from (Word at Peripheral word)
-    late in
-    (total, h.0, h.1, h.2, (soon, near))
-reply_read scope one none command bytes from at word levels (Err rule.Length) order early late
-    marked has
-    total h =
-    absurd (length_read (format_for scope.begins levels command) command bytes has h)
-reply_read scope one none command bytes from at word levels (Err rule.Answer) order early late
-    marked has
-    total h =
-    record { breaks = (marked, h); first = first }
-  where
-    first : (other : Rule) → Breaks scope command bytes from at word levels other
-        → place_of rule.Answer ≤ place_of other
-    first rule.Order b = absurd (order b)
-    first rule.Early b = absurd (early b)
-    first rule.Spacing b = absurd (late b)
-    first rule.Length b = absurd (length_right command bytes at word marked has b)
-    first rule.Sum b = absurd (b.1 total)
-    first other b = search rules
-reply_read scope one none command bytes from at word levels (Err rule.Message) order early late
-    marked has
-    total h =
-    record { breaks = (marked, h); first = first }
-  where
-    first : (other : Rule) → Breaks scope command bytes from at word levels other
-        → place_of rule.Message ≤ place_of other
-    first rule.Order b = absurd (order b)
-    first rule.Early b = absurd (early b)
-    first rule.Spacing b = absurd (late b)
-    first rule.Length b = absurd (length_right command bytes at word marked has b)
-    first rule.Sum b = absurd (b.1 total)
-    first rule.Answer b =
-        let clash : reading.Answer ≡ reading.Message =
-        one_bad one none (format_for scope.begins levels command) command bytes
-        reading.Answer reading.Message b.1 h in
-        absurd (cc)
-    first other b = search rules
-reply_read scope one none command bytes from at word levels (Err rule.Profile) order early late
-    marked has
-    total (inl h) =
-    record { breaks = (marked, inl h); first = first }
-  where
-    first : (other : Rule) → Breaks scope command bytes from at word levels other
-        → place_of rule.Profile ≤ place_of other
-    first rule.Order b = absurd (order b)
-    first rule.Early b = absurd (early b)
-    first rule.Spacing b = absurd (late b)
-    first rule.Length b = absurd (length_right command bytes at word marked has b)
-    first rule.Sum b = absurd (b.1 total)
-    first rule.Answer b =
-        let clash : reading.Answer ≡ reading.Profile =
-        one_bad one none (format_for scope.begins levels command) command bytes
-        reading.Answer reading.Profile b.1 h in
-        absurd (cc)
-    first rule.Message b =
-        let clash : reading.Message ≡ reading.Profile =
-        one_bad one none (format_for scope.begins levels command) command bytes
-        reading.Message reading.Profile b.1 h in
-        absurd (cc)
-    first other b = search rules
-reply_read scope one none command bytes from at word levels (Err rule.Profile) order early late
-    marked has
-    total (inr h) =
-    record { breaks = (marked, inr h); first = first }
-  where
-    faultless : (fault : MsgFault)
-        → HasFault (format_for scope.begins levels command) command bytes fault → ⊥
-    faultless fault bad =
-        let format = format_for scope.begins levels command in
-        let P : List ℕ → Type 0 = λ bs. HasFault format command bs fault in
-        none_as none format command h.0 fault h.1.answers h.3 (subst P h.2 bad)
+  abbrev Told : Event
+  Told = Word at Peripheral word
 
-    first : (other : Rule) → Breaks scope command bytes from at word levels other
-        → place_of rule.Profile ≤ place_of other
-    first rule.Order b = absurd (order b)
-    first rule.Early b = absurd (early b)
-    first rule.Spacing b = absurd (late b)
-    first rule.Length b = absurd (length_right command bytes at word marked has b)
-    first rule.Sum b = absurd (b.1 total)
-    first rule.Answer b = absurd (faultless reading.Answer b.1)
-    first rule.Message b = absurd (faultless reading.Message b.1)
-    first other b = search rules
-reply_read scope one none command bytes from at word levels (Err other) order early late marked has
-    total
-    h = absurd h
+  abbrev Bad : MsgFault → Type 0
+  Bad = HasFault (format_for scope.begins levels command) command bytes
 
--- the marked word of a reply, in its time
-pub reply_ended : (scope : Scope) → BytesHaveOneFault → ReplyHasNoFault
-    → (command : Command) (bytes : List ℕ) (from : Option Event) (at word : ℕ) (levels : Levels)
-    (result : Result Judged Rule)
-    → (OutOfOrder from (Word at Peripheral word) → ⊥)
-    → (IsBefore WORD_GAP_MIN from (Word at Peripheral word) → ⊥)
-    → (IsPast (block_most (profile_of scope.begins)) from (Word at Peripheral word) → ⊥)
-    → 256 ≤ word → IsReplyEnd command bytes word result
-    → IsJudged
-    (record { scope = scope; position = InReply command bytes; last = from; levels = levels })
-    (Word at Peripheral word)
-    result
-reply_ended scope one none command bytes from at word levels (Ok judged.Reply) order early late
-    marked h =
-    λ result is. reply_read scope one none command bytes from at word levels result order early late
-    marked h.0 h.1 is
-reply_ended scope one none command bytes from at word levels (Ok other) order early late marked h =
-    absurd h
-reply_ended scope one none command bytes from at word levels (Err rule.Length) order early late
-    marked h =
-    record { breaks = inr (marked, h); first = first }
-  where
-    first : (other : Rule) → Breaks scope command bytes from at word levels other
-        → place_of rule.Length ≤ place_of other
-    first rule.Order b = absurd (order b)
-    first rule.Early b = absurd (early b)
-    first rule.Spacing b = absurd (late b)
-    first other b = search rules
-reply_ended scope one none command bytes from at word levels (Err rule.Sum) order early late marked
-    h =
-    record { breaks = (marked, h.1); first = first }
-  where
-    first : (other : Rule) → Breaks scope command bytes from at word levels other
-        → place_of rule.Sum ≤ place_of other
-    first rule.Order b = absurd (order b)
-    first rule.Early b = absurd (early b)
-    first rule.Spacing b = absurd (late b)
-    first rule.Length b = absurd (length_right command bytes at word marked h.0 b)
-    first other b = search rules
-reply_ended scope one none command bytes from at word levels (Err other) order early late marked h =
-    absurd h
+  -- faults of its bytes are one
+  apart : (fault other : MsgFault) → (fault ≢ other) → Bad fault → Bad other → ⊥
+  apart fault other differ bad also = differ
+      (one_bad none one (format_for scope.begins levels command) command bytes fault other bad also)
+
+  module _ (order : OutOfOrder from (Word at Peripheral word) → ⊥)
+      (early : IsBefore WORD_GAP_MIN from (Word at Peripheral word) → ⊥)
+      (late : IsPast (block_most (profile_of scope.begins)) from (Word at Peripheral word) → ⊥)
+      (marked : 256 ≤ word) where
+    replies_first : (broken : Rule) → RowBreaks Replying Told broken
+        → place_of broken ≤ place_of rule.Profile
+        → (WrongLength (InReply command bytes) Told → place_of broken ≤ place_of rule.Length)
+        → (word ≢ 256 + sum bytes % 256 → place_of broken ≤ place_of rule.Sum)
+        → (Bad reading.Answer → place_of broken ≤ place_of rule.Answer)
+        → (Bad reading.Message → place_of broken ≤ place_of rule.Message)
+        → IsFirstByPlace Replying Told broken
+    replies_first broken breaks most length sum answer message =
+        record { breaks = breaks; first = first }
+      where
+        first : (other : Rule) → RowBreaks Replying Told other → place_of broken ≤ place_of other
+        first rule.Order b = absurd (order b)
+        first rule.Early b = absurd (early b)
+        first rule.Spacing b = absurd (late b)
+        first rule.Length b = length b
+        first rule.Sum b = sum b.1
+        first rule.Answer b = answer b.1
+        first rule.Message b = message b.1
+        first rule.Profile b = most
+        first other b = absurd b
+
+    -- the reply, read
+    reply_read : (result : Result Reply Rule) → HasDataAnswer command (length bytes)
+        → word ≡ 256 + sum bytes % 256 → IsRead scope.begins command bytes levels result
+        → IsSettled Replying Told result
+    reply_read result has total read = by result read
+      where
+        first : (broken : Rule) → RowBreaks Replying Told broken
+            → place_of broken ≤ place_of rule.Profile
+            → (Bad reading.Answer → place_of broken ≤ place_of rule.Answer)
+            → (Bad reading.Message → place_of broken ≤ place_of rule.Message)
+            → IsFirstByPlace Replying Told broken
+        first broken breaks most = replies_first broken breaks most
+            (λ b. absurd (length_right command bytes at word marked has b)) (λ b. absurd (b total))
+
+        faultless : (h : LeavesProfile scope.begins command bytes levels) (fault : MsgFault)
+            → Bad fault → ⊥
+        faultless h fault bad =
+            let format = format_for scope.begins levels command in
+            none_as none format command h.0 fault h.1.answers h.3 (rw h.2 at bad)
+
+        by : (result : Result Reply Rule) → IsRead scope.begins command bytes levels result
+            → IsSettled Replying Told result
+        by (Ok reply) h = (
+          total,
+          h.0,
+          h.1,
+          h.2,
+          in_block_time (profile_of scope.begins) from Told early late,
+        )
+        by (Err rule.Length) h =
+            absurd (length_read (format_for scope.begins levels command) command bytes has h)
+        by (Err rule.Answer) h = first rule.Answer (marked, h) (omega arith) (λ b. omega arith)
+            (λ b. omega arith)
+        by (Err rule.Message) h = first rule.Message (marked, h) (omega arith)
+            (λ b. absurd (apart reading.Answer reading.Message (λ e. cc) b h)) (λ b. omega arith)
+        by (Err rule.Profile) (inl h) = first rule.Profile (marked, inl h) (omega arith)
+            (λ b. absurd (apart reading.Answer reading.Profile (λ e. cc) b h))
+            (λ b. absurd (apart reading.Message reading.Profile (λ e. cc) b h))
+        by (Err rule.Profile) (inr h) = first rule.Profile (marked, inr h) (omega arith)
+            (λ b. absurd (faultless h reading.Answer b))
+            (λ b. absurd (faultless h reading.Message b))
+        by result h = absurd h
+
+  pub reply_ended : (result : Result Judged Rule)
+      → (OutOfOrder from (Word at Peripheral word) → ⊥)
+      → (IsBefore WORD_GAP_MIN from (Word at Peripheral word) → ⊥)
+      → (IsPast (block_most (profile_of scope.begins)) from (Word at Peripheral word) → ⊥)
+      → 256 ≤ word → IsReplyEnd command bytes word result
+      → IsJudged
+      (record { scope = scope; position = InReply command bytes; last = from; levels = levels })
+      (Word at Peripheral word)
+      result
+  reply_ended (Ok judged.Reply) order early late marked h =
+      λ result is. reply_read order early late marked result h.0 h.1 is
+  reply_ended (Err rule.Length) order early late marked h =
+      replies_first order early late marked rule.Length (inr (marked, h)) (omega arith)
+      (λ b. omega arith) (λ b. omega arith) (λ b. omega arith) (λ b. omega arith)
+  reply_ended (Err rule.Sum) order early late marked h =
+      replies_first order early late marked rule.Sum (marked, h.1) (omega arith)
+      (λ b. absurd (length_right command bytes at word marked h.0 b)) (λ b. omega arith)
+      (λ b. omega arith) (λ b. omega arith)
+  reply_ended result order early late marked h = absurd h
 
 -- the word at an index splits words
 pub split_at : (words : List ℕ) (n word : ℕ) → slice_get words n ≡ Some word
@@ -710,55 +637,39 @@ pub word_there : (bytes content block : List ℕ) (i word : ℕ) → content ≡
     → Some word ≡ slice_get (peripheral_words (block_of bytes)) i
 word_there bytes content block i word same sealed within is =
     let whole : block ≡ block_of bytes = sealed ∙ ap block_of same in
-    let words : List ℕ = peripheral_words (block_of bytes) in
-    let count : length words ≡ length bytes + 1 = words_count bytes in
-    let long : length block ≡ length bytes + 1 = ap length whole
-    ∙ length-append bytes ((sum bytes % 256) ∷ []) in
-    let here : word ≡ slice_index words i = is
-    ∙ ap (λ b. slice_index (peripheral_words b) i) whole in
-    ap Some here ∙ sym (slice_get-get_or words i 0 (omega arith))
+    let long = ap length whole ∙ length-append bytes ((sum bytes % 256) ∷ []) in
+    ap Some (rw whole at is)
+    ∙ sym (slice_get-get_or (peripheral_words (block_of bytes)) i 0
+    (omega (arith, within, words_count bytes, long)))
 
 pub word_after : (bytes content block : List ℕ) (i : ℕ) → content ≡ bytes → block ≡ block_of content
     → length block ≤ i
     → None ≡ slice_get (peripheral_words (block_of bytes)) i
 word_after bytes content block i same sealed past =
     let whole : block ≡ block_of bytes = sealed ∙ ap block_of same in
-    let count : length (peripheral_words (block_of bytes)) ≡ length bytes + 1 = words_count bytes in
-    let long : length block ≡ length bytes + 1 = ap length whole
-    ∙ length-append bytes ((sum bytes % 256) ∷ []) in
-    sym (slice_get_past (peripheral_words (block_of bytes)) i (omega arith))
+    let long = ap length whole ∙ length-append bytes ((sum bytes % 256) ∷ []) in
+    sym (slice_get_past (peripheral_words (block_of bytes)) i
+    (omega (arith, past, words_count bytes, long)))
 
 -- what is made of a row at a place that is another's
-pub judged_at : (scope : Scope) (place : Place) (other : Phase) (from : Option Event)
-    (levels : Levels)
-    (row : Event)
-    (result : Result Judged Rule) → place.phase ≡ other
-    → IsJudged (record {
+pub judged_at : (times : Profile) (scope : Scope) (place : Place) (other : Phase)
+    (from : Option Event) (levels : Levels) (row : Event) (result : Result Judged Rule)
+    → place.phase ≡ other
+    → IsJudgedBy times (record {
       scope = scope;
       position = position_in other place.bytes place.command place.last_reply.reply;
       last = from;
       levels = levels;
     }) row result
-    → IsJudged
+    → IsJudgedBy times
     (record { scope = scope; position = position_at place; last = from; levels = levels }) row
     result
-judged_at scope place other from levels row result is judged =
-    let P : Phase → Type 0 =
-    λ p. IsJudged (record {
-      scope = scope;
-      position = position_in p place.bytes place.command place.last_reply.reply;
-      last = from;
-      levels = levels;
-    }) row result in
-    subst P (sym is) judged
+judged_at times scope place other from levels row result is judged = rw is judged
 
 -- inside a block of the controller, the bytes so far begin an ask
 asking_front : (scope : Scope) (place : Place) → place.phase ≡ phase.InAsk
     → IsSound scope (position_at place) → IsAskFront scope place.bytes
-asking_front scope place asking sound =
-    let Sound : Phase → Type 0 = λ p.
-    IsSound scope (position_in p place.bytes place.command place.last_reply.reply) in
-    subst Sound asking sound
+asking_front scope place asking sound = rw asking at sound
 
 -- the bytes so far are to a device that is followed
 pub asking_followed : FirstTells → (scope : Scope) (place : Place) → place.phase ≡ phase.InAsk
@@ -775,27 +686,21 @@ asking_known law scope place asking sound =
     front.spelled.spells front.spelled.known
 
 -- what is made of a row that is another
-pub judged_row : (situation : Situation) (row other : Event) (result : Result Judged Rule)
-    → row ≡ other
-    → IsJudged situation other result → IsJudged situation row result
-judged_row situation row other result is judged =
-    let P : Event → Type 0 = λ r. IsJudged situation r result in
-    subst P (sym is) judged
+pub judged_row : (times : Profile) (situation : Situation) (row other : Event)
+    (result : Result Judged Rule) → row ≡ other
+    → IsJudgedBy times situation other result → IsJudgedBy times situation row result
+judged_row times situation row other result is judged = rw is judged
 
 -- what was judged belongs to a phase, or is of a row, that is another
 pub belongs_at : (here other : Phase) (bytes : List ℕ) (row : Event) (result : Result Judged Rule)
     → here ≡ other
     → IfOk result (Belongs other bytes row) → IfOk result (Belongs here bytes row)
-belongs_at here other bytes row result is belongs =
-    let P : Phase → Type 0 = λ p. IfOk result (Belongs p bytes row) in
-    subst P (sym is) belongs
+belongs_at here other bytes row result is belongs = rw is belongs
 
 pub belongs_row : (here : Phase) (bytes : List ℕ) (row other : Event) (result : Result Judged Rule)
     → row ≡ other
     → IfOk result (Belongs here bytes other) → IfOk result (Belongs here bytes row)
-belongs_row here bytes row other result is belongs =
-    let P : Event → Type 0 = λ r. IfOk result (Belongs here bytes r) in
-    subst P (sym is) belongs
+belongs_row here bytes row other result is belongs = rw is belongs
 
 -- a phase that is another's is not inside a block of the controller
 pub not_asking : (here other : Phase) → here ≡ other → (other ≡ phase.InAsk → ⊥)
@@ -805,14 +710,8 @@ not_asking here other is apart asking = apart (sym is ∙ asking)
 -- where no block of the controller is open, one may begin with a byte that leaves a command open
 may_begin : (here : Phase) (bytes : List ℕ) (byte : ℕ) → (here ≡ phase.InAsk → ⊥)
     → IsOpen (byte ∷ []) → MayAsk here bytes byte
-may_begin phase.Quiet bytes byte other begun = begun
 may_begin phase.InAsk bytes byte other begun = absurd (other refl)
-may_begin phase.Asked bytes byte other begun = begun
-may_begin phase.InReply bytes byte other begun = begun
-may_begin phase.Replied bytes byte other begun = begun
-may_begin phase.Returned bytes byte other begun = begun
-may_begin (phase.InRepeat said) bytes byte other begun = begun
-may_begin phase.InForeign bytes byte other begun = begun
+may_begin here bytes byte other begun = begun
 
 -- what was judged of a word that may begin a block
 pub opened_belongs : (scope : Scope) → FrontIsOpen → (least : ℕ) (from : Option Event) (at word : ℕ)

@@ -3,7 +3,6 @@
 -- first.
 use Rattle.std.specs.Prelude.{◌≡◌, ◌≢◌, ◌<◌, ◌≤◌, ◌⊎◌, ℕ, Bool, true, false, List, [], ◌∷◌, ◌++◌, length, All, Option, Some, None}
 use Rattle.std.specs.List.{list_any}
-use Rattle.std.specs.Option.{option_or}
 use Rattle.mdb_words.specs.declared.limits.TheConstants.{WORD_GAP_MIN}
 use Rattle.mdb_words.specs.declared.event.Event.{Event}
 use Rattle.mdb_words.specs.declared.word.Line.TheVariants.{Controller, Peripheral}
@@ -15,11 +14,9 @@ use Rattle.mdb_msgs.specs.declared.command.ReaderCommand.TheVariants as readers
 use Rattle.mdb_msgs.specs.declared.command.ReaderUnit.TheVariants.{First, Second}
 use Rattle.mdb_msgs.specs.declared.reply.Reply.{Reply}
 use Rattle.mdb_msgs.specs.declared.reply.Reply.TheVariants as replies
-use Rattle.mdb_msgs.specs.declared.reply.reader.ReaderMsg.{ReaderMsg}
-use Rattle.mdb_msgs.specs.declared.reply.reader.ReaderMsg.TheVariants.{RevalueApproved, RevalueDenied, RevalueLimit}
 use Rattle.mdb_msgs.specs.Answers.{MayHaveData}
 use Rattle.mdb_msgs.specs.Commands.{EnablesMore, IsByte}
-use Rattle.mdb_msgs.specs.Reader.{last_level, tells_level}
+use Rattle.mdb_msgs.specs.Reader.{tells_level}
 use Rattle.mdb_bus.specs.declared.act.Act.{Act}
 use Rattle.mdb_bus.specs.declared.act.Act.TheVariants as acts
 use Rattle.mdb_bus.specs.declared.levels.Levels.{Levels}
@@ -33,6 +30,7 @@ use Rattle.mdb_bus.specs.Formats.{IsReadAs, format_for, levels_for}
 pub use Rattle.mdb_bus.specs.Positions.{Position, Quiet, InAsk, Asked, InReply, Replied, Returned, InRepeat, InForeign}
 use Rattle.mdb_bus.specs.Scopes.{Asks, levels_before, profile_of}
 use Rattle.mdb_bus.specs.Times.{answer_most, block_most, block_rest, rest_after}
+use Rattle.mdb_bus.specs.ExtendedLevels.{levels_answered}
 
 -- A piece of a transcript with its events: a whole act; or a tail, the words of an act that has
 -- begun and not ended, with the bytes that they have.
@@ -51,16 +49,6 @@ piece_events (Whole act events) = events
 piece_events (AskTail bytes events) = events
 piece_events (ReplyTail command bytes events) = events
 piece_events (RepeatTail command reply bytes events) = events
-
--- the act that a piece is, if it is a whole one
-abbrev pub act_in : Piece → Option Act
-act_in (Whole act events) = Some act
-act_in _ = None
-
--- a piece is a tail
-abbrev pub IsTail : Piece → Type 0
-IsTail (Whole act events) = ⊥
-IsTail _ = Unit {0}
 
 -- the gap from the row before, if there is one, is at least, at most so long; it counts from a
 -- word's start and a break's end
@@ -232,33 +220,16 @@ levels_after (commands.Reader Second (readers.SetupConfig level columns rows dis
     record levels { second = record levels.second { asked = Some level } }
 levels_after _ levels = levels
 
--- what each reader has last told of its feature level (Z2), heard or not, once a reply is whole;
--- the base profile doesn't ask for it
+-- and by a profile: the base profile doesn't ask for it
 abbrev pub levels_told : Profile → Command → Reply → Levels → Levels
-levels_told Extended (commands.Reader First command) (replies.Reader list) levels =
-    record levels {
-      first = record levels.first {
-        told = option_or (last_level list.messages) levels.first.told;
-      };
-    }
-levels_told Extended (commands.Reader Second command) (replies.Reader list) levels =
-    record levels {
-      second = record levels.second {
-        told = option_or (last_level list.messages) levels.second.told;
-      };
-    }
-levels_told _ _ _ levels = levels
+levels_told Base command reply levels = levels
+levels_told Extended command reply levels = levels_answered command reply levels
 
 -- both after an act
 abbrev pub levels_by : Profile → Act → Levels → Levels
 levels_by profile (acts.Ask command) levels = levels_after command levels
 levels_by profile (acts.Reply command reply) levels = levels_told profile command reply levels
 levels_by profile _ levels = levels
-
--- after an act, if there is one
-abbrev pub levels_if : Profile → Option Act → Levels → Levels
-levels_if profile None levels = levels
-levels_if profile (Some act) levels = levels_by profile act levels
 
 -- after pieces: of each reader the last that was told, and what was told before the first piece
 -- where nothing was
@@ -273,29 +244,18 @@ abbrev pub tells_high : Reply → Bool
 tells_high (replies.Reader list) = list_any (tells_level 2) list.messages
 tells_high _ = false
 
--- whether a message is about revalues, and whether one of a reply is
-abbrev pub is_revalue : ReaderMsg → Bool
-is_revalue RevalueApproved = true
-is_revalue RevalueDenied = true
-is_revalue (RevalueLimit amount) = true
-is_revalue _ = false
-
-abbrev pub tells_of_revalues : Reply → Bool
-tells_of_revalues (replies.Reader list) = list_any is_revalue list.messages
-tells_of_revalues _ = false
-
 -- no level is known, or one below 2
 abbrev pub IsLow : Option ℕ → Type 0
 IsLow None = Unit {0}
 IsLow (Some level) = level < 2
 
 -- What a reply to a command says is followed. By the base profile: where the controller has last
--- told a reader a level of 2 or more, no reply of that reader tells 2 or more. By the extended one:
--- it says nothing of revalues.
+-- told a reader a level of 2 or more, no reply of that reader tells 2 or more. By the extended one
+-- all that is read is followed.
 abbrev pub IsInProfile : Profile → Levels → Command → Reply → Type 0
 IsInProfile Base levels command reply =
     tells_high reply ≡ true → IsLow (levels_for command levels).asked
-IsInProfile Extended levels command reply = tells_of_revalues reply ≡ false
+IsInProfile Extended levels command reply = Unit {0}
 
 -- a reply fits the levels told before it: it is read so, and what it says is followed
 abbrev pub ReplyFits : Beginning → Levels → Command → Reply → Type 0
@@ -331,24 +291,8 @@ pub record IsActList (scope : Scope) (pieces : List Piece) (events : List Event)
   pub in_order : ArePieces scope pieces
   pub whole : events_of pieces ≡ events
 
--- the transcript has an act list
-abbrev pub HasActList : Scope → List Event → Type 0
-HasActList scope events = (pieces : List Piece) × IsActList scope pieces events
-
 -- the acts of pieces, the newest first: tails have no effect
 abbrev pub acts_of : List Piece → List Act
 acts_of [] = []
 acts_of (Whole act events ∷ pieces) = act ∷ acts_of pieces
 acts_of (piece ∷ pieces) = acts_of pieces
-
--- acts with one more, if there is one
-abbrev pub with_act : Option Act → List Act → List Act
-with_act None acts = acts
-with_act (Some act) acts = act ∷ acts
-
--- pieces go on from an act list of these rows, by an act or by none
-pub record GoesOnFrom (scope : Scope) (rows : List Event) (pieces : List Piece) : Type 0 where
-  pub before : List Piece
-  pub act : Option Act
-  pub act_list : IsActList scope before rows
-  pub acts : acts_of pieces ≡ with_act act (acts_of before)

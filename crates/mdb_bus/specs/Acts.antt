@@ -99,12 +99,3 @@ abbrev pub IsAck : Act → Type 0
 IsAck (acts.Ack command) = Unit {0}
 IsAck (acts.VmcAck command reply) = Unit {0}
 IsAck _ = ⊥
-
--- what an act says of a reply is of one that may answer its command
-abbrev pub NamesAReply : Act → Type 0
-NamesAReply (acts.Reply command reply) = IsReply command reply
-NamesAReply (acts.VmcAck command reply) = IsReply command reply
-NamesAReply (acts.VmcNak command reply) = IsReply command reply
-NamesAReply (acts.VmcRet command reply) = IsReply command reply
-NamesAReply (acts.Repeat command reply) = IsReply command reply
-NamesAReply _ = Unit {0}

@@ -10,12 +10,13 @@ use Rattle.mdb_msgs.specs.declared.reply.Reply.{Reply}
 use Rattle.mdb_bus.specs.declared.phase.Phase.{Phase}
 use Rattle.mdb_bus.specs.declared.phase.Phase.TheVariants as phase
 use Rattle.mdb_bus.specs.Acts.{reply_words}
-use Rattle.mdb_bus.specs.ActLists.{Piece, Position, Quiet, InAsk, Asked, InReply, Replied, Returned, InRepeat, InForeign, ArePieces, IsTail, act_in, acts_of, events_of, last_of, levels_of, piece_events, position_of, with_act}
+use Rattle.mdb_bus.specs.ActLists.{Piece, Position, Quiet, InAsk, Asked, InReply, Replied, Returned, InRepeat, InForeign, ArePieces, acts_of, events_of, last_of, levels_of, piece_events, position_of}
+use Rattle.mdb_bus.specs.Pieces.{IsTail, act_in, with_act}
 use Rattle.mdb_bus.specs.LinkFaults.{asked_device}
-use Rattle.mdb_bus.specs.Haste.{haste_of}
+use Rattle.mdb_bus.specs.ExtendedHaste.{haste_of}
 use Rattle.mdb_bus.specs.Scopes.{levels_before, profile_of}
-use Rattle.mdb_bus.specs.Untimely.{untimely_of, untimely_sender, with_sender}
-use Rattle.mdb_bus.specs.WideMoney.{first_known, known_of}
+use Rattle.mdb_bus.specs.ExtendedTimes.{untimely_of, untimely_sender, with_sender}
+use Rattle.mdb_bus.specs.ExtendedMoney.{first_known, known_of}
 
 -- the position that a phase is, with the last bytes, the last command and the last reply
 abbrev pub position_in : Phase → List ℕ → Command → Reply → Position

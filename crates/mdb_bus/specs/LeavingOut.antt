@@ -16,15 +16,6 @@ use Rattle.mdb_bus.specs.declared.act.Act.{Act}
 use Rattle.mdb_bus.specs.declared.act.Act.TheVariants as acts
 use Rattle.mdb_bus.specs.declared.scope.Scope.{Scope}
 use Rattle.mdb_bus.specs.ActLists.{Piece, Whole, AskTail, ReplyTail, RepeatTail, Position, InForeign, first_position, left_by, piece_events}
-use Rattle.mdb_bus.specs.Scopes.{IsLeftOut}
-
--- A recording is read twice, and once without further devices: it begins alike, the same levels
--- were told before it, and each device that the one scope leaves out the other leaves
--- out too.
-pub record LeavesOutMore (less more : Scope) : Type 0 where
-  pub begins : less.begins ≡ more.begins
-  pub levels : less.levels ≡ more.levels
-  pub left_out : (device : Device) → IsLeftOut less device → IsLeftOut more device
 
 -- the device that an act names, by its command
 abbrev pub device_in : Act → Option Device
@@ -101,3 +92,14 @@ acts_with device = filter (has_part device)
 -- the breaks among acts
 abbrev pub breaks_among : List Act → List Act
 breaks_among = filter is_break
+
+abbrev pub IsLeftOut : Scope → Device → Type 0
+IsLeftOut scope device = has scope.without device ≡ true
+
+-- A recording is read twice, and once without further devices: it begins alike, the same levels
+-- were told before it, and each device that the one scope leaves out the other leaves
+-- out too.
+pub record LeavesOutMore (less more : Scope) : Type 0 where
+  pub begins : less.begins ≡ more.begins
+  pub levels : less.levels ≡ more.levels
+  pub left_out : (device : Device) → IsLeftOut less device → IsLeftOut more device

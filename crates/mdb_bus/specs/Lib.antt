@@ -1,9 +1,16 @@
 pub mod Acts
 pub mod ActLists
 pub mod Bus
+pub mod ExtendedCounts
+pub mod ExtendedFormats
+pub mod ExtendedHaste
+pub mod ExtendedLevels
+pub mod ExtendedMoney
+pub mod ExtendedTimes
 pub mod FaultWords
 pub mod Formats
-pub mod Haste
+pub mod JoinedScopes
+pub mod Pieces
 pub mod Wish
 pub mod LinkFaults
 pub mod LeavingOut
@@ -12,7 +19,5 @@ pub mod OpenReplies
 pub mod Positions
 pub mod Scopes
 pub mod Times
-pub mod Untimely
-pub mod WideMoney
 pub mod inner
 pub mod shared

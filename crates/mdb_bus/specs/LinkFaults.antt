@@ -32,9 +32,9 @@ use Rattle.mdb_bus.specs.declared.scope.Scope.{Scope}
 use Rattle.mdb_bus.specs.Acts.{IsReply, reply_words}
 use Rattle.mdb_bus.specs.Formats.{HasFault, IsReadAs, format_for}
 use Rattle.mdb_bus.specs.Scopes.{Asks, levels_before, needed_in, profile_of}
-use Rattle.mdb_bus.specs.Haste.{counted_in, haste_of}
+use Rattle.mdb_bus.specs.ExtendedHaste.{counted_in, haste_of}
 use Rattle.mdb_bus.specs.Times.{answer_most, block_most, block_rest, break_least, rest_after}
-use Rattle.mdb_bus.specs.WideMoney.{Wide, counted_as, wide_of}
+use Rattle.mdb_bus.specs.ExtendedMoney.{Wide, counted_as, wide_of}
 use Rattle.mdb_bus.specs.ActLists.{Piece, Whole, Position, Quiet, InAsk, Asked, InReply, Replied, Returned, InRepeat, InForeign, IsInProfile, events_of, last_of, levels_of, position_of}
 
 -- What the rows so far leave for the next one.

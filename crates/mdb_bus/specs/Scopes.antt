@@ -9,10 +9,7 @@ use Rattle.mdb_msgs.specs.declared.need.Need.TheVariants.{Foreign}
 use Rattle.mdb_msgs.specs.Commands.{Spells, device_of, is_enable_options}
 use Rattle.mdb_msgs.specs.DeviceSets.{has}
 use Rattle.mdb_msgs.specs.Needs.{begins_options, is_to_one_of, needed}
-use Rattle.mdb_msgs.specs.declared.command.ReaderUnit.{ReaderUnit}
 use Rattle.mdb_msgs.specs.declared.command.ReaderUnit.TheVariants.{First, Second}
-use Rattle.mdb_msgs.specs.declared.setups.Setups.{Setups}
-use Rattle.mdb_msgs.specs.Setups.{nothing_known, reader_known}
 use Rattle.mdb_bus.specs.declared.levels.Levels.{Levels}
 use Rattle.mdb_bus.specs.declared.levels.ReaderLevels.{ReaderLevels}
 use Rattle.mdb_bus.specs.declared.scope.Beginning.{Beginning}
@@ -20,6 +17,7 @@ use Rattle.mdb_bus.specs.declared.scope.Beginning.TheVariants.{PowerOn, Joined}
 use Rattle.mdb_bus.specs.declared.scope.Profile.{Profile}
 use Rattle.mdb_bus.specs.declared.scope.Profile.TheVariants.{Base, Extended}
 use Rattle.mdb_bus.specs.declared.scope.Scope.{Scope}
+use Rattle.mdb_bus.specs.ExtendedLevels.{levels_in}
 
 -- what is followed of the protocol
 abbrev pub profile_of : Beginning → Profile
@@ -46,27 +44,9 @@ leaving_out devices = from_power_on Base devices
 abbrev pub power_on : Scope
 power_on = leaving_out NONE
 
--- in mid-session, by a profile, with these setup data known, with these devices left out
-abbrev pub joined_by : Profile → Setups → DeviceSet → Scope
-joined_by profile setups devices =
-    record { begins = Joined setups profile; without = devices; levels = no_levels }
-
--- and by the base profile
-abbrev pub joined : Setups → DeviceSet → Scope
-joined setups devices = joined_by Base setups devices
-
--- in mid-session, with no setup data known, and with all devices
-abbrev pub all_joined : Scope
-all_joined = joined nothing_known NONE
-
 -- the same, with these feature levels told to the readers before the recording began
 abbrev pub told : Levels → Scope → Scope
 told levels scope = record scope { levels = levels }
-
--- the feature levels of a reader that setup data tell
-abbrev pub levels_in : Setups → ReaderUnit → ReaderLevels
-levels_in setups unit =
-    let known = reader_known setups unit in record { asked = known.asked; told = known.told }
 
 -- The feature levels that are known as a recording begins: those that are told of it, or in
 -- mid-session by the extended profile those of its setup data.
@@ -81,9 +61,6 @@ levels_before scope = first_levels scope.begins scope.levels
 -- a device is followed, or left out
 abbrev pub IsFollowed : Scope → Device → Type 0
 IsFollowed scope device = has scope.without device ≡ false
-
-abbrev pub IsLeftOut : Scope → Device → Type 0
-IsLeftOut scope device = has scope.without device ≡ true
 
 -- whether a profile leaves ENABLE OPTIONS out, whose block is foreign then: the base profile does
 abbrev pub leaves_options : Profile → Bool

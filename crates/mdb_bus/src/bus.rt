@@ -1,10 +1,12 @@
 //! The bus: which rows may follow which, and the acts that they form.
 
-ghost use Rattle.std.specs.Prelude.{◌≡◌, ◌≢◌, ◌⊎◌, [], ◌∷◌, ◌++◌, ℕ, List, Some, false, true, IfOk, IfErr, OnErr, Ok, Err};
+ghost use Rattle.std.specs.Prelude.{◌≡◌, ◌≢◌, ◌⊎◌, [], ◌∷◌, ◌++◌, ℕ, List, Bool, Some, None, false, true, IfOk, IfErr, IfSome, OnErr, OnOk, OnSome, Err};
+ghost use Rattle.std.specs.Option.{IfNone};
 ghost use Rattle.mdb_msgs.specs.declared.reply.Reply.{Reply};
 ghost use Rattle.mdb_bus.specs.declared.fault.Rule.{Rule};
-ghost use Rattle.mdb_bus.specs.Scopes.{all_joined, power_on, profile_of};
-ghost use Rattle.mdb_bus.specs.WideMoney.{counted_as, wide_at};
+ghost use Rattle.mdb_bus.specs.Scopes.{power_on, profile_of};
+ghost use Rattle.mdb_bus.specs.JoinedScopes.{all_joined};
+ghost use Rattle.mdb_bus.specs.ExtendedMoney.{counted_as, wide_at};
 ghost use Rattle.mdb_bus.specs.shared.Step.{EachStep};
 
 use super::act::Act;
@@ -40,14 +42,16 @@ pub struct Bus {
 
 impl Bus {
     ghost use Rattle.mdb_msgs.specs.Commands.{device_of};
-    ghost use Rattle.mdb_bus.specs.ActLists.{HasActList, Piece, events_of, levels_after};
+    ghost use Rattle.mdb_bus.specs.ActLists.{Piece, events_of, levels_after};
+    ghost use Rattle.mdb_bus.specs.Pieces.{HasActList};
     ghost use Rattle.mdb_bus.specs.Bus.{GoesOn, StandsFor, ended_act, open_block_of, position_at, scope_of};
-    ghost use Rattle.mdb_bus.specs.Haste.{counted_in as counted_in_lem, haste_after, haste_by, haste_of};
+    ghost use Rattle.mdb_bus.specs.ExtendedHaste.{counted_in as counted_in_lem, haste_after, haste_by, haste_of};
     ghost use Rattle.mdb_bus.specs.LinkFaults.{IsLinkFault, blame_of, fault_at};
-    ghost use Rattle.mdb_bus.specs.Untimely.{sender_by, untimely_sender};
-    ghost use Rattle.mdb_bus.specs.inner.Gone.{HasGone};
+    ghost use Rattle.mdb_bus.specs.shared.RulePlaces.{IsFirstByPlace};
+    ghost use Rattle.mdb_bus.specs.ExtendedTimes.{sender_by, untimely_sender};
+    ghost use Rattle.mdb_bus.specs.inner.Gone.{HasGone, situation_at};
     ghost use Rattle.mdb_bus.specs.shared.Step as step;
-    ghost use Rattle.mdb_bus.specs.shared.Steps.{Belongs, IsAt, IsReadAt};
+    ghost use Rattle.mdb_bus.specs.shared.Steps.{Belongs, Covers, IsAt, IsReadAt, IsTimely};
 
     /// The bus before the first row of a recording that begins at power-on or at a break. All
     /// devices are followed.
@@ -151,13 +155,98 @@ impl Bus {
         ensures none { IfOk result (λ ended. ended ≡ false → act.new ≡ act.old) }
         ensures untouched { OnErr result (act.new ≡ act.old) }
     {
+        match self.feed_timely(&event, act) {
+            Some(ended) => Ok(ended),
+            None => self.feed_slowly(&event, act),
+        }
+    }
+
+    /// Takes the next row as `feed_into` does, if it can be and is in the base profile's times, and
+    /// the controller isn't in haste. It answers `None` for any other row, and the bus is then
+    /// unchanged.
+    ///
+    /// By each profile nearly all rows are such rows.
+    // Inlined, since it is on the path of every row.
+    #[inline(always)]
+    pub fn feed_timely(&mut self, event: &Event, act: &mut Act) -> Option<bool>
+        ensures goes_on { (pieces : List Piece) → StandsFor self.old pieces
+            → IfSome result (λ ended.
+            GoesOn self.new pieces event.now (ended_act ended act.new)) }
+        ensures timely { (pieces : List Piece) → StandsFor self.old pieces
+            → OnSome result (untimely_sender (scope_of self.old) pieces event.now ≡ None) }
+        ensures unchanged { IfNone result (self.new ≡ self.old) }
+        ensures scope { scope_of self.new ≡ scope_of self.old }
+        ensures none { IfSome result (λ ended. ended ≡ false → act.new ≡ act.old) }
+        ensures untouched { IfNone result (act.new ≡ act.old) }
+    {
+        if self.haste {
+            return None;
+        }
+        match self.step(Profile::Base, event, act) {
+            Ok(ended) => Some(ended),
+            Err(_) => None,
+        }
+    }
+
+    /// Takes any row as `feed_into` does, for those that `feed_timely` leaves.
+    ///
+    /// # Errors
+    ///
+    /// As `feed`.
+    // Not inlined, since few rows need it.
+    #[inline(never)]
+    pub fn feed_slowly(&mut self, event: &Event, act: &mut Act) -> Result<bool, LinkFault>
+        ensures goes_on { (pieces : List Piece) → StandsFor self.old pieces
+            → IfOk result (λ ended. GoesOn self.new pieces event.now (ended_act ended act.new)) }
+        ensures faults { (pieces : List Piece) → StandsFor self.old pieces
+            → IfErr result (λ fault.
+            IsLinkFault (scope_of self.old) pieces event.now fault.rule fault.blame) }
+        ensures impossible { (pieces : List Piece) → StandsFor self.old pieces → OnErr result
+            (HasActList (scope_of self.old) (events_of pieces ++ event.now ∷ []) → ⊥) }
+        ensures unchanged { OnErr result (self.new ≡ self.old) }
+        ensures scope { scope_of self.new ≡ scope_of self.old }
+        ensures none { IfOk result (λ ended. ended ≡ false → act.new ≡ act.old) }
+        ensures untouched { OnErr result (act.new ≡ act.old) }
+    {
         laws::rows_that_break_a_rule_end_the_act_list();
-        match judge(&self.scope, &self.place, &self.last, &event) {
+        let times = self.scope.begins.profile();
+        let haste = self.haste_after(event);
+        match self.step(times, event, act) {
+            Ok(ended) => {
+                self.haste = haste;
+                Ok(ended)
+            }
+            Err(rule) => Err(self.fault(rule, event)),
+        }
+    }
+
+    /// Goes a step by a row, if it can be by the times of a profile, and answers whether it ends an
+    /// act, which it then puts into `act`. Haste stays as it was.
+    #[inline(always)]
+    fn step(&mut self, times: Profile, event: &Event, act: &mut Act) -> Result<bool, Rule>
+        ensures goes_on { (pieces : List Piece) (haste : Bool) → StandsFor self.old pieces
+            → Covers times (profile_of self.old.scope.begins)
+            → haste ≡ haste_by (profile_of self.old.scope.begins)
+            (haste_after (position_at self.old.place) self.old.last event.now self.old.haste)
+            → IfOk result (λ ended. GoesOn (record self.new { haste = haste }) pieces event.now
+            (ended_act ended act.new)) }
+        ensures timely { (pieces : List Piece) → StandsFor self.old pieces → OnOk result
+            (IsTimely times (position_at self.old.place) self.old.last event.now) }
+        ensures breaks { (pieces : List Piece) → StandsFor self.old pieces
+            → times ≡ profile_of self.old.scope.begins
+            → IfErr result (IsFirstByPlace (situation_at self.old) event.now) }
+        ensures unchanged { OnErr result (self.new ≡ self.old) }
+        ensures scope { self.new.scope ≡ self.old.scope }
+        ensures haste { self.new.haste ≡ self.old.haste }
+        ensures none { IfOk result (λ ended. ended ≡ false → act.new ≡ act.old) }
+        ensures untouched { OnErr result (act.new ≡ act.old) }
+    {
+        match judge(times, &self.scope, &self.place, &self.last, event) {
             Ok(judged) => match judged {
                 Judged::Reply => self.take_reply(event, act),
                 _ => Ok(self.go(judged, event, act)),
             },
-            Err(rule) => Err(self.fault(rule, &event)),
+            Err(rule) => Err(rule),
         }
     }
 
@@ -165,53 +254,43 @@ impl Bus {
     /// followed, and answers that it ends an act, which it then puts into `act`.
     // Not inlined, so that only rows that end a reply pay for it.
     #[inline(never)]
-    fn take_reply(&mut self, event: Event, act: &mut Act) -> Result<bool, LinkFault>
+    fn take_reply(&mut self, event: &Event, act: &mut Act) -> Result<bool, Rule>
         requires { self.old.place.phase ≡ Phase.InReply }
         ensures taken { IfOk result (λ ended. (reply : Reply)
             × IsReadAt self.old.scope.begins (position_at self.old.place)
             self.old.levels (Ok reply)
-            × HasGone self.old (step.Reply reply) event self.new (ended_act ended act.new)) }
-        ensures fault { IfErr result (λ fault. (first : Rule)
-            × IsReadAt self.old.scope.begins (position_at self.old.place)
-            self.old.levels (Err first)
-            × (fault ≡ fault_at (position_at self.old.place) self.old.asked
-            (wide_at self.old.options self.old.levels) self.old.haste event first)) }
+            × HasGone self.old (step.Reply reply) event.now self.new (ended_act ended act.new)) }
+        ensures rule { IfErr result (λ first.
+            IsReadAt self.old.scope.begins (position_at self.old.place)
+            self.old.levels (Err first)) }
         ensures unchanged { OnErr result (self.new ≡ self.old) }
         ensures ends { IfOk result (λ ended. ended ≡ true) }
         ensures scope { self.new.scope ≡ self.old.scope }
+        ensures haste { self.new.haste ≡ self.old.haste }
         ensures untouched { OnErr result (act.new ≡ act.old) }
     {
-        let haste = self.haste_after(&event);
-        match self.place.end_reply(&self.scope.begins, self.levels, act) {
-            Ok(()) => {
-                self.haste = haste;
-                self.levels.note(self.scope.begins.profile(), act);
-                self.options.note(act);
-                self.last = Some(event);
-                Ok(true)
-            }
-            Err(rule) => {
-                let fault = self.fault(rule, &event);
-                Err(fault)
-            }
-        }
+        self.place.end_reply(&self.scope.begins, self.levels, act)?;
+        self.levels.note(self.scope.begins.profile(), act);
+        self.options.note(act);
+        self.last = Some(*event);
+        Ok(true)
     }
 
     /// Goes a step by a row, and answers whether it ends an act, which it then puts into `act`.
     #[inline(always)]
-    fn go(&mut self, judged: Judged, event: Event, act: &mut Act) -> bool
-        requires belongs { Belongs self.old.place.phase self.old.place.bytes event judged }
+    fn go(&mut self, judged: Judged, event: &Event, act: &mut Act) -> bool
+        requires belongs { Belongs self.old.place.phase self.old.place.bytes event.now judged }
         requires other { judged ≢ Judged.Reply }
-        ensures gone { EachStep judged event (λ next. IsAt (position_at self.old.place) next
-            → HasGone self.old next event self.new (ended_act result act.new)) }
+        ensures gone { EachStep judged event.now (λ next. IsAt (position_at self.old.place) next
+            → HasGone self.old next event.now self.new (ended_act result act.new)) }
         ensures none { result ≡ false → act.new ≡ act.old }
         ensures scope { self.new.scope ≡ self.old.scope }
+        ensures haste { self.new.haste ≡ self.old.haste }
     {
-        self.haste = self.haste_after(&event);
-        let ended = self.place.advance(judged, &event, act);
+        let ended = self.place.advance(judged, event, act);
         // After the step, since it was measured to be quicker: so no store stands between judging
         // a row and choosing its step.
-        self.last = Some(event);
+        self.last = Some(*event);
         match judged {
             Judged::Ask => self.note_ask(act),
             Judged::Ack => self.options.note(act),
@@ -226,7 +305,6 @@ impl Bus {
     }
 
     /// Whether the controller is in haste after a row: never by the base profile.
-    #[inline(always)]
     fn haste_after(&self, event: &Event) -> bool
         ensures { result ≡ haste_by (profile_of self.now.scope.begins)
             (haste_after (position_at self.now.place) self.now.last event.now self.now.haste) }

@@ -1,31 +1,36 @@
 //! How the bytes of replies are read.
 
-ghost use Rattle.std.specs.Prelude.{◌≡◌, ◌↔◌, ℕ, List, Ok, IfOk, IfErr, IsTrue};
-ghost use Rattle.mdb_msgs.specs.declared.command.Command.{Command};
-ghost use Rattle.mdb_msgs.specs.declared.reading.Reading.TheVariants.{Short, Long};
-ghost use Rattle.mdb_msgs.specs.Replies.{IsReplyTo, reply_bytes};
-ghost use Rattle.mdb_bus.specs.Formats.{AreReply, HasFault, IsReadAs, joint_fault};
-ghost use Rattle.mdb_bus.specs.inner.Reading.{IsReadingIn};
+ghost use Rattle.std.specs.Prelude.{◌≡◌, true, false, Ok, IfOk, IfErr, IfSome, IsNone};
+ghost use Rattle.std.specs.List.{list_any};
+ghost use Rattle.mdb_msgs.specs.declared.reply.Reply.{Reply as Answer};
+ghost use Rattle.mdb_msgs.specs.Readings.{is_extended};
+ghost use Rattle.mdb_msgs.specs.Replies.{IsReadFault, IsReplyTo, reply_bytes};
+ghost use Rattle.mdb_bus.specs.Formats.{HasFault, IsReadAs};
+ghost use Rattle.mdb_bus.specs.ExtendedFormats.{AreSome, AreTwo, IsFirst, readings};
+ghost use Rattle.mdb_bus.specs.inner.Reading.{AreReply, IsReadingIn, joint_fault, AreAlike, IsOpenOr, IsPlainList, varies};
+ghost use Rattle.mdb_bus.specs.ExtendedCounts.{what_counts};
 
-use mdb_msgs::{Command, MsgFault, Reading, Reply, laws, reply_of};
+use super::counts::say_the_same;
+use super::levels::{long, short};
+use mdb_msgs::{Command, Ids, MsgFault, ReaderList, ReaderMsg, Reading, Reply, laws, reply_of};
 
 /// How the bytes of a reply are read (this profile).
 #[derive(Clone, Copy, PartialEq, Eq, Debug)]
 pub enum Format {
     /// In one reading.
     As(Reading),
-    /// As `Short`, and where that has a fault as `Long`: neither the levels that were reported nor
-    /// the bytes tell more.
-    Early,
-    /// As `Short` and as `Long`, which have to agree: a joined recording doesn't tell the levels
-    /// that were reported.
+    /// In the first reading, and where that has a fault in the second, as the feature levels that
+    /// were reported tell. Bytes that `Open` reads are read so.
+    Or(Reading, Reading),
+    /// In the first reading of the extended profile that has no fault, where all that have none say
+    /// the same of what counts: a joined recording doesn't tell the levels that were reported.
     Open,
 }
 
 /// The reply to a command that these data bytes are, their sum left out.
 // Inlined, like what it calls, so that a reply is moved less often.
 #[inline(always)]
-#[tactic(auto, using(crate::proofs::FormatLaws::fault_in, crate::proofs::FormatLaws::read_in, crate::proofs::FormatLaws::faulty_in))]
+#[tactic(auto, using(crate::proofs::FormatLaws::fault_of, crate::proofs::FormatLaws::read_in, crate::proofs::FormatLaws::faulty_in))]
 pub(crate) fn read_as(format: Format, command: &Command, bytes: &[u8]) -> Result<Reply, MsgFault>
     ensures found { IfOk result (IsReplyTo command.now) }
     ensures format { IfOk result (IsReadAs format command.now) }
@@ -45,74 +50,170 @@ fn reading_in(format: Format, command: &Command, bytes: &[u8]) -> Result<Reading
 {
     match format {
         Format::As(reading) => Ok(reading),
-        Format::Early => Ok(early_reading(command, bytes)),
+        Format::Or(first, second) => told_reading(first, second, command, bytes),
         Format::Open => open_reading(command, bytes),
     }
 }
 
-/// The same, where the levels don't tell it.
+/// The reading where the levels tell two.
 #[inline(never)]
-fn early_reading(command: &Command, bytes: &[u8]) -> Reading
-    ensures { IsReadingIn Format.Early command.now bytes.now (Ok result) }
+fn told_reading(
+    first: Reading,
+    second: Reading,
+    command: &Command,
+    bytes: &[u8],
+) -> Result<Reading, MsgFault>
+    ensures { IsReadingIn (Format.Or first second) command.now bytes.now result }
 {
-    match reply_of(Reading::Short, command, bytes) {
-        Ok(_) => Reading::Short,
-        Err(_) => match reply_of(Reading::Long, command, bytes) {
-            Ok(_) => Reading::Long,
-            Err(_) => Reading::Short,
+    laws::block_has_one_reply();
+    match reply_of(first, command, bytes) {
+        Ok(reply) if is_plain_list(&reply) => Ok(first),
+        Ok(_) => Ok(open_or(first, command, bytes)),
+        Err(fault) => match reply_of(second, command, bytes) {
+            Ok(_) => Ok(open_or(second, command, bytes)),
+            Err(_) => Err(fault),
         },
     }
 }
 
-/// The same, where the recording doesn't tell the levels.
+/// The reading of open bytes, or this one where they have a fault.
+fn open_or(told: Reading, command: &Command, bytes: &[u8]) -> Reading
+    ensures { IsOpenOr told command.now bytes.now result }
+{
+    match open_reading(command, bytes) {
+        Ok(reading) => reading,
+        Err(_) => told,
+    }
+}
+
+/// Whether a reply is a reader's, and readings differ in none of its messages.
+fn is_plain_list(reply: &Reply) -> bool
+    ensures { result ≡ true → IsPlainList reply.now }
+{
+    match reply {
+        Reply::Reader(list) => !has_varying(list),
+        _ => false,
+    }
+}
+
+/// Whether readings differ in one of these messages.
+fn has_varying(list: &ReaderList) -> bool
+    ensures { result ≡ list_any varies list.now.messages }
+{
+    for message in list.iter() {
+        if varies(message) {
+            return true;
+        }
+    }
+    false
+}
+
+/// Whether readings differ in a message: in its length, or in whether it is one.
+fn varies(message: ReaderMsg) -> bool
+    ensures { result ≡ varies message }
+{
+    matches!(
+        message,
+        ReaderMsg::BeginSession { .. }
+            | ReaderMsg::BeginSessionLong { .. }
+            | ReaderMsg::PeripheralId
+            | ReaderMsg::PeripheralIdWithOptions { .. }
+            | ReaderMsg::OutOfSequence
+            | ReaderMsg::OutOfSequenceIn(_)
+            | ReaderMsg::TimeAsked
+    )
+}
+
+/// The reading where the recording doesn't tell the levels.
 #[inline(never)]
 fn open_reading(command: &Command, bytes: &[u8]) -> Result<Reading, MsgFault>
     ensures { IsReadingIn Format.Open command.now bytes.now result }
 {
-    let short = reply_of(Reading::Short, command, bytes);
-    let long = reply_of(Reading::Long, command, bytes);
-    match (&short, &long) {
-        (Ok(short), Ok(long)) => agreed_reading(short, long),
-        (Ok(_), Err(_)) => Ok(Reading::Short),
-        (Err(_), Ok(_)) => Ok(Reading::Long),
-        (Err(short), Err(long)) => Err(joint_fault(*short, *long)),
+    let reading = first_reading(command, bytes)?;
+    match reply_of(reading, command, bytes) {
+        Ok(reply) if are_alike(&reply, command, bytes) => Ok(reading),
+        Ok(_) => Err(MsgFault::Profile),
+        Err(_) => unreachable!(),
     }
 }
 
-/// The same, where the bytes are both of these replies, as `Short` and as `Long`.
-fn agreed_reading(short: &Reply, long: &Reply) -> Result<Reading, MsgFault>
-    ensures { (command : Command) (bytes : List ℕ) → AreReply Short command bytes short.now
-        → AreReply Long command bytes long.now → IsReadingIn Format.Open command bytes result }
+/// The first reading in which the bytes have no fault, and else the fault of all.
+fn first_reading(command: &Command, bytes: &[u8]) -> Result<Reading, MsgFault>
+    ensures found { IfOk result (λ reading. (reply : Answer)
+        × AreReply reading command.now bytes.now reply × IsFirst readings command.now reply) }
+    ensures fault { IfErr result (HasFault Format.Open command.now bytes.now) }
 {
-    laws::block_has_one_reply();
-    if agree(short, long) {
-        Ok(Reading::Short)
-    } else {
-        Err(MsgFault::Profile)
+    laws::bytes_have_one_fault();
+    let one = fault_in(long(Ids::Full), command, bytes);
+    let two = fault_in(long(Ids::ByNext), command, bytes);
+    let three = fault_in(short(Ids::Full), command, bytes);
+    let four = fault_in(short(Ids::ByNext), command, bytes);
+    match (one, two, three, four) {
+        (None, _, _, _) => Ok(long(Ids::Full)),
+        (Some(_), None, _, _) => Ok(long(Ids::ByNext)),
+        (Some(_), Some(_), None, _) => Ok(short(Ids::Full)),
+        (Some(_), Some(_), Some(_), None) => Ok(short(Ids::ByNext)),
+        (Some(one), Some(two), Some(three), Some(four)) => Err(joint_fault(one, two, three, four)),
     }
 }
 
-/// Whether a reply as `Short` and one as `Long` that have the same bytes are the same. Only those
-/// of a reader may differ.
-fn agree(short: &Reply, long: &Reply) -> bool
-    ensures { (command : Command) (bytes : List ℕ) → AreReply Short command bytes short.now
-        → AreReply Long command bytes long.now → IsTrue result ↔ short.now ≡ long.now }
+/// The fault of bytes in a reading.
+fn fault_in(reading: Reading, command: &Command, bytes: &[u8]) -> Option<MsgFault>
+    ensures none { IsNone result → (reply : Answer) × AreReply reading command.now bytes.now reply }
+    ensures fault { IfSome result (IsReadFault reading command.now bytes.now) }
+{
+    match reply_of(reading, command, bytes) {
+        Ok(_) => None,
+        Err(fault) => Some(fault),
+    }
+}
+
+/// The fault of bytes that have these in the four readings.
+fn joint_fault(one: MsgFault, two: MsgFault, three: MsgFault, four: MsgFault) -> MsgFault
+    ensures { result ≡ joint_fault one two three four }
+{
+    match (one, two, three, four) {
+        (MsgFault::Profile, _, _, _)
+        | (_, MsgFault::Profile, _, _)
+        | (_, _, MsgFault::Profile, _)
+        | (_, _, _, MsgFault::Profile) => MsgFault::Profile,
+        _ => one,
+    }
+}
+
+/// Whether bytes that are this reply say in each reading of the extended profile the same of what
+/// counts.
+fn are_alike(reply: &Reply, command: &Command, bytes: &[u8]) -> bool
+    requires { AreSome command.now bytes.now reply.now }
+    ensures alike { result ≡ true → AreAlike command.now bytes.now reply.now }
+    ensures two { result ≡ false → AreTwo command.now bytes.now }
+{
+    if !agrees(long(Ids::Full), reply, command, bytes) {
+        return false;
+    }
+    if !agrees(long(Ids::ByNext), reply, command, bytes) {
+        return false;
+    }
+    if !agrees(short(Ids::Full), reply, command, bytes) {
+        return false;
+    }
+    agrees(short(Ids::ByNext), reply, command, bytes)
+}
+
+/// Whether they do in this reading. Only replies of a reader may differ.
+fn agrees(reading: Reading, reply: &Reply, command: &Command, bytes: &[u8]) -> bool
+    requires some { AreSome command.now bytes.now reply.now }
+    requires extended { is_extended reading ≡ true }
+    ensures alike { result ≡ true → (other : Answer) → AreReply reading command.now bytes.now other
+        → what_counts other ≡ what_counts reply.now }
+    ensures two { result ≡ false → AreTwo command.now bytes.now }
 {
     laws::block_has_one_reply();
-    match (short, long) {
-        (Reply::Reader(short), Reply::Reader(long)) => short.is(long),
+    let Reply::Reader(list) = reply else {
+        return true;
+    };
+    match reply_of(reading, command, bytes) {
+        Ok(Reply::Reader(other)) => say_the_same(&other, list),
         _ => true,
-    }
-}
-
-/// The fault of bytes that have one as `Short` and one as `Long`.
-fn joint_fault(short: MsgFault, long: MsgFault) -> MsgFault
-    ensures { result ≡ joint_fault short long }
-{
-    match (short, long) {
-        (MsgFault::Length, MsgFault::Length) => MsgFault::Length,
-        (MsgFault::Answer, MsgFault::Answer) => MsgFault::Answer,
-        (MsgFault::Profile, _) | (_, MsgFault::Profile) => MsgFault::Profile,
-        _ => MsgFault::Message,
     }
 }

@@ -1,10 +1,11 @@
 //! The time between neighbouring rows.
 
-ghost use Rattle.std.specs.Prelude.{◌≡◌, ◌<◌, ◌^◌, ◌↔◌, IsTrue, IfErr, IfSome, OnOk};
+ghost use Rattle.std.specs.Prelude.{◌≡◌, ◌<◌, ◌^◌, ◌↔◌, IsTrue, IfErr, IfSome, OnOk, false};
 ghost use Rattle.mdb_bus.specs.declared.fault.Rule.TheVariants as rules;
 ghost use Rattle.mdb_bus.specs.ActLists as lists;
 ghost use Rattle.mdb_bus.specs.LinkFaults.{IsBefore, IsAfter, IsPast, OutOfOrder};
 ghost use Rattle.mdb_bus.specs.Times.{answer_most, block_most};
+ghost use Rattle.mdb_bus.specs.ExtendedTimes as spec;
 ghost use Rattle.mdb_bus.specs.shared.Steps.{IsUntimely};
 
 use super::fault::Rule;
@@ -54,7 +55,8 @@ pub(crate) fn is_later_than(last: &Option<Event>, row: &Event, most: u64) -> boo
 #[inline(always)]
 fn is_past(last: &Option<Event>, row: &Event, most: Option<u64>) -> bool
     requires { IfSome most (λ most. most < 2 ^ 32) }
-    ensures { IsTrue result ↔ IsPast most last.now row.now }
+    ensures past { IsTrue result ↔ IsPast most last.now row.now }
+    ensures same { result ≡ spec.is_past most last.now row.now }
 {
     match most {
         None => false,
@@ -64,19 +66,16 @@ fn is_past(last: &Option<Event>, row: &Event, most: Option<u64>) -> bool
 
 /// Refuses a row that is no answer in its time: it comes too soon, or too late.
 #[inline(always)]
-pub(crate) fn in_answer_time(
-    profile: Profile,
-    last: &Option<Event>,
-    row: &Event,
-) -> Result<(), Rule>
-    ensures timely { OnOk result (lists.InAnswerTime profile last.now row.now) }
+pub(crate) fn in_answer_time(times: Profile, last: &Option<Event>, row: &Event) -> Result<(), Rule>
+    ensures timely { OnOk result (lists.InAnswerTime times last.now row.now) }
+    ensures near { OnOk result (spec.is_past (answer_most times) last.now row.now ≡ false) }
     ensures untimely { IfErr result
-        (IsUntimely rules.Late (answer_most profile) last.now row.now) }
+        (IsUntimely rules.Late (answer_most times) last.now row.now) }
 {
     if is_sooner_than(last, row, WORD_GAP_MIN) {
         return Err(Rule::Early);
     }
-    if is_past(last, row, profile.answer_most()) {
+    if is_past(last, row, times.answer_most()) {
         return Err(Rule::Late);
     }
     Ok(())
@@ -85,15 +84,16 @@ pub(crate) fn in_answer_time(
 /// Refuses a row that doesn't go on with a block in its time: it comes too soon, or too far from
 /// the word before it.
 #[inline(always)]
-pub(crate) fn in_block_time(profile: Profile, last: &Option<Event>, row: &Event) -> Result<(), Rule>
-    ensures timely { OnOk result (lists.InBlockTime profile last.now row.now) }
+pub(crate) fn in_block_time(times: Profile, last: &Option<Event>, row: &Event) -> Result<(), Rule>
+    ensures timely { OnOk result (lists.InBlockTime times last.now row.now) }
+    ensures near { OnOk result (spec.is_past (block_most times) last.now row.now ≡ false) }
     ensures untimely { IfErr result
-        (IsUntimely rules.Spacing (block_most profile) last.now row.now) }
+        (IsUntimely rules.Spacing (block_most times) last.now row.now) }
 {
     if is_sooner_than(last, row, WORD_GAP_MIN) {
         return Err(Rule::Early);
     }
-    if is_past(last, row, profile.block_most()) {
+    if is_past(last, row, times.block_most()) {
         return Err(Rule::Spacing);
     }
     Ok(())

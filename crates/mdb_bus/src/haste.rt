@@ -4,7 +4,7 @@ ghost use Rattle.std.specs.Prelude.{◌≡◌, ◌⊎◌, ℕ, List};
 ghost use Rattle.mdb_msgs.specs.declared.command.Command.{Command};
 ghost use Rattle.mdb_msgs.specs.declared.reply.Reply.{Reply};
 ghost use Rattle.mdb_bus.specs.Bus.{position_in};
-ghost use Rattle.mdb_bus.specs.Haste as spec;
+ghost use Rattle.mdb_bus.specs.ExtendedHaste as spec;
 
 use super::fault::{Blame, LinkFault, Rule};
 use super::gaps::is_sooner_than;

@@ -7,10 +7,10 @@ ghost use Rattle.mdb_bus.specs.declared.phase.Phase.{Phase};
 ghost use Rattle.mdb_bus.specs.Acts.{IsForeignWord};
 ghost use Rattle.mdb_bus.specs.ActLists as lists;
 ghost use Rattle.mdb_bus.specs.Bus.{position_at};
-ghost use Rattle.mdb_bus.specs.Scopes.{profile_of};
 ghost use Rattle.mdb_bus.specs.LinkFaults.{OutOfOrder};
+ghost use Rattle.mdb_bus.specs.declared.scope.Profile.{Profile as Prof};
 ghost use Rattle.mdb_bus.specs.declared.scope.Scope.{Scope};
-ghost use Rattle.mdb_bus.specs.shared.Steps.{Belongs, IsJudged, IsSound};
+ghost use Rattle.mdb_bus.specs.shared.Steps.{Belongs, IsJudgedBy, IsSound};
 
 mod answering;
 mod asking;
@@ -31,16 +31,17 @@ use mdb_words::{Event, Line, Span, Time, Word};
 use repeating::{begin_repeat, go_on_repeating};
 use replying::{cut_in, go_on_replying};
 
-/// What is made of a row, which comes after `last`.
+/// What is made of a row, which comes after `last`, by the times of a profile.
 #[inline(always)]
 pub(crate) fn judge(
+    times: Profile,
     scope: &Scope,
     place: &Place,
     last: &Option<Event>,
     row: &Event,
 ) -> Result<Judged, Rule>
     ensures judged { (levels : Levels) → IsSound scope.now (position_at place.now)
-        → IsJudged (record {
+        → IsJudgedBy times (record {
           scope = scope.now;
           position = position_at place.now;
           last = last.now;
@@ -51,26 +52,20 @@ pub(crate) fn judge(
     if is_out_of_order(last, row) {
         return Err(Rule::Order);
     }
-    let profile = scope.begins.profile();
     match *row {
-        Event::Break { at, length } => judge_break(profile, last, at, length),
+        Event::Break { at, length } => judge_break(times, last, at, length),
         Event::Word { at, line, word } => match line {
-            Line::Controller => judge_controller(scope, place, last, at, word),
-            Line::Peripheral => judge_peripheral(profile, place, last, at, word),
+            Line::Controller => judge_controller(times, scope, place, last, at, word),
+            Line::Peripheral => judge_peripheral(times, place, last, at, word),
         },
     }
 }
 
 /// A break: it may come everywhere.
-fn judge_break(
-    profile: Profile,
-    last: &Option<Event>,
-    at: Time,
-    length: Span,
-) -> Result<Judged, Rule>
+fn judge_break(times: Profile, last: &Option<Event>, at: Time, length: Span) -> Result<Judged, Rule>
     requires { OutOfOrder last.now (Event.Break at length) → ⊥ }
     ensures judged { (scope : Scope) (position : lists.Position) (levels : Levels)
-        → profile ≡ profile_of scope.begins → IsJudged (record {
+        → IsJudgedBy times (record {
           scope = scope;
           position = position;
           last = last.now;
@@ -83,7 +78,7 @@ fn judge_break(
     if is_sooner_than(last, &row, rest_after(last)) {
         return Err(Rule::Early);
     }
-    if length.value() < profile.break_least() {
+    if length.value() < times.break_least() {
         return Err(Rule::Break);
     }
     Ok(Judged::Break)
@@ -92,6 +87,7 @@ fn judge_break(
 /// A word of the controller.
 #[inline(always)]
 fn judge_controller(
+    times: Profile,
     scope: &Scope,
     place: &Place,
     last: &Option<Event>,
@@ -100,7 +96,7 @@ fn judge_controller(
 ) -> Result<Judged, Rule>
     requires { OutOfOrder last.now (Event.Word at Line.Controller word) → ⊥ }
     ensures judged { (levels : Levels) → IsSound scope.now (position_at place.now)
-        → IsJudged (record {
+        → IsJudgedBy times (record {
           scope = scope.now;
           position = position_at place.now;
           last = last.now;
@@ -112,26 +108,19 @@ fn judge_controller(
 {
     laws::first_byte_tells_the_device();
     laws::first_two_bytes_tell_enable_options();
-    let profile = scope.begins.profile();
     match place.phase {
-        Phase::Quiet => begin_block(scope, last, at, word, profile.block_rest(place.phase, last)),
-        Phase::InAsk => go_on_asking(profile, &place.bytes, last, at, word),
-        Phase::Asked => begin_block(scope, last, at, word, profile.block_rest(place.phase, last)),
+        Phase::Quiet => begin_block(scope, last, at, word, times.block_rest(place.phase, last)),
+        Phase::InAsk => go_on_asking(times, scope, &place.bytes, last, at, word),
+        Phase::Asked => begin_block(scope, last, at, word, times.block_rest(place.phase, last)),
         Phase::InReply => cut_in(last, at, word),
         Phase::Replied if word.marked() => {
-            begin_block(scope, last, at, word, profile.block_rest(place.phase, last))
+            begin_block(scope, last, at, word, times.block_rest(place.phase, last))
         }
-        Phase::Replied => answer_reply(profile, last, at, word),
-        Phase::Returned => begin_block(
-            scope,
-            last,
-            at,
-            word,
-            profile.block_rest(place.phase, last),
-        ),
+        Phase::Replied => answer_reply(times, last, at, word),
+        Phase::Returned => begin_block(scope, last, at, word, times.block_rest(place.phase, last)),
         Phase::InRepeat(..) => cut_in(last, at, word),
         Phase::InForeign if word.marked() => {
-            begin_block(scope, last, at, word, profile.block_rest(place.phase, last))
+            begin_block(scope, last, at, word, times.block_rest(place.phase, last))
         }
         Phase::InForeign => go_on_foreign(last, at, Line::Controller, word),
     }
@@ -140,15 +129,15 @@ fn judge_controller(
 /// A word of a peripheral.
 #[inline(always)]
 fn judge_peripheral(
-    profile: Profile,
+    times: Profile,
     place: &Place,
     last: &Option<Event>,
     at: Time,
     word: Word,
 ) -> Result<Judged, Rule>
     requires { OutOfOrder last.now (Event.Word at Line.Peripheral word) → ⊥ }
-    ensures judged { (scope : Scope) (levels : Levels) → profile ≡ profile_of scope.begins
-        → IsJudged (record {
+    ensures judged { (scope : Scope) (levels : Levels)
+        → IsJudgedBy times (record {
           scope = scope;
           position = position_at place.now;
           last = last.now;
@@ -160,10 +149,10 @@ fn judge_peripheral(
 {
     match place.phase {
         Phase::Quiet | Phase::InAsk | Phase::Replied => Err(Rule::Speaker),
-        Phase::Asked => answer(profile, &place.command, last, at, word),
-        Phase::InReply => go_on_replying(profile, &place.command, &place.bytes, last, at, word),
-        Phase::Returned => begin_repeat(profile, &place.last_reply, last, at, word),
-        Phase::InRepeat(said) => go_on_repeating(profile, &place.last_reply, said, last, at, word),
+        Phase::Asked => answer(times, &place.command, last, at, word),
+        Phase::InReply => go_on_replying(times, &place.command, &place.bytes, last, at, word),
+        Phase::Returned => begin_repeat(times, &place.last_reply, last, at, word),
+        Phase::InRepeat(said) => go_on_repeating(times, &place.last_reply, said, last, at, word),
         Phase::InForeign => go_on_foreign(last, at, Line::Peripheral, word),
     }
 }
@@ -172,8 +161,8 @@ fn judge_peripheral(
 fn go_on_foreign(last: &Option<Event>, at: Time, line: Line, word: Word) -> Result<Judged, Rule>
     requires in_order { OutOfOrder last.now (Event.Word at line word) → ⊥ }
     requires further { IsForeignWord (Event.Word at line word) }
-    ensures judged { (scope : Scope) (levels : Levels)
-        → IsJudged (record {
+    ensures judged { (times : Prof) (scope : Scope) (levels : Levels)
+        → IsJudgedBy times (record {
           scope = scope;
           position = lists.InForeign;
           last = last.now;

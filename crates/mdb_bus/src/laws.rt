@@ -1,23 +1,34 @@
 //! Laws of act lists, of loss and of the rules of the link. Each function's contract is the law,
 //! and its body calls the laws that it rests on.
 
-ghost use Rattle.std.specs.Prelude.{◌≡◌, List, [], ◌∷◌, ◌++◌, Some};
+ghost use Rattle.std.specs.Prelude.{◌≡◌, List, [], ◌∷◌, ◌++◌, None, Some};
 ghost use Rattle.mdb_words.specs.declared.event.Event.{Event};
+ghost use Rattle.mdb_msgs.specs.declared.command.Command.{Command};
 ghost use Rattle.mdb_msgs.specs.declared.command.Device.{Device};
+ghost use Rattle.mdb_msgs.specs.Readings.{base};
 ghost use Rattle.mdb_bus.specs.declared.act.Act.{Act};
 ghost use Rattle.mdb_bus.specs.declared.fault.Blame.{Blame};
+ghost use Rattle.mdb_bus.specs.declared.fault.LinkFault.{LinkFault};
 ghost use Rattle.mdb_bus.specs.declared.fault.Rule.{Rule};
+ghost use Rattle.mdb_bus.specs.declared.format.Format.TheVariants.{As};
+ghost use Rattle.mdb_bus.specs.declared.levels.Levels.{Levels};
+ghost use Rattle.mdb_bus.specs.declared.scope.Beginning.{Beginning};
+ghost use Rattle.mdb_bus.specs.declared.scope.Profile.TheVariants.{Base};
 ghost use Rattle.mdb_bus.specs.declared.scope.Scope.{Scope};
-ghost use Rattle.mdb_bus.specs.Acts.{NamesAReply};
-ghost use Rattle.mdb_bus.specs.ActLists.{ArePieces, GoesOnFrom, HasActList, IsActList, Piece, Position, Whole, acts_of, events_of, position_of};
+ghost use Rattle.mdb_bus.specs.Pieces.{NamesAReply, GoesOnFrom, HasActList};
+ghost use Rattle.mdb_bus.specs.ActLists.{ArePieces, IsActList, Piece, Whole, acts_of, events_of, position_of};
 ghost use Rattle.mdb_bus.specs.OpenReplies.{OpenAgrees, OpenLeavesOut};
-ghost use Rattle.mdb_bus.specs.WideMoney.{all_known, counted_as, first_known, wide_of};
+ghost use Rattle.mdb_bus.specs.ExtendedMoney.{all_known, counted_as, first_known, wide_of};
 ghost use Rattle.mdb_bus.specs.Wish.{Wish, HearsFreeAsWished, HearsAsWished, nothing_told};
 ghost use Rattle.mdb_bus.specs.shared.Grammar.{Grammar};
-ghost use Rattle.mdb_bus.specs.LeavingOut.{LeavesOutMore, acts_with, breaks_among, device_in, leave_out, position_without};
-ghost use Rattle.mdb_bus.specs.LinkFaults.{IsLinkFault, RowBreaks, blame_on, situation_of};
+ghost use Rattle.mdb_bus.specs.LeavingOut.{LeavesOutMore, acts_with, breaks_among, device_in, leave_out, position_without, IsLeftOut};
+ghost use Rattle.mdb_bus.specs.ExtendedHaste.{counted_in, haste_of};
+ghost use Rattle.mdb_bus.specs.ExtendedTimes.{times_of};
+ghost use Rattle.mdb_bus.specs.Formats.{format_for};
+ghost use Rattle.mdb_bus.specs.LinkFaults.{IsLinkFault, RowBreaks, asked_device, blame_of, blame_on, fault_of, situation_of};
 ghost use Rattle.mdb_bus.specs.Loss.{Loss, LossFits};
-ghost use Rattle.mdb_bus.specs.Scopes.{IsFollowed, IsLeftOut};
+ghost use Rattle.mdb_bus.specs.Scopes.{IsFollowed, profile_of};
+ghost use Rattle.mdb_bus.specs.Positions.{Position};
 
 use mdb_msgs::laws as messages;
 
@@ -43,6 +54,7 @@ pub fn open_replies_are_read_as_at_any_levels()
     ensures agrees { OpenAgrees }
     ensures left_out { OpenLeavesOut }
 {
+    messages::block_has_one_reply();
     messages::reply_has_no_fault();
 }
 
@@ -122,6 +134,22 @@ pub fn first_broken_rules_count_where_options_are_known()
     ensures { (scope : Scope) (pieces : List Piece) (broken : Rule) (position : Position)
         → first_known scope.begins ≡ all_known
         → counted_as broken position (wide_of scope pieces) ≡ broken }
+{}
+
+/// The base profile needs nothing of the extended one (`Extended*.antt`): a reply is read in one
+/// way, and a row's fault is the first rule that it breaks, blamed on who broke it.
+pub fn the_base_profile_stands_alone()
+    ensures formats { (begins : Beginning) (levels : Levels) (command : Command)
+        → profile_of begins ≡ Base → format_for begins levels command ≡ As base }
+    ensures faults { (scope : Scope) (pieces : List Piece) (row : Event) (first : Rule)
+        → profile_of scope.begins ≡ Base → fault_of scope pieces row first ≡ record {
+          rule = first;
+          blame = blame_of (position_of scope pieces) (asked_device pieces) row first;
+        } }
+    ensures haste { (scope : Scope) (pieces : List Piece) (row : Event) (fault : LinkFault)
+        → profile_of scope.begins ≡ Base → counted_in (haste_of scope pieces) row fault ≡ fault }
+    ensures times { (scope : Scope) (pieces : List Piece) → profile_of scope.begins ≡ Base
+        → times_of scope pieces ≡ None }
 {}
 
 /// No act of an act list names a device that is left out.

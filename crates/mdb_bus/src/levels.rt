@@ -3,15 +3,14 @@
 ghost use Rattle.std.specs.Prelude.{◌≡◌, ◌↔◌, IsTrue};
 ghost use Rattle.std.specs.List.{list_any};
 ghost use Rattle.std.specs.Option.{option_or};
-ghost use Rattle.mdb_bus.specs.ActLists.{IsLow, is_revalue, tells_high, tells_of_revalues};
-ghost use Rattle.mdb_bus.specs.Formats.{format_at, or_short};
+ghost use Rattle.mdb_bus.specs.ActLists.{IsLow, tells_high};
+ghost use Rattle.mdb_bus.specs.ExtendedFormats.{by_asked, by_told, format_at, long, long_format, short};
 
 use super::act::Act;
 use super::format::Format;
 use super::scope::{Beginning, Profile};
 use mdb_msgs::{
-    Command, ReaderCommand, ReaderList, ReaderMsg, ReaderSetup, ReaderUnit, Reading, Reply, Setups,
-    last_level,
+    Command, Ids, ReaderCommand, ReaderSetup, ReaderUnit, Reading, Reply, Setups, last_level,
 };
 
 /// What was reported of the feature level of one reader.
@@ -49,10 +48,9 @@ impl ReaderLevels {
         ensures { result ≡ format_at untold self.asked self.told }
     {
         match (self.asked, self.told) {
-            (Some(asked), Some(told)) => {
-                or_short(asked, or_short(told, Format::As(Reading::Long)))
-            }
-            (Some(level), None) | (None, Some(level)) => or_short(level, untold),
+            (Some(asked), Some(told)) => by_told(told, by_asked(asked, long_format(asked, told))),
+            (Some(asked), None) => by_asked(asked, untold),
+            (None, Some(told)) => by_told(told, untold),
             (None, None) => untold,
         }
     }
@@ -73,8 +71,9 @@ impl Levels {
     ghost use Rattle.mdb_msgs.specs.declared.command.Command.TheVariants as commands;
     ghost use Rattle.mdb_msgs.specs.declared.command.ReaderUnit.TheVariants.{First, Second};
     ghost use Rattle.mdb_bus.specs.ActLists.{IsInProfile, levels_after, levels_by, levels_told};
-    ghost use Rattle.mdb_bus.specs.Scopes.{levels_in};
-    ghost use Rattle.mdb_bus.specs.Formats.{format_by, format_for, levels_for, untold_format};
+    ghost use Rattle.mdb_bus.specs.ExtendedLevels.{levels_in};
+    ghost use Rattle.mdb_bus.specs.Formats.{format_by, format_for, levels_for};
+    ghost use Rattle.mdb_bus.specs.ExtendedFormats.{untold_format};
 
     /// No level reported yet.
     pub const NONE: Levels = Levels {
@@ -157,7 +156,7 @@ impl Levels {
         ensures { result ≡ format_for begins.now self command }
     {
         match begins.profile() {
-            Profile::Base => Format::As(Reading::Base),
+            Profile::Base => Format::As(Reading::BASE),
             Profile::Extended => self.extended_format(begins, command),
         }
     }
@@ -168,26 +167,26 @@ impl Levels {
         ensures { result ≡ format_by Profile.Extended (untold_format begins.now) self command }
     {
         let untold = match begins {
-            Beginning::PowerOn(_) => Format::Early,
+            Beginning::PowerOn(_) => Format::Or(short(Ids::Full), long(Ids::Full)),
             Beginning::Joined(_, _) => Format::Open,
         };
         match command {
             Command::Reader(ReaderUnit::First, _) => self.first.format(untold),
             Command::Reader(ReaderUnit::Second, _) => self.second.format(untold),
-            _ => Format::As(Reading::Short),
+            _ => Format::As(short(Ids::Full)),
         }
     }
 
     /// Whether what a reply to a command says is followed. By the base profile: it reports no level
-    /// of 2 or more, or the controller has reported none to the reader. By the extended profile: it
-    /// has no message about revalues.
+    /// of 2 or more, or the controller has reported none to the reader. By the extended profile all
+    /// that is read is followed.
     pub(crate) fn fit(self, profile: Profile, command: Command, reply: &Reply) -> bool
         ensures low { OnTrue result (IsInProfile profile self command reply.now) }
         ensures high { OnFalse result (IsInProfile profile self command reply.now → ⊥) }
     {
         match profile {
             Profile::Base => self.is_low_for(command) || !tells_high(reply),
-            Profile::Extended => !tells_of_revalues(reply),
+            Profile::Extended => true,
         }
     }
 
@@ -207,12 +206,52 @@ impl Levels {
     }
 }
 
-/// Short where a level is below 2, and else this one.
-fn or_short(level: u8, format: Format) -> Format
-    ensures { result ≡ or_short level format }
+/// The reading of feature level 1, with this way to read identifications.
+pub(crate) const fn short(ids: Ids) -> Reading
+    ensures { result ≡ short ids }
 {
-    if level < 2 {
-        Format::As(Reading::Short)
+    Reading {
+        is_long: false,
+        ids,
+    }
+}
+
+/// That of feature levels 2 and 3.
+pub(crate) const fn long(ids: Ids) -> Reading
+    ensures { result ≡ long ids }
+{
+    Reading { is_long: true, ids }
+}
+
+/// The format where the controller has reported one level of 2 or more, and the reader another.
+fn long_format(asked: u8, told: u8) -> Format
+    ensures { result ≡ long_format asked told }
+{
+    let ids = if asked < 3 || told < 3 {
+        Ids::ByNext
+    } else {
+        Ids::Full
+    };
+    Format::Or(long(ids), short(ids))
+}
+
+/// Short first where the controller has reported a level below 2, and else this format.
+fn by_asked(asked: u8, format: Format) -> Format
+    ensures { result ≡ by_asked asked format }
+{
+    if asked < 2 {
+        Format::Or(short(Ids::ByNext), long(Ids::ByNext))
+    } else {
+        format
+    }
+}
+
+/// Short alone where the reader has reported a level below 2, and else this format.
+fn by_told(told: u8, format: Format) -> Format
+    ensures { result ≡ by_told told format }
+{
+    if told < 2 {
+        Format::Or(short(Ids::ByNext), short(Ids::ByNext))
     } else {
         format
     }
@@ -226,36 +265,4 @@ fn tells_high(reply: &Reply) -> bool
         Reply::Reader(list) => list.tells_level(2),
         _ => false,
     }
-}
-
-/// Whether a reader's reply has a message about revalues: 0D, 0E or 0F.
-fn tells_of_revalues(reply: &Reply) -> bool
-    ensures { result ≡ tells_of_revalues reply.now }
-{
-    match reply {
-        Reply::Reader(list) => has_revalues(list),
-        _ => false,
-    }
-}
-
-/// Whether one of a reader's messages is about revalues.
-fn has_revalues(list: &ReaderList) -> bool
-    ensures { result ≡ list_any is_revalue list.now.messages }
-{
-    for message in list.iter() {
-        if is_revalue(message) {
-            return true;
-        }
-    }
-    false
-}
-
-/// Whether a reader's message is about revalues.
-fn is_revalue(message: ReaderMsg) -> bool
-    ensures { result ≡ is_revalue message }
-{
-    matches!(
-        message,
-        ReaderMsg::RevalueApproved | ReaderMsg::RevalueDenied | ReaderMsg::RevalueLimit(_)
-    )
 }

@@ -12,6 +12,7 @@
 mod act;
 mod begun;
 mod bus;
+mod counts;
 mod fault;
 mod format;
 mod gaps;

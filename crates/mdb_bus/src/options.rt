@@ -2,7 +2,8 @@
 
 ghost use Rattle.std.specs.Prelude.{◌≡◌, ◌≤◌};
 ghost use Rattle.std.specs.List.{list_any};
-ghost use Rattle.mdb_bus.specs.WideMoney.{all_known, amounts_to, asked_with_amounts, first_known, have_amounts, is_below_3, is_refusal, known_after, known_by, is_wide, may_be_wide, reader_asked, refuses, settles_options, wide_at};
+ghost use Rattle.mdb_bus.specs.ExtendedMoney.{all_known, amounts_to, asked_with_amounts, first_known, have_amounts, is_below_3, known_after, known_by, is_wide, may_be_wide, reader_asked, refuses, settles_options, wide_at};
+ghost use Rattle.mdb_bus.specs.ExtendedCounts.{is_refusal};
 
 use super::act::Act;
 use super::levels::{Levels, ReaderLevels};
@@ -132,7 +133,7 @@ fn refuses(reply: &Reply) -> bool
 }
 
 /// Whether one of a reader's messages says so.
-fn has_refusal(list: &ReaderList) -> bool
+pub(crate) fn has_refusal(list: &ReaderList) -> bool
     ensures { result ≡ list_any is_refusal list.now.messages }
 {
     for message in list.iter() {

@@ -1,7 +1,8 @@
 //! The scope of a check.
 
 ghost use Rattle.std.specs.Prelude.{◌≡◌, ◌<◌, ◌∷◌, [], length};
-ghost use Rattle.mdb_bus.specs.Scopes.{from_power_on, joined, joined_by, leaves_options, leaving_out, levels_before, needed_by, needed_in, profile_of, told};
+ghost use Rattle.mdb_bus.specs.Scopes.{from_power_on, leaves_options, leaving_out, levels_before, needed_by, needed_in, profile_of, told};
+ghost use Rattle.mdb_bus.specs.JoinedScopes.{joined, joined_by};
 
 use super::levels::Levels;
 use mdb_msgs::{DeviceSet, Need, Setups, begins_options, need_of, need_without};

@@ -2,7 +2,7 @@
 
 ghost use Rattle.std.specs.Prelude.{◌≡◌, ◌^◌};
 ghost use Rattle.mdb_bus.specs.Bus.{position_at};
-ghost use Rattle.mdb_bus.specs.Untimely as spec;
+ghost use Rattle.mdb_bus.specs.ExtendedTimes as spec;
 
 use super::fault::Blame;
 use super::gaps::{is_later_than, is_sooner_than};

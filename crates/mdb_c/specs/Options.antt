@@ -2,8 +2,9 @@
 use Rattle.std.specs.Prelude.{ℕ, Bool, Option, Some, None, not, nat_eq, nat_le, if◌then◌else◌}
 use Rattle.std.specs.Int.Bits.{bit_and}
 use Rattle.mdb_msgs.specs.declared.device_set.DeviceSet.{DeviceSet}
-use Rattle.mdb_msgs.specs.Setups.{nothing_known}
-use Rattle.mdb_bus.specs.Scopes.{from_power_on, joined_by}
+use Rattle.mdb_msgs.specs.Settings.{nothing_known}
+use Rattle.mdb_bus.specs.Scopes.{from_power_on}
+use Rattle.mdb_bus.specs.JoinedScopes.{joined_by}
 use Rattle.mdb_bus.specs.declared.scope.Profile.{Profile}
 use Rattle.mdb_bus.specs.declared.scope.Profile.TheVariants.{Base, Extended}
 use Rattle.mdb_bus.specs.declared.scope.Scope.{Scope}

@@ -1,7 +1,7 @@
 //! The options of a check: a sum of these numbers.
 
 ghost use Rattle.std.specs.Prelude.{◌≡◌, if◌then◌else◌};
-ghost use Rattle.mdb_msgs.specs.DeviceSets.{with_device};
+ghost use Rattle.mdb_msgs.specs.Settings.{with_device};
 ghost use Rattle.mdb_c.specs.Options as spec;
 
 use mdb_bus::{Profile, Scope};

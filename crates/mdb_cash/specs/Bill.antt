@@ -6,7 +6,6 @@ use Rattle.mdb_msgs.specs.declared.command.BillCommand.{BillCommand}
 use Rattle.mdb_msgs.specs.declared.command.BillCommand.TheVariants as bill
 use Rattle.mdb_msgs.specs.declared.reply.setup.BillSetup.{BillSetup}
 use Rattle.mdb_msgs.specs.Setup.{credit_of}
-use Rattle.mdb_bus.specs.declared.act.Act.{Act}
 use Rattle.mdb_bus.specs.declared.scope.Beginning.{Beginning}
 use Rattle.mdb_cash.specs.declared.bill.activity.BillActivity.{BillActivity}
 use Rattle.mdb_cash.specs.declared.bill.activity.BillActivity.TheVariants as activity
@@ -20,9 +19,8 @@ use Rattle.mdb_machine.specs.declared.gains.Gains.{Gains}
 use Rattle.mdb_cash.specs.BillFacts.{Facts, known_of, tables}
 use Rattle.mdb_cash.specs.Credits.{counted}
 use Rattle.mdb_machine.specs.Gains.{Stays, in_slots, no_gains}
-use Rattle.mdb_machine.specs.KeeperSteps.{Conduct, KeeperStep, StepKnowing}
+use Rattle.mdb_machine.specs.KeeperSteps.{Conduct, StepKnowing}
 use Rattle.mdb_machine.specs.Machine.{Machine, StartsIn}
-use Rattle.mdb_machine.specs.Unvalued as amounts
 
 -- the power-on state: nothing in escrow, and nothing held
 abbrev pub power_on : BillState
@@ -119,18 +117,9 @@ conduct =
       heard_reset = λ state. state;
     }
 
--- A step of the validator and the controller by an act under a choice, after acts that leave
--- these facts.
-abbrev pub BillStep : Facts → Act → Choice → BillState → BillState → Gains → Type 0
-BillStep = KeeperStep tables conduct
-
 -- The machine of the validator in a recording that begins so.
 abbrev pub machine : Beginning → Machine BillState
 machine begins = record {
   Starts = StartsIn power_on begins;
   Step = λ acts. StepKnowing tables conduct (known_of begins acts);
 }
-
--- how many amounts without a value acts tell: bills that were stacked, or went to the recycler
-abbrev pub unvalued : Beginning → List Act → ℕ
-unvalued = amounts.unvalued tables conduct

@@ -10,7 +10,6 @@ use Rattle.mdb_msgs.specs.declared.reply.Reply.TheVariants as replies
 use Rattle.mdb_msgs.specs.declared.reply.setup.BillSetup.{BillSetup}
 use Rattle.mdb_bus.specs.declared.act.Act.{Act}
 use Rattle.mdb_bus.specs.declared.scope.Beginning.{Beginning}
-use Rattle.mdb_bus.specs.declared.scope.Profile.{Profile}
 use Rattle.mdb_cash.specs.declared.bill.activity.BillActivity.{BillActivity}
 use Rattle.mdb_machine.specs.declared.past.Effect.{Effect}
 use Rattle.mdb_machine.specs.declared.past.Effect.TheVariants as effects
@@ -62,10 +61,6 @@ tables =
 -- kept list
 abbrev pub Facts : Type 0
 Facts = keeper.Facts BillSetup Infallible BillActivity
-
--- the facts after acts
-abbrev pub facts_of : Profile → List Act → Facts
-facts_of = keeper.facts_of tables
 
 -- what is known of them, where a recording may begin in mid-session
 abbrev pub KnownFacts : Type 0

@@ -1,12 +1,11 @@
 -- The changer and the controller's dealings with it (MDB/ICP 4.3, coin changer; states and sums,
 -- this profile). The accounts are coins-in and paid-out, by slot.
-use Rattle.std.specs.Prelude.{◌≡◌, refl, ℕ, ◌*◌, ◌/◌, ◌%◌, Bool, true, false, ◌&&◌, List, [], ◌∷◌, Option, Some, None, ◌==◌, if◌then◌else◌}
+use Rattle.std.specs.Prelude.{◌≡◌, refl, ℕ, ◌*◌, ◌/◌, ◌%◌, Bool, true, false, ◌&&◌, [], ◌∷◌, Option, Some, None, ◌==◌, if◌then◌else◌}
 use Rattle.std.specs.List.{AllByRecursion}
 use Rattle.mdb_msgs.specs.declared.command.ChangerCommand.{ChangerCommand}
 use Rattle.mdb_msgs.specs.declared.command.ChangerCommand.TheVariants as changer
 use Rattle.mdb_msgs.specs.declared.reply.setup.ChangerSetup.{ChangerSetup}
 use Rattle.mdb_msgs.specs.Setup.{credit_of}
-use Rattle.mdb_bus.specs.declared.act.Act.{Act}
 use Rattle.mdb_bus.specs.declared.scope.Beginning.{Beginning}
 use Rattle.mdb_cash.specs.declared.changer.state.ChangerState.{ChangerState}
 use Rattle.mdb_cash.specs.declared.changer.activity.ChangerActivity.{ChangerActivity}
@@ -17,9 +16,8 @@ use Rattle.mdb_machine.specs.declared.gains.Gains.{Gains}
 use Rattle.mdb_cash.specs.ChangerFacts.{Facts, known_of, tables}
 use Rattle.mdb_machine.specs.Gains.{Stays, controller_gains, device_gains, in_slots, no_gains}
 use Rattle.mdb_cash.specs.Credits.{counted}
-use Rattle.mdb_machine.specs.KeeperSteps.{Conduct, KeeperStep, StepKnowing}
+use Rattle.mdb_machine.specs.KeeperSteps.{Conduct, StepKnowing}
 use Rattle.mdb_machine.specs.Machine.{Machine, StartsIn}
-use Rattle.mdb_machine.specs.Unvalued as amounts
 
 -- the power-on state: nothing held, and no DISPENSE owed
 abbrev pub power_on : ChangerState
@@ -118,18 +116,9 @@ conduct =
       heard_reset = λ state. record state { dispense_owed = false };
     }
 
--- A step of the changer and the controller by an act under a choice, after acts that leave these
--- facts.
-abbrev pub ChangerStep : Facts → Act → Choice → ChangerState → ChangerState → Gains → Type 0
-ChangerStep = KeeperStep tables conduct
-
 -- The machine of the changer in a recording that begins so.
 abbrev pub machine : Beginning → Machine ChangerState
 machine begins = record {
   Starts = StartsIn power_on begins;
   Step = λ acts. StepKnowing tables conduct (known_of begins acts);
 }
-
--- how many amounts without a value acts tell: deposits, coins dispensed by hand, and DISPENSE asks
-abbrev pub unvalued : Beginning → List Act → ℕ
-unvalued = amounts.unvalued tables conduct

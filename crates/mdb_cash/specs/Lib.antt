@@ -1,8 +1,10 @@
 pub mod Bill
+pub mod BillAmounts
 pub mod BillFacts
 pub mod BillMessages
 pub mod BillValues
 pub mod Changer
+pub mod ChangerAmounts
 pub mod ChangerFacts
 pub mod ChangerMessages
 pub mod ChangerValues

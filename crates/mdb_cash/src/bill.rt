@@ -5,6 +5,7 @@ ghost use Rattle.mdb_msgs.specs.declared.command.Device.TheVariants as devices;
 ghost use Rattle.mdb_bus.specs.declared.act.Act.{Act};
 ghost use Rattle.mdb_cash.specs.declared.bill.state.TheConstants.{BILL_STATES};
 ghost use Rattle.mdb_cash.specs.Bill as spec;
+ghost use Rattle.mdb_cash.specs.BillAmounts as bill_amounts;
 ghost use Rattle.mdb_cash.specs.shared.BillCodes as codes;
 ghost use Rattle.mdb_cash.specs.BillFacts.{known_of, tables};
 ghost use Rattle.mdb_machine.specs.KeeperValues as values;
@@ -58,7 +59,7 @@ impl Pair for Bill {
 
     ghost settled = { λ known act. values.settled tables known.knows_asked known.knows_kept act };
 
-    ghost unvalued = { spec.unvalued };
+    ghost unvalued = { bill_amounts.unvalued };
 
     fn device() -> Device {
         Device::Bill

@@ -5,6 +5,7 @@ ghost use Rattle.mdb_msgs.specs.declared.command.Device.TheVariants as devices;
 ghost use Rattle.mdb_bus.specs.declared.act.Act.{Act};
 ghost use Rattle.mdb_cash.specs.declared.changer.state.TheConstants.{CHANGER_STATES};
 ghost use Rattle.mdb_cash.specs.Changer as spec;
+ghost use Rattle.mdb_cash.specs.ChangerAmounts as changer_amounts;
 ghost use Rattle.mdb_cash.specs.shared.ChangerCodes as codes;
 ghost use Rattle.mdb_cash.specs.ChangerFacts.{known_of, tables};
 ghost use Rattle.mdb_machine.specs.KeeperValues as values;
@@ -58,7 +59,7 @@ impl Pair for Changer {
 
     ghost settled = { λ known act. values.settled tables known.knows_asked known.knows_kept act };
 
-    ghost unvalued = { spec.unvalued };
+    ghost unvalued = { changer_amounts.unvalued };
 
     fn device() -> Device {
         Device::Changer

@@ -21,9 +21,13 @@ ghost use Rattle.mdb_machine.specs.declared.choice.Choice.{Choice};
 ghost use Rattle.mdb_machine.specs.declared.choice.Choice.TheVariants.{Plain};
 ghost use Rattle.mdb_machine.specs.declared.gains.Gains.{Gains};
 ghost use Rattle.mdb_cash.specs.Bill as bill_machine;
+ghost use Rattle.mdb_cash.specs.BillAmounts as bill_amounts;
+ghost use Rattle.mdb_cash.specs.BillValues as bill_values;
 ghost use Rattle.mdb_cash.specs.BillFacts as bill;
 ghost use Rattle.mdb_cash.specs.BillMessages as bill_messages;
 ghost use Rattle.mdb_cash.specs.Changer as changer_machine;
+ghost use Rattle.mdb_cash.specs.ChangerAmounts as changer_amounts;
+ghost use Rattle.mdb_cash.specs.ChangerValues as changer_values;
 ghost use Rattle.mdb_cash.specs.Changer.{dispensed_value};
 ghost use Rattle.mdb_cash.specs.ChangerFacts as changer;
 ghost use Rattle.mdb_cash.specs.ChangerMessages as changer_messages;
@@ -42,7 +46,7 @@ pub fn the_changers_facts_are_of_its_own_acts()
         → changer.known_of begins acts ≡ changer.known_of begins other }
     ensures unvalued { (begins : Beginning) (acts other : List Act)
         → own_acts devices.Changer acts ≡ own_acts devices.Changer other
-        → changer_machine.unvalued begins acts ≡ changer_machine.unvalued begins other }
+        → changer_amounts.unvalued begins acts ≡ changer_amounts.unvalued begins other }
 {}
 
 /// What is known of the validator after acts, and the amounts without a value that they tell of it,
@@ -53,7 +57,7 @@ pub fn the_validators_facts_are_of_its_own_acts()
         → bill.known_of begins acts ≡ bill.known_of begins other }
     ensures unvalued { (begins : Beginning) (acts other : List Act)
         → own_acts devices.Bill acts ≡ own_acts devices.Bill other
-        → bill_machine.unvalued begins acts ≡ bill_machine.unvalued begins other }
+        → bill_amounts.unvalued begins acts ≡ bill_amounts.unvalued begins other }
 {}
 
 /// Where the changer has a part in no acts but breaks, its setup table is that of no act, and no
@@ -63,7 +67,7 @@ pub fn breaks_tell_nothing_of_the_changer()
         → All IsBreak (own_acts devices.Changer acts)
         → (changer.known_of begins acts).setup ≡ (changer.known_of begins []).setup }
     ensures unvalued { (begins : Beginning) (acts : List Act)
-        → All IsBreak (own_acts devices.Changer acts) → changer_machine.unvalued begins acts ≡ 0 }
+        → All IsBreak (own_acts devices.Changer acts) → changer_amounts.unvalued begins acts ≡ 0 }
 {}
 
 /// Where the validator has a part in no acts but breaks, its setup table is that of no act, and no
@@ -73,7 +77,7 @@ pub fn breaks_tell_nothing_of_the_validator()
         → All IsBreak (own_acts devices.Bill acts)
         → (bill.known_of begins acts).setup ≡ (bill.known_of begins []).setup }
     ensures unvalued { (begins : Beginning) (acts : List Act)
-        → All IsBreak (own_acts devices.Bill acts) → bill_machine.unvalued begins acts ≡ 0 }
+        → All IsBreak (own_acts devices.Bill acts) → bill_amounts.unvalued begins acts ≡ 0 }
 {}
 
 /// From power-on all is known of the changer: the facts are those that the acts leave, and each
@@ -81,12 +85,12 @@ pub fn breaks_tell_nothing_of_the_validator()
 pub fn from_power_on_all_is_known_of_the_changer()
     ensures facts { (profile : Profile) (so_far : List Act) (holds : Bool) (facts : changer.Facts)
         → AllowsFacts (changer.known_of (PowerOn profile) so_far) holds facts
-        ↔ (facts ≡ changer.facts_of profile so_far) }
+        ↔ (facts ≡ changer_values.facts_of profile so_far) }
     ensures steps { (profile : Profile) (so_far : List Act) (act : Act) (choice : Choice)
         (before after : ChangerState) (gains : Gains)
         → (changer_machine.machine (PowerOn profile)).Step so_far act choice before after gains
-        ↔ changer_machine.ChangerStep (changer.facts_of profile so_far) act choice before after
-        gains }
+        ↔ changer_values.ChangerStep (changer_values.facts_of profile so_far) act choice before
+        after gains }
 {}
 
 /// From power-on all is known of the validator: the facts are those that the acts leave, and each
@@ -94,11 +98,11 @@ pub fn from_power_on_all_is_known_of_the_changer()
 pub fn from_power_on_all_is_known_of_the_validator()
     ensures facts { (profile : Profile) (so_far : List Act) (holds : Bool) (facts : bill.Facts)
         → AllowsFacts (bill.known_of (PowerOn profile) so_far) holds facts
-        ↔ (facts ≡ bill.facts_of profile so_far) }
+        ↔ (facts ≡ bill_values.facts_of profile so_far) }
     ensures steps { (profile : Profile) (so_far : List Act) (act : Act) (choice : Choice)
         (before after : BillState) (gains : Gains)
         → (bill_machine.machine (PowerOn profile)).Step so_far act choice before after gains
-        ↔ bill_machine.BillStep (bill.facts_of profile so_far) act choice before after gains }
+        ↔ bill_values.BillStep (bill_values.facts_of profile so_far) act choice before after gains }
 {}
 
 /// Each step of the changer and of the validator by the base profile is one by the extended
@@ -174,7 +178,7 @@ pub fn in_mid_session_the_changer_has_these_ways_alone()
         → IsSettled changer.tables changer_machine.conduct so_far act choice before
         → (changer_machine.machine (Joined setups profile)).Step so_far act choice before after
         gains
-        ↔ changer_machine.ChangerStep (facts_recorded changer.tables setups profile so_far) act
+        ↔ changer_values.ChangerStep (facts_recorded changer.tables setups profile so_far) act
         choice before after gains }
 {}
 
@@ -210,6 +214,6 @@ pub fn in_mid_session_the_validator_has_these_ways_alone()
         (choice : Choice) (before after : BillState) (gains : Gains)
         → IsSettled bill.tables bill_machine.conduct so_far act choice before
         → (bill_machine.machine (Joined setups profile)).Step so_far act choice before after gains
-        ↔ bill_machine.BillStep (facts_recorded bill.tables setups profile so_far) act choice before
+        ↔ bill_values.BillStep (facts_recorded bill.tables setups profile so_far) act choice before
         after gains }
 {}

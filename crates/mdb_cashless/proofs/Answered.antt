@@ -5,7 +5,8 @@ use Rattle.mdb_machine.specs.declared.choice.Choice.{Choice}
 use Rattle.mdb_machine.specs.declared.gains.Gains.{Gains}
 use Rattle.mdb_machine.specs.declared.kept.Part.{Part}
 use Rattle.mdb_machine.specs.Gains.{device_gains, in_slots}
-use Rattle.mdb_machine.specs.Kept.{IsSummary, HasNews, held, holds_after, kept_of}
+use Rattle.mdb_machine.specs.Kept.{HasNews, held, holds_after, kept_of}
+use Rattle.mdb_machine.specs.PastValues.{IsSummary}
 use Rattle.mdb_machine.specs.Pair.{IsOnlyStep}
 use Rattle.mdb_machine.specs.Past.{or_else}
 use Rattle.mdb_cashless.specs.declared.reader.device.DeviceState.{DeviceState}

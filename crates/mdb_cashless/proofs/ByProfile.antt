@@ -24,7 +24,9 @@ use Rattle.mdb_cashless.specs.declared.by_profile.facts.KnownByProfile.TheVarian
 use Rattle.mdb_cashless.specs.declared.by_profile.state.StateByProfile.{StateByProfile}
 use Rattle.mdb_cashless.specs.declared.by_profile.state.StateByProfile.TheVariants.{Base, Extended}
 use Rattle.mdb_cashless.specs.declared.reader.state.ReaderState.{ReaderState}
-use Rattle.mdb_cashless.specs.ByProfile.{StepOf, base_state, by_base, by_extended, by_profile, extended_state, facts_of, known_in, machine, machine_in, strayed}
+use Rattle.mdb_cashless.specs.ByProfile.{StepOf, base_state, by_profile, extended_state, machine, machine_in, strayed}
+use Rattle.mdb_cashless.specs.ByProfileFacts.{by_base, by_extended, facts_of}
+use Rattle.mdb_cashless.specs.ByProfileValues.{known_in}
 use Rattle.mdb_cashless.specs.ExtendedFacts as extended_facts
 use Rattle.mdb_cashless.specs.ExtendedReader as extended
 use Rattle.mdb_cashless.specs.Reader as base

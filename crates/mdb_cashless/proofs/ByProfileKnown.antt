@@ -11,9 +11,10 @@ use Rattle.mdb_bus.specs.declared.scope.Profile.TheVariants as profiles
 use Rattle.mdb_bus.specs.Scopes.{profile_of}
 use Rattle.mdb_machine.specs.Pair.{IsBreak, own_acts}
 use Rattle.mdb_machine.specs.shared.OwnWays.{IsOfOwn, part_of_none, same_known}
-use Rattle.mdb_cashless.specs.ByProfile.{FactsByProfile, by_base, by_extended, by_profile, config_of, facts_of, unvalued}
+use Rattle.mdb_cashless.specs.ByProfile.{by_profile}
+use Rattle.mdb_cashless.specs.ByProfileFacts.{by_base, by_extended, config_of, facts_of, unvalued}
 use Rattle.mdb_cashless.specs.ExtendedFacts as extended_facts
-use Rattle.mdb_cashless.specs.ExtendedReader as extended
+use Rattle.mdb_cashless.specs.ExtendedAmounts as extended
 use Rattle.mdb_cashless.specs.ReaderFacts as base_facts
 use Rattle.mdb_cashless.specs.ExtendedFacts.{facts_after}
 use Rattle.mdb_cashless.specs.shared.ApprovalWays as extended_ways

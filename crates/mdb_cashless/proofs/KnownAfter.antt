@@ -17,7 +17,8 @@ use Rattle.mdb_machine.specs.declared.past.Past.{Past}
 use Rattle.mdb_machine.specs.Kept.{kept_of}
 use Rattle.mdb_machine.specs.Known.{known_before}
 use Rattle.mdb_machine.specs.Past.{effect_taken, or_else, powers_on, resets, tells_out_of_sequence, unless_empty}
-use Rattle.mdb_machine.specs.PastValues.{first_past, from_power_on, if_known, known_more, known_past_after, past_after, past_in, past_known}
+use Rattle.mdb_machine.specs.PastValues.{first_past, from_power_on, if_known, known_past_after, past_after, past_in, past_known}
+use Rattle.mdb_machine.specs.KnownMore.{known_more}
 use Rattle.mdb_machine.specs.shared.PastWays.{same_known_past}
 use Rattle.mdb_cashless.specs.declared.reader.facts.ReaderFacts.{ReaderFacts}
 use Rattle.mdb_cashless.specs.declared.reader.known.ReaderKnown.{ReaderKnown}

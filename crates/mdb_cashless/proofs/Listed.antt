@@ -5,7 +5,7 @@ use Rattle.mdb_msgs.specs.declared.command.ReaderCommand.{ReaderCommand}
 use Rattle.mdb_msgs.specs.declared.reply.Reply.{Reply}
 use Rattle.mdb_machine.specs.declared.choice.Choice.{Choice}
 use Rattle.mdb_machine.specs.declared.gains.Gains.{Gains}
-use Rattle.mdb_machine.specs.Gains.{IsSmall}
+use Rattle.mdb_machine.specs.SmallGains.{IsSmall}
 use Rattle.mdb_machine.specs.Kept.{kept_of}
 use Rattle.mdb_machine.specs.Known.{Unknown}
 use Rattle.mdb_machine.specs.Pair.{IsOnlyStep}

@@ -28,7 +28,8 @@ use Rattle.mdb_cashless.specs.declared.reader.transaction.Ended.{Ended}
 use Rattle.mdb_cashless.specs.declared.reader.transaction.Transaction.{Transaction}
 use Rattle.mdb_cashless.specs.Reader.{all_approved, AskStep, ReaderStep, ReplyStep, StepKnowing, before_messages, is_poll, is_repeated, machine, read, sold_any, take_any, taken, value, view_heard}
 use Rattle.mdb_cashless.specs.ReaderDevice.{all_told, has_approved}
-use Rattle.mdb_cashless.specs.ReaderFacts.{AllowsFacts, Facts, KnownFacts, asked_by, effect_of, effect_of_own, ends_transactions, facts_of, known_of, own_transaction, parts_by, taken_told, transaction_taken_by}
+use Rattle.mdb_cashless.specs.ReaderFacts.{AllowsFacts, Facts, KnownFacts, asked_by, effect_of, effect_of_own, ends_transactions, known_of, own_transaction, parts_by, taken_told, transaction_taken_by}
+use Rattle.mdb_cashless.specs.ReaderValues.{facts_of}
 use Rattle.mdb_cashless.specs.ReaderMessages.{config_in, last_said, messages_of, parts_of}
 use Rattle.mdb_cashless.specs.Transactions.{amounts, ended_by, is_again, is_same, no_end, transaction_of}
 use Rattle.mdb_cashless.specs.Units.{own}

@@ -11,7 +11,8 @@ use Rattle.mdb_machine.specs.declared.choice.Choice.{Choice}
 use Rattle.mdb_machine.specs.declared.gains.Gains.{Gains}
 use Rattle.mdb_cashless.specs.declared.reader.state.ReaderState.{ReaderState}
 use Rattle.mdb_cashless.specs.Reader.{ReaderStep, StepKnowing}
-use Rattle.mdb_cashless.specs.ReaderFacts.{AllowsFacts, Facts, asked_by, config_by, effect_of, ends_transactions, facts_of, known_of, last_taken, parts_by, taken_told, transaction_taken_by}
+use Rattle.mdb_cashless.specs.ReaderFacts.{AllowsFacts, Facts, asked_by, config_by, effect_of, ends_transactions, known_of, parts_by, taken_told, transaction_taken_by}
+use Rattle.mdb_cashless.specs.ReaderValues.{facts_of, last_taken}
 use Rattle.mdb_cashless.specs.declared.reader.transaction.Transaction.{Transaction}
 use Rattle.mdb_cashless.proofs.Knowing.{same_facts}
 use Rattle.mdb_cashless.proofs.Said.{or_none}

@@ -5,7 +5,7 @@ use Rattle.std.proofs.lemmas.List.{map-append}
 use Rattle.std.proofs.lemmas.List.Folds.{list_any-append}
 use Rattle.mdb_msgs.specs.declared.reply.reader.ReaderMsg.{ReaderMsg}
 use Rattle.mdb_machine.specs.declared.kept.Part.{Part}
-use Rattle.mdb_machine.specs.Kept.{IsSummary}
+use Rattle.mdb_machine.specs.PastValues.{IsSummary}
 use Rattle.mdb_machine.specs.Past.{is_out_of_sequence, or_else}
 use Rattle.mdb_cashless.specs.declared.reader.messages.ReaderActivity.{ReaderActivity}
 use Rattle.mdb_cashless.specs.declared.reader.messages.Said.{Said}

@@ -1,8 +1,7 @@
 -- A cashless reader and the controller's dealings with it by either profile (this profile): by the
 -- base profile as `Reader` has it, and by the extended one as `ExtendedReader` has it.
-use Rattle.std.specs.Prelude.{ℕ, List, Option, Some, None, IsSomeAnd}
+use Rattle.std.specs.Prelude.{Option, Some, None, IsSomeAnd}
 use Rattle.mdb_msgs.specs.declared.command.ReaderUnit.{ReaderUnit}
-use Rattle.mdb_msgs.specs.declared.setups.ReaderConfig.{ReaderConfig}
 use Rattle.mdb_bus.specs.declared.act.Act.{Act}
 use Rattle.mdb_bus.specs.declared.act.Act.TheVariants.{Break}
 use Rattle.mdb_bus.specs.declared.scope.Beginning.{Beginning}
@@ -13,42 +12,16 @@ use Rattle.mdb_machine.specs.declared.gains.Gains.{Gains}
 use Rattle.mdb_machine.specs.Gains.{Stays}
 use Rattle.mdb_machine.specs.Machine.{Machine}
 use Rattle.mdb_cashless.specs.declared.approvals.state.ApprovalState.{ApprovalState}
-use Rattle.mdb_cashless.specs.declared.by_profile.facts.KnownByProfile.{KnownByProfile}
-use Rattle.mdb_cashless.specs.declared.by_profile.facts.KnownByProfile.TheVariants as values
 use Rattle.mdb_cashless.specs.declared.by_profile.state.StateByProfile.{StateByProfile}
 use Rattle.mdb_cashless.specs.declared.by_profile.state.StateByProfile.TheVariants.{Base, Extended}
 use Rattle.mdb_cashless.specs.declared.reader.state.ReaderState.{ReaderState}
-use Rattle.mdb_cashless.specs.ExtendedFacts as extended_facts
 use Rattle.mdb_cashless.specs.ExtendedReader as extended
 use Rattle.mdb_cashless.specs.Reader as base
-use Rattle.mdb_cashless.specs.ReaderFacts as base_facts
-use Rattle.mdb_cashless.specs.ReaderValues as base_values
-use Rattle.mdb_cashless.specs.inner.Approvals as extended_values
 
 -- of two things that of a profile
 abbrev pub by_profile {ℓ} : {X : Type ℓ} → Profile → X → X → X
 by_profile profiles.Base one other = one
 by_profile profiles.Extended one other = other
-
--- what is known of a reader after acts, by the one profile or the other
-pub data FactsByProfile : Type 0 where
-  by_base : base_facts.KnownFacts → FactsByProfile
-  by_extended : extended_facts.Facts → FactsByProfile
-
-abbrev pub facts_of : Beginning → ReaderUnit → List Act → FactsByProfile
-facts_of begins unit acts = by_profile (profile_of begins)
-    (by_base (base_facts.known_of begins unit acts))
-    (by_extended (extended_facts.facts_of begins unit acts))
-
--- what a value of what is known stands for
-abbrev pub known_in : KnownByProfile → FactsByProfile
-known_in (values.Base known) = by_base (base_values.known_in known)
-known_in (values.Extended facts) = by_extended (extended_values.facts_in facts)
-
--- the last config message
-abbrev pub config_of : FactsByProfile → Option ReaderConfig
-config_of (by_base known) = known.config
-config_of (by_extended facts) = facts.config
 
 -- the state of the base profile's machine that a state is, if it is one
 abbrev pub base_state : StateByProfile → Option ReaderState
@@ -87,8 +60,3 @@ abbrev pub machine : ReaderUnit → Beginning → Machine StateByProfile
 machine unit begins = by_profile (profile_of begins)
     (machine_in base_state (Base base.power_on) (base.machine unit begins))
     (machine_in extended_state (Extended extended.power_on) (extended.machine unit begins))
-
--- how many amounts without a value acts tell
-abbrev pub unvalued : ReaderUnit → Beginning → List Act → ℕ
-unvalued unit begins =
-    by_profile (profile_of begins) (base.unvalued unit begins) (extended.unvalued unit begins)

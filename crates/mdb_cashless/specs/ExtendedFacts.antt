@@ -17,7 +17,7 @@ use Rattle.mdb_bus.specs.declared.scope.Beginning.TheVariants.{PowerOn, Joined}
 use Rattle.mdb_machine.specs.Known as known
 use Rattle.mdb_machine.specs.Known.{Is, Known}
 use Rattle.mdb_machine.specs.Past.{or_else, unless_empty}
-use Rattle.mdb_machine.specs.PastValues.{known_more}
+use Rattle.mdb_machine.specs.KnownMore.{known_more}
 use Rattle.mdb_cashless.specs.declared.approvals.sale.Sale.{Sale}
 use Rattle.mdb_cashless.specs.declared.approvals.sale.Sale.TheVariants.{Unknown, Unawaited, Nothing, Awaited, Asked, Approved, Sold}
 use Rattle.mdb_cashless.specs.ReaderFacts.{own_messages, own_transaction}

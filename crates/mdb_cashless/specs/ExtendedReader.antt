@@ -3,9 +3,8 @@
 -- a session it follows what money hangs on. An approval needs a request, one that may not have been
 -- heard may be told again, and a sale needs an approval that the controller acknowledged. All else
 -- may come at any time. The accounts by slot are what was approved, and what was sold.
-use Rattle.std.specs.Prelude.{◌≡◌, ◌≢◌, ◌⊎◌, ◌==◌, ℕ, ◌+◌, Bool, true, false, not, ◌&&◌, ◌||◌, List, [], ◌∷◌, Option, Some, None, if◌then◌else◌, drop, length, nat_eq, sum_by, unwrap_or}
+use Rattle.std.specs.Prelude.{◌≡◌, ◌≢◌, ◌⊎◌, ◌==◌, ℕ, Bool, true, false, not, ◌&&◌, List, [], ◌∷◌, Option, Some, None, if◌then◌else◌, drop, length, nat_eq, unwrap_or}
 use Rattle.std.specs.List.{starts_with}
-use Rattle.std.specs.Option.{is_none}
 use Rattle.mdb_msgs.specs.declared.command.ReaderCommand.{ReaderCommand}
 use Rattle.mdb_msgs.specs.declared.command.ReaderCommand.TheVariants as reader
 use Rattle.mdb_msgs.specs.declared.command.ReaderUnit.{ReaderUnit}
@@ -14,26 +13,21 @@ use Rattle.mdb_msgs.specs.declared.reply.reader.ReaderMsg.{ReaderMsg}
 use Rattle.mdb_msgs.specs.declared.reply.reader.ReaderMsg.TheVariants as messages
 use Rattle.mdb_msgs.specs.declared.setups.ReaderConfig.{ReaderConfig}
 use Rattle.mdb_bus.specs.declared.act.Act.{Act}
-use Rattle.mdb_bus.specs.declared.act.Act.TheVariants as acts
 use Rattle.mdb_bus.specs.declared.scope.Beginning.{Beginning}
 use Rattle.mdb_machine.specs.declared.choice.Choice.{Choice}
 use Rattle.mdb_machine.specs.declared.choice.Choice.TheVariants.{Again, Lost, Restart}
 use Rattle.mdb_machine.specs.declared.gains.Gains.{Gains}
-use Rattle.mdb_machine.specs.Choices.{is_approval}
 use Rattle.mdb_machine.specs.Gains.{controller_gains, device_gains, in_slots}
 use Rattle.mdb_machine.specs.Kept.{MayBeRead}
 use Rattle.mdb_machine.specs.Known.{Allows}
 use Rattle.mdb_machine.specs.Machine.{Machine, StartsIn}
 use Rattle.mdb_machine.specs.Past.{or_else, tells_out_of_sequence}
 use Rattle.mdb_machine.specs.Steps.{StepBy}
-use Rattle.mdb_machine.specs.Unvalued as unvalued_amounts
-use Rattle.mdb_machine.specs.Unvalued.{one_if}
 use Rattle.mdb_cashless.specs.declared.approvals.sale.Sale.{Sale}
 use Rattle.mdb_cashless.specs.declared.approvals.sale.Sale.TheVariants.{Unknown, Unawaited, Nothing, Awaited, Approved, Sold}
 use Rattle.mdb_cashless.specs.declared.approvals.state.ApprovalState.{ApprovalState}
 use Rattle.mdb_cashless.specs.ExtendedFacts.{Facts, approvals_in, facts_of}
-use Rattle.mdb_cashless.specs.Reader.{asks_sale, value}
-use Rattle.mdb_cashless.specs.ReaderFacts.{config_by, messages_by}
+use Rattle.mdb_cashless.specs.Reader.{value}
 use Rattle.mdb_cashless.specs.ReaderMessages.{config_in, last_said, messages_of, parts_of}
 use Rattle.mdb_cashless.specs.Units.{own}
 
@@ -207,25 +201,3 @@ machine unit begins = record {
   Starts = StartsIn power_on begins;
   Step = λ acts. ReaderStep unit (facts_of begins unit acts);
 }
-
--- whether the value of a sale isn't known: there is no config message or no message 05 yet, or it
--- may have been requested before the recording
-abbrev pub is_unpriced : Facts → Bool
-is_unpriced facts = is_none facts.config || is_none facts.amount || facts.earlier
-
--- How many amounts without a value an act tells, where this is known before it: VEND SUCCESS that
--- is
--- asked, and messages 05 of a reply, told again or not; its own config message counts first. A
--- repeat is no further reply.
-abbrev pub unvalued_by : ReaderUnit → Facts → Act → ℕ
-unvalued_by unit facts (acts.Ask command) =
-    one_if (asks_sale (own unit command) && is_unpriced facts)
-unvalued_by unit facts act =
-    unvalued_amounts.unvalued_by (or_else (config_by unit act) facts.config)
-    (sum_by (λ message. one_if (is_approval message)) (messages_by unit act))
-
--- how many amounts without a value acts tell
-abbrev pub unvalued : ReaderUnit → Beginning → List Act → ℕ
-unvalued unit begins [] = 0
-unvalued unit begins (act ∷ acts) =
-    unvalued_by unit (facts_of begins unit acts) act + unvalued unit begins acts

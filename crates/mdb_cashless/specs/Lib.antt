@@ -1,9 +1,13 @@
 pub mod ByProfile
+pub mod ByProfileFacts
+pub mod ByProfileValues
+pub mod ExtendedAmounts
 pub mod ExtendedFacts
 pub mod ExtendedReader
 pub mod ExtendedSales
 pub mod MidSession
 pub mod Reader
+pub mod ReaderAmounts
 pub mod ReaderDevice
 pub mod ReaderFacts
 pub mod ReaderMessages

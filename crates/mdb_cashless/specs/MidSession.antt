@@ -23,7 +23,8 @@ use Rattle.mdb_cashless.specs.declared.reader.transaction.Transaction.{Transacti
 use Rattle.mdb_cashless.specs.Reader.{all_approved, drops, is_poll, owes_reset, read, taken, value, view_heard}
 use Rattle.mdb_cashless.specs.ReaderDevice as reader_device
 use Rattle.mdb_cashless.specs.ReaderDevice.{all_told, effect}
-use Rattle.mdb_cashless.specs.ReaderFacts.{Facts, asked_by, effect_of, ends_transactions, facts_of, own_transaction, parts_by, transaction_taken_by}
+use Rattle.mdb_cashless.specs.ReaderFacts.{Facts, asked_by, effect_of, ends_transactions, own_transaction, parts_by, transaction_taken_by}
+use Rattle.mdb_cashless.specs.ReaderValues.{facts_of}
 use Rattle.mdb_cashless.specs.Transactions.{amounts, ended_by, no_end}
 use Rattle.mdb_cashless.specs.Units.{own}
 use Rattle.mdb_cashless.specs.ReaderMessages.{config_in, last_said, messages_of, parts_of}

@@ -2,7 +2,6 @@
 -- sums, this profile). The accounts by slot are what was approved, and what was sold
 -- (`amounts`).
 use Rattle.std.specs.Prelude.{◌≡◌, ℕ, ◌+◌, ◌*◌, Bool, true, false, ◌&&◌, ◌||◌, List, [], ◌∷◌, Option, Some, None, if◌then◌else◌, sum_by}
-use Rattle.std.specs.Option.{is_none}
 use Rattle.mdb_msgs.specs.declared.command.ReaderCommand.{ReaderCommand}
 use Rattle.mdb_msgs.specs.declared.command.ReaderCommand.TheVariants as reader
 use Rattle.mdb_msgs.specs.declared.command.ReaderUnit.{ReaderUnit}
@@ -10,19 +9,15 @@ use Rattle.mdb_msgs.specs.declared.reply.Reply.{Reply}
 use Rattle.mdb_msgs.specs.declared.reply.reader.ReaderMsg.{ReaderMsg}
 use Rattle.mdb_msgs.specs.declared.reply.reader.ReaderMsg.TheVariants as messages
 use Rattle.mdb_bus.specs.declared.act.Act.{Act}
-use Rattle.mdb_bus.specs.declared.act.Act.TheVariants as acts
 use Rattle.mdb_bus.specs.declared.scope.Beginning.{Beginning}
 use Rattle.mdb_machine.specs.declared.choice.Choice.{Choice}
 use Rattle.mdb_machine.specs.declared.choice.Choice.TheVariants.{Lost, Restart}
 use Rattle.mdb_machine.specs.declared.gains.Gains.{Gains}
-use Rattle.mdb_machine.specs.Choices.{is_approval}
 use Rattle.mdb_machine.specs.Gains.{controller_gains, device_gains, in_slots}
 use Rattle.mdb_machine.specs.Kept.{HasNews, held, holds_acked, holds_after, kept_of}
 use Rattle.mdb_machine.specs.Machine.{Machine, StartsIn}
 use Rattle.mdb_machine.specs.Past.{or_else, resets, tells_out_of_sequence}
 use Rattle.mdb_machine.specs.Steps.{StepBy}
-use Rattle.mdb_machine.specs.Unvalued as unvalued_amounts
-use Rattle.mdb_machine.specs.Unvalued.{one_if}
 use Rattle.mdb_cashless.specs.declared.reader.device.DeviceState.TheVariants as device
 use Rattle.mdb_msgs.specs.declared.setups.ReaderConfig.{ReaderConfig}
 use Rattle.mdb_cashless.specs.declared.reader.messages.ReaderActivity.{ReaderActivity}
@@ -34,11 +29,11 @@ use Rattle.mdb_cashless.specs.declared.reader.transaction.Ended.{Ended}
 use Rattle.mdb_cashless.specs.declared.reader.transaction.Transaction.{Transaction}
 use Rattle.mdb_cashless.specs.ReaderDevice as reader_device
 use Rattle.mdb_cashless.specs.ReaderDevice.{all_told, effect}
-use Rattle.mdb_cashless.specs.ReaderFacts.{AllowsFacts, Facts, KnownFacts, config_by, effect_of_own, known_of, messages_by, own_transaction}
+use Rattle.mdb_cashless.specs.ReaderFacts.{AllowsFacts, Facts, KnownFacts, effect_of_own, known_of, own_transaction}
 use Rattle.mdb_cashless.specs.ReaderMessages.{config_in, last_said, messages_of, parts_of}
 use Rattle.mdb_cashless.specs.ReaderView as reader_view
 use Rattle.mdb_cashless.specs.ReaderView.{all_heard, awaits, heard, sent}
-use Rattle.mdb_cashless.specs.Transactions.{amounts, ended_by, ends_sale, is_again, no_end, transaction_of}
+use Rattle.mdb_cashless.specs.Transactions.{amounts, ended_by, is_again, no_end, transaction_of}
 use Rattle.mdb_cashless.specs.Units.{own}
 
 -- the power-on state: the reader is Inactive and holds nothing, and the controller knows of no
@@ -259,29 +254,3 @@ machine unit begins = record {
   Starts = StartsIn power_on begins;
   Step = λ acts. StepKnowing unit (known_of begins unit acts);
 }
-
--- whether the controller tells of an amount by a command to the reader, which ends a sale
-abbrev pub asks_sale : Option ReaderCommand → Bool
-asks_sale None = false
-asks_sale (Some command) =
-    elim (transaction_of command) [ Some transaction ↦ ends_sale transaction | None ↦ false ]
-
--- whether the value of a sale isn't known: there is no config message or no message 05 yet
-abbrev pub is_unpriced : KnownFacts → Bool
-is_unpriced known = is_none known.config || is_none known.amount
-
--- How many amounts without a value an act tells, where this is known before it: a command that is
--- asked and ends a sale, and messages 05 of a reply, told again or not; its own config message
--- counts first. A repeat is no further reply.
-abbrev pub unvalued_by : ReaderUnit → KnownFacts → Act → ℕ
-unvalued_by unit known (acts.Ask command) =
-    one_if (asks_sale (own unit command) && is_unpriced known)
-unvalued_by unit known act =
-    unvalued_amounts.unvalued_by (or_else (config_by unit act) known.config)
-    (sum_by (λ message. one_if (is_approval message)) (messages_by unit act))
-
--- how many amounts without a value acts tell
-abbrev pub unvalued : ReaderUnit → Beginning → List Act → ℕ
-unvalued unit begins [] = 0
-unvalued unit begins (act ∷ acts) =
-    unvalued_by unit (known_of begins unit acts) act + unvalued unit begins acts

@@ -1,5 +1,5 @@
 -- What is known of a reader after a list of acts, the newest first (this profile).
-use Rattle.std.specs.Prelude.{◌≡◌, ℕ, Bool, List, [], ◌∷◌, Option, Some, None, option_map, unwrap_or, if◌then◌else◌, map, ◌||◌}
+use Rattle.std.specs.Prelude.{◌≡◌, ℕ, Bool, List, [], Option, Some, None, option_map, unwrap_or, if◌then◌else◌, map, ◌||◌}
 use Rattle.mdb_msgs.specs.declared.command.Command.{Command}
 use Rattle.mdb_msgs.specs.declared.command.ReaderCommand.{ReaderCommand}
 use Rattle.mdb_msgs.specs.declared.command.ReaderCommand.TheVariants as reader
@@ -12,7 +12,7 @@ use Rattle.mdb_machine.specs.declared.kept.Part.{Part}
 use Rattle.mdb_machine.specs.declared.past.Effect.{Effect}
 use Rattle.mdb_machine.specs.declared.past.Effect.TheVariants as effects
 use Rattle.mdb_machine.specs.Known.{Allows, Known, known_before, known_by}
-use Rattle.mdb_machine.specs.Past.{AllowsPast, KnownPast, PastFacts, known_past, last_told, or_else, past_of, powers_on, taken_by}
+use Rattle.mdb_machine.specs.Past.{AllowsPast, KnownPast, PastFacts, known_past, last_told, or_else, powers_on, taken_by}
 use Rattle.mdb_msgs.specs.Setups.{config_known}
 use Rattle.mdb_msgs.specs.declared.setups.ReaderConfig.{ReaderConfig}
 use Rattle.mdb_cashless.specs.declared.reader.messages.ReaderActivity.{ReaderActivity}
@@ -75,13 +75,6 @@ abbrev pub ends_transactions : ReaderUnit → Act → Bool
 ends_transactions unit act =
     powers_on (effect_of unit) act || begin_session (messages_by unit act)
 
--- the last transaction that the reader took
-abbrev pub last_taken : ReaderUnit → List Act → Option Transaction
-last_taken unit [] = None
-last_taken unit (act ∷ acts) =
-    if ends_transactions unit act then None
-    else or_else (transaction_taken_by unit act) (last_taken unit acts)
-
 -- The facts. Breaks and RESETs leave the config message, the last transaction command sent, and the
 -- amount.
 pub record Facts : Type 0 where
@@ -95,17 +88,6 @@ pub record Facts : Type 0 where
   pub amount : ℕ
   -- the reset message, and the last kept list
   pub past : PastFacts ReaderActivity
-
--- the facts after acts
-abbrev pub facts_of : ReaderUnit → List Act → Facts
-facts_of unit acts =
-    record {
-      config = last_told (config_by unit) acts;
-      asked = last_told (asked_by unit) acts;
-      taken = last_taken unit acts;
-      amount = unwrap_or (last_told (amount_by unit) acts) 0;
-      past = past_of (effect_of unit) (parts_by unit) acts;
-    }
 
 -- What an act tells of the last transaction that the reader took, if it tells something of it: that
 -- there is none, or which one it is.

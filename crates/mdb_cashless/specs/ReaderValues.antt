@@ -1,6 +1,6 @@
 -- How the code keeps a reader's facts, and what is known of them. `known_in` says what a value of
 -- what is known stands for; the rest serves private functions.
-use Rattle.std.specs.Prelude.{Bool, true, false, ◌&&◌, ◌||◌, not, ℕ, List, Some, None, option_map, unwrap_or, if◌then◌else◌, map, Option, []}
+use Rattle.std.specs.Prelude.{Bool, true, false, ◌&&◌, ◌||◌, not, ℕ, List, Some, None, option_map, unwrap_or, if◌then◌else◌, map, Option, [], ◌∷◌}
 use Rattle.std.specs.Option.{is_none}
 use Rattle.mdb_msgs.specs.declared.command.ReaderCommand.{ReaderCommand}
 use Rattle.mdb_msgs.specs.declared.command.ReaderCommand.TheVariants as reader
@@ -10,8 +10,9 @@ use Rattle.mdb_msgs.specs.declared.reply.reader.ReaderMsg.{ReaderMsg}
 use Rattle.mdb_msgs.specs.declared.setups.ReaderConfig.{ReaderConfig}
 use Rattle.mdb_bus.specs.declared.act.Act.{Act}
 use Rattle.mdb_bus.specs.declared.act.Act.TheVariants as acts
-use Rattle.mdb_machine.specs.PastValues.{if_known, known_more, known_past_with, past_after, past_in, past_known, past_with}
-use Rattle.mdb_machine.specs.Past.{PastFacts, or_else, resets, tells_out_of_sequence}
+use Rattle.mdb_machine.specs.PastValues.{if_known, known_past_with, past_after, past_in, past_known, past_with}
+use Rattle.mdb_machine.specs.KnownMore.{known_more}
+use Rattle.mdb_machine.specs.Past.{PastFacts, or_else, resets, tells_out_of_sequence, last_told, past_of}
 use Rattle.mdb_cashless.specs.declared.reader.facts.ReaderFacts.{ReaderFacts}
 use Rattle.mdb_cashless.specs.declared.reader.known.ReaderKnown.{ReaderKnown}
 use Rattle.mdb_cashless.specs.declared.reader.messages.ReaderActivity.{ReaderActivity}
@@ -135,3 +136,21 @@ changes_view command = elim (transaction_of command) [ Some transaction ↦ true
 abbrev pub tells_taken : ReaderCommand → Reply → Bool
 tells_taken command reply = begin_session (messages_of reply)
     || (not (tells_out_of_sequence reply) && drops command)
+
+-- the last transaction that the reader took
+abbrev pub last_taken : ReaderUnit → List Act → Option Transaction
+last_taken unit [] = None
+last_taken unit (act ∷ acts) =
+    if ends_transactions unit act then None
+    else or_else (transaction_taken_by unit act) (last_taken unit acts)
+
+-- the facts after acts
+abbrev pub facts_of : ReaderUnit → List Act → Facts
+facts_of unit acts =
+    record {
+      config = last_told (config_by unit) acts;
+      asked = last_told (asked_by unit) acts;
+      taken = last_taken unit acts;
+      amount = unwrap_or (last_told (amount_by unit) acts) 0;
+      past = past_of (effect_of unit) (parts_by unit) acts;
+    }

@@ -38,11 +38,6 @@ is_request last = false
 abbrev pub no_end : Ended
 no_end = record { sold = 0 }
 
--- whether a transaction command ends an approved sale: VEND SUCCESS
-abbrev pub ends_sale : Transaction → Bool
-ends_sale (Success item) = true
-ends_sale transaction = false
-
 -- what a transaction command adds to the accounts where it comes after the approval of a sale of
 -- this value
 abbrev pub ended : Transaction → ℕ → Ended

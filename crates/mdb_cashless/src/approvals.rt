@@ -5,6 +5,7 @@ ghost use Rattle.mdb_msgs.specs.declared.command.Device.TheVariants as devices;
 ghost use Rattle.mdb_cashless.specs.declared.approvals.state.TheConstants.{APPROVAL_STATES};
 ghost use Rattle.mdb_cashless.specs.ExtendedFacts.{facts_of};
 ghost use Rattle.mdb_cashless.specs.ExtendedReader as spec;
+ghost use Rattle.mdb_cashless.specs.ExtendedAmounts as extended_amounts;
 ghost use Rattle.mdb_cashless.specs.Units as units;
 ghost use Rattle.mdb_cashless.specs.inner.Approvals.{facts_in, settled};
 ghost use Rattle.mdb_cashless.specs.shared.ApprovalCodes as codes;
@@ -61,7 +62,7 @@ impl<const UNIT: usize> Pair for Approvals<UNIT> {
 
     ghost settled = { settled (units.unit_of UNIT) };
 
-    ghost unvalued = { spec.unvalued (units.unit_of UNIT) };
+    ghost unvalued = { extended_amounts.unvalued (units.unit_of UNIT) };
 
     fn device() -> Device {
         Device::Reader(unit_of(UNIT))

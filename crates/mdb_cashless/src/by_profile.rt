@@ -7,6 +7,8 @@ ghost use Rattle.mdb_cashless.specs.declared.by_profile.state.TheConstants.{STAT
 ghost use Rattle.mdb_cashless.specs.declared.reader.state.TheConstants.{READER_STATES};
 ghost use Rattle.mdb_cashless.specs.declared.approvals.state.TheConstants.{APPROVAL_STATES};
 ghost use Rattle.mdb_cashless.specs.ByProfile as spec;
+ghost use Rattle.mdb_cashless.specs.ByProfileFacts as by_profile;
+ghost use Rattle.mdb_cashless.specs.ByProfileValues as by_profile_values;
 ghost use Rattle.mdb_cashless.specs.Units as units;
 ghost use Rattle.mdb_cashless.specs.shared.ByProfileCodes as codes;
 ghost use Rattle.mdb_cashless.specs.shared.ByProfileWays as ways;
@@ -46,13 +48,13 @@ impl<const UNIT: usize> Pair for ReaderByProfile<UNIT> {
     ghost code_of = { codes.code_of };
 
     ghost stands_for = { λ begins known acts.
-        spec.known_in known ≡ spec.facts_of begins (units.unit_of UNIT) acts };
+        by_profile_values.known_in known ≡ by_profile.facts_of begins (units.unit_of UNIT) acts };
 
     ghost machine = { spec.machine (units.unit_of UNIT) };
 
     ghost settled = { ways.settled (units.unit_of UNIT) };
 
-    ghost unvalued = { spec.unvalued (units.unit_of UNIT) };
+    ghost unvalued = { by_profile.unvalued (units.unit_of UNIT) };
 
     fn device() -> Device {
         Device::Reader(unit_of(UNIT))
@@ -211,7 +213,7 @@ impl<const UNIT: usize> Pair for ReaderByProfile<UNIT> {
     ghost untold = { ways.untold (units.unit_of UNIT) };
 
     ghost unmoved = { λ begins known. ways.unmoved (units.unit_of UNIT) begins
-        (spec.known_in known) };
+        (by_profile_values.known_in known) };
 }
 
 /// Steps by the extended profile, with the codes by either profile.

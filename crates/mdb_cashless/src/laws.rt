@@ -13,19 +13,27 @@ ghost use Rattle.mdb_bus.specs.declared.act.Act.TheVariants as acts;
 ghost use Rattle.mdb_bus.specs.declared.scope.Beginning.{Beginning};
 ghost use Rattle.mdb_bus.specs.declared.scope.Beginning.TheVariants.{PowerOn, Joined};
 ghost use Rattle.mdb_bus.specs.declared.scope.Profile.{Profile};
+ghost use Rattle.mdb_bus.specs.declared.scope.Profile.TheVariants.{Base};
+ghost use Rattle.mdb_bus.specs.Scopes.{profile_of};
 ghost use Rattle.mdb_machine.specs.declared.choice.Choice.{Choice};
 ghost use Rattle.mdb_machine.specs.declared.gains.Gains.{Gains};
 ghost use Rattle.mdb_machine.specs.Pair.{IsBreak, own_acts};
 ghost use Rattle.mdb_cashless.specs.declared.reader.state.ReaderState.{ReaderState};
 ghost use Rattle.mdb_cashless.specs.declared.reader.transaction.Transaction.{Transaction};
 ghost use Rattle.mdb_cashless.specs.declared.approvals.state.ApprovalState.{ApprovalState};
-ghost use Rattle.mdb_cashless.specs.ByProfile as by_profile;
+ghost use Rattle.mdb_cashless.specs.declared.by_profile.state.StateByProfile.{StateByProfile};
+ghost use Rattle.mdb_cashless.specs.declared.by_profile.state.StateByProfile.TheVariants as states;
+ghost use Rattle.mdb_cashless.specs.ByProfile as either;
+ghost use Rattle.mdb_cashless.specs.ByProfile.{base_state, machine_in};
+ghost use Rattle.mdb_cashless.specs.ByProfileFacts as by_profile;
 ghost use Rattle.mdb_cashless.specs.ExtendedReader as extended;
 ghost use Rattle.mdb_cashless.specs.ExtendedSales as sales;
 ghost use Rattle.mdb_cashless.specs.MidSession.{AckWay, IsSettled, ReplyWay, SendsNone};
 ghost use Rattle.mdb_cashless.specs.MidSession.{facts_recorded};
-ghost use Rattle.mdb_cashless.specs.Reader.{AskStep, ReaderStep, machine, unvalued};
-ghost use Rattle.mdb_cashless.specs.ReaderFacts.{AllowsFacts, Facts, facts_of, known_of};
+ghost use Rattle.mdb_cashless.specs.Reader.{AskStep, ReaderStep, machine, power_on};
+ghost use Rattle.mdb_cashless.specs.ReaderAmounts.{unvalued};
+ghost use Rattle.mdb_cashless.specs.ReaderFacts.{AllowsFacts, Facts, known_of};
+ghost use Rattle.mdb_cashless.specs.ReaderValues.{facts_of};
 ghost use Rattle.mdb_cashless.specs.Sales.{IsApproved, MayBeRequestedBefore, SalesAreApproved};
 ghost use Rattle.mdb_cashless.specs.Transactions.{is_same, transaction_of};
 ghost use Rattle.mdb_cashless.specs.shared.SaleViews.{AcksLastReply, MayTellOfSale};
@@ -74,6 +82,28 @@ pub fn from_power_on_all_is_known_of_a_reader()
         (choice : Choice) (before after : ReaderState) (gains : Gains)
         → (machine unit (PowerOn profile)).Step so_far act choice before after gains
         ↔ ReaderStep unit (facts_of unit so_far) act choice before after gains }
+{}
+
+/// The base profile needs nothing of the extended one (`Extended*.antt`): a reader's machine, what
+/// is known of it and its amounts without a value are as the base profile alone has them.
+pub fn the_base_profile_stands_alone()
+    ensures starts { (unit : ReaderUnit) (begins : Beginning) (state : StateByProfile)
+        → profile_of begins ≡ Base
+        → (either.machine unit begins).Starts state
+        ↔ (machine_in base_state (states.Base power_on) (machine unit begins)).Starts state }
+    ensures steps { (unit : ReaderUnit) (begins : Beginning) (so_far : List Act) (act : Act)
+        (choice : Choice) (before after : StateByProfile) (gains : Gains)
+        → profile_of begins ≡ Base
+        → (either.machine unit begins).Step so_far act choice before after gains
+        ↔ (machine_in base_state (states.Base power_on) (machine unit begins)).Step so_far act
+        choice before after gains }
+    ensures facts { (begins : Beginning) (unit : ReaderUnit) (so_far : List Act)
+        → profile_of begins ≡ Base
+        → by_profile.facts_of begins unit so_far
+        ≡ by_profile.by_base (known_of begins unit so_far) }
+    ensures unvalued { (unit : ReaderUnit) (begins : Beginning) (so_far : List Act)
+        → profile_of begins ≡ Base
+        → by_profile.unvalued unit begins so_far ≡ unvalued unit begins so_far }
 {}
 
 /// By either profile, what is known of a reader after acts, and the amounts without a value that

@@ -5,6 +5,7 @@ ghost use Rattle.mdb_msgs.specs.declared.command.Device.TheVariants as devices;
 ghost use Rattle.mdb_bus.specs.declared.act.Act.{Act};
 ghost use Rattle.mdb_cashless.specs.declared.reader.state.TheConstants.{READER_STATES};
 ghost use Rattle.mdb_cashless.specs.Reader as spec;
+ghost use Rattle.mdb_cashless.specs.ReaderAmounts as reader_amounts;
 ghost use Rattle.mdb_cashless.specs.shared.ReaderCodes as codes;
 ghost use Rattle.mdb_cashless.specs.ReaderFacts.{known_of};
 ghost use Rattle.mdb_cashless.specs.ReaderValues.{known_in, settled};
@@ -71,7 +72,7 @@ impl<const UNIT: usize> Pair for Reader<UNIT> {
 
     ghost settled = { settled (units.unit_of UNIT) };
 
-    ghost unvalued = { spec.unvalued (units.unit_of UNIT) };
+    ghost unvalued = { reader_amounts.unvalued (units.unit_of UNIT) };
 
     fn device() -> Device {
         Device::Reader(unit_of(UNIT))

@@ -1,7 +1,8 @@
 //! The commands that a controller sends, from the rows of a recording.
 
 ghost use Rattle.std.specs.Prelude.{◌≡◌, ◌∷◌, ◌++◌, [], List, Option, IfErr, IfOk, OnErr};
-ghost use Rattle.mdb_bus.specs.ActLists.{HasActList, Piece, events_of};
+ghost use Rattle.mdb_bus.specs.ActLists.{Piece, events_of};
+ghost use Rattle.mdb_bus.specs.Pieces.{HasActList};
 ghost use Rattle.mdb_bus.specs.Bus.{GoesOn, StandsFor, scope_of};
 ghost use Rattle.mdb_bus.specs.LinkFaults.{IsLinkFault};
 ghost use Rattle.mdb_bus.specs.declared.act.Act.{Act};

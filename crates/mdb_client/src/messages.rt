@@ -1,13 +1,15 @@
 //! Blocks as the messages that they carry, and back.
 
 ghost use Rattle.std.specs.Prelude.{◌≡◌, List, ℕ, Err, IfOk};
-ghost use Rattle.mdb_blocks.specs.Block.{IsBlock, IsUnsealFault, block_of};
+ghost use Rattle.mdb_blocks.specs.Block.{block_of};
+ghost use Rattle.mdb_blocks.specs.BlockFaults.{IsBlock, IsUnsealFault};
 ghost use Rattle.mdb_blocks.specs.declared.block.BlockFault.{BlockFault};
 ghost use Rattle.mdb_msgs.specs.CommandFaults.{IsCommandFault};
 ghost use Rattle.mdb_msgs.specs.Commands.{Spells};
-ghost use Rattle.mdb_msgs.specs.Replies.{IsReadFault, SpellsReply};
+ghost use Rattle.mdb_msgs.specs.Readings.{base};
+ghost use Rattle.mdb_msgs.specs.Replies.{IsReadFault};
+ghost use Rattle.mdb_msgs.specs.ReplyFaults.{SpellsReply};
 ghost use Rattle.mdb_msgs.specs.declared.fault.MsgFault.{MsgFault};
-ghost use Rattle.mdb_msgs.specs.declared.reading.Reading.TheVariants.{Base};
 ghost use Rattle.mdb_msgs.specs.declared.reply.Reply.{Reply};
 
 use mdb_blocks::{Block, BlockFault, unseal};
@@ -54,7 +56,7 @@ pub fn sent_again(command: &Command, bytes: &[u8]) -> Result<Block, Unread>
         → IsUnsealFault bytes.now fault }
     ensures no_message { (fault : MsgFault) (content : List ℕ)
         → result ≡ Err (Unread.NoMessage fault) → bytes.now ≡ block_of content
-        → IsReadFault Base command.now content fault }
+        → IsReadFault base command.now content fault }
     ensures block { (fault : MsgFault) → result ≡ Err (Unread.NoMessage fault)
         → IsBlock bytes.now }
 {
@@ -62,7 +64,7 @@ pub fn sent_again(command: &Command, bytes: &[u8]) -> Result<Block, Unread>
         Ok(block) => block,
         Err(fault) => return Err(Unread::NoBlock(fault)),
     };
-    match read_reply(Reading::Base, command, &block) {
+    match read_reply(Reading::BASE, command, &block) {
         Ok(reply) => Ok(write_reply(command, &reply).unwrap()),
         Err(fault) => Err(Unread::NoMessage(fault)),
     }

@@ -5,7 +5,7 @@ use Rattle.std.specs.Fmt.{decimal}
 use Rattle.csv.specs.Reading.{default_config, strip_bom, records as read_records}
 use Rattle.mdb_words.specs.declared.event.Event.{Event}
 use Rattle.mdb_words.specs.Digits.{IsDecimal}
-use Rattle.mdb_words.specs.Row.{row_fields}
+use Rattle.mdb_words.specs.RowsWritten.{row_fields}
 use Rattle.mdb_follow.specs.declared.follower.TheConstants.{ROWS_MAX}
 use Rattle.mdb_explained_runs.specs.declared.mark.Mark.{Mark}
 use Rattle.mdb_explained_runs.specs.declared.mark.Mark.TheVariants.{Lost}

@@ -3,7 +3,7 @@ use Rattle.std.proofs.Common.{arith, refl, ap, subst, ◌∙◌, ◌≡◌, ◌+
 use Rattle.std.proofs.lemmas.List.Elements.{All-head, All-tail, All-weaker}
 use Rattle.csv.specs.Reading.{default_config, strip_bom, records as read_records}
 use Rattle.mdb_words.specs.declared.event.Event.{Event}
-use Rattle.mdb_words.specs.Row.{row_fields}
+use Rattle.mdb_words.specs.RowsWritten.{row_fields}
 use Rattle.mdb_bus.specs.ActLists.{ArePieces, Piece, acts_of, events_of}
 use Rattle.mdb_bus.specs.declared.scope.Scope.{Scope}
 use Rattle.mdb_follow.specs.Choosing.{Choices, choices_of}
@@ -11,7 +11,7 @@ use Rattle.mdb_follow.specs.declared.follower.TheConstants.{ROWS_MAX}
 use Rattle.mdb_follow.specs.declared.goal.Goal.{Goal}
 use Rattle.mdb_explained_runs.specs.declared.mark.Mark.{Mark}
 use Rattle.mdb_follow.specs.declared.report.Report.{Report}
-use Rattle.mdb_follow.specs.Ends.{end_of}
+use Rattle.mdb_follow.specs.GoalEnds.{end_of}
 use Rattle.mdb_explained_runs.specs.Goals.{Explains}
 use Rattle.mdb_explained_runs.specs.Marks.{MarkedRun, Rise, StandsWithin, marks_of}
 use Rattle.mdb_explained_runs.specs.ReplayFaults.{HasMarkedRun}

@@ -7,7 +7,7 @@ use Rattle.std.specs.Io.KnownBytes.{Appends}
 use Rattle.std.specs.List.{flat_map}
 use Rattle.csv.specs.Reading.{default_config, records, strip_bom}
 use Rattle.mdb_words.specs.declared.event.Event.{Event}
-use Rattle.mdb_words.specs.Row.{joined_by_commas, row_fields}
+use Rattle.mdb_words.specs.RowsWritten.{joined_by_commas, row_fields}
 use Rattle.mdb_bus.specs.declared.scope.Scope.{Scope}
 use Rattle.mdb_follow.specs.declared.follower.TheConstants.{ROWS_MAX}
 use Rattle.mdb_follow.specs.declared.goal.Bound.{Bound}
@@ -17,7 +17,8 @@ use Rattle.mdb_explained_runs.specs.declared.mark.Mark.{Mark}
 use Rattle.mdb_follow.specs.declared.range.Range.{Range}
 use Rattle.mdb_follow.specs.declared.report.Report.{Report}
 use Rattle.mdb_follow.specs.AccountNames.{account_of, account_word}
-use Rattle.mdb_follow.specs.Ends.{end_of, side_range}
+use Rattle.mdb_follow.specs.Ends.{side_range}
+use Rattle.mdb_follow.specs.GoalEnds.{end_of}
 use Rattle.mdb_explained_runs.specs.Goals.{Explains}
 use Rattle.mdb_text.specs.declared.outcome.Outcome.{Outcome}
 use Rattle.mdb_text.specs.declared.outcome.Outcome.TheVariants.{Yes, No}

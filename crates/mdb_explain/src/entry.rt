@@ -2,7 +2,7 @@
 
 ghost use Rattle.std.specs.Prelude.{◌≡◌, ◌≢◌, ◌↔◌, ◌∷◌, List, [], ℕ, IfSome, IfNone, IsTrue};
 ghost use Rattle.mdb_records.specs.Fields.{fields_of};
-ghost use Rattle.mdb_words.specs.Row.{IsRefusal};
+ghost use Rattle.mdb_words.specs.Refusals.{IsRefusal};
 ghost use Rattle.mdb_explain.specs.Replay.{dash, mark_letter};
 ghost use Rattle.mdb_explained_runs.specs.declared.mark.Mark.{Mark};
 ghost use Rattle.mdb_explain.specs.inner.Entries.{IsEntry, IsNoEntry};

@@ -5,7 +5,7 @@ ghost use Rattle.std.specs.Prelude.{◌≡◌, ◌+◌, ◌*◌, ℕ, List, Resu
 ghost use Rattle.std.specs.Prelude.{◌≤◌, All, map};
 ghost use Rattle.csv.specs.Reading.{default_config, records as read_records, strip_bom};
 ghost use Rattle.mdb_words.specs.declared.event.Event.{Event};
-ghost use Rattle.mdb_words.specs.Row.{row_fields};
+ghost use Rattle.mdb_words.specs.RowsWritten.{row_fields};
 ghost use Rattle.mdb_bus.specs.declared.scope.Profile.{Profile};
 ghost use Rattle.mdb_bus.specs.Scopes.{from_power_on};
 ghost use Rattle.mdb_msgs.specs.declared.device_set.DeviceSet.{DeviceSet};

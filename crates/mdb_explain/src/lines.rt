@@ -1,7 +1,7 @@
 //! Lines of marks and rows on their way to a writer.
 
 ghost use Rattle.std.specs.Prelude.{◌≡◌, ◌≤◌, ◌+◌, [], ◌∷◌, ◌++◌, OnErr, OnOk, length};
-ghost use Rattle.mdb_words.specs.Digits.{hex_word};
+ghost use Rattle.mdb_words.specs.RowsWritten.{hex_word};
 ghost use Rattle.mdb_words.specs.Row.{letter_of};
 ghost use Rattle.mdb_writing.specs.Output.{Breaks, Puts, output};
 ghost use Rattle.mdb_explain.specs.inner.Explaining.{mark_line, row_line};

@@ -19,7 +19,8 @@ use Rattle.mdb_follow.specs.declared.goal.Goal.{Goal}
 use Rattle.mdb_explained_runs.specs.declared.mark.Mark.{Mark}
 use Rattle.mdb_follow.specs.AccountNames.{account_device, account_slot, sums_of}
 use Rattle.mdb_follow.specs.Choosing.{Choices, Follows}
-use Rattle.mdb_follow.specs.Ends.{IsAsFar, goal_value, side_value}
+use Rattle.mdb_follow.specs.Ends.{side_value}
+use Rattle.mdb_follow.specs.GoalEnds.{IsAsFar, goal_value}
 use Rattle.mdb_follow.specs.Machines.{StateOf, machine_of}
 use Rattle.mdb_explained_runs.specs.Marks.{own_marks}
 use Rattle.mdb_follow.specs.Runs.{AllSums}

@@ -17,7 +17,7 @@ use Rattle.mdb_follow.specs.declared.goal.Goal.{Goal}
 use Rattle.mdb_explained_runs.specs.declared.mark.Mark.{Mark}
 use Rattle.mdb_follow.specs.AccountNames.{account_device}
 use Rattle.mdb_follow.specs.Choosing.{AllFollow, Choices, choices_of}
-use Rattle.mdb_follow.specs.Devices.{device_place}
+use Rattle.mdb_follow.specs.ReportedDevices.{device_place}
 use Rattle.mdb_explained_runs.specs.Goals.{Explains}
 use Rattle.mdb_follow.specs.Machines.{machine_of}
 use Rattle.mdb_explained_runs.specs.Marks.{MarkedRun, Rise, marks_of, own_marks}

@@ -14,9 +14,10 @@ use Rattle.mdb_bus.specs.declared.scope.Beginning.{Beginning}
 use Rattle.mdb_bus.specs.declared.scope.Profile.{Profile}
 use Rattle.mdb_bus.specs.declared.scope.Scope.{Scope}
 use Rattle.mdb_bus.specs.Acts.{IsForeign, IsForeignOpening, Say, said_by}
-use Rattle.mdb_bus.specs.ActLists.{ForeignMayCome, IsActList, IsPiece, IsTail, MayStand}
+use Rattle.mdb_bus.specs.ActLists.{ForeignMayCome, IsActList, IsPiece, MayStand}
+use Rattle.mdb_bus.specs.Pieces.{IsTail, with_act}
 use Rattle.mdb_bus.specs.ActLists.{Piece, Whole, acts_of, events_of, last_of}
-use Rattle.mdb_bus.specs.ActLists.{left_by, piece_events, position_of, with_act}
+use Rattle.mdb_bus.specs.ActLists.{left_by, piece_events, position_of}
 use Rattle.mdb_bus.specs.Scopes.{profile_of}
 use Rattle.mdb_machine.specs.declared.choice.Choice.{Choice}
 use Rattle.mdb_machine.specs.declared.choice.Choice.TheVariants.{Plain, Again}

@@ -9,11 +9,11 @@ use Rattle.mdb_bus.specs.declared.fault.Blame.{Blame}
 use Rattle.mdb_bus.specs.declared.fault.Rule.{Rule}
 use Rattle.mdb_bus.specs.declared.scope.Scope.{Scope}
 use Rattle.mdb_bus.specs.ActLists.{ArePieces, Piece, Whole, acts_of}
-use Rattle.mdb_bus.specs.Haste.{haste_of, is_excused}
+use Rattle.mdb_bus.specs.ExtendedHaste.{haste_of, is_excused}
 use Rattle.mdb_follow.specs.Senders.{sender_of}
-use Rattle.mdb_bus.specs.LeavingOut.{acts_with, breaks_among}
+use Rattle.mdb_bus.specs.LeavingOut.{acts_with, breaks_among, IsLeftOut}
 use Rattle.mdb_bus.specs.LinkFaults.{IsLinkFault, blame_on}
-use Rattle.mdb_bus.specs.Scopes.{IsFollowed, IsLeftOut}
+use Rattle.mdb_bus.specs.Scopes.{IsFollowed}
 use Rattle.mdb_machine.specs.Pair.{IsBreak, own_acts}
 use Rattle.mdb_follow.specs.declared.account.Account.{Account}
 use Rattle.mdb_follow.specs.declared.account_name.AccountName.{AccountName}
@@ -22,7 +22,8 @@ use Rattle.mdb_follow.specs.declared.range.Range.{Range}
 use Rattle.mdb_follow.specs.declared.report.Report.{Report}
 use Rattle.mdb_follow.specs.AccountNames.{account_device, account_of, account_slot, sums_of}
 use Rattle.mdb_follow.specs.LeavingOut.{HasNothingLeftOut}
-use Rattle.mdb_follow.specs.Ranges.{IsAccount, IsRange, no_account, no_range}
+use Rattle.mdb_follow.specs.Ranges.{IsRange, no_account, no_range}
+use Rattle.mdb_follow.specs.AccountRanges.{IsAccount}
 use Rattle.mdb_follow.specs.Report.{device_report, device_report_of}
 use Rattle.mdb_follow.specs.Runs.{AllSums, Run}
 use Rattle.mdb_follow.specs.Sums.{AccountSums, no_sums}

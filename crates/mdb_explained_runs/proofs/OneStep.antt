@@ -28,8 +28,10 @@ use Rattle.mdb_machine.specs.declared.choice.Choice.{Choice}
 use Rattle.mdb_machine.specs.declared.gains.Gains.{Gains}
 use Rattle.mdb_machine.specs.declared.kept.Part.{Part}
 use Rattle.mdb_cash.specs.Bill as bill
+use Rattle.mdb_cash.specs.BillValues as bill_values
 use Rattle.mdb_cash.specs.BillFacts as bill_facts
 use Rattle.mdb_cash.specs.Changer as changer
+use Rattle.mdb_cash.specs.ChangerValues as changer_values
 use Rattle.mdb_cash.specs.ChangerFacts as changer_facts
 use Rattle.mdb_machine.specs.Gains.{Stays, device_gains, in_slots}
 use Rattle.mdb_machine.specs.Keeper.{Facts, Tables}
@@ -50,6 +52,7 @@ use Rattle.mdb_cashless.specs.shared.ByProfileWays.{IsPart, base_part, extended_
 use Rattle.mdb_cashless.specs.Reader as reader
 use Rattle.mdb_cashless.specs.ReaderDevice.{all_told}
 use Rattle.mdb_cashless.specs.ReaderFacts as reader_facts
+use Rattle.mdb_cashless.specs.ReaderValues as reader_values
 use Rattle.mdb_cashless.specs.ReaderMessages.{config_in, last_said, messages_of}
 use Rattle.mdb_cashless.specs.Transactions.{amounts}
 use Rattle.mdb_cashless.specs.Units.{own}
@@ -90,12 +93,12 @@ StepsAfterFacts {State} machine facts Step =
 -- so it is with each device
 pub record AllIsKnown : Type 0 where
   pub changer : StepsAfterFacts (λ profile. changer.machine (PowerOn profile))
-      changer_facts.facts_of changer.ChangerStep
+      changer_values.facts_of changer_values.ChangerStep
   pub bill : StepsAfterFacts (λ profile. bill.machine (PowerOn profile))
-      bill_facts.facts_of bill.BillStep
+      bill_values.facts_of bill_values.BillStep
   pub reader : (unit : ReaderUnit) → StepsAfterFacts
       (λ profile. reader.machine unit (PowerOn profile))
-      (λ profile. reader_facts.facts_of unit) (reader.ReaderStep unit)
+      (λ profile. reader_values.facts_of unit) (reader.ReaderStep unit)
 
 -- Then it has one step at most, where there is one after facts.
 one_after : {State Facts : Type 0} (machine : Profile → Machine State)
@@ -341,7 +344,7 @@ reader_is_one known profiles.Base unit =
     is_one_in base_state base_part (reader.machine unit (PowerOn profiles.Base)) (record {
       starts = λ one other p q. p ∙ sym q;
       steps = one_after (λ profile. reader.machine unit (PowerOn profile))
-          (λ profile. reader_facts.facts_of unit) (reader.ReaderStep unit) (known.reader unit)
+          (λ profile. reader_values.facts_of unit) (reader.ReaderStep unit) (known.reader unit)
           (reader_one unit) profiles.Base;
     }) (Base reader.power_on)
 reader_is_one known profiles.Extended unit =
@@ -356,13 +359,13 @@ pub machine_is_one : AllIsKnown → (profile : Profile) (device : Device)
 machine_is_one known profile devices.Changer = record {
   starts = λ one other p q. p ∙ sym q;
   steps = one_after (λ profile. changer.machine (PowerOn profile))
-      changer_facts.facts_of changer.ChangerStep known.changer
+      changer_values.facts_of changer_values.ChangerStep known.changer
       (keeper_one changer_facts.tables changer.conduct changer_is_one) profile;
 }
 machine_is_one known profile devices.Bill = record {
   starts = λ one other p q. p ∙ sym q;
   steps = one_after (λ profile. bill.machine (PowerOn profile))
-      bill_facts.facts_of bill.BillStep known.bill
+      bill_values.facts_of bill_values.BillStep known.bill
       (keeper_one bill_facts.tables bill.conduct bill_is_one) profile;
 }
 machine_is_one known profile (devices.Reader unit) = reader_is_one known profile unit

@@ -10,7 +10,8 @@ use Rattle.std.proofs.lemmas.List.Elements.{Contains-get_or}
 use Rattle.mdb_words.specs.declared.event.Event.{Event}
 use Rattle.mdb_msgs.specs.declared.command.Device.{Device}
 use Rattle.mdb_bus.specs.declared.act.Act.{Act}
-use Rattle.mdb_bus.specs.ActLists.{Piece, Whole, IsTail, acts_of, events_of}
+use Rattle.mdb_bus.specs.ActLists.{Piece, Whole, acts_of, events_of}
+use Rattle.mdb_bus.specs.Pieces.{IsTail}
 use Rattle.mdb_bus.specs.LeavingOut.{has_part}
 use Rattle.mdb_machine.specs.declared.choice.Choice.{Choice}
 use Rattle.mdb_machine.specs.declared.choice.Choice.TheVariants.{Plain}

@@ -19,11 +19,13 @@ use Rattle.mdb_follow.specs.declared.range.Range.{Range}
 use Rattle.mdb_follow.specs.declared.report.Report.{Report}
 use Rattle.mdb_follow.specs.AccountNames.{account_device, account_of, account_slot, sums_of}
 use Rattle.mdb_follow.specs.Choosing.{AllFollow, Choices, choices_of}
-use Rattle.mdb_follow.specs.Ends.{IsAsFar, end_of, goal_value, side_range, side_value}
+use Rattle.mdb_follow.specs.Ends.{side_range, side_value}
+use Rattle.mdb_follow.specs.GoalEnds.{IsAsFar, end_of, goal_value}
 use Rattle.mdb_explained_runs.specs.Goals.{Explains}
 use Rattle.mdb_follow.specs.Machines.{machine_of}
 use Rattle.mdb_explained_runs.specs.Marks.{MarkedRun}
-use Rattle.mdb_follow.specs.Ranges.{IsAccount, IsRange}
+use Rattle.mdb_follow.specs.Ranges.{IsRange}
+use Rattle.mdb_follow.specs.AccountRanges.{IsAccount}
 use Rattle.mdb_explained_runs.specs.ReplayFaults.{HasMarkedRun}
 use Rattle.mdb_explained_runs.specs.Replays.{IsReplayReport}
 use Rattle.mdb_follow.specs.Report.{IsReport, report_of}

@@ -1,9 +1,8 @@
 -- What a replay that stands for events and marks goes on to, and what it answers.
 use Rattle.std.proofs.Common.{refl, sym, ap, subst, ◌∙◌, ◌≡◌, inl, inr, ℕ, ◌+◌, List, [], ◌∷◌, ◌++◌}
-use Rattle.std.proofs.Common.{Bool, true, false, IsTrue, ◌↔◌}
-use Rattle.std.proofs.Common.{append-nil, length, length-append, Option, Some, None}
+use Rattle.std.proofs.Common.{Bool, true, false, IsTrue, ◌↔◌, length, length-append, Option, Some}
+use Rattle.std.proofs.Common.{None}
 use Rattle.mdb_words.specs.declared.event.Event.{Event}
-use Rattle.mdb_words.specs.Event.{start_of}
 use Rattle.mdb_msgs.specs.declared.command.Device.{Device}
 use Rattle.mdb_msgs.specs.declared.command.Device.TheVariants as devices
 use Rattle.mdb_msgs.specs.declared.command.ReaderUnit.TheVariants.{First, Second}
@@ -17,12 +16,12 @@ use Rattle.mdb_bus.specs.declared.scope.Profile.{Profile}
 use Rattle.mdb_bus.specs.declared.scope.Profile.TheVariants.{Extended}
 use Rattle.mdb_bus.specs.declared.scope.Scope.{Scope}
 use Rattle.mdb_bus.specs.Scopes.{profile_of}
-use Rattle.mdb_bus.specs.ActLists.{ArePieces, HasActList, IsActList, IsTail, Piece}
-use Rattle.mdb_bus.specs.ActLists.{Whole, act_in, acts_of, events_of}
+use Rattle.mdb_bus.specs.ActLists.{ArePieces, IsActList, Piece, Whole, acts_of, events_of}
+use Rattle.mdb_bus.specs.Pieces.{HasActList, IsTail, act_in}
 use Rattle.mdb_bus.specs.Bus as link
 use Rattle.mdb_bus.specs.Bus.{GoesOn, Grown, ended_act}
 use Rattle.mdb_bus.specs.LinkFaults.{IsLinkFault}
-use Rattle.mdb_bus.specs.Untimely.{AreFew, times_of}
+use Rattle.mdb_bus.specs.ExtendedTimes.{AreFew, times_of}
 use Rattle.mdb_bus.specs.declared.untimely.Untimely.{Untimely}
 use Rattle.mdb_bus.specs.Loss.{Loss, LossFits}
 use Rattle.mdb_machine.specs.declared.choice.Choice.{Choice}
@@ -35,28 +34,24 @@ use Rattle.mdb_explained_runs.specs.declared.replay.Replay.{Replay}
 use Rattle.mdb_explained_runs.specs.declared.replay.ReplayFault.{ReplayFault}
 use Rattle.mdb_follow.specs.declared.report.Report.{Report}
 use Rattle.mdb_explained_runs.specs.declared.tracks.Tracks.{Tracks}
-use Rattle.mdb_follow.specs.Cells.{account_by}
+use Rattle.mdb_follow.specs.Cells.{account_by, IsCell}
 use Rattle.mdb_follow.specs.Choosing.{AllFollow, Choices, choices_of}
-use Rattle.mdb_explained_runs.specs.Marks.{MarkedRun, choice_by, marks_at, marks_of, with_mark}
+use Rattle.mdb_explained_runs.specs.Marks.{MarkedRun, choice_by, marks_of, with_mark}
 use Rattle.mdb_follow.specs.Machines.{machine_of}
 use Rattle.mdb_explained_runs.specs.ReplayFaults.{IsMarkFault, IsReplayFault, IsReplayOffence}
 use Rattle.mdb_explained_runs.specs.ReplayFaults.{MayStandAt, MayStandOnNewest}
 use Rattle.mdb_explained_runs.specs.Replays.{IsReplayReport, StandsFor, scope_of}
-use Rattle.mdb_follow.specs.Ranges.{IsCell}
 use Rattle.mdb_follow.specs.Report.{report_of}
 use Rattle.mdb_follow.specs.Runs.{AllSums, IsWay, States}
-use Rattle.mdb_follow.specs.Offences.{act_fault}
 use Rattle.mdb_follow.specs.Silences.{asks_of}
-use Rattle.mdb_follow.specs.SilencesKept.{StandsForAsks, silence_in}
 use Rattle.mdb_explained_runs.specs.Tracks.{AreTracks, HasNoStepFrom, chosen_more, track_in}
 use Rattle.mdb_explained_runs.specs.inner.ReplaySteps.{HasReplayed, HasStopped}
-use Rattle.mdb_follow.specs.SilenceSteps.{SilencesFollow}
-use Rattle.mdb_explained_runs.specs.inner.TrackSteps.{TrackStops, TracksLead}
+use Rattle.mdb_explained_runs.specs.inner.TrackSteps.{TracksLead}
 use Rattle.mdb_follow.proofs.Asks.{asks-go-on, asks-stay}
 use Rattle.mdb_explained_runs.proofs.LastMark.{last-stands}
 use Rattle.mdb_explained_runs.proofs.MarkedRuns.{at-mark}
-use Rattle.mdb_follow.proofs.Following.{OneActList, accounts-of-cells, cell-of-runs}
-use Rattle.mdb_follow.proofs.Following.{list-on, whole-piece}
+use Rattle.mdb_follow.proofs.Following.{OneActList, accounts-of-cells, cell-of-runs, list-on}
+use Rattle.mdb_follow.proofs.Following.{whole-piece}
 
 -- what is needed of the laws of runs and marks
 abbrev pub JoinWithChoices : Type 0
@@ -84,93 +79,69 @@ record Known (profile : Profile) (tracks : Tracks) (marks : List (ℕ × Mark))
   marked : marks_of pieces chosen ≡ marks
   stand : AreTracks profile tracks (acts_of pieces) chosen
 
--- a tail adds nothing
-without-tail : (profile : Profile) (tracks : Tracks) (marks : List (ℕ × Mark)) (tail : Piece)
-    (pieces : List Piece)
-    → IsTail tail → Known profile tracks marks (tail ∷ pieces) → Known profile tracks marks pieces
-without-tail profile tracks marks (Whole act events) pieces is known = absurd is
-without-tail profile tracks marks tail pieces is known =
-    record { chosen = known.chosen; marked = known.marked; stand = known.stand }
+module _ {profile : Profile} {tracks : Tracks} {marks : List (ℕ × Mark)} where
+  -- a tail adds nothing
+  without-tail : (tail : Piece) {pieces : List Piece} → IsTail tail
+      → Known profile tracks marks (tail ∷ pieces) → Known profile tracks marks pieces
+  without-tail (Whole act events) is known = absurd is
+  without-tail tail is known =
+      record { chosen = known.chosen; marked = known.marked; stand = known.stand }
 
-with-tail : (profile : Profile) (tracks : Tracks) (marks : List (ℕ × Mark)) (tail : Piece)
-    (pieces : List Piece)
-    → act_in tail ≡ None → Known profile tracks marks pieces → Known profile tracks marks
-    (tail ∷ pieces)
-with-tail profile tracks marks (Whole act events) pieces none known = absurd (cc none)
-with-tail profile tracks marks tail pieces none known =
-    record { chosen = known.chosen; marked = known.marked; stand = known.stand }
+  with-tail : (tail : Piece) {pieces : List Piece} → act_in tail ≡ None
+      → Known profile tracks marks pieces → Known profile tracks marks (tail ∷ pieces)
+  with-tail (Whole act events) none known = absurd (cc none)
+  with-tail tail none known =
+      record { chosen = known.chosen; marked = known.marked; stand = known.stand }
 
--- what is known of the pieces before the newest of those that went on
-earlier-known : (profile : Profile) (tracks : Tracks) (marks : List (ℕ × Mark))
-    (pieces : List Piece) (row : Event)
-    (act : Option Act) (longer : List Piece) (grown : Grown pieces row act longer)
-    → Known profile tracks marks pieces → Known profile tracks marks grown.earlier
-earlier-known profile tracks marks pieces row act longer grown known =
-    elim grown.from [
-      | inl alone ↦ subst (Known profile tracks marks) alone.1 known
-      | inr on ↦ without-tail profile tracks marks on.0 grown.earlier on.1
-          (subst (Known profile tracks marks) on.3 known)
-    ]
+  -- what is known of the pieces before the newest of those that went on
+  earlier-known : {pieces longer : List Piece} {row : Event} {act : Option Act}
+      (grown : Grown pieces row act longer) → Known profile tracks marks pieces
+      → Known profile tracks marks grown.earlier
+  earlier-known grown known = elim grown.from [
+    | inl alone ↦ rw alone.1 at known
+    | inr on ↦ without-tail on.0 on.1 (rw on.3 at known)
+  ]
 
--- a row that ends no act leaves it
-still-known : (profile : Profile) (tracks : Tracks) (marks : List (ℕ × Mark)) (pieces : List Piece)
-    (row : Event)
-    (longer : List Piece) → Grown pieces row None longer → Known profile tracks marks pieces
-    → Known profile tracks marks longer
-still-known profile tracks marks pieces row longer grown known =
-    subst (Known profile tracks marks) (sym grown.are)
-    (with-tail profile tracks marks grown.newest grown.earlier grown.ends
-    (earlier-known profile tracks marks pieces row None longer grown known))
+  -- a row that ends no act leaves it
+  still-known : {pieces longer : List Piece} {row : Event} → Grown pieces row None longer
+      → Known profile tracks marks pieces → Known profile tracks marks longer
+  still-known grown known =
+      rw grown.are (with-tail grown.newest grown.ends (earlier-known grown known))
 
 -- the newest of pieces that went on by an act
-newest-whole : (pieces : List Piece) (row : Event) (act : Act) (longer : List Piece)
+newest-whole : {pieces longer : List Piece} {row : Event} {act : Act}
     (grown : Grown pieces row (Some act) longer)
     → longer ≡ Whole act (grown.begun ++ row ∷ []) ∷ grown.earlier
-newest-whole pieces row act longer grown =
+newest-whole {row = row} {act = act} grown =
     grown.are ∙ ap (λ p. p ∷ grown.earlier) (whole-piece grown.newest act
     (grown.begun ++ row ∷ []) grown.ends grown.events)
 
 -- an act more, with its mark
-more-marked : (marks : List (ℕ × Mark)) (earlier : List Piece) (events : List Event) (act : Act)
-    (mark : Option Mark) (number : ℕ) (chosen : Choices (acts_of earlier))
+more-marked : {marks : List (ℕ × Mark)} {number : ℕ} (earlier : List Piece) (events : List Event)
+    (act : Act) (mark : Option Mark) (chosen : Choices (acts_of earlier))
     (can : CanStand act (choice_by mark)) → length (events_of earlier ++ events) ≡ number
     → marks_of earlier chosen ≡ marks
     → marks_of (Whole act events ∷ earlier)
     (chosen_more act (acts_of earlier) (choice_by mark) can chosen) ≡ with_mark number mark marks
-more-marked marks earlier events act mark number chosen can count have =
-    ap (λ ms. ms ++ marks_at (length (events_of earlier ++ events)) (choice_by mark)) have
-    ∙ ap (λ n. marks ++ marks_at n (choice_by mark)) count ∙ at-mark number mark marks
+more-marked {marks} {number} earlier events act mark chosen can count have =
+    rw (have, count) (at-mark number mark marks)
 
-more-known : (profile : Profile) (old new : Tracks) (marks : List (ℕ × Mark)) (pieces : List Piece)
-    (row : Event) (act : Act) (mark : Option Mark) (longer : List Piece) (number : ℕ)
-    (grown : Grown pieces row (Some act) longer)
-    → length (events_of longer) ≡ number → CanStand act (choice_by mark)
-    → TracksLead old act (choice_by mark) new → Known profile old marks pieces
-    → Known profile new (with_mark number mark marks) longer
-more-known profile old new marks pieces row act mark longer number grown rows can led known =
-    let earlier = earlier-known profile old marks pieces row (Some act) longer grown known in
-    let are = newest-whole pieces row act longer grown in
+more-known : {profile : Profile} {old new : Tracks} {marks : List (ℕ × Mark)}
+    {pieces longer : List Piece} {row : Event} {act : Act} {number : ℕ} (mark : Option Mark)
+    → Grown pieces row (Some act) longer → length (events_of longer) ≡ number
+    → CanStand act (choice_by mark) → TracksLead old act (choice_by mark) new
+    → Known profile old marks pieces → Known profile new (with_mark number mark marks) longer
+more-known {profile} {new = new} {marks = marks} {row = row} {act = act} {number = number} mark
+    grown rows can led known =
+    let earlier = earlier-known grown known in
+    let are = newest-whole grown in
     subst (Known profile new (with_mark number mark marks)) (sym are) (record {
       chosen = chosen_more act (acts_of grown.earlier) (choice_by mark) can earlier.chosen;
-      marked = more-marked marks grown.earlier (grown.begun ++ row ∷ []) act mark number
-          earlier.chosen can (ap (λ (ps : List Piece). length (events_of ps)) (sym are) ∙ rows)
-          earlier.marked;
+      marked = more-marked grown.earlier (grown.begun ++ row ∷ []) act mark earlier.chosen can
+          (rw are at rows) earlier.marked;
       stand = λ device. (led device profile).stands (acts_of grown.earlier) earlier.chosen can
           (earlier.stand device);
     })
-
--- what a replay knows
-known-of : (replay : Replay) (events : List Event) (marks : List (ℕ × Mark))
-    (on : StandsFor replay events marks) → Known on.profile replay.tracks marks on.pieces
-known-of replay events marks on =
-    record { chosen = on.chosen; marked = on.marked; stand = on.tracks }
-
--- how many rows there are with one more
-rows-more : (pieces longer : List Piece) (events : List Event) (row : Event)
-    → events_of longer ≡ events_of pieces ++ row ∷ [] → events_of pieces ≡ events
-    → length (events_of longer) ≡ length events + 1
-rows-more pieces longer events row rows whole =
-    ap length (rows ∙ ap (λ es. es ++ row ∷ []) whole) ∙ length-append events (row ∷ [])
 
 -- the choice of a mark that may stand on an act can stand on it
 can-stand : (profile : Profile) (mark : Option Mark) (act : Act)
@@ -182,6 +153,15 @@ can-stand profile (Some mark_kinds.Restart) (acts.Reply command reply) may = tt
 can-stand Extended (Some mark_kinds.Again) act may = may
 can-stand _ _ _ may = absurd may
 
+-- what a replay knows, and the act list of what it stands for
+module _ {replay : Replay} {events : List Event} {marks : List (ℕ × Mark)}
+    (on : StandsFor replay events marks) where
+  known-of : Known on.profile replay.tracks marks on.pieces
+  known-of = record { chosen = on.chosen; marked = on.marked; stand = on.tracks }
+
+  list-of : IsActList (scope_of replay) on.pieces events
+  list-of = record { in_order = on.on_bus.in_order; whole = on.whole }
+
 -- no act ended
 pub stands-still : (old new : Replay) (events : List Event) (marks : List (ℕ × Mark))
     (row : Event) (on : StandsFor old events marks) (goes : GoesOn new.bus on.pieces row None)
@@ -190,25 +170,23 @@ pub stands-still : (old new : Replay) (events : List Event) (marks : List (ℕ �
     → new.untimely ≡ times_of (scope_of new) goes.longer → StandsFor new (events ++ row ∷ []) marks
 stands-still old new events marks row on goes same_scope same_tracks same_silences more same
     times =
-    let known = still-known on.profile new.tracks marks on.pieces row goes.longer goes.grown
-    (subst (λ tracks. Known on.profile tracks marks on.pieces) (sym same_tracks)
-    (known-of old events marks on)) in
+    let known = still-known goes.grown (known-of on) in
     record {
       begins = ap (λ (s : Scope). s.begins) same_scope ∙ on.begins;
       profile = on.profile;
       pieces = goes.longer;
       on_bus = goes.stands;
-      whole = goes.rows ∙ ap (λ rows. rows ++ row ∷ []) on.whole;
+      whole = rw on.whole at goes.rows;
       rows = more ∙ ap (λ n. n + 1) on.rows ∙ sym (length-append events (row ∷ []));
       going = same ∙ on.going;
       chosen = known.chosen;
       marked = known.marked;
-      tracks = known.stand;
-      silences = λ device. subst (StandsForAsks (silence_in new.silences device))
-          (sym (asks-stay (PowerOn on.profile) device on.pieces row goes.longer goes.grown))
-          (subst (λ silences. StandsForAsks (silence_in silences device)
-          (asks_of (PowerOn on.profile) device on.pieces)) (sym same_silences)
-          (on.silences device));
+      tracks = rw same_tracks known.stand;
+      silences = λ device. rw (
+        same_silences,
+        asks-stay (PowerOn on.profile) device on.pieces row goes.longer goes.grown,
+      )
+          (on.silences device);
       untimely = times;
     }
 
@@ -227,39 +205,30 @@ pub stands-on : (old mid new : Replay) (events : List Event) (marks : List (ℕ 
 stands-on old mid new events marks row act mark on goes old_scope same_tracks same_silences
     same_rows same profile may choice same_choice had counts few times =
     let can = can-stand profile mark act may in
-    let has = subst (λ choice. HasReplayed mid act choice row new) same_choice had in
-    let led : TracksLead old.tracks act (choice_by mark) new.tracks =
-    subst (λ tracks. TracksLead tracks act (choice_by mark) new.tracks) same_tracks has.tracks in
-    let number = rows-more on.pieces goes.longer events row goes.rows on.whole in
-    let known = more-known on.profile old.tracks new.tracks marks on.pieces row act mark goes.longer
-    (old.rows + 1) goes.grown (number ∙ ap (λ n. n + 1) (sym on.rows)) can led
-    (known-of old events marks on) in
+    let has = rw same_choice at had in
+    let led = rw same_tracks at has.tracks in
+    let rows : length (events ++ row ∷ []) ≡ old.rows + 1 =
+    length-append events (row ∷ []) ∙ ap (λ n. n + 1) (sym on.rows) in
+    let whole = rw on.whole at goes.rows in
+    let known = more-known mark goes.grown (ap length whole ∙ rows) can led (known-of on) in
     let stand = λ (device : Device). (led device on.profile).stands (acts_of on.pieces) on.chosen
     can (on.tracks device) in
-    let first = new.tracks.first_reader.facts in
-    let second = new.tracks.second_reader.facts in
-    let follows : SilencesFollow mid.silences act (start_of row) first second new.silences =
-    has.silences in
     record {
-      begins = ap (λ (s : Scope). s.begins) (ap link.scope_of has.on_bus ∙ old_scope)
-          ∙ on.begins;
+      begins = ap (λ (s : Scope). s.begins) (ap link.scope_of has.on_bus ∙ old_scope) ∙ on.begins;
       profile = on.profile;
       pieces = goes.longer;
-      on_bus = subst (λ b. link.StandsFor b goes.longer) (sym has.on_bus) goes.stands;
-      whole = goes.rows ∙ ap (λ rows. rows ++ row ∷ []) on.whole;
-      rows = has.rows ∙ ap (λ n. n + 1) (same_rows ∙ on.rows)
-          ∙ sym (length-append events (row ∷ []));
+      on_bus = rw has.on_bus goes.stands;
+      whole = whole;
+      rows = has.rows ∙ ap (λ n. n + 1) same_rows ∙ sym rows;
       going = has.going ∙ same ∙ on.going;
       chosen = known.chosen;
       marked = known.marked;
       tracks = known.stand;
-      silences = λ device. subst (StandsForAsks (silence_in new.silences device))
-          (asks-go-on (PowerOn on.profile) device on.pieces row act goes.longer first second
-          goes.grown (stand (devices.Reader First)).facts (stand (devices.Reader Second)).facts)
-          ((follows device).stands (asks_of (PowerOn on.profile) device on.pieces)
-          (subst (λ silences. StandsForAsks (silence_in silences device)
-          (asks_of (PowerOn on.profile) device on.pieces)) (sym same_silences)
-          (on.silences device)));
+      silences = λ device. rw (asks-go-on (PowerOn on.profile) device on.pieces row act goes.longer
+          new.tracks.first_reader.facts new.tracks.second_reader.facts goes.grown
+          (stand (devices.Reader First)).facts (stand (devices.Reader Second)).facts)
+          at ((has.silences device).stands (asks_of (PowerOn on.profile) device on.pieces)
+          (rw same_silences (on.silences device)));
       untimely = times;
     }
 
@@ -269,34 +238,42 @@ no-mark : (row : ℕ) (profile : Profile) (mark : Option Mark) (marks : List (�
 no-mark row profile None marks may = refl
 no-mark row profile (Some mark) marks may = absurd may
 
--- the act list of what a replay stands for
-list-of : (replay : Replay) (events : List Event) (marks : List (ℕ × Mark))
-    (on : StandsFor replay events marks) → IsActList (scope_of replay) on.pieces events
-list-of replay events marks on = record { in_order = on.on_bus.in_order; whole = on.whole }
+module _ (joins : JoinWithChoices) where
+  -- there is a run with the marks of a replay, and its sums are those of the tracks
+  pub run-of : (replay : Replay) (events : List Event) (marks : List (ℕ × Mark))
+      (on : StandsFor replay events marks)
+      → MarkedRun (scope_of replay) events marks (λ device. (on.tracks device).sums)
+  run-of replay events marks on =
+      let states : States = λ device. (track_in replay.tracks device).state in
+      let ways = λ (device : Device). (on.tracks device).way in
+      let found = joins (scope_of replay) on.pieces on.chosen states _ on.on_bus.in_order
+      (rw on.begins ways) in
+      record {
+        run = record {
+          pieces = on.pieces;
+          act_list = list-of on;
+          loss = found.0;
+          fits = found.1;
+          states = states;
+          way = found.2;
+        };
+        are = ap (marks_of on.pieces) found.3 ∙ on.marked;
+      }
 
--- there is a run with the marks of a replay, and its sums are those of the tracks
-pub run-of : JoinWithChoices → (replay : Replay) (events : List Event) (marks : List (ℕ × Mark))
-    (on : StandsFor replay events marks)
-    → MarkedRun (scope_of replay) events marks (λ device. (on.tracks device).sums)
-run-of joins replay events marks on =
-    let scope : Scope = scope_of replay in
-    let states : States = λ device. (track_in replay.tracks device).state in
-    let sums : AllSums = λ device. (on.tracks device).sums in
-    let ways : AllFollow (PowerOn on.profile) (acts_of on.pieces) on.chosen states sums =
-    λ device. (on.tracks device).way in
-    let found = joins scope on.pieces on.chosen states sums on.on_bus.in_order
-    (subst (λ b. AllFollow b (acts_of on.pieces) on.chosen states sums) (sym on.begins) ways) in
-    record {
-      run = record {
-        pieces = on.pieces;
-        act_list = list-of replay events marks on;
-        loss = found.0;
-        fits = found.1;
-        states = states;
-        way = found.2;
-      };
-      are = ap (marks_of on.pieces) found.3 ∙ on.marked;
-    }
+  -- a row breaks a rule of the link
+  pub link-offence : (old : Replay) (events : List Event) (marks : List (ℕ × Mark)) (row : Event)
+      (mark : Option Mark) (on : StandsFor old events marks) (fault : LinkFault)
+      (offence : Offence) → IsLinkFault (scope_of old) on.pieces row fault.rule fault.blame
+      → (HasActList (scope_of old) (events_of on.pieces ++ row ∷ []) → ⊥)
+      → offence ≡ record { row = old.rows + 1; rule = fault.rule; blame = fault.blame }
+      → IsReplayOffence (scope_of old) events marks row mark offence
+  link-offence old events marks row mark on fault offence is impossible told = rw told (record {
+    reached = (_, run-of old events marks on);
+    not_reached = λ reached.
+        impossible (reached.1.run.pieces, rw on.whole reached.1.run.act_list);
+    number = ap (λ n. n + 1) on.rows;
+    why = inl (record { pieces = on.pieces; act_list = list-of on; fault = is });
+  })
 
 -- A way through pieces that has these marks.
 record MarkedWay (scope : Scope) (marks : List (ℕ × Mark)) (states : States) (sums : AllSums)
@@ -304,6 +281,16 @@ record MarkedWay (scope : Scope) (marks : List (ℕ × Mark)) (states : States) 
   loss : Loss
   way : IsWay scope.begins loss pieces states sums
   are : marks_of pieces (choices_of scope.begins loss pieces states sums way) ≡ marks
+
+-- a run has one through each act list of its rows
+way-in : {scope : Scope} {rows : List Event} {marks : List (ℕ × Mark)} {sums : AllSums}
+    → OneActList scope → (pieces : List Piece) → IsActList scope pieces rows
+    → (marked : MarkedRun scope rows marks sums)
+    → MarkedWay scope marks marked.run.states sums pieces
+way-in {scope} {rows} {marks} {sums} one pieces list marked =
+    let run = marked.run in
+    subst (MarkedWay scope marks run.states sums) (one rows run.pieces pieces run.act_list list)
+    (record { loss = run.loss; way = run.way; are = marked.are })
 
 -- each run with the marks of choices has ways with these choices
 pub followed : SplitWithChoices → MarksTell → (scope : Scope) → OneActList scope
@@ -313,16 +300,10 @@ pub followed : SplitWithChoices → MarksTell → (scope : Scope) → OneActList
     (marked : MarkedRun scope rows marks sums)
     → AllFollow scope.begins (acts_of pieces) chosen marked.run.states sums
 followed splits tell scope one rows marks pieces chosen list have sums marked =
-    let run = marked.run in
-    let it : MarkedWay scope marks run.states sums pieces =
-    subst (MarkedWay scope marks run.states sums)
-    (one rows run.pieces pieces run.act_list list)
-    (record { loss = run.loss; way = run.way; are = marked.are }) in
-    subst (λ (c : Choices (acts_of pieces)).
-    AllFollow scope.begins (acts_of pieces) c run.states sums)
-    (tell scope pieces (choices_of scope.begins it.loss pieces run.states sums it.way) chosen
-    list.in_order (it.are ∙ sym have))
-    (splits scope.begins it.loss pieces run.states sums it.way)
+    let it = way-in one pieces list marked in
+    subst (λ c. AllFollow scope.begins (acts_of pieces) c marked.run.states sums)
+    (tell scope pieces _ chosen list.in_order (it.are ∙ sym have))
+    (splits scope.begins it.loss pieces marked.run.states sums it.way)
 
 -- so it is where the tracks are, with their sums
 pub only-run : SplitWithChoices → MarksTell → ((scope : Scope) → OneActList scope)
@@ -332,38 +313,10 @@ pub only-run : SplitWithChoices → MarksTell → ((scope : Scope) → OneActLis
     → (marked.run.states device ≡ (track_in replay.tracks device).state)
     × (sums device ≡ (on.tracks device).sums)
 only-run splits tell one replay events marks on sums marked device =
-    let scope : Scope = scope_of replay in
-    let ways = followed splits tell scope (one scope) events marks on.pieces on.chosen
-    (list-of replay events marks on) on.marked sums marked in
-    let from : AllFollow (PowerOn on.profile) (acts_of on.pieces) on.chosen marked.run.states sums =
-    subst (λ b. AllFollow b (acts_of on.pieces) on.chosen marked.run.states sums) on.begins ways in
-    (on.tracks device).only (marked.run.states device) (sums device) (from device)
-
--- a row breaks a rule of the link
-pub link-offence : JoinWithChoices → (old : Replay) (events : List Event)
-    (marks : List (ℕ × Mark)) (row : Event) (mark : Option Mark)
-    (on : StandsFor old events marks) (fault : LinkFault) (offence : Offence)
-    → IsLinkFault (scope_of old) on.pieces row fault.rule fault.blame
-    → (HasActList (scope_of old) (events_of on.pieces ++ row ∷ []) → ⊥)
-    → offence ≡ record { row = old.rows + 1; rule = fault.rule; blame = fault.blame }
-    → IsReplayOffence (scope_of old) events marks row mark offence
-link-offence joins old events marks row mark on fault offence is impossible told =
-    subst (IsReplayOffence (scope_of old) events marks row mark) (sym told) (record {
-      reached = (_, run-of joins old events marks on);
-      not_reached = λ reached. impossible (
-        reached.1.run.pieces,
-        record {
-          in_order = reached.1.run.act_list.in_order;
-          whole = reached.1.run.act_list.whole ∙ ap (λ rows. rows ++ row ∷ []) (sym on.whole);
-        },
-      );
-      number = ap (λ n. n + 1) on.rows;
-      why = inl (record {
-        pieces = on.pieces;
-        act_list = list-of old events marks on;
-        fault = is;
-      });
-    })
+    let ways = followed splits tell (scope_of replay) (one (scope_of replay)) events marks on.pieces
+    on.chosen (list-of on) on.marked sums marked in
+    (on.tracks device).only (marked.run.states device) (sums device)
+    (rw on.begins at (ways device))
 
 -- a machine has no step by an act under the choice of the mark
 pub machine-offence : JoinWithChoices → SplitWithChoices → MarksTell
@@ -380,93 +333,60 @@ machine-offence joins splits tell one old mid new events marks row act mark faul
     let can = can-stand profile mark act may in
     let scope : Scope = scope_of old in
     let choice = choice_by mark in
-    let has = subst (λ c. HasStopped mid act c row new fault) same_choice had in
+    let has = rw same_choice at had in
     let grown = goes.grown in
-    let earlier = earlier-known on.profile old.tracks marks on.pieces row (Some act) goes.longer
-    grown (known-of old events marks on) in
-    let are = newest-whole on.pieces row act goes.longer grown in
+    let earlier = earlier-known grown (known-of on) in
+    let more : Choices (act ∷ acts_of grown.earlier) =
+    chosen_more act (acts_of grown.earlier) choice can earlier.chosen in
+    let are = newest-whole grown in
     let pieces : List Piece = Whole act (grown.begun ++ row ∷ []) ∷ grown.earlier in
-    let list : IsActList scope pieces (events ++ row ∷ []) =
-    subst (λ ps. IsActList scope ps (events ++ row ∷ [])) are
-    (subst (λ s. IsActList s goes.longer (events ++ row ∷ [])) same_scope
-    (list-on mid.bus events row on.pieces (Some act) on.whole goes)) in
+    let list : IsActList scope pieces (events ++ row ∷ []) = rw (same_scope, are) at
+    (list-on mid.bus events row on.pieces (Some act) on.whole goes) in
     let device : Device = has.none.0 in
-    let stops : TrackStops device old.tracks act choice has.rule =
-    subst (λ tracks. TrackStops device tracks act choice has.rule) same_tracks has.none.1 in
+    let stops = rw same_tracks at has.none.1 in
     let none : HasNoStepFrom (machine_of (PowerOn on.profile) device) (acts_of grown.earlier) act
     choice (track_in old.tracks device).state =
     stops.none on.profile (acts_of grown.earlier) earlier.chosen (earlier.stand device) in
-    let count : length (events_of pieces) ≡ length events + 1 =
-    ap length list.whole ∙ length-append events (row ∷ []) in
-    let have = more-marked marks grown.earlier (grown.begun ++ row ∷ []) act mark
-    (length events + 1) earlier.chosen can count earlier.marked in
-    let counted : has.counted ≡ act_fault scope pieces row act has.rule =
-    has.counts goes.longer goes.stands
-    ∙ (ap (λ s. act_fault s goes.longer row act has.rule) same_scope
-    ∙ ap (λ ps. act_fault scope ps row act has.rule) are) in
-    let offence : Offence =
-    record { row = mid.rows + 1; rule = has.counted.rule; blame = has.counted.blame } in
-    let is : IsReplayOffence scope events marks row mark offence = record {
+    let have = more-marked grown.earlier (grown.begun ++ row ∷ []) act mark earlier.chosen can
+    (ap length list.whole ∙ length-append events (row ∷ [])) earlier.marked in
+    let counted = rw (same_scope, are) at (has.counts goes.longer goes.stands) in
+    rw has.is (record {
       reached = (_, run-of joins old events marks on);
       not_reached = λ reached.
           let ways = followed splits tell scope (one scope) (events ++ row ∷ [])
-          (with_mark (length events + 1) mark marks) pieces
-          (chosen_more act (acts_of grown.earlier) choice can earlier.chosen) list have
-          reached.0 reached.1 in
-          let way = (subst (λ b. AllFollow b (acts_of pieces)
-          (chosen_more act (acts_of grown.earlier) choice can earlier.chosen)
-          reached.1.run.states reached.0) on.begins ways) device in
+          (with_mark (length events + 1) mark marks) pieces more list have reached.0
+          reached.1 in
+          let way = (subst (λ b. AllFollow b (acts_of pieces) more reached.1.run.states reached.0)
+          on.begins ways) device in
           let was = (earlier.stand device).only way.before way.sums_before way.way in
-          none (reached.1.run.states device) way.gains
-          (subst (λ s. (machine_of (PowerOn on.profile) device).Step (acts_of grown.earlier) act
-          choice s (reached.1.run.states device) way.gains) was.0 way.step);
+          none (reached.1.run.states device) way.gains (rw was.0 at way.step);
       number = ap (λ n. n + 1) (same_rows ∙ on.rows);
       why = inr (record {
         act = act;
         begun = grown.begun;
         earlier = grown.earlier;
         act_list = list;
-        may = subst (λ p. MayStandAt p mark (Some act)) by may;
+        may = rw by at may;
         no_step = record {
           device = device;
           rule = stops.rule;
-          none = λ sums marked.
-              subst (λ b. HasNoStepFrom (machine_of b device) (acts_of grown.earlier) act choice
-              (marked.run.states device)) (sym on.begins)
-              (subst (λ s. HasNoStepFrom (machine_of (PowerOn on.profile) device)
-              (acts_of grown.earlier) act choice s)
-              (sym (only-run splits tell one old events marks on sums marked device).0) none);
+          none = λ sums marked. rw (
+            on.begins,
+            (only-run splits tell one old events marks on sums marked device).0,
+          ) none;
         };
         own = has.rule;
         counts = ap (λ (f : LinkFault). f.rule) counted;
         blame = ap (λ (f : LinkFault). f.blame) counted;
       });
-    } in
-    subst (IsReplayFault scope events marks row mark) (sym has.is) is
+    })
 
 -- the newest act of pieces is the one that a row ended
-newest-stands : (profile : Profile) (mark : Mark) (act : Option Act) (newest : Piece)
+newest-stands : {act : Option Act} (profile : Profile) (mark : Mark) (newest : Piece)
     (earlier : List Piece) → act_in newest ≡ act
     → MayStandOnNewest profile mark (newest ∷ earlier) → MayStandAt profile (Some mark) act
-newest-stands profile mark act (Whole one events) earlier ends may =
-    subst (MayStandAt profile (Some mark)) ends may
-newest-stands profile mark act newest earlier ends may = absurd may
-
--- in a run the last mark may stand where it does, if that is the last row
-unmarked : SplitWithChoices → (scope : Scope) → OneActList scope → (rows : List Event)
-    (marks : List (ℕ × Mark)) (pieces : List Piece) (number : ℕ) (mark : Mark)
-    → IsActList scope pieces rows → number ≡ length (events_of pieces) → (sums : AllSums)
-    → MarkedRun scope rows (marks ++ (number, mark) ∷ []) sums
-    → MayStandOnNewest (profile_of scope.begins) mark pieces
-unmarked splits scope one rows marks pieces number mark list at sums marked =
-    let run = marked.run in
-    let it : MarkedWay scope (marks ++ (number, mark) ∷ []) run.states sums pieces =
-    subst (MarkedWay scope (marks ++ (number, mark) ∷ []) run.states sums)
-    (one rows run.pieces pieces run.act_list list)
-    (record { loss = run.loss; way = run.way; are = marked.are }) in
-    last-stands scope.begins scope pieces
-    (choices_of scope.begins it.loss pieces run.states sums it.way) run.states sums marks number
-    mark list.in_order (splits scope.begins it.loss pieces run.states sums it.way) it.are at
+newest-stands profile mark (Whole one events) earlier ends may = rw (← ends) may
+newest-stands profile mark newest earlier ends may = absurd may
 
 -- a mark may not stand there
 pub mark-fault : JoinWithChoices → SplitWithChoices → ((scope : Scope) → OneActList scope)
@@ -479,19 +399,22 @@ pub mark-fault : JoinWithChoices → SplitWithChoices → ((scope : Scope) → O
 mark-fault joins splits one old bus events marks row act None on goes same profile by not =
     absurd (not tt)
 mark-fault joins splits one old bus events marks row act (Some mark) on goes same profile by not =
-    let scope : Scope = scope_of old in
-    let list : IsActList scope goes.longer (events ++ row ∷ []) =
-    subst (λ s. IsActList s goes.longer (events ++ row ∷ [])) same
-    (list-on bus events row on.pieces act on.whole goes) in
-    let cannot : MayStandOnNewest (profile_of scope.begins) mark goes.longer → ⊥ = λ may.
-    not (newest-stands profile mark act goes.grown.newest goes.grown.earlier goes.grown.ends
-    (subst (MayStandOnNewest profile mark) goes.grown.are
-    (subst (λ p. MayStandOnNewest p mark goes.longer) (sym by) may))) in
+    let begins : Beginning = (scope_of old).begins in
+    let list : IsActList (scope_of old) goes.longer (events ++ row ∷ []) =
+    rw same at (list-on bus events row on.pieces act on.whole goes) in
+    let cannot : MayStandOnNewest (profile_of begins) mark goes.longer → ⊥ = λ may.
+    not (newest-stands profile mark goes.grown.newest goes.grown.earlier goes.grown.ends
+    (rw (← by, goes.grown.are) at may)) in
     record {
       reached = (_, run-of joins old events marks on);
-      not_reached = λ reached. cannot (unmarked splits scope (one scope) (events ++ row ∷ []) marks
-          goes.longer (length events + 1) mark list
-          (sym (ap length list.whole ∙ length-append events (row ∷ []))) reached.0 reached.1);
+      not_reached = λ reached.
+          let states = reached.1.run.states in
+          let it = way-in (one (scope_of old)) goes.longer list reached.1 in
+          cannot (last-stands begins (scope_of old) goes.longer
+          (choices_of begins it.loss goes.longer states reached.0 it.way) states reached.0 marks
+          (length events + 1) mark list.in_order
+          (splits begins it.loss goes.longer states reached.0 it.way) it.are
+          (sym (ap length list.whole ∙ length-append events (row ∷ []))));
       at = ap (λ n. n + 1) on.rows;
       standing = mark;
       is = refl;
@@ -513,53 +436,45 @@ pub reported : JoinWithChoices → SplitWithChoices → MarksTell
     → report ≡ report_of (scope_of replay) replay.rows on.pieces (account_by cells)
     → IsReplayReport (scope_of replay) events marks report
 reported joins splits tell one replay events marks report on cells are telling =
-    let scope : Scope = scope_of replay in
+    let Runs : AllSums → Type 0 = MarkedRun (scope_of replay) events marks in
     let sums : AllSums = λ device. (on.tracks device).sums in
-    let run : MarkedRun scope events marks sums = run-of joins replay events marks on in
+    let run : Runs sums = run-of joins replay events marks on in
+    let only = λ (other : AllSums) (marked : Runs other) (device : Device).
+    (only-run splits tell one replay events marks on other marked device).1 in
     record {
       sums = sums;
       reached = run;
-      only = λ other marked device.
-          (only-run splits tell one replay events marks on other marked device).1;
+      only = only;
       pieces = on.pieces;
-      act_list = list-of replay events marks on;
+      act_list = list-of on;
       accounts = account_by cells;
-      of_run = accounts-of-cells (MarkedRun scope events marks) cells (λ device.
-          cell-of-runs (MarkedRun scope events marks) (λ other. other ≡ sums device)
-          (λ all. all device) (record {
+      of_run = accounts-of-cells Runs cells (λ device.
+          cell-of-runs Runs (λ other. other ≡ sums device) (λ all. all device) (record {
             lift = λ other is. (sums, sym is, run);
-            lower = λ other marked.
-                (only-run splits tell one replay events marks on other marked device).1;
-          }) (cells device)
-          (subst (IsCell (λ other. other ≡ sums device)) (sym (are device))
-          (on.tracks device).cell));
-      telling = telling
-          ∙ ap (λ rows. report_of scope rows on.pieces (account_by cells)) on.rows;
+            lower = λ other marked. only other marked device;
+          }) (cells device) (rw (are device) (on.tracks device).cell));
+      telling = rw on.rows at telling;
     }
 
 -- an act ended, or none did
 pub by-act : (bus : Bus) (pieces : List Piece) (row : Event) (ended : Bool) (act : Act)
     → ended ≡ true → GoesOn bus pieces row (ended_act ended act)
     → GoesOn bus pieces row (Some act)
-by-act bus pieces row ended act is =
-    subst (λ b. GoesOn bus pieces row (ended_act b act)) is
+by-act bus pieces row ended act is goes = rw is at goes
 
 pub by-none : (bus : Bus) (pieces : List Piece) (row : Event) (ended : Bool) (act : Act)
     → ended ≡ false → GoesOn bus pieces row (ended_act ended act) → GoesOn bus pieces row None
-by-none bus pieces row ended act is =
-    subst (λ b. GoesOn bus pieces row (ended_act b act)) is
+by-none bus pieces row ended act is goes = rw is at goes
 
 -- its mark may stand there
 pub may-then : (profile : Profile) (b : Bool) (mark : Option Mark) (ended : Bool) (act : Act)
     → (IsTrue b ↔ MayStandAt profile mark (ended_act ended act)) → b ≡ true → ended ≡ true
     → MayStandAt profile mark (Some act)
-may-then profile b mark ended act told is whole =
-    subst (λ e. MayStandAt profile mark (ended_act e act)) whole (told.0 is)
+may-then profile b mark ended act told is whole = rw whole at (told.0 is)
 
 pub none-then : (profile : Profile) (b : Bool) (mark : Option Mark) (ended : Bool) (act : Act)
     (row : ℕ) (marks : List (ℕ × Mark))
     → (IsTrue b ↔ MayStandAt profile mark (ended_act ended act)) → b ≡ true → ended ≡ false
     → with_mark row mark marks ≡ marks
 none-then profile b mark ended act row marks told is whole =
-    no-mark row profile mark marks
-    (subst (λ e. MayStandAt profile mark (ended_act e act)) whole (told.0 is))
+    no-mark row profile mark marks (rw whole at (told.0 is))

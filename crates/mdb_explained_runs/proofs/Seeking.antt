@@ -13,13 +13,14 @@ use Rattle.mdb_bus.specs.declared.bus.Bus.{Bus}
 use Rattle.mdb_bus.specs.declared.scope.Beginning.TheVariants.{PowerOn}
 use Rattle.mdb_bus.specs.declared.scope.Profile.{Profile}
 use Rattle.mdb_bus.specs.declared.scope.Scope.{Scope}
-use Rattle.mdb_bus.specs.ActLists.{IsActList, IsTail, Piece, Whole}
-use Rattle.mdb_bus.specs.ActLists.{act_in, acts_of, events_of, piece_events}
+use Rattle.mdb_bus.specs.ActLists.{IsActList, Piece, Whole}
+use Rattle.mdb_bus.specs.Pieces.{IsTail, act_in}
+use Rattle.mdb_bus.specs.ActLists.{acts_of, events_of, piece_events}
 use Rattle.mdb_bus.specs.Bus as link
 use Rattle.mdb_bus.specs.Bus.{GoesOn, Grown}
 use Rattle.mdb_explained_runs.specs.declared.explain.all_paths.AllPaths.{AllPaths}
 use Rattle.mdb_follow.specs.declared.goal.Goal.{Goal}
-use Rattle.mdb_follow.specs.Arrivals.{EachArrives}
+use Rattle.mdb_follow.specs.Tables.{EachArrives}
 use Rattle.mdb_follow.specs.Machines.{machine_of}
 use Rattle.mdb_follow.specs.Runs.{IsReached}
 use Rattle.mdb_follow.specs.Sides.{code_of, codes_of, stands_for}

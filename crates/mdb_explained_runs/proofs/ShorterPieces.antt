@@ -19,7 +19,8 @@ use Rattle.mdb_bus.specs.declared.scope.Profile.{Profile}
 use Rattle.mdb_bus.specs.declared.scope.Scope.{Scope}
 use Rattle.mdb_bus.specs.Acts.{Say, command_words, reply_words}
 use Rattle.mdb_bus.specs.ActLists.{AreSpaced, AskTail, IsAskFront, IsPiece, IsRepeatFront}
-use Rattle.mdb_bus.specs.ActLists.{IsReplyFront, IsSaid, IsTail, MayCome, MayStand, Piece}
+use Rattle.mdb_bus.specs.ActLists.{IsReplyFront, IsSaid, MayCome, MayStand, Piece}
+use Rattle.mdb_bus.specs.Pieces.{IsTail}
 use Rattle.mdb_bus.specs.ActLists.{PieceFits, RepeatTail, ReplyTail, Whole, events_of, last_of}
 use Rattle.mdb_bus.specs.ActLists.{levels_of, piece_events, position_of}
 use Rattle.mdb_bus.specs.Scopes.{Asks, levels_before, profile_of}
@@ -134,7 +135,7 @@ of_reply scope command reply rest events front row some long right stands =
     front row some long tt refl (
       record {
         allowed = subst (λ (form : Option DataForm). IsSome form)
-            (sym is_reply.answers.answer.form) refl;
+            (sym is_reply.answers.form) refl;
         some = is_reply.content.at_least;
         few = is_reply.content.at_most;
         in_range = is_reply.content.in_range;

@@ -8,7 +8,7 @@ use Rattle.std.proofs.lemmas.List.Elements.{Contains-push_cases}
 use Rattle.mdb_machine.specs.declared.choice.Choice.{Choice}
 use Rattle.mdb_machine.specs.declared.choice.Choice.TheVariants.{Plain}
 use Rattle.mdb_machine.specs.declared.gains.Gains.{Gains}
-use Rattle.mdb_machine.specs.Gains.{IsSmall}
+use Rattle.mdb_machine.specs.SmallGains.{IsSmall}
 use Rattle.mdb_machine.specs.Pair.{IsStep}
 use Rattle.mdb_machine.proofs.Ways.{plain_or_not, step_as}
 use Rattle.mdb_explained_runs.specs.declared.explain.best.Best.{Best}

@@ -13,19 +13,19 @@ use Rattle.mdb_bus.specs.declared.scope.Profile.{Profile}
 use Rattle.mdb_bus.specs.declared.scope.Profile.TheVariants.{Base}
 use Rattle.mdb_machine.specs.declared.choice.Choice.{Choice}
 use Rattle.mdb_machine.specs.declared.gains.Gains.{Gains}
-use Rattle.mdb_machine.specs.Gains.{IsSmall, no_gains}
+use Rattle.mdb_machine.specs.Gains.{no_gains}
+use Rattle.mdb_machine.specs.SmallGains.{IsSmall}
 use Rattle.mdb_machine.specs.Machine.{Machine}
 use Rattle.mdb_machine.specs.Pair.{IsActOf, IsMachineOf, IsOnlyStep}
 use Rattle.mdb_explained_runs.specs.declared.track.Track.{Track}
 use Rattle.mdb_explained_runs.specs.declared.tracks.Tracks.{Tracks}
-use Rattle.mdb_follow.specs.Ranges.{IsCell}
+use Rattle.mdb_follow.specs.Cells.{IsCell, moved_cell}
 use Rattle.mdb_follow.specs.Sums.{added}
 use Rattle.mdb_follow.specs.declared.report.TheConstants.Report.{DEVICES}
 use Rattle.mdb_follow.specs.Choosing.{Choices}
 use Rattle.mdb_follow.specs.Machines.{machine_of}
 use Rattle.mdb_follow.specs.Offences.{rule_of}
 use Rattle.mdb_explained_runs.specs.Tracks.{HasNoStepFrom, IsTrackOf, TrackOf, track_in}
-use Rattle.mdb_follow.specs.Cells.{moved_cell}
 use Rattle.mdb_follow.specs.Limits.{IsCellWithin}
 use Rattle.mdb_explained_runs.specs.inner.TrackSteps.{AreTracksWithin, IsTrackWithin, Leads}
 use Rattle.mdb_explained_runs.specs.inner.TrackSteps.{LeadsOf, OneLeads, TrackStops, TracksLead}

@@ -3,7 +3,8 @@ use Rattle.std.proofs.Common.{ap, arith, refl, ◌∙◌, ◌≡◌, ◌+◌, �
 use Rattle.std.proofs.Common.{SFits, of_z, to_z, w64}
 use Rattle.std.proofs.lemmas.Int.{ints, to_z-of_z}
 use Rattle.mdb_machine.specs.declared.gains.Gains.{Gains}
-use Rattle.mdb_machine.specs.Gains.{IsSmall, no_gains}
+use Rattle.mdb_machine.specs.Gains.{no_gains}
+use Rattle.mdb_machine.specs.SmallGains.{IsSmall}
 use Rattle.mdb_machine.proofs.Slots.{none_at, small_at}
 use Rattle.mdb_explained_runs.specs.declared.explain.best.Weight.{Weight}
 use Rattle.mdb_explained_runs.specs.declared.explain.best.Weight.TheVariants as weights

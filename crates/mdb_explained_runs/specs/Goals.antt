@@ -3,8 +3,8 @@ use Rattle.std.specs.Prelude.{◌≡◌, ℕ, ◌≤◌, List, [], length}
 use Rattle.mdb_words.specs.declared.event.Event.{Event}
 use Rattle.mdb_bus.specs.declared.scope.Scope.{Scope}
 use Rattle.mdb_follow.specs.declared.goal.Goal.{Goal}
-use Rattle.mdb_follow.specs.Ends.{IsAsFar, goal_value}
-use Rattle.mdb_follow.specs.Offences.{HasOffence}
+use Rattle.mdb_follow.specs.GoalEnds.{IsAsFar, goal_value}
+use Rattle.mdb_follow.specs.FirstOffences.{HasOffence}
 use Rattle.mdb_follow.specs.Runs.{AllSums, Run}
 use Rattle.mdb_explained_runs.specs.declared.explain.ExplainFault.{ExplainFault}
 use Rattle.mdb_explained_runs.specs.declared.explain.ExplainFault.TheVariants.{Offence, Memory}

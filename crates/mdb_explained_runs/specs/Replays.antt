@@ -8,7 +8,7 @@ use Rattle.mdb_bus.specs.declared.scope.Profile.{Profile}
 use Rattle.mdb_bus.specs.declared.scope.Scope.{Scope}
 use Rattle.mdb_bus.specs.ActLists.{IsActList, Piece, acts_of, events_of}
 use Rattle.mdb_bus.specs.Bus as bus
-use Rattle.mdb_bus.specs.Untimely.{times_of}
+use Rattle.mdb_bus.specs.ExtendedTimes.{times_of}
 use Rattle.mdb_follow.specs.declared.account.Account.{Account}
 use Rattle.mdb_follow.specs.declared.account_name.AccountName.{AccountName}
 use Rattle.mdb_explained_runs.specs.declared.mark.Mark.{Mark}

@@ -13,7 +13,7 @@ ghost use Rattle.mdb_bus.specs.Scopes.{profile_of};
 ghost use Rattle.mdb_explained_runs.specs.Marks as marks;
 ghost use Rattle.mdb_explained_runs.specs.ReplayFaults.{MayStandAt, row_of};
 ghost use Rattle.mdb_bus.specs.Scopes as scopes;
-ghost use Rattle.mdb_bus.specs.Untimely as times;
+ghost use Rattle.mdb_bus.specs.ExtendedTimes as times;
 ghost use Rattle.mdb_bus.specs.declared.untimely.Untimely.{Untimely};
 ghost use Rattle.mdb_follow.specs.SilenceSteps.{AreFew};
 ghost use Rattle.mdb_explained_runs.specs.inner.TrackSteps.{AreTracksWithin};

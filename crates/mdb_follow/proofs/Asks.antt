@@ -9,12 +9,13 @@ use Rattle.mdb_msgs.specs.declared.command.ReaderUnit.TheVariants.{First, Second
 use Rattle.mdb_cashless.specs.declared.by_profile.facts.KnownByProfile.{KnownByProfile}
 use Rattle.mdb_bus.specs.declared.act.Act.{Act}
 use Rattle.mdb_bus.specs.declared.act.Act.TheVariants as acts
-use Rattle.mdb_bus.specs.ActLists.{IsTail, Piece, Whole, act_in, acts_of, last_of, piece_events}
+use Rattle.mdb_bus.specs.ActLists.{Piece, Whole, acts_of, last_of, piece_events}
+use Rattle.mdb_bus.specs.Pieces.{IsTail, act_in}
 use Rattle.mdb_bus.specs.declared.scope.Beginning.{Beginning}
 use Rattle.mdb_bus.specs.declared.scope.Beginning.TheVariants.{PowerOn, Joined}
 use Rattle.mdb_bus.specs.declared.scope.Profile.TheVariants as profiles
 use Rattle.mdb_bus.specs.Bus.{Grown}
-use Rattle.mdb_follow.specs.Devices.{spec_of}
+use Rattle.mdb_follow.specs.ReportedDevices.{reported_of}
 use Rattle.mdb_follow.specs.Sides.{stands_for}
 use Rattle.mdb_follow.specs.Silences.{TimedAsk, asks_of, last_start, limit_of}
 use Rattle.mdb_follow.specs.SilenceSteps.{asks_after, limit_in}
@@ -111,9 +112,9 @@ limit-is : (begins : Beginning) (device : Device) (first second : KnownByProfile
 limit-is begins devices.Changer first second acts one other = refl
 limit-is begins devices.Bill first second acts one other = refl
 limit-is begins (devices.Reader First) first second acts one other =
-    ap (spec_of (devices.Reader First)).limit (sym one)
+    ap (reported_of (devices.Reader First)).limit (sym one)
 limit-is begins (devices.Reader Second) first second acts one other =
-    ap (spec_of (devices.Reader Second)).limit (sym other)
+    ap (reported_of (devices.Reader Second)).limit (sym other)
 
 -- an act, and the lists go on by it
 pub asks-go-on : (begins : Beginning) (device : Device) (pieces : List Piece) (row : Event)

@@ -7,7 +7,7 @@ use Rattle.mdb_msgs.specs.declared.command.Device.{Device}
 use Rattle.mdb_msgs.specs.declared.command.Device.TheVariants as devices
 use Rattle.mdb_msgs.specs.declared.command.ReaderUnit.TheVariants.{First, Second}
 use Rattle.mdb_follow.specs.declared.report.TheConstants.Report.{DEVICES}
-use Rattle.mdb_follow.specs.Devices.{device_place}
+use Rattle.mdb_follow.specs.ReportedDevices.{device_place}
 use Rattle.mdb_follow.specs.ByDevice.{OneGoes}
 
 -- what is of each device

@@ -6,15 +6,16 @@ use Rattle.std.specs.Int.{int_max, int_min}
 use Rattle.std.specs.Int.RustNames.{int_lt}
 use Rattle.std.proofs.lemmas.Int.{ints, clamps}
 use Rattle.mdb_machine.specs.declared.gains.Gains.{Gains}
-use Rattle.mdb_machine.specs.Gains.{IsSmall}
+use Rattle.mdb_machine.specs.SmallGains.{IsSmall}
 use Rattle.mdb_follow.specs.declared.range.Range.{Range}
 use Rattle.mdb_follow.specs.declared.account.Account.{Account}
 use Rattle.mdb_follow.specs.declared.cell.Cell.{Cell}
 use Rattle.mdb_machine.proofs.Slots.{at_slot, small_at}
-use Rattle.mdb_follow.specs.Cells.{joined_account, joined_cell, joined_range, joined_slot}
+use Rattle.mdb_follow.specs.Cells.{joined_account, joined_cell, joined_range, joined_slot, IsCell}
 use Rattle.mdb_follow.specs.Cells.{moved_account, moved_cell, moved_range, moved_slot}
 use Rattle.mdb_follow.specs.Limits.{IsAccountWithin, IsCellWithin, IsRangeWithin}
-use Rattle.mdb_follow.specs.Ranges.{IsAccount, IsCell, IsRange, no_account}
+use Rattle.mdb_follow.specs.Ranges.{IsRange, no_account}
+use Rattle.mdb_follow.specs.AccountRanges.{IsAccount}
 use Rattle.mdb_follow.specs.Sums.{AccountSums, Sums, added}
 
 -- sums of a kind, with the gains of a step

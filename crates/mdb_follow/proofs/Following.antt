@@ -4,10 +4,9 @@ use Rattle.std.proofs.Common.{[], ◌∷◌, ◌++◌, length, length-append, �
 use Rattle.std.proofs.Common.{append_assoc, add-one, arith, map, Option, Some, None}
 use Rattle.std.proofs.lemmas.List.{take_all, take_more}
 use Rattle.std.proofs.Math.Seq.{split_at, take-append-add}
-use Rattle.std.specs.Bool.{OnFalse, OnTrue}
+use Rattle.std.specs.Bool.{OnTrue}
 use Rattle.std.specs.Prelude.{Bool, true, false, Result, Ok, Err, IfErr, IfOk, IsErrAnd, IsSomeAnd}
 use Rattle.mdb_words.specs.declared.event.Event.{Event}
-use Rattle.mdb_words.specs.Event.{start_of}
 use Rattle.mdb_msgs.specs.declared.command.Device.{Device}
 use Rattle.mdb_msgs.specs.declared.command.Device.TheVariants as devices
 use Rattle.mdb_msgs.specs.declared.command.ReaderUnit.TheVariants.{First, Second}
@@ -17,21 +16,19 @@ use Rattle.mdb_bus.specs.declared.fault.Blame.{Blame}
 use Rattle.mdb_bus.specs.declared.fault.LinkFault.{LinkFault}
 use Rattle.mdb_bus.specs.declared.fault.Rule.{Rule}
 use Rattle.mdb_bus.specs.declared.fault.Rule.TheVariants as rules
-use Rattle.mdb_bus.specs.ActLists.{ArePieces, HasActList, IsActList, Piece, Whole, AskTail, ReplyTail}
-use Rattle.mdb_bus.specs.ActLists.{RepeatTail, act_in, acts_of, events_of, piece_events, with_act}
+use Rattle.mdb_bus.specs.ActLists.{ArePieces, IsActList, Piece, Whole, acts_of, events_of, piece_events}
+use Rattle.mdb_bus.specs.Pieces.{HasActList, act_in}
 use Rattle.mdb_bus.specs.Bus as link
 use Rattle.mdb_bus.specs.Bus.{GoesOn}
 use Rattle.mdb_bus.specs.LinkFaults.{IsLinkFault}
 use Rattle.mdb_bus.specs.Scopes.{profile_of}
 use Rattle.std.specs.Option.{ForSome}
-use Rattle.mdb_bus.specs.declared.fault.Blame.TheVariants as blames
-use Rattle.mdb_bus.specs.Untimely.{AreFew, counted_for, times_of, untimely_of, untimely_sender, with_sender}
+use Rattle.mdb_bus.specs.ExtendedTimes.{AreFew, counted_for, times_of, untimely_of, untimely_sender, with_sender}
 use Rattle.mdb_bus.specs.declared.scope.Profile.{Profile}
 use Rattle.mdb_bus.specs.declared.scope.Profile.TheVariants.{Base, Extended}
 use Rattle.mdb_bus.specs.declared.untimely.Untimely.{Untimely}
 use Rattle.mdb_bus.specs.declared.scope.Beginning.{Beginning}
 use Rattle.mdb_machine.specs.declared.gains.TheConstants.{SLOTS}
-use Rattle.mdb_machine.specs.Machine.{Machine}
 use Rattle.mdb_follow.specs.declared.account_name.AccountName.{AccountName}
 use Rattle.mdb_follow.specs.declared.account_name.TheConstants.AccountName.{ALL}
 use Rattle.mdb_follow.specs.declared.cell.Cell.{Cell}
@@ -39,32 +36,30 @@ use Rattle.mdb_follow.specs.declared.follower.Follower.{Follower}
 use Rattle.mdb_follow.specs.declared.offence.Offence.{Offence}
 use Rattle.mdb_follow.specs.declared.range.Range.{Range}
 use Rattle.mdb_follow.specs.declared.report.Report.{Report}
-use Rattle.mdb_follow.specs.declared.sides.Sides.{Sides}
-use Rattle.mdb_follow.specs.declared.silence.Silence.{Silence}
 use Rattle.mdb_follow.specs.AccountNames.{account_device, account_in, account_slot}
-use Rattle.mdb_follow.specs.Cells.{account_by}
+use Rattle.mdb_follow.specs.Cells.{account_by, IsCell, slot_account}
 use Rattle.mdb_follow.specs.Counted.{counted_with}
 use Rattle.mdb_follow.specs.EndedActs.{IsEndedAct}
 use Rattle.mdb_follow.specs.Feeding.{HasTakenRows}
-use Rattle.mdb_follow.specs.Follower.{HasAccepted, StandsFor, rows_of, scope_of}
+use Rattle.mdb_follow.specs.Follower.{HasAccepted, StandsFor, is_late, rows_of, scope_of}
 use Rattle.mdb_follow.specs.Sales.{SalesFollowApprovals}
 use Rattle.mdb_follow.specs.inner.FollowerSteps.{HasFollowedAct, HasStopped}
 use Rattle.mdb_follow.specs.Limits.{IsAccountWithin, IsCellWithin}
-use Rattle.mdb_follow.specs.Ranges.{IsAccount, IsCell, IsRange, slot_account}
-use Rattle.mdb_follow.specs.Sums.{AccountSums, Sums}
-use Rattle.mdb_follow.specs.Tables.{ArrivesAnywhere, IsTable}
-use Rattle.mdb_follow.specs.Offences.{HasOffence, IsOffence}
+use Rattle.mdb_follow.specs.Ranges.{IsRange}
+use Rattle.mdb_follow.specs.AccountRanges.{IsAccount}
+use Rattle.mdb_follow.specs.Sums.{Sums}
+use Rattle.mdb_follow.specs.Tables.{ArrivesAnywhere, EachArrives}
+use Rattle.mdb_follow.specs.Offences.{IsOffence, NoStep, rule_of}
+use Rattle.mdb_follow.specs.FirstOffences.{HasOffence}
 use Rattle.mdb_follow.specs.Report.{AreAccounts, IsReport, report_of}
 use Rattle.mdb_follow.specs.declared.account.Account.{Account}
-use Rattle.mdb_follow.specs.Runs.{AllSums, IsReached, Run, States}
-use Rattle.mdb_follow.specs.Arrivals.{Arrives, EachArrives}
+use Rattle.mdb_follow.specs.Runs.{AllSums, IsReached, Run}
+use Rattle.mdb_follow.specs.Arrivals.{Arrives}
+use Rattle.mdb_follow.specs.Cells.{IsCell, slot_account}
 use Rattle.mdb_follow.specs.Machines.{machine_of}
-use Rattle.mdb_follow.specs.Offences.{NoStep, act_fault, rule_of}
 use Rattle.mdb_follow.specs.Sides.{AreSides}
 use Rattle.mdb_follow.specs.Silences.{asks_of}
 use Rattle.mdb_follow.specs.inner.SideSteps.{AreStanding, SidesStay}
-use Rattle.mdb_follow.specs.SilencesKept.{StandsForAsks, silence_in}
-use Rattle.mdb_follow.specs.SilenceSteps.{SilencesFollow}
 use Rattle.mdb_follow.proofs.Accounts.{listed, slot-below}
 use Rattle.mdb_follow.proofs.Asks.{asks-go-on, asks-stay}
 use Rattle.mdb_follow.proofs.Machines.{with_one, with_one-same}
@@ -88,12 +83,6 @@ pub on-true : (b : Bool) (P Q : Type 0) → (P → Q) → OnTrue b P → OnTrue 
 on-true true P Q weaker h = weaker h
 on-true false P Q weaker h = tt
 
-pub on-false-some : {T : Type 0} (b : Bool) (o : Option T) (P Q : T → Type 0)
-    → ((x : T) → P x → Q x) → OnFalse b (IsSomeAnd o P) → OnFalse b (IsSomeAnd o Q)
-on-false-some true o P Q weaker h = tt
-on-false-some false (Some x) P Q weaker h = weaker x h
-on-false-some false None P Q weaker h = absurd h
-
 pub is-some-weaker : {T : Type 0} (o : Option T) (P Q : T → Type 0) → ((x : T) → P x → Q x)
     → IsSomeAnd o P → IsSomeAnd o Q
 is-some-weaker (Some x) P Q weaker h = weaker x h
@@ -106,42 +95,31 @@ by-some None P Q gives h = absurd h
 
 pub some-at : {T : Type 0} (o : Option T) (x : T) (P : T → Type 0) → o ≡ Some x → P x
     → IsSomeAnd o P
-some-at o x P is h = subst (λ o. IsSomeAnd o P) (sym is) h
+some-at o x P is h = rw is h
 
 pub of-some : {T : Type 0} (o : Option T) (x : T) (P : T → Type 0) → o ≡ Some x
     → IsSomeAnd o P → P x
-of-some o x P is h = subst (λ o. IsSomeAnd o P) is h
+of-some o x P is h = rw is at h
 
 pub if-err-is : {T E : Type 0} (r : Result T E) (e : E) (P : E → Type 0)
     → IsErrAnd r (λ x. x ≡ e) → P e → IfErr r P
 if-err-is (Ok x) e P is h = tt
-if-err-is (Err x) e P is h = subst P (sym is) h
+if-err-is (Err x) e P is h = rw is h
 
--- a follower has accepted the events that it stands for
-pub accepted : (follower : Follower) (events : List Event) → StandsFor follower events
-    → HasAccepted follower events
-accepted follower events on = record {
-  pieces = on.pieces;
-  act_list = record { in_order = on.on_bus.in_order; whole = on.whole };
-  rows = on.rows;
-  sides = on.sides;
-  silences = on.silences;
-  untimely = on.untimely;
-}
-
--- the act list of the events
-list-of : (follower : Follower) (events : List Event) (on : StandsFor follower events)
-    → IsActList (scope_of follower) on.pieces events
-list-of follower events on = record { in_order = on.on_bus.in_order; whole = on.whole }
+-- few counts are few where more are
+pub few-times : {counts before : Option Untimely} → counts ≡ before → (some more : ℕ)
+    → some ≤ more → ForSome before (AreFew some) → ForSome counts (AreFew more)
+few-times is some more less few counts at = few-more (few counts (sym is ∙ at))
+  where
+    few-more : AreFew some counts → AreFew more counts
+    few-more few = omega arith
 
 -- the act list of the events with one more
 pub list-on : (bus : Bus) (events : List Event) (row : Event) (pieces : List Piece)
     (act : Option Act) → events_of pieces ≡ events → (goes : GoesOn bus pieces row act)
     → IsActList (link.scope_of bus) goes.longer (events ++ row ∷ [])
-list-on bus events row pieces act whole goes = record {
-  in_order = goes.stands.in_order;
-  whole = goes.rows ∙ ap (λ rows. rows ++ row ∷ []) whole;
-}
+list-on bus events row pieces act whole goes =
+    record { in_order = goes.stands.in_order; whole = rw whole at goes.rows }
 
 -- the act that the bus tells is the one that ends with the row
 pub ended-by : (bus : Bus) (scope : Scope) (events : List Event) (row : Event)
@@ -152,125 +130,140 @@ ended-by bus scope events row pieces act in_order whole goes same_scope =
     record {
       newest = grown.newest;
       earlier = grown.earlier;
-      act_list = subst (λ s. IsActList s (grown.newest ∷ grown.earlier) (events ++ row ∷ []))
-          same_scope (subst (λ ps. IsActList (link.scope_of bus) ps (events ++ row ∷ []))
-          grown.are (list-on bus events row pieces act whole goes));
+      act_list = rw (same_scope, grown.are) at (list-on bus events row pieces act whole goes);
       begun = grown.begun;
       rows = grown.events;
       is = grown.ends;
       before = pieces;
       shorter = record { in_order = in_order; whole = whole };
-      acts = subst (λ ps. acts_of ps ≡ with_act act (acts_of pieces)) grown.are goes.acts;
+      acts = rw grown.are at goes.acts;
     }
 
--- each device's way of a run leads through the acts of an act list of its rows
-arrived : (scope : Scope) → OneActList scope
-    → (rows : List Event) (pieces : List Piece) (sums : AllSums)
-    → IsActList scope pieces rows → (run : Run scope rows sums)
-    → EachArrives scope.begins (acts_of pieces) run.states sums
-arrived scope one rows pieces sums list run =
-    subst (λ ps. EachArrives scope.begins (acts_of ps) run.states sums)
-    (one rows run.pieces pieces run.act_list list)
-    (split scope.begins run.loss run.pieces run.states sums run.way)
+-- What a follower stands for.
+module _ (follower : Follower) (events : List Event) where
+  -- the act list of the events
+  list-of : (on : StandsFor follower events) → IsActList (scope_of follower) on.pieces events
+  list-of on = record { in_order = on.on_bus.in_order; whole = on.whole }
 
--- a table has some way
-some-in : {State : Type 0} {code_of : State → ℕ} {machine : Machine State} {acts : List Act}
-    {entries : List (ℕ × Cell)} → IsTable code_of machine acts entries → SomeWay machine acts
-some-in table = record { state = table.some.0; sums = table.some.1; way = table.some.2 }
+  -- a follower has accepted the events that it stands for
+  pub accepted : StandsFor follower events → HasAccepted follower events
+  accepted on = record {
+    pieces = on.pieces;
+    act_list = list-of on;
+    rows = on.rows;
+    sides = on.sides;
+    silences = on.silences;
+    untimely = on.untimely;
+    on_bus = λ met noted late. on.on_bus;
+  }
 
--- the tables of a follower have some way of each device
-pub some-ways : (follower : Follower) (events : List Event) (has : HasAccepted follower events)
-    → SomeArrive (scope_of follower).begins (acts_of has.pieces)
-some-ways follower events has device = some-in (has.sides device).table
+  -- its tables have some way of each device
+  some-ways : (has : HasAccepted follower events)
+      → SomeArrive (scope_of follower).begins (acts_of has.pieces)
+  some-ways has device =
+      let some = (has.sides device).table.some in
+      record { state = some.0; sums = some.1; way = some.2 }
 
--- so its rows are reached
-accepted-reached : ((scope : Scope) → Joins scope) → (follower : Follower) (events : List Event)
-    → HasAccepted follower events → IsReached (scope_of follower) events
-accepted-reached joins follower events has =
-    let some = some-ways follower events has in (
-      (λ device. (some device).sums),
-      run_of (scope_of follower) (joins (scope_of follower)) events has.pieces
-          (λ device. (some device).state) (λ device. (some device).sums) has.act_list
-          (λ device. (some device).way),
-    )
+module _ (joins : (scope : Scope) → Joins scope) where
+  -- so its rows are reached
+  accepted-reached : (follower : Follower) (events : List Event)
+      → HasAccepted follower events → IsReached (scope_of follower) events
+  accepted-reached follower events has =
+      let some = some-ways follower events has in (
+        (λ device. (some device).sums),
+        run_of (scope_of follower) (joins (scope_of follower)) events has.pieces
+            (λ device. (some device).state) (λ device. (some device).sums) has.act_list
+            (λ device. (some device).way),
+      )
 
-pub reached-by : ((scope : Scope) → Joins scope) → (follower : Follower) (events : List Event)
-    → StandsFor follower events → IsReached (scope_of follower) events
-reached-by joins follower events on =
-    accepted-reached joins follower events (accepted follower events on)
+  pub reached-by : (follower : Follower) (events : List Event)
+      → StandsFor follower events → IsReached (scope_of follower) events
+  reached-by follower events on = accepted-reached follower events (accepted follower events on)
 
--- where a machine has no step by an act, no way of all leads over it
-stuck : (begins : Beginning) (rule : Rule) (act : Act) (before : List Act)
-    → NoStep begins rule act before → (states : States) (sums : AllSums)
-    → EachArrives begins (act ∷ before) states sums → ⊥
-stuck begins rule act before stops states sums ways =
-    let way = ways stops.device in
-    stops.none way.before way.sums_before way.way way.choice way.stands
-    (states stops.device) way.gains way.step
+  -- a row breaks a rule of the link
+  pub link-offence : (old : Follower) (events : List Event) (row : Event)
+      (on : StandsFor old events) (fault : LinkFault) (offence : Offence)
+      → IsLinkFault (scope_of old) on.pieces row fault.rule fault.blame
+      → (HasActList (scope_of old) (events_of on.pieces ++ row ∷ []) → ⊥)
+      → offence.row ≡ old.rows + 1 → offence.rule ≡ fault.rule → offence.blame ≡ fault.blame
+      → IsOffence (scope_of old) events row offence
+  link-offence old events row on fault offence is impossible number rule blame = record {
+    reached = reached-by old events on;
+    not_reached = λ reached. impossible (reached.1.pieces, rw on.whole reached.1.act_list);
+    number = number ∙ ap (λ n. n + 1) on.rows;
+    why = inl (record {
+      pieces = on.pieces;
+      act_list = list-of old events on;
+      fault = rw (rule, blame) is;
+    });
+  }
 
--- and rows with such acts aren't reached
-unreached : (scope : Scope) → OneActList scope → (rows : List Event) (pieces : List Piece)
-    → IsActList scope pieces rows
-    → ((states : States) (sums : AllSums) → EachArrives scope.begins (acts_of pieces) states sums
-    → ⊥) → IsReached scope rows → ⊥
-unreached scope one rows pieces list none reached =
-    none reached.1.states reached.0 (arrived scope one rows pieces reached.0 list reached.1)
+  -- a follower that stands for rows after others has taken them
+  pub taken-by : ((scope : Scope) (rows : List Event) → SalesFollowApprovals scope rows)
+      → (old new : Follower) (rows : List Event) → scope_of new ≡ scope_of old
+      → rows_of new ≡ rows_of old + length rows
+      → ((events : List Event) → StandsFor old events → StandsFor new (events ++ rows))
+      → HasTakenRows old new rows
+  taken-by sales old new rows same counted stands = record {
+    stands = stands;
+    reached = λ events on. rw same at (reached-by new (events ++ rows) (stands events on));
+    sales = λ events on. sales (scope_of old) (events ++ rows);
+    counted = counted;
+  }
 
--- sides that stand for acts stand for them in a recording that is taken in the same way, and so do
--- silences
-sides-as : (one other : Scope) (sides : Sides) (so_far : List Act) → other ≡ one
-    → AreSides one.begins sides so_far → AreSides other.begins sides so_far
-sides-as one other sides so_far same =
-    subst (λ (s : Scope). AreSides s.begins sides so_far) (sym same)
+-- a rule of a device isn't that of what isn't followed
+no-device-is-beyond : (device : Device) → rule_of device ≡ rules.Profile → ⊥
+no-device-is-beyond devices.Changer is = cc
+no-device-is-beyond devices.Bill is = cc
+no-device-is-beyond (devices.Reader unit) is = cc
 
-asks-as : (one other : Scope) (device : Device) (silence : Silence) (pieces : List Piece)
-    → other ≡ one → StandsForAsks silence (asks_of one.begins device pieces)
-    → StandsForAsks silence (asks_of other.begins device pieces)
-asks-as one other device silence pieces same =
-    subst (λ (s : Scope). StandsForAsks silence (asks_of s.begins device pieces)) (sym same)
-
-no-device-is-beyond : {T : Type 0} (device : Device) → rule_of device ≡ rules.Profile → T
-no-device-is-beyond devices.Changer is = absurd (cc is)
-no-device-is-beyond devices.Bill is = absurd (cc is)
-no-device-is-beyond (devices.Reader unit) is = absurd (cc is)
-
--- sides of a follower that stands for events stand for acts
-standing-for : {follower : Follower} {events : List Event} → StandsFor follower events
-    → AreStanding follower.sides
-standing-for {follower} on = record {
-  begins = (scope_of follower).begins;
-  acts = acts_of on.pieces;
-  stand = on.sides;
-}
-
--- A rule of a device isn't that of what isn't followed, nor is the one that counts in haste.
+-- nor is the one that counts in haste
 pub none-beyond : {T : Type 0} (old : Follower) (act : Act) (row : Event) (new : Follower)
     (offence : Offence) → HasStopped old act row new offence → offence.rule ≡ rules.Profile → T
 none-beyond old act row new offence has beyond = elim has.either [
-  | inl own ↦ no-device-is-beyond has.none.0 (sym has.none.1.rule ∙ (sym own ∙ beyond))
+  | inl own ↦ absurd (no-device-is-beyond has.none.0 (sym has.none.1.rule ∙ sym own ∙ beyond))
   | inr early ↦ absurd (let clash : rules.Early ≡ rules.Profile = sym early ∙ beyond in cc clash)
 ]
+
+-- nor is it that of a word that comes too late
+no-device-is-late : {T : Type 0} (device : Device) → is_late (rule_of device) ≡ true → T
+no-device-is-late devices.Changer is = absurd (cc is)
+no-device-is-late devices.Bill is = absurd (cc is)
+no-device-is-late (devices.Reader unit) is = absurd (cc is)
+
+pub none-late : {T : Type 0} (old : Follower) (act : Act) (row : Event) (new : Follower)
+    (offence : Offence) → HasStopped old act row new offence → (met : Offence)
+    → new.offence ≡ Some met → is_late met.rule ≡ true → T
+none-late old act row new offence has met noted late =
+    let same : Some offence ≡ Some met = sym has.noted ∙ noted in
+    let one : offence ≡ met = cc same in
+    let is : is_late offence.rule ≡ true = ap (λ (o : Offence). is_late o.rule) one ∙ late in
+    elim has.either [
+      | inl own ↦ no-device-is-late has.none.0 (ap is_late (sym has.none.1.rule ∙ sym own) ∙ is)
+      | inr early ↦ absurd (let clash : is_late rules.Early ≡ true = ap is_late (sym early) ∙ is
+          in cc clash)
+    ]
 
 -- A follower that has stopped has accepted still what it stood for.
 pub accepted-still : (old new : Follower) (events : List Event) → StandsFor old events
     → scope_of new ≡ scope_of old → new.rows ≡ old.rows → SidesStay old.sides new.sides
-    → new.silences ≡ old.silences → new.untimely ≡ old.untimely → HasAccepted new events
-accepted-still old new events on same_scope same_rows stay same_silences same_untimely =
-    let begins : Beginning = (scope_of old).begins in
+    → new.silences ≡ old.silences → new.untimely ≡ old.untimely
+    → ((met : Offence) → new.offence ≡ Some met → is_late met.rule ≡ true → new.bus ≡ old.bus)
+    → HasAccepted new events
+accepted-still old new events on same_scope same_rows stay same_silences same_untimely same_bus =
+    let begins = (scope_of old).begins in
+    let standing : AreStanding old.sides =
+    record { begins = begins; acts = acts_of on.pieces; stand = on.sides } in
     record {
       pieces = on.pieces;
-      act_list = subst (λ s. IsActList s on.pieces events) (sym same_scope)
-          (list-of old events on);
+      act_list = rw same_scope (list-of old events on);
       rows = same_rows ∙ on.rows;
-      sides = sides-as (scope_of old) (scope_of new) new.sides (acts_of on.pieces) same_scope
-          (by-stay (λ sides. AreSides begins sides (acts_of on.pieces)) old.sides new.sides
-          ∣ standing-for on ∣₁ stay on.sides);
-      silences = λ device. asks-as (scope_of old) (scope_of new) device
-          (silence_in new.silences device) on.pieces same_scope
-          (subst (λ silences. StandsForAsks (silence_in silences device)
-          (asks_of begins device on.pieces)) (sym same_silences) (on.silences device));
-      untimely = same_untimely ∙ on.untimely
-          ∙ ap (λ scope. times_of scope on.pieces) (sym same_scope);
+      sides = rw same_scope (by-stay (λ sides. AreSides begins sides (acts_of on.pieces)) old.sides
+          new.sides ∣ standing ∣₁ stay on.sides);
+      silences = rw (same_scope, same_silences) on.silences;
+      untimely = rw same_scope (same_untimely ∙ on.untimely);
+      on_bus = λ met noted late. subst (λ b. link.StandsFor b on.pieces)
+          (sym (same_bus met noted late)) on.on_bus;
     }
 
 -- rows out of their time are counted as the profile has it
@@ -279,73 +272,6 @@ counted-one : (profile : Profile) (sender : Option Blame) (counts : Untimely)
     ≡ counted_for profile (with_sender sender counts)
 counted-one Base sender counts = refl
 counted-one Extended sender counts = refl
-
--- few counts are few where more are, and one row more adds one at most
-few-more : (counts : Untimely) (some more : ℕ) → some ≤ more → AreFew some counts
-    → AreFew more counts
-few-more counts some more less few = record {
-  controller = omega (arith, few.controller);
-  changer = omega (arith, few.changer);
-  bill = omega (arith, few.bill);
-  cashless = omega (arith, few.cashless);
-  cashless2 = omega (arith, few.cashless2);
-}
-
-pub few-times : {counts before : Option Untimely} → counts ≡ before → (some more : ℕ)
-    → some ≤ more → ForSome before (AreFew some) → ForSome counts (AreFew more)
-few-times is some more less few counts at =
-    few-more counts some more less (few counts (sym is ∙ at))
-
-few-sender : (sender : Option Blame) (counts : Untimely) (rows : ℕ) → AreFew rows counts
-    → AreFew (rows + 1) (with_sender sender counts)
-few-sender None counts rows few = few-more counts rows (rows + 1) (omega arith) few
-few-sender (Some blames.Controller) counts rows few = record {
-  controller = omega (arith, few.controller);
-  changer = omega (arith, few.changer);
-  bill = omega (arith, few.bill);
-  cashless = omega (arith, few.cashless);
-  cashless2 = omega (arith, few.cashless2);
-}
-few-sender (Some blames.Changer) counts rows few = record {
-  controller = omega (arith, few.controller);
-  changer = omega (arith, few.changer);
-  bill = omega (arith, few.bill);
-  cashless = omega (arith, few.cashless);
-  cashless2 = omega (arith, few.cashless2);
-}
-few-sender (Some blames.Bill) counts rows few = record {
-  controller = omega (arith, few.controller);
-  changer = omega (arith, few.changer);
-  bill = omega (arith, few.bill);
-  cashless = omega (arith, few.cashless);
-  cashless2 = omega (arith, few.cashless2);
-}
-few-sender (Some blames.Cashless) counts rows few = record {
-  controller = omega (arith, few.controller);
-  changer = omega (arith, few.changer);
-  bill = omega (arith, few.bill);
-  cashless = omega (arith, few.cashless);
-  cashless2 = omega (arith, few.cashless2);
-}
-few-sender (Some blames.Cashless2) counts rows few = record {
-  controller = omega (arith, few.controller);
-  changer = omega (arith, few.changer);
-  bill = omega (arith, few.bill);
-  cashless = omega (arith, few.cashless);
-  cashless2 = omega (arith, few.cashless2);
-}
-few-sender (Some blames.Other) counts rows few =
-    few-more counts rows (rows + 1) (omega arith) few
-
-pub few-next : {counts : Option Untimely} (before : Option Untimely) (sender : Option Blame)
-    (rows : ℕ) → counts ≡ counted_with sender before → ForSome before (AreFew rows)
-    → ForSome counts (AreFew (rows + 1))
-few-next None sender rows is few counts at =
-    let clash : None ≡ Some counts = sym is ∙ at in cc
-few-next (Some before) sender rows is few counts at =
-    let both : Some (with_sender sender before) ≡ Some counts = sym is ∙ at in
-    let same : with_sender sender before ≡ counts = cc in
-    subst (AreFew (rows + 1)) same (few-sender sender before rows (few before refl))
 
 -- What is counted of the times of a row more, where its sender was told.
 pub times-on : (old new : Scope) (pieces : List Piece) (row : Event) (bus : Bus)
@@ -357,13 +283,9 @@ pub times-on : (old new : Scope) (pieces : List Piece) (row : Event) (bus : Bus)
 times-on old new pieces row bus act goes before counts sender same_bus same_new was told counted =
     let profile = profile_of old.begins in
     let as_told = untimely_sender old pieces row in
-    counted ∙ (told ∙ (ap (counted_with as_told) was
-    ∙ (counted-one profile as_told (untimely_of old pieces)
-    ∙ (ap (counted_for profile)
-    (sym (subst (λ s. untimely_of s goes.longer
-    ≡ with_sender (untimely_sender s pieces row) (untimely_of s pieces)) same_bus
-    goes.untimely))
-    ∙ ap (λ s. times_of s goes.longer) (sym same_new)))))
+    rw same_new (counted ∙ told ∙ ap (counted_with as_told) was
+    ∙ counted-one profile as_told (untimely_of old pieces)
+    ∙ ap (counted_for profile) (sym (rw same_bus at goes.untimely)))
 
 -- no act ended
 pub stands-still : (old new : Follower) (bus : Bus) (events : List Event) (row : Event)
@@ -372,23 +294,19 @@ pub stands-still : (old new : Follower) (bus : Bus) (events : List Event) (row :
     → new.rows ≡ old.rows + 1 → new.offence ≡ old.offence
     → new.untimely ≡ times_of (scope_of new) goes.longer → StandsFor new (events ++ row ∷ [])
 stands-still old new bus events row on goes same_bus same_scope same_sides same_silences more
-    same times =
-    let begins : Beginning = (scope_of old).begins in
-    record {
+    same times = record {
       pieces = goes.longer;
-      on_bus = subst (λ b. link.StandsFor b goes.longer) (sym same_bus) goes.stands;
-      whole = goes.rows ∙ ap (λ rows. rows ++ row ∷ []) on.whole;
+      on_bus = rw same_bus goes.stands;
+      whole = rw on.whole at goes.rows;
       rows = more ∙ ap (λ n. n + 1) on.rows ∙ sym (length-append events (row ∷ []));
       going = same ∙ on.going;
-      sides = sides-as (scope_of old) (scope_of new) new.sides (acts_of goes.longer) same_scope
-          (subst (AreSides begins new.sides) (sym goes.acts)
-          (subst (λ sides. AreSides begins sides (acts_of on.pieces)) (sym same_sides) on.sides));
-      silences = λ device. asks-as (scope_of old) (scope_of new) device
-          (silence_in new.silences device) goes.longer same_scope
-          (subst (StandsForAsks (silence_in new.silences device))
-          (sym (asks-stay begins device on.pieces row goes.longer goes.grown))
-          (subst (λ silences. StandsForAsks (silence_in silences device)
-          (asks_of begins device on.pieces)) (sym same_silences) (on.silences device)));
+      sides = rw (same_scope, goes.acts, same_sides) on.sides;
+      silences = λ device. rw (
+        same_scope,
+        same_silences,
+        asks-stay (scope_of old).begins device on.pieces row goes.longer goes.grown,
+      )
+          (on.silences device);
       untimely = times;
     }
 
@@ -405,122 +323,51 @@ stands-on old mid new events row act on goes old_scope same_sides same_silences 
     has counts few times =
     let begins : Beginning = (scope_of old).begins in
     let same_scope : scope_of new ≡ scope_of old = ap link.scope_of has.on_bus ∙ old_scope in
-    let sides : AreSides begins new.sides (act ∷ acts_of on.pieces) =
-    λ device. (has.sides device).stands begins (acts_of on.pieces)
-    (subst (λ sides. AreSides begins sides (acts_of on.pieces)) (sym same_sides) on.sides device)
-    in
-    let first = new.sides.first_reader.facts in
-    let second = new.sides.second_reader.facts in
-    let follows : SilencesFollow mid.silences act (start_of row) first second new.silences =
-    has.silences in
+    let sides : AreSides begins new.sides (act ∷ acts_of on.pieces) = λ device.
+    (has.sides device).stands begins (acts_of on.pieces) (rw same_sides (on.sides device)) in
     record {
       pieces = goes.longer;
-      on_bus = subst (λ b. link.StandsFor b goes.longer) (sym has.on_bus) goes.stands;
-      whole = goes.rows ∙ ap (λ rows. rows ++ row ∷ []) on.whole;
+      on_bus = rw has.on_bus goes.stands;
+      whole = rw on.whole at goes.rows;
       rows = has.rows ∙ ap (λ n. n + 1) (same_rows ∙ on.rows)
           ∙ sym (length-append events (row ∷ []));
       going = has.going ∙ same ∙ on.going;
-      sides = sides-as (scope_of old) (scope_of new) new.sides (acts_of goes.longer) same_scope
-          (subst (AreSides begins new.sides) (sym goes.acts) sides);
-      silences = λ device. asks-as (scope_of old) (scope_of new) device
-          (silence_in new.silences device) goes.longer same_scope
-          (subst (StandsForAsks (silence_in new.silences device))
-          (asks-go-on begins device on.pieces row act goes.longer first second goes.grown
-          (sides (devices.Reader First)).facts (sides (devices.Reader Second)).facts)
-          ((follows device).stands (asks_of begins device on.pieces)
-          (subst (λ silences. StandsForAsks (silence_in silences device)
-          (asks_of begins device on.pieces)) (sym same_silences) (on.silences device))));
+      sides = rw (same_scope, goes.acts) sides;
+      silences = λ device. rw (
+        same_scope,
+        ← (asks-go-on begins device on.pieces row act goes.longer
+            new.sides.first_reader.facts new.sides.second_reader.facts goes.grown
+            (sides (devices.Reader First)).facts (sides (devices.Reader Second)).facts),
+      )
+          ((has.silences device).stands (asks_of begins device on.pieces)
+          (rw same_silences (on.silences device)));
       untimely = times;
     }
-
--- a row breaks a rule of the link
-pub link-offence : ((scope : Scope) → Joins scope)
-    → (old : Follower) (events : List Event) (row : Event)
-    (on : StandsFor old events) (fault : LinkFault) (offence : Offence)
-    → IsLinkFault (scope_of old) on.pieces row fault.rule fault.blame
-    → (HasActList (scope_of old) (events_of on.pieces ++ row ∷ []) → ⊥) → offence.row ≡ old.rows + 1
-    → offence.rule ≡ fault.rule → offence.blame ≡ fault.blame
-    → IsOffence (scope_of old) events row offence
-link-offence joins old events row on fault offence is impossible number rule blame = record {
-  reached = reached-by joins old events on;
-  not_reached = λ reached. impossible (
-    reached.1.pieces,
-    record {
-      in_order = reached.1.act_list.in_order;
-      whole = reached.1.act_list.whole ∙ ap (λ rows. rows ++ row ∷ []) (sym on.whole);
-    },
-  );
-  number = number ∙ ap (λ n. n + 1) on.rows;
-  why = inl (record {
-    pieces = on.pieces;
-    act_list = list-of old events on;
-    fault = subst (λ r. IsLinkFault (scope_of old) on.pieces row r offence.blame) (sym rule)
-        (subst (λ b. IsLinkFault (scope_of old) on.pieces row fault.rule b) (sym blame) is);
-  });
-}
 
 -- a piece that is an act is a whole one
 pub whole-piece : (piece : Piece) (act : Act) (events : List Event) → act_in piece ≡ Some act
     → piece_events piece ≡ events → piece ≡ Whole act events
-whole-piece (Whole other rows) act events ends same =
-    let is : other ≡ act = cc ends in ap (λ a. Whole a rows) is ∙ ap (Whole act) same
-whole-piece (AskTail bytes rows) act events ends same = absurd (cc ends)
-whole-piece (ReplyTail command bytes rows) act events ends same = absurd (cc ends)
-whole-piece (RepeatTail command reply words rows) act events ends same = absurd (cc ends)
+whole-piece (Whole other rows) act events ends same = cc
+whole-piece piece act events ends same = absurd (cc)
 
--- the acts after the same act
-last-alike : (act : Act) (acts more : List Act) → act ∷ acts ≡ act ∷ more → acts ≡ more
-last-alike act acts more same = cc same
+-- Ways and runs of rows with one act list.
+module _ (scope : Scope) (one : OneActList scope) where
+  -- each device's way of a run leads through the acts of an act list of its rows
+  arrived : (rows : List Event) (pieces : List Piece) (sums : AllSums)
+      → IsActList scope pieces rows → (run : Run scope rows sums)
+      → EachArrives scope.begins (acts_of pieces) run.states sums
+  arrived rows pieces sums list run = rw (one rows run.pieces pieces run.act_list list) at
+      (split scope.begins run.loss run.pieces run.states sums run.way)
 
--- a machine has no step by an act
-pub machine-offence : ((scope : Scope) → OneActList scope) → ((scope : Scope) → Joins scope)
-    → (old mid new : Follower) (events : List Event)
-    (row : Event) (act : Act) (offence : Offence) (on : StandsFor old events)
-    → GoesOn mid.bus on.pieces row (Some act) → link.scope_of mid.bus ≡ scope_of old
-    → mid.sides ≡ old.sides → mid.rows ≡ old.rows
-    → HasStopped mid act row new offence → IsOffence (scope_of old) events row offence
-machine-offence one joins old mid new events row act offence on goes same_scope same_sides
-    same_rows has =
-    let scope : Scope = scope_of old in
-    let list : IsActList scope goes.longer (events ++ row ∷ []) =
-    subst (λ s. IsActList s goes.longer (events ++ row ∷ [])) same_scope
-    (list-on mid.bus events row on.pieces (Some act) on.whole goes) in
-    let none : NoStep scope.begins has.own act (acts_of on.pieces) = record {
-      device = has.none.0;
-      rule = has.none.1.rule;
-      none = has.none.1.none scope.begins (acts_of on.pieces)
-          (subst (λ sides. AreSides scope.begins sides (acts_of on.pieces))
-          (sym same_sides) on.sides
-          has.none.0);
-    } in
-    let grown = goes.grown in
-    let are : goes.longer ≡ Whole act (grown.begun ++ row ∷ []) ∷ grown.earlier =
-    grown.are ∙ ap (λ p. p ∷ grown.earlier) (whole-piece grown.newest act
-    (grown.begun ++ row ∷ []) grown.ends grown.events) in
-    let fault : record { rule = offence.rule; blame = offence.blame }
-    ≡ act_fault scope (Whole act (grown.begun ++ row ∷ []) ∷ grown.earlier) row act has.own =
-    has.counts goes.longer goes.stands
-    ∙ (ap (λ s. act_fault s goes.longer row act has.own) same_scope
-    ∙ ap (λ ps. act_fault scope ps row act has.own) are) in
-    let same : acts_of on.pieces ≡ acts_of grown.earlier = last-alike act (acts_of on.pieces)
-    (acts_of grown.earlier) (sym goes.acts ∙ ap acts_of are) in
-    record {
-      reached = reached-by joins old events on;
-      not_reached = unreached scope (one scope) (events ++ row ∷ []) goes.longer list
-          (λ states sums ways. stuck scope.begins has.own act (acts_of on.pieces) none states
-          sums (subst (λ acts. EachArrives scope.begins acts states sums) goes.acts ways));
-      number = has.number ∙ ap (λ n. n + 1) (same_rows ∙ on.rows);
-      why = inr (record {
-        act = act;
-        begun = grown.begun;
-        earlier = grown.earlier;
-        act_list = subst (λ ps. IsActList scope ps (events ++ row ∷ [])) are list;
-        own = has.own;
-        no_step = subst (NoStep scope.begins has.own act) same none;
-        counts = ap (λ (f : LinkFault). f.rule) fault;
-        blame = ap (λ (f : LinkFault). f.blame) fault;
-      });
-    }
+  -- where a machine has no step by the newest act, the rows aren't reached
+  unreached : {own : Rule} {act : Act} {before : List Act} (rows : List Event)
+      (pieces : List Piece) → IsActList scope pieces rows → acts_of pieces ≡ act ∷ before
+      → NoStep scope.begins own act before → IsReached scope rows → ⊥
+  unreached rows pieces list are stops reached =
+      let ways = rw are at (arrived rows pieces reached.0 list reached.1) in
+      let way = ways stops.device in
+      stops.none way.before way.sums_before way.way way.choice way.stands
+      (reached.1.states stops.device) way.gains way.step
 
 -- The sums of a device, where a run of a kind has them, and where its ways come to them: the same
 -- ones.
@@ -529,69 +376,39 @@ pub record AreOf (Runs : AllSums → Type 0) (Kind : Sums → Type 0) (of : AllS
   pub lift : (sums : Sums) → Kind sums → (all : AllSums) × (of all ≡ sums) × Runs all
   pub lower : (all : AllSums) → Runs all → Kind (of all)
 
--- then their ranges are those of the runs
-range-of-runs : (Runs : AllSums → Type 0) (Kind : Sums → Type 0) (of : AllSums → Sums)
-    → AreOf Runs Kind of → (value : Sums → ℤ) (range : Range) → IsRange Kind value range
-    → IsRange Runs (λ sums. value (of sums)) range
-range-of-runs Runs Kind of are value range is =
-    let least = are.lift is.least.0 is.least.1 in
-    let greatest = are.lift is.greatest.0 is.greatest.1 in
-    record {
-      least = (least.0, least.2, ap value least.1 ∙ is.least.2);
-      greatest = (greatest.0, greatest.2, ap value greatest.1 ∙ is.greatest.2);
-      low = λ all run. is.low (of all) (are.lower all run);
-      high = λ all run. is.high (of all) (are.lower all run);
-    }
-
--- and so are the three ranges of an account
-account-of-runs : (Runs : AllSums → Type 0) (Kind : Sums → Type 0) (of : AllSums → Sums)
-    → AreOf Runs Kind of → (account : Sums → AccountSums) (ranges : Account)
-    → IsAccount Kind account ranges → IsAccount Runs (λ sums. account (of sums)) ranges
-account-of-runs Runs Kind of are account ranges is = record {
-  device = range-of-runs Runs Kind of are (λ sums. pos (account sums).device) ranges.device
-      is.device;
-  controller = range-of-runs Runs Kind of are (λ sums. pos (account sums).controller)
-      ranges.controller is.controller;
-  difference = range-of-runs Runs Kind of are
-      (λ sums. pos (account sums).device -ℤ pos (account sums).controller) ranges.difference
-      is.difference;
-}
-
--- A way of one device is one of all, beside some way of each other device.
-device-is : (scope : Scope) → OneActList scope → Joins scope
-    → (rows : List Event) (pieces : List Piece)
-    → IsActList scope pieces rows → SomeArrive scope.begins (acts_of pieces) → (device : Device)
-    → AreOf (Run scope rows)
-    (ArrivesAnywhere (Arrives (machine_of scope.begins device) (acts_of pieces)))
-    (λ sums. sums device)
-device-is scope one joins rows pieces list some device = record {
-  lift = λ sums at.
-      let its : SomeWay (machine_of scope.begins device) (acts_of pieces) =
-      record { state = at.state; sums = sums; way = at.way } in
-      let all : SomeArrive scope.begins (acts_of pieces) =
-      with_one (λ d. SomeWay (machine_of scope.begins d) (acts_of pieces)) device its some in (
-        (λ d. (all d).sums),
-        ap (λ way. way.sums)
-            (with_one-same (λ d. SomeWay (machine_of scope.begins d) (acts_of pieces)) device its
-            some),
-        run_of scope joins rows pieces (λ d. (all d).state) (λ d. (all d).sums) list
-            (λ d. (all d).way),
-      );
-  lower = λ all run. record {
-    state = run.states device;
-    way = arrived scope one rows pieces all list run device;
-  };
-}
-
 -- a cell has the ranges of the sums that a device has in runs
 abbrev pub IsCellOf : (AllSums → Type 0) → (AllSums → Sums) → Cell → Type 0
 IsCellOf Runs of cell =
     (slot : ℕ) → slot < SLOTS → IsAccount Runs (λ sums. of sums slot) (slot_account cell slot)
 
-pub cell-of-runs : (Runs : AllSums → Type 0) (Kind : Sums → Type 0) (of : AllSums → Sums)
-    → AreOf Runs Kind of → (cell : Cell) → IsCell Kind cell → IsCellOf Runs of cell
-cell-of-runs Runs Kind of are cell is slot below =
-    account-of-runs Runs Kind of are (λ sums. sums slot) (slot_account cell slot) (is slot below)
+module _ (Runs : AllSums → Type 0) (Kind : Sums → Type 0) (of : AllSums → Sums)
+    (are : AreOf Runs Kind of) where
+  -- then their ranges are those of the runs
+  range-of-runs : (value : Sums → ℤ) (range : Range) → IsRange Kind value range
+      → IsRange Runs (λ sums. value (of sums)) range
+  range-of-runs value range is =
+      let least = are.lift is.least.0 is.least.1 in
+      let greatest = are.lift is.greatest.0 is.greatest.1 in
+      record {
+        least = (least.0, least.2, ap value least.1 ∙ is.least.2);
+        greatest = (greatest.0, greatest.2, ap value greatest.1 ∙ is.greatest.2);
+        low = λ all run. is.low (of all) (are.lower all run);
+        high = λ all run. is.high (of all) (are.lower all run);
+      }
+
+  -- and so are the three ranges of each account of a cell
+  pub cell-of-runs : (cell : Cell) → IsCell Kind cell → IsCellOf Runs of cell
+  cell-of-runs cell is slot below =
+      let ranges = slot_account cell slot in
+      let its = is slot below in
+      record {
+        device = range-of-runs (λ sums. pos (sums slot).device) ranges.device its.device;
+        controller = range-of-runs (λ sums. pos (sums slot).controller) ranges.controller
+            its.controller;
+        difference = range-of-runs
+            (λ sums. pos (sums slot).device -ℤ pos (sums slot).controller) ranges.difference
+            its.difference;
+      }
 
 -- so the accounts are those of the runs
 pub accounts-of-cells : (Runs : AllSums → Type 0) (cells : Device → Cell)
@@ -606,49 +423,95 @@ pub accounts-within : (limit : ℕ) (cells : Device → Cell) (accounts : List A
     → ((device : Device) → IsCellWithin limit (cells device)) → (account : AccountName)
     → IsAccountWithin limit (account_in account accounts)
 accounts-within limit cells accounts are fits account =
-    subst (IsAccountWithin limit)
-    (sym (ap (account_in account) are ∙ listed (account_by cells) account))
+    rw (are, listed (account_by cells) account)
     (fits (account_device account) (account_slot account) (slot-below account))
 
--- what a follower reports of the rows that it has accepted
-pub reported : ((scope : Scope) → OneActList scope) → ((scope : Scope) → Joins scope)
-    → (follower : Follower) (events : List Event)
-    (report : Report) (cells : Device → Cell) (has : HasAccepted follower events)
-    → ((device : Device)
-    → IsCell (ArrivesAnywhere (Arrives (machine_of (scope_of follower).begins device)
-    (acts_of has.pieces))) (cells device))
-    → report ≡ report_of (scope_of follower) follower.rows has.pieces (account_by cells)
-    → IsReport (scope_of follower) events report
-reported one joins follower events report cells has are telling =
-    let scope : Scope = scope_of follower in
-    let some = some-ways follower events has in
+-- A way of one device is one of all, beside some way of each other device.
+device-is : (scope : Scope) → OneActList scope → Joins scope
+    → (rows : List Event) (pieces : List Piece)
+    → IsActList scope pieces rows → SomeArrive scope.begins (acts_of pieces) → (device : Device)
+    → AreOf (Run scope rows)
+    (ArrivesAnywhere (Arrives (machine_of scope.begins device) (acts_of pieces)))
+    (λ sums. sums device)
+device-is scope one joins rows pieces list some device =
+    let Some_way : Device → Type 0 = λ d. SomeWay (machine_of scope.begins d) (acts_of pieces) in
     record {
-      reached = accepted-reached joins follower events has;
-      pieces = has.pieces;
-      act_list = has.act_list;
-      accounts = account_by cells;
-      of_runs = accounts-of-cells (Run scope events) cells (λ device.
-          cell-of-runs (Run scope events) _ _
-          (device-is scope (one scope) (joins scope) events has.pieces has.act_list some device)
-          (cells device) (are device));
-      telling = telling
-          ∙ ap (λ rows. report_of scope rows has.pieces (account_by cells)) has.rows;
+      lift = λ sums at.
+          let its : Some_way device = record { state = at.state; sums = sums; way = at.way } in
+          let all = with_one Some_way device its some in (
+            (λ d. (all d).sums),
+            ap (λ way. way.sums) (with_one-same Some_way device its some),
+            run_of scope joins rows pieces (λ d. (all d).state) (λ d. (all d).sums) list
+                (λ d. (all d).way),
+          );
+      lower = λ all run. record {
+        state = run.states device;
+        way = arrived scope one rows pieces all list run device;
+      };
     }
 
--- a follower that stands for rows after others has taken them
-pub taken-by : ((scope : Scope) → Joins scope)
-    → ((scope : Scope) (rows : List Event) → SalesFollowApprovals scope rows)
-    → (old new : Follower) (rows : List Event) → scope_of new ≡ scope_of old
-    → rows_of new ≡ rows_of old + length rows
-    → ((events : List Event) → StandsFor old events → StandsFor new (events ++ rows))
-    → HasTakenRows old new rows
-taken-by joins sales old new rows same counted stands = record {
-  stands = stands;
-  reached = λ events on. subst (λ s. IsReached s (events ++ rows)) same
-      (reached-by joins new (events ++ rows) (stands events on));
-  sales = λ events on. sales (scope_of old) (events ++ rows);
-  counted = counted;
-}
+module _ (one : (scope : Scope) → OneActList scope) (joins : (scope : Scope) → Joins scope) where
+  -- a machine has no step by an act
+  pub machine-offence : (old mid new : Follower) (events : List Event) (row : Event) (act : Act)
+      (offence : Offence) (on : StandsFor old events)
+      → GoesOn mid.bus on.pieces row (Some act) → link.scope_of mid.bus ≡ scope_of old
+      → mid.sides ≡ old.sides → mid.rows ≡ old.rows
+      → HasStopped mid act row new offence → IsOffence (scope_of old) events row offence
+  machine-offence old mid new events row act offence on goes same_scope same_sides same_rows has =
+      let scope : Scope = scope_of old in
+      let list : IsActList scope goes.longer (events ++ row ∷ []) =
+      rw same_scope at (list-on mid.bus events row on.pieces (Some act) on.whole goes) in
+      let none : NoStep scope.begins has.own act (acts_of on.pieces) = record {
+        device = has.none.0;
+        rule = has.none.1.rule;
+        none = has.none.1.none scope.begins (acts_of on.pieces)
+            (rw same_sides (on.sides has.none.0));
+      } in
+      let grown = goes.grown in
+      let are : goes.longer ≡ Whole act (grown.begun ++ row ∷ []) ∷ grown.earlier =
+      grown.are ∙ ap (λ p. p ∷ grown.earlier) (whole-piece grown.newest act
+      (grown.begun ++ row ∷ []) grown.ends grown.events) in
+      let fault = rw (same_scope, are) at (has.counts goes.longer goes.stands) in
+      let same : acts_of on.pieces ≡ acts_of grown.earlier =
+      cc (sym goes.acts ∙ ap acts_of are) in
+      record {
+        reached = reached-by joins old events on;
+        not_reached = unreached scope (one scope) (events ++ row ∷ []) goes.longer list goes.acts
+            none;
+        number = has.number ∙ ap (λ n. n + 1) (same_rows ∙ on.rows);
+        why = inr (record {
+          act = act;
+          begun = grown.begun;
+          earlier = grown.earlier;
+          act_list = rw are at list;
+          own = has.own;
+          no_step = rw same at none;
+          counts = ap (λ (f : LinkFault). f.rule) fault;
+          blame = ap (λ (f : LinkFault). f.blame) fault;
+        });
+      }
+
+  -- what a follower reports of the rows that it has accepted
+  pub reported : (follower : Follower) (events : List Event) (report : Report)
+      (cells : Device → Cell) (has : HasAccepted follower events)
+      → ((device : Device)
+      → IsCell (ArrivesAnywhere (Arrives (machine_of (scope_of follower).begins device)
+      (acts_of has.pieces))) (cells device))
+      → report ≡ report_of (scope_of follower) follower.rows has.pieces (account_by cells)
+      → IsReport (scope_of follower) events report
+  reported follower events report cells has are telling =
+      let scope : Scope = scope_of follower in
+      record {
+        reached = accepted-reached joins follower events has;
+        pieces = has.pieces;
+        act_list = has.act_list;
+        accounts = account_by cells;
+        of_runs = accounts-of-cells (Run scope events) cells (λ device.
+            cell-of-runs (Run scope events) _ _ (device-is scope (one scope) (joins scope) events
+            has.pieces has.act_list (some-ways follower events has) device) (cells device)
+            (are device));
+        telling = rw has.rows at telling;
+      }
 
 -- a follower has taken so many events, and met no offence
 pub record HasFed (old : Follower) (events : List Event) (count : ℕ) (new : Follower) : Type 0 where
@@ -663,9 +526,7 @@ pub fed-all : (old new : Follower) (events : List Event) (i : ℕ) → length ev
     → i ≤ length events → HasFed old (take i events) i new → HasFed old events (length events) new
 fed-all old new events i low high has =
     let all : i ≡ length events = omega arith in
-    let same : take i events ≡ events = take_all i events low in
-    subst (λ rows. HasFed old rows (length events) new) same
-    (subst (λ n. HasFed old (take i events) n new) all has)
+    rw (take_all (length events) events (omega arith)) at (rw all at has)
 
 -- one event more was taken
 pub fed-more : (old mid new : Follower) (events : List Event) (i : ℕ) (d : Event)
@@ -679,9 +540,7 @@ fed-more old mid new events i d within has more going same stands = record {
   going = going;
   scope = same ∙ has.scope;
   still = λ none. absurd (omega (arith, none));
-  stands = λ earlier on. subst (StandsFor new)
-      (append_assoc earlier (take i events) (get_or events i d ∷ [])
-      ∙ ap (λ rows. earlier ++ rows) (sym (take_more events i d within)))
+  stands = λ earlier on. rw (take_more events i d within, ← append_assoc)
       (stands (earlier ++ take i events) (has.stands earlier on));
 }
 
@@ -696,8 +555,7 @@ fed-refused old mid events earlier i d offence within has refused on = record {
   row = get_or events i d;
   rest = drop (i + 1) events;
   parts = rw add-one (split_at events i d within);
-  is = subst (λ s. IsOffence s (earlier ++ take i events) (get_or events i d) offence) has.scope
-      (refused (earlier ++ take i events) (has.stands earlier on));
+  is = rw has.scope at (refused (earlier ++ take i events) (has.stands earlier on));
 }
 
 -- and those before it were accepted
@@ -706,8 +564,7 @@ pub fed-accepted : (old mid new : Follower) (events earlier : List Event) (i : �
     → ((before : List Event) → StandsFor mid before → HasAccepted new before)
     → StandsFor old earlier → HasAccepted new (take new.rows (earlier ++ events))
 fed-accepted old mid new events earlier i has same accepts on =
-    let rows : new.rows ≡ length earlier + i =
-    same ∙ has.rows ∙ ap (λ n. n + i) on.rows in
-    subst (HasAccepted new)
-    (sym (take-append-add earlier events i) ∙ ap (λ n. take n (earlier ++ events)) (sym rows))
-    (accepts (earlier ++ take i events) (has.stands earlier on))
+    let rows : new.rows ≡ length earlier + i = same ∙ has.rows ∙ ap (λ n. n + i) on.rows in
+    subst (λ n. HasAccepted new (take n (earlier ++ events))) (sym rows)
+    (rw (take-append-add earlier events i)
+    (accepts (earlier ++ take i events) (has.stands earlier on)))

@@ -14,10 +14,11 @@ use Rattle.mdb_machine.specs.declared.choice.Choice.TheVariants.{Lost}
 use Rattle.mdb_machine.specs.declared.gains.Gains.{Gains}
 use Rattle.mdb_machine.specs.Machine.{Machine}
 use Rattle.mdb_machine.specs.Pair.{IsMachineOf}
-use Rattle.mdb_follow.specs.Arrivals.{EachArrives}
+use Rattle.mdb_follow.specs.Tables.{EachArrives}
 use Rattle.mdb_follow.specs.Sums.{Sums}
 use Rattle.mdb_follow.specs.Machines.{machine_of}
-use Rattle.mdb_follow.specs.Runs.{AllSums, Goes, HearSameAcks, IsWay, States}
+use Rattle.mdb_follow.specs.Runs.{AllSums, Goes, IsWay, States}
+use Rattle.mdb_follow.specs.SameAcks.{HearSameAcks}
 use Rattle.mdb_follow.specs.Choosing.{AllFollow, Choices, Follows, FollowsBy, choices_of}
 use Rattle.mdb_follow.proofs.Choosing.{arrives, chosen, follows_as, merged, merged_agrees}
 use Rattle.mdb_follow.proofs.Machines.{is_machine_of}

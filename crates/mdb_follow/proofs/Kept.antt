@@ -13,7 +13,7 @@ use Rattle.mdb_follow.specs.declared.silence.AskCounts.{AskCounts}
 use Rattle.mdb_follow.specs.declared.silence.Silence.{Silence}
 use Rattle.mdb_follow.specs.declared.silence.Silences.{Silences}
 use Rattle.mdb_follow.specs.declared.silence.Unanswered.TheVariants.{Nothing}
-use Rattle.mdb_follow.specs.Devices.{device_place}
+use Rattle.mdb_follow.specs.ReportedDevices.{device_place}
 use Rattle.mdb_follow.specs.Silences.{TimedAsk, each_count, no_counts}
 use Rattle.mdb_follow.specs.SilencesKept.{AreAtMost, silence_in}
 use Rattle.mdb_follow.specs.SilenceSteps.{AllGoOn, SilenceGoesOn, OneGoesOn}

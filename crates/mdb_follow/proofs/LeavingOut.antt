@@ -7,9 +7,10 @@ use Rattle.mdb_bus.specs.declared.act.Act.{Act}
 use Rattle.mdb_bus.specs.declared.scope.Beginning.{Beginning}
 use Rattle.mdb_bus.specs.declared.scope.Scope.{Scope}
 use Rattle.mdb_bus.specs.ActLists.{ArePieces, IsActList, Piece, acts_of}
-use Rattle.mdb_bus.specs.LeavingOut.{LeavesOutMore, acts_with, breaks_among, leave_out}
-use Rattle.mdb_bus.specs.Scopes.{IsFollowed, IsLeftOut}
-use Rattle.mdb_follow.specs.Arrivals.{Arrives, EachArrives}
+use Rattle.mdb_bus.specs.LeavingOut.{LeavesOutMore, acts_with, breaks_among, leave_out, IsLeftOut}
+use Rattle.mdb_bus.specs.Scopes.{IsFollowed}
+use Rattle.mdb_follow.specs.Arrivals.{Arrives}
+use Rattle.mdb_follow.specs.Tables.{EachArrives}
 use Rattle.mdb_follow.specs.LeavingOut.{AreSumsWithout}
 use Rattle.mdb_follow.specs.Machines.{StateOf, machine_of}
 use Rattle.mdb_follow.specs.Runs.{AllSums, IsReached, Run}

@@ -6,11 +6,10 @@ use Rattle.std.proofs.lemmas.List.Elements.{All-head, All-tail, Contains-append_
 use Rattle.std.proofs.lemmas.List.Elements.{Contains-get_or, Contains-push, Contains-push_cases}
 use Rattle.std.proofs.lemmas.List.{take_more}
 use Rattle.mdb_machine.specs.declared.gains.Gains.{Gains}
-use Rattle.mdb_machine.specs.Gains.{IsSmall}
+use Rattle.mdb_machine.specs.SmallGains.{IsSmall}
 use Rattle.mdb_follow.specs.declared.cell.Cell.{Cell}
-use Rattle.mdb_follow.specs.Cells.{moved_cell}
+use Rattle.mdb_follow.specs.Cells.{moved_cell, IsCell}
 use Rattle.mdb_follow.specs.Limits.{IsCellWithin, IsTableWithin}
-use Rattle.mdb_follow.specs.Ranges.{IsCell}
 use Rattle.mdb_follow.specs.Sums.{Sums}
 use Rattle.mdb_follow.specs.Tables.{Bounds}
 use Rattle.mdb_follow.specs.inner.Entries.{IsKeyed, with_cell, with_moves}

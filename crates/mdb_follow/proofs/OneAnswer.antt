@@ -7,8 +7,9 @@ use Rattle.mdb_words.specs.declared.event.Event.{Event}
 use Rattle.mdb_bus.specs.declared.act.Act.{Act}
 use Rattle.mdb_bus.specs.declared.fault.Blame.{Blame}
 use Rattle.mdb_bus.specs.declared.fault.Rule.{Rule}
-use Rattle.mdb_bus.specs.ActLists.{ArePieces, HasActList, IsActList, Piece, Whole, acts_of}
-use Rattle.mdb_bus.specs.ActLists.{events_of, with_act}
+use Rattle.mdb_bus.specs.ActLists.{ArePieces, IsActList, Piece, Whole, acts_of}
+use Rattle.mdb_bus.specs.Pieces.{HasActList, with_act}
+use Rattle.mdb_bus.specs.ActLists.{events_of}
 use Rattle.mdb_bus.specs.LinkFaults.{IsLinkFault, RowBreaks, situation_of}
 use Rattle.mdb_bus.specs.declared.scope.Beginning.{Beginning}
 use Rattle.mdb_follow.specs.declared.account_name.AccountName.{AccountName}
@@ -18,7 +19,8 @@ use Rattle.mdb_follow.specs.declared.offence.Offence.{Offence}
 use Rattle.mdb_follow.specs.declared.range.Range.{Range}
 use Rattle.mdb_follow.specs.declared.report.Report.{Report}
 use Rattle.mdb_follow.specs.AccountNames.{account_of, sums_of}
-use Rattle.mdb_follow.specs.Ranges.{IsAccount, IsRange}
+use Rattle.mdb_follow.specs.Ranges.{IsRange}
+use Rattle.mdb_follow.specs.AccountRanges.{IsAccount}
 use Rattle.mdb_follow.specs.Sums.{AccountSums}
 use Rattle.mdb_follow.specs.Offences.{BreaksLink, BreaksMachine, IsOffence, act_fault}
 use Rattle.mdb_bus.specs.declared.fault.LinkFault.{LinkFault}

@@ -11,7 +11,7 @@ use Rattle.mdb_cash.specs.BillFacts as bill_facts
 use Rattle.mdb_cash.specs.ChangerFacts as changer_facts
 use Rattle.mdb_machine.specs.Pair.{IsBreak, own_acts}
 use Rattle.mdb_bus.specs.Scopes.{profile_of}
-use Rattle.mdb_cashless.specs.ByProfile.{config_of, facts_of, unvalued}
+use Rattle.mdb_cashless.specs.ByProfileFacts.{config_of, facts_of, unvalued}
 use Rattle.mdb_cashless.specs.shared.ByProfileWays.{of_each}
 use Rattle.mdb_follow.specs.LeavingOut.{IsNotKnown}
 use Rattle.mdb_follow.specs.Report.{decimals_of}

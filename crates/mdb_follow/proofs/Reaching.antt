@@ -3,11 +3,13 @@ use Rattle.std.proofs.Common.{subst, List, [], ◌∷◌, ◌++◌, Option, Some
 use Rattle.mdb_words.specs.declared.event.Event.{Event}
 use Rattle.mdb_msgs.specs.declared.command.Device.{Device}
 use Rattle.mdb_bus.specs.declared.act.Act.{Act}
-use Rattle.mdb_bus.specs.ActLists.{ArePieces, GoesOnFrom, IsActList, Piece, acts_of, with_act}
+use Rattle.mdb_bus.specs.ActLists.{ArePieces, IsActList, Piece, acts_of}
+use Rattle.mdb_bus.specs.Pieces.{GoesOnFrom, with_act}
 use Rattle.mdb_bus.specs.Loss.{Loss, LossFits}
 use Rattle.mdb_bus.specs.declared.scope.Beginning.{Beginning}
 use Rattle.mdb_machine.specs.Machine.{Machine}
-use Rattle.mdb_follow.specs.Arrivals.{Arrives, EachArrives}
+use Rattle.mdb_follow.specs.Arrivals.{Arrives}
+use Rattle.mdb_follow.specs.Tables.{EachArrives}
 use Rattle.mdb_follow.specs.Machines.{machine_of}
 use Rattle.mdb_follow.specs.Runs.{AllSums, IsReached, IsWay, Run, States}
 use Rattle.mdb_follow.specs.Sums.{Sums}

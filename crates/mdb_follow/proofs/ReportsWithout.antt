@@ -22,9 +22,10 @@ use Rattle.mdb_bus.specs.declared.scope.Beginning.{Beginning}
 use Rattle.mdb_bus.specs.declared.scope.Scope.{Scope}
 use Rattle.mdb_bus.specs.ActLists.{ArePieces, IsActList, Piece, Whole, acts_of}
 use Rattle.mdb_bus.specs.LeavingOut.{LeavesOutMore, acts_with, breaks_among, device_in, leave_out}
-use Rattle.mdb_bus.specs.Haste.{haste_of, is_excused}
+use Rattle.mdb_bus.specs.ExtendedHaste.{haste_of, is_excused}
 use Rattle.mdb_bus.specs.LinkFaults.{IsLinkFault, blame_on}
-use Rattle.mdb_bus.specs.Scopes.{IsFollowed, IsLeftOut}
+use Rattle.mdb_bus.specs.Scopes.{IsFollowed}
+use Rattle.mdb_bus.specs.LeavingOut.{IsLeftOut}
 use Rattle.mdb_machine.specs.Pair.{IsBreak, own_acts}
 use Rattle.mdb_follow.specs.declared.account.Account.{Account}
 use Rattle.mdb_follow.specs.declared.account_name.AccountName.{AccountName}
@@ -35,11 +36,12 @@ use Rattle.mdb_follow.specs.declared.report.Report.{Report}
 use Rattle.mdb_follow.specs.declared.report.DeviceFacts.{DeviceFacts}
 use Rattle.mdb_follow.specs.declared.silence.AskCounts.{AskCounts}
 use Rattle.mdb_follow.specs.AccountNames.{account_device, account_of, account_slot, sums_of}
-use Rattle.mdb_follow.specs.Devices.{spec_of}
+use Rattle.mdb_follow.specs.ReportedDevices.{reported_of}
 use Rattle.mdb_follow.specs.LeavingOut.{AreSumsWithout, HasNothingLeftOut, HaveSameFollowed}
 use Rattle.mdb_follow.specs.LeavingOut.{IsNotKnown}
 use Rattle.mdb_follow.specs.Offences.{IsOffence}
-use Rattle.mdb_follow.specs.Ranges.{IsAccount, IsRange, no_account}
+use Rattle.mdb_follow.specs.Ranges.{IsRange, no_account}
+use Rattle.mdb_follow.specs.AccountRanges.{IsAccount}
 use Rattle.mdb_follow.specs.Report.{IsReport, decimals_of, device_report, device_report_of}
 use Rattle.mdb_follow.specs.Report.{report_of, device_facts_of, unvalued_of}
 use Rattle.mdb_follow.specs.Runs.{AllSums, IsReached, Run}
@@ -56,7 +58,7 @@ use Rattle.mdb_follow.proofs.Told.{device-told}
 pub record FactsAlike : Type 0 where
   pub known : (begins : Beginning) (device : Device) (one other : List Act)
       → own_acts device one ≡ own_acts device other
-      → (spec_of device).known begins one ≡ (spec_of device).known begins other
+      → (reported_of device).known begins one ≡ (reported_of device).known begins other
   pub unvalued : (begins : Beginning) (device : Device) (one other : List Act)
       → own_acts device one ≡ own_acts device other
       → unvalued_of begins device one ≡ unvalued_of begins device other
@@ -74,7 +76,7 @@ limits_alike : FactsAlike → (begins : Beginning) (device : Device) (one other 
     → own_acts device one ≡ own_acts device other
     → limit_of begins device one ≡ limit_of begins device other
 limits_alike laws begins device one other same =
-    ap (spec_of device).limit (laws.known begins device one other same)
+    ap (reported_of device).limit (laws.known begins device one other same)
 
 -- and so is what acts show of it
 facts_alike : FactsAlike → (begins : Beginning) (device : Device) (one other : List Act)
@@ -83,7 +85,7 @@ facts_alike : FactsAlike → (begins : Beginning) (device : Device) (one other :
 facts_alike laws begins device one other same =
     let made : Option ℕ → ℕ → DeviceFacts = λ decimals unvalued.
     record { decimals = decimals; unvalued = unvalued } in
-    ap₂ made (ap (spec_of device).decimals (laws.known begins device one other same))
+    ap₂ made (ap (reported_of device).decimals (laws.known begins device one other same))
     (laws.unvalued begins device one other same)
 
 -- what an account has come to in a run is of its device's sums there

@@ -16,11 +16,11 @@ use Rattle.mdb_machine.specs.declared.choice.Choice.TheVariants.{Plain}
 use Rattle.mdb_machine.specs.Pair.{IsActOf, IsBreak}
 use Rattle.mdb_cash.specs.shared.BillWays as bill_ways
 use Rattle.mdb_cash.specs.shared.ChangerWays as changer_ways
-use Rattle.mdb_cashless.specs.ByProfile as reader_values
+use Rattle.mdb_cashless.specs.ByProfileValues as reader_values
 use Rattle.mdb_cashless.specs.shared.ByProfileWays as reader_ways
 use Rattle.mdb_follow.specs.declared.report.TheConstants.Report.{DEVICES}
 use Rattle.mdb_follow.specs.declared.sides.Sides.{Sides}
-use Rattle.mdb_follow.specs.Devices.{spec_of}
+use Rattle.mdb_follow.specs.ReportedDevices.{reported_of}
 use Rattle.mdb_follow.specs.Machines.{machine_of}
 use Rattle.mdb_follow.specs.Offences.{HasNoStep, rule_of}
 use Rattle.mdb_follow.specs.Report.{decimals_of, unvalued_of}
@@ -209,12 +209,12 @@ front-fits count old act mid d limit within front on =
 
 -- the decimal places that the facts of a device have
 abbrev pub decimals_in : (device : Device) → FactsOf device → Option ℕ
-decimals_in device facts = (spec_of device).decimals ((side_spec_of device).known_in facts)
+decimals_in device facts = (reported_of device).decimals ((side_spec_of device).known_in facts)
 
 pub decimals-are : (begins : Beginning) (device : Device) (facts : FactsOf device) (acts : List Act)
     → stands_for begins device facts acts
     → decimals_in device facts ≡ decimals_of begins device acts
-decimals-are begins device facts acts on = ap (spec_of device).decimals on
+decimals-are begins device facts acts on = ap (reported_of device).decimals on
 
 -- what holds of sides that stand for acts holds of what they are then
 pub by-stay : (P : Sides → Type 0) (old new : Sides) → ∥ AreStanding old ∥₁ → SidesStay old new

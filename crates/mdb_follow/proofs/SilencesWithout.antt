@@ -16,8 +16,8 @@ use Rattle.mdb_bus.specs.declared.scope.Beginning.{Beginning}
 use Rattle.mdb_bus.specs.declared.scope.Scope.{Scope}
 use Rattle.mdb_bus.specs.ActLists.{ArePieces, Piece, Whole, acts_of}
 use Rattle.mdb_bus.specs.ActLists.{piece_events}
-use Rattle.mdb_bus.specs.LeavingOut.{device_in, is_left_out, leave_out, with_foreign}
-use Rattle.mdb_bus.specs.Scopes.{IsFollowed, IsLeftOut}
+use Rattle.mdb_bus.specs.LeavingOut.{device_in, is_left_out, leave_out, with_foreign, IsLeftOut}
+use Rattle.mdb_bus.specs.Scopes.{IsFollowed}
 use Rattle.mdb_follow.specs.declared.silence.AskCounts.{AskCounts}
 use Rattle.mdb_follow.specs.Silences.{TimedAsk, asks, asks_of, counts_of, ends_asking, is_silence}
 use Rattle.mdb_follow.specs.Silences.{last_start, limit_of, no_counts, with_ask}

@@ -3,7 +3,8 @@ use Rattle.std.proofs.Common.{sym, subst, ap, refl, ◌∙◌, ◌≡◌, ◌⊎
 use Rattle.std.proofs.Common.{List, [], ◌∷◌, ◌++◌, append_assoc}
 use Rattle.mdb_words.specs.declared.event.Event.{Event}
 use Rattle.mdb_follow.specs.declared.offence.Offence.{Offence}
-use Rattle.mdb_follow.specs.Offences.{HasOffence, IsOffence}
+use Rattle.mdb_follow.specs.Offences.{IsOffence}
+use Rattle.mdb_follow.specs.FirstOffences.{HasOffence}
 use Rattle.mdb_follow.specs.Runs.{IsReached}
 use Rattle.mdb_bus.specs.declared.scope.Scope.{Scope}
 

@@ -13,7 +13,8 @@ use Rattle.mdb_follow.specs.declared.account.Account.{Account}
 use Rattle.mdb_follow.specs.declared.cell.Cell.{Cell}
 use Rattle.mdb_follow.specs.declared.range.Range.{Range}
 use Rattle.mdb_follow.specs.Arrivals.{Arrives}
-use Rattle.mdb_follow.specs.Ranges.{IsCell, no_account, slot_account}
+use Rattle.mdb_follow.specs.Ranges.{no_account}
+use Rattle.mdb_follow.specs.Cells.{IsCell, slot_account}
 use Rattle.mdb_follow.specs.Sums.{Sums, no_sums}
 use Rattle.mdb_follow.specs.Tables.{ArrivesAt, IsTable}
 use Rattle.mdb_follow.specs.inner.Entries.{AreBelow}

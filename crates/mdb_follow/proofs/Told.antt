@@ -14,7 +14,7 @@ use Rattle.mdb_follow.specs.declared.report.TheConstants.Report.{DEVICES}
 use Rattle.mdb_follow.specs.declared.report.DeviceFacts.{DeviceFacts}
 use Rattle.mdb_follow.specs.declared.silence.AskCounts.{AskCounts}
 use Rattle.mdb_follow.specs.declared.silence.Silences.{Silences}
-use Rattle.mdb_follow.specs.Devices.{device_place}
+use Rattle.mdb_follow.specs.ReportedDevices.{device_place}
 use Rattle.mdb_follow.specs.Report.{IsReport, device_report, device_report_of, device_facts_in, device_facts_of}
 use Rattle.mdb_follow.specs.Silences.{asks_of}
 use Rattle.mdb_follow.specs.SilencesKept.{AllStandForAsks, silence_in}

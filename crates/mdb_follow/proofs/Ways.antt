@@ -15,8 +15,9 @@ use Rattle.mdb_follow.specs.declared.account.Account.{Account}
 use Rattle.mdb_follow.specs.declared.cell.Cell.{Cell}
 use Rattle.mdb_follow.specs.declared.range.Range.{Range}
 use Rattle.mdb_follow.specs.Arrivals.{Arrives}
-use Rattle.mdb_follow.specs.Cells.{joined_cell}
-use Rattle.mdb_follow.specs.Ranges.{IsAccount, IsCell, IsRange, no_account}
+use Rattle.mdb_follow.specs.Cells.{joined_cell, IsCell}
+use Rattle.mdb_follow.specs.Ranges.{IsRange, no_account}
+use Rattle.mdb_follow.specs.AccountRanges.{IsAccount}
 use Rattle.mdb_follow.specs.Sums.{AccountSums, Sums, added, no_sums}
 use Rattle.mdb_follow.specs.Tables.{ArrivesAnywhere, ArrivesAt, Bounds, IsTable}
 use Rattle.std.proofs.lemmas.Int.{ints}

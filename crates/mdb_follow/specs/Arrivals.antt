@@ -1,15 +1,11 @@
 -- The ways through acts: which state of a device and the controller each leads to, and what the
 -- accounts have come to then. The acts stand newest first.
 use Rattle.std.specs.Prelude.{◌≡◌, List, [], ◌∷◌}
-use Rattle.mdb_msgs.specs.declared.command.Device.{Device}
 use Rattle.mdb_bus.specs.declared.act.Act.{Act}
-use Rattle.mdb_bus.specs.declared.scope.Beginning.{Beginning}
 use Rattle.mdb_machine.specs.declared.choice.Choice.{Choice}
 use Rattle.mdb_machine.specs.declared.gains.Gains.{Gains}
 use Rattle.mdb_machine.specs.Choices.{CanStand}
 use Rattle.mdb_machine.specs.Machine.{Machine}
-use Rattle.mdb_follow.specs.Machines.{machine_of}
-use Rattle.mdb_follow.specs.Runs.{AllSums, States}
 use Rattle.mdb_follow.specs.Sums.{Sums, added, no_sums}
 
 -- One act more: a way through the acts before it leads to a state, and a step by the act, under a
@@ -31,9 +27,3 @@ abbrev pub Arrives : {State : Type 0} → Machine State → List Act → State �
 Arrives machine [] state sums = machine.Starts state × (sums ≡ no_sums)
 Arrives machine (act ∷ acts) state sums =
     ArrivesBy act (Arrives machine acts) (machine.Step acts act) state sums
-
--- Each device has a way of its own through acts, by its machine, to its state with its sums, in a
--- recording that begins so.
-abbrev pub EachArrives : Beginning → List Act → States → AllSums → Type 0
-EachArrives begins acts states sums =
-    (device : Device) → Arrives (machine_of begins device) acts (states device) (sums device)

@@ -2,7 +2,7 @@
 use Rattle.std.specs.Prelude.{Option, Some, None}
 use Rattle.mdb_bus.specs.declared.fault.Blame.{Blame}
 use Rattle.mdb_bus.specs.declared.untimely.Untimely.{Untimely}
-use Rattle.mdb_bus.specs.Untimely.{with_sender}
+use Rattle.mdb_bus.specs.ExtendedTimes.{with_sender}
 
 -- what is counted with one row more, if it is out of its time
 abbrev pub counted_with : Option Blame → Option Untimely → Option Untimely

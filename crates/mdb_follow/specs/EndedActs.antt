@@ -3,7 +3,8 @@ use Rattle.std.specs.Prelude.{◌≡◌, List, [], ◌∷◌, ◌++◌, Option}
 use Rattle.mdb_words.specs.declared.event.Event.{Event}
 use Rattle.mdb_bus.specs.declared.act.Act.{Act}
 use Rattle.mdb_bus.specs.declared.scope.Scope.{Scope}
-use Rattle.mdb_bus.specs.ActLists.{IsActList, Piece, act_in, acts_of, piece_events, with_act}
+use Rattle.mdb_bus.specs.ActLists.{IsActList, Piece, acts_of, piece_events}
+use Rattle.mdb_bus.specs.Pieces.{act_in, with_act}
 
 -- The act that ends with a row after these events, if one does. The row is the last of the newest
 -- piece of their act list: the act that this piece is, or none where it is a tail. It comes after

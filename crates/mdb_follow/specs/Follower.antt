@@ -1,11 +1,14 @@
 -- What a follower stands for.
-use Rattle.std.specs.Prelude.{◌≡◌, ℕ, List, length, Option, None}
+use Rattle.std.specs.Prelude.{◌≡◌, ℕ, List, length, Bool, true, false, Option, Some, None}
 use Rattle.mdb_words.specs.declared.event.Event.{Event}
 use Rattle.mdb_bus.specs.declared.act.Act.{Act}
 use Rattle.mdb_bus.specs.ActLists.{IsActList, Piece, acts_of, events_of}
+use Rattle.mdb_bus.specs.declared.bus.Bus.{Bus}
+use Rattle.mdb_bus.specs.declared.fault.Rule.{Rule}
+use Rattle.mdb_bus.specs.declared.fault.Rule.TheVariants as rules
 use Rattle.mdb_bus.specs.declared.scope.Scope.{Scope}
 use Rattle.mdb_bus.specs.Bus as bus
-use Rattle.mdb_bus.specs.Untimely.{times_of}
+use Rattle.mdb_bus.specs.ExtendedTimes.{times_of}
 use Rattle.mdb_follow.specs.declared.follower.Follower.{Follower}
 use Rattle.mdb_follow.specs.declared.offence.Offence.{Offence}
 use Rattle.mdb_follow.specs.Sides.{AreSides}
@@ -32,6 +35,16 @@ act_of follower = follower.act
 abbrev pub open_block_of : Follower → List ℕ
 open_block_of follower = bus.open_block_of follower.bus
 
+-- the bus on which a follower is, and whether a row that breaks this rule never was on it: a word
+-- that comes too late
+abbrev pub bus_of : Follower → Bus
+bus_of follower = follower.bus
+
+abbrev pub is_late : Rule → Bool
+is_late rules.Late = true
+is_late rules.Spacing = true
+is_late broken = false
+
 -- A follower stands for events: its bus does, each of its sides stands for their acts, its silences
 -- are those of their asks, and its count of rows out of their time is theirs.
 pub record StandsFor (follower : Follower) (events : List Event) : Type 0 where
@@ -47,7 +60,8 @@ pub record StandsFor (follower : Follower) (events : List Event) : Type 0 where
 
 -- A follower has accepted events: they have an act list, each of its sides stands for their acts,
 -- its silences are those of their asks, and its count of rows out of their time is theirs. A
--- follower has accepted what it stands for, and after an offence the rows before it.
+-- follower has accepted what it stands for, and after an offence the rows before it. If this was a
+-- word that came too late, its bus still stands for them.
 pub record HasAccepted (follower : Follower) (events : List Event) : Type 0 where
   pub pieces : List Piece
   pub act_list : IsActList (scope_of follower) pieces events
@@ -56,3 +70,5 @@ pub record HasAccepted (follower : Follower) (events : List Event) : Type 0 wher
   pub silences : AllStandForAsks follower.silences
       (λ device. asks_of (scope_of follower).begins device pieces)
   pub untimely : follower.untimely ≡ times_of (scope_of follower) pieces
+  pub on_bus : (met : Offence) → follower.offence ≡ Some met → is_late met.rule ≡ true
+      → bus.StandsFor follower.bus pieces

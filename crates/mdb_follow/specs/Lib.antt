@@ -1,4 +1,5 @@
 pub mod AccountNames
+pub mod AccountRanges
 pub mod Arrivals
 pub mod ByDevice
 pub mod Cells
@@ -8,7 +9,9 @@ pub mod Devices
 pub mod EndedActs
 pub mod Ends
 pub mod Feeding
+pub mod FirstOffences
 pub mod Follower
+pub mod GoalEnds
 pub mod LeavingOut
 pub mod Limits
 pub mod Machines
@@ -17,8 +20,10 @@ pub mod Owners
 pub mod Ranges
 pub mod Report
 pub mod ReportLimits
+pub mod ReportedDevices
 pub mod Runs
 pub mod Sales
+pub mod SameAcks
 pub mod Senders
 pub mod Sides
 pub mod SilenceSteps

@@ -5,7 +5,7 @@ use Rattle.mdb_machine.specs.declared.gains.TheConstants.{SLOTS}
 use Rattle.mdb_follow.specs.declared.range.Range.{Range}
 use Rattle.mdb_follow.specs.declared.account.Account.{Account}
 use Rattle.mdb_follow.specs.declared.cell.Cell.{Cell}
-use Rattle.mdb_follow.specs.Ranges.{slot_account}
+use Rattle.mdb_follow.specs.Cells.{slot_account}
 
 -- both ends of a range are at most so far from 0
 pub record IsRangeWithin (limit : ℕ) (range : Range) : Type 0 where

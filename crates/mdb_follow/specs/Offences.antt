@@ -7,7 +7,7 @@ use Rattle.mdb_bus.specs.declared.fault.Blame.{Blame}
 use Rattle.mdb_bus.specs.declared.fault.LinkFault.{LinkFault}
 use Rattle.mdb_bus.specs.declared.fault.Rule.{Rule}
 use Rattle.mdb_bus.specs.ActLists.{Piece, Whole, IsActList, acts_of}
-use Rattle.mdb_bus.specs.Haste.{counted_in, haste_of}
+use Rattle.mdb_bus.specs.ExtendedHaste.{counted_in, haste_of}
 use Rattle.mdb_bus.specs.LinkFaults.{IsLinkFault}
 use Rattle.mdb_bus.specs.declared.scope.Beginning.{Beginning}
 use Rattle.mdb_machine.specs.declared.choice.Choice.{Choice}
@@ -79,12 +79,3 @@ pub record IsOffence (scope : Scope) (events : List Event) (row : Event) (offenc
   pub number : offence.row ≡ length events + 1
   pub why : BreaksLink scope events row offence.rule offence.blame
       ⊎ BreaksMachine scope events row offence.rule offence.blame
-
--- the offence of some row of these events, after the earlier ones and those before it
-pub record HasOffence (scope : Scope) (earlier events : List Event) (offence : Offence)
-    : Type 0 where
-  pub front : List Event
-  pub row : Event
-  pub rest : List Event
-  pub parts : events ≡ front ++ row ∷ rest
-  pub is : IsOffence scope (earlier ++ front) row offence

@@ -4,7 +4,7 @@ use Rattle.mdb_words.specs.declared.event.Event.{Event}
 use Rattle.mdb_msgs.specs.declared.command.Device.{Device}
 use Rattle.mdb_bus.specs.declared.act.Act.{Act}
 use Rattle.mdb_bus.specs.ActLists.{IsActList, Piece, acts_of}
-use Rattle.mdb_bus.specs.Untimely.{times_of}
+use Rattle.mdb_bus.specs.ExtendedTimes.{times_of}
 use Rattle.mdb_bus.specs.declared.scope.Beginning.{Beginning}
 use Rattle.mdb_follow.specs.declared.account_name.AccountName.{AccountName}
 use Rattle.mdb_follow.specs.declared.account_name.TheConstants.AccountName.{ALL}
@@ -14,8 +14,8 @@ use Rattle.mdb_follow.specs.declared.report.Report.{Report}
 use Rattle.mdb_follow.specs.declared.report.DeviceFacts.{DeviceFacts}
 use Rattle.mdb_follow.specs.declared.report.TheConstants.Report.{DEVICES}
 use Rattle.mdb_follow.specs.AccountNames.{sums_of}
-use Rattle.mdb_follow.specs.Devices.{device_place, spec_of}
-use Rattle.mdb_follow.specs.Ranges.{IsAccount}
+use Rattle.mdb_follow.specs.ReportedDevices.{device_place, reported_of}
+use Rattle.mdb_follow.specs.AccountRanges.{IsAccount}
 use Rattle.mdb_follow.specs.Runs.{AllSums, IsReached, Run}
 use Rattle.mdb_follow.specs.Silences.{asks_of, counts_of, no_counts}
 use Rattle.mdb_bus.specs.declared.scope.Scope.{Scope}
@@ -27,12 +27,13 @@ AreAccounts Kind accounts =
 
 -- the decimal places of a device after these acts, in a recording that begins so
 abbrev pub decimals_of : Beginning → Device → List Act → Option ℕ
-decimals_of begins device acts = (spec_of device).decimals ((spec_of device).known begins acts)
+decimals_of begins device acts =
+    (reported_of device).decimals ((reported_of device).known begins acts)
 
 -- how many amounts these acts tell of a device that have no value, since nothing tells how it is
 -- set up
 abbrev pub unvalued_of : Beginning → Device → List Act → ℕ
-unvalued_of begins device = (spec_of device).unvalued begins
+unvalued_of begins device = (reported_of device).unvalued begins
 
 -- what these acts show of a device
 abbrev pub device_facts_of : Beginning → Device → List Act → DeviceFacts

@@ -63,15 +63,6 @@ IsWay begins loss (Whole act events ∷ pieces) states sums =
     RunGoesOnBy begins loss pieces act (length events) (IsWay begins loss pieces) states sums
 IsWay begins loss (piece ∷ pieces) states sums = IsWay begins loss pieces states sums
 
--- Under two losses the same ACKs of the pieces, of devices and of the controller, were heard.
-abbrev pub HearSameAcks : Loss → Loss → List Piece → Type 0
-HearSameAcks one other [] = Unit {0}
-HearSameAcks one other (Whole act events ∷ pieces) =
-    (IsAck act → IsHeard one act (length (events_of pieces)) (length events)
-    ↔ IsHeard other act (length (events_of pieces)) (length events))
-    × HearSameAcks one other pieces
-HearSameAcks one other (piece ∷ pieces) = HearSameAcks one other pieces
-
 -- a run of a transcript, and what the accounts come to in it
 pub record Run (scope : Scope) (events : List Event) (sums : AllSums) : Type 0 where
   pub pieces : List Piece

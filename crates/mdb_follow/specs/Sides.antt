@@ -14,11 +14,11 @@ use Rattle.mdb_cash.specs.shared.BillCodes as bill_codes
 use Rattle.mdb_cash.specs.shared.ChangerCodes as changer_codes
 use Rattle.mdb_cashless.specs.declared.by_profile.facts.KnownByProfile.{KnownByProfile}
 use Rattle.mdb_cashless.specs.declared.by_profile.state.TheConstants.{STATES_BY_PROFILE}
-use Rattle.mdb_cashless.specs.ByProfile as reader_values
+use Rattle.mdb_cashless.specs.ByProfileValues as reader_values
 use Rattle.mdb_cashless.specs.shared.ByProfileCodes as reader_codes
 use Rattle.mdb_follow.specs.declared.side.Side.{Side}
 use Rattle.mdb_follow.specs.declared.sides.Sides.{Sides}
-use Rattle.mdb_follow.specs.Devices.{spec_of}
+use Rattle.mdb_follow.specs.ReportedDevices.{reported_of}
 use Rattle.mdb_follow.specs.Machines.{StateOf, machine_of}
 use Rattle.mdb_follow.specs.Report.{unvalued_of}
 use Rattle.mdb_follow.specs.Tables.{IsTable}
@@ -37,7 +37,7 @@ pub record IsSide {Facts State : Type 0} {N : ℕ} (stands_for : Facts → List 
 pub record SideSpec (device : Device) : Type 1 where
   -- what is kept of the facts, and what is known of the device by it
   pub Facts : Type 0
-  pub known_in : Facts → (spec_of device).Known
+  pub known_in : Facts → (reported_of device).Known
   -- how many states its machine has, and their codes
   pub codes : ℕ
   pub code_of : StateOf device → ℕ
@@ -72,7 +72,7 @@ FactsOf device = (side_spec_of device).Facts
 -- What is kept of the facts is what is known after acts of a recording that begins so.
 abbrev pub stands_for : Beginning → (device : Device) → FactsOf device → List Act → Type 0
 stands_for begins device facts acts =
-    (side_spec_of device).known_in facts ≡ (spec_of device).known begins acts
+    (side_spec_of device).known_in facts ≡ (reported_of device).known begins acts
 
 abbrev pub codes_of : Device → ℕ
 codes_of device = (side_spec_of device).codes

@@ -5,12 +5,12 @@ use Rattle.mdb_msgs.specs.declared.command.Device.TheVariants as devices
 use Rattle.mdb_msgs.specs.declared.command.ReaderUnit.TheVariants.{First, Second}
 use Rattle.mdb_bus.specs.declared.act.Act.{Act}
 use Rattle.mdb_cashless.specs.declared.by_profile.facts.KnownByProfile.{KnownByProfile}
-use Rattle.mdb_cashless.specs.ByProfile as reader_values
-use Rattle.mdb_cashless.specs.ByProfile.{config_of}
+use Rattle.mdb_cashless.specs.ByProfileValues as reader_values
+use Rattle.mdb_cashless.specs.ByProfileFacts.{config_of}
 use Rattle.mdb_follow.specs.declared.silence.Silence.{Silence}
 use Rattle.mdb_follow.specs.declared.silence.Silences.{Silences}
 use Rattle.mdb_follow.specs.declared.silence.TheConstants.{CHANGER_SILENCE_MAX, BILL_SILENCE_MAX}
-use Rattle.mdb_follow.specs.Devices.{reader_limit}
+use Rattle.mdb_follow.specs.ReportedDevices.{reader_limit}
 use Rattle.mdb_follow.specs.Silences.{TimedAsk, asks, ends_asking, with_ask}
 use Rattle.mdb_follow.specs.SilencesKept.{AreAtMost, StandsForAsks, silence_in}
 use Rattle.mdb_follow.specs.ByDevice.{OneGoes}

@@ -15,12 +15,12 @@ use Rattle.mdb_bus.specs.declared.act.Act.TheVariants as acts
 use Rattle.mdb_bus.specs.ActLists.{Piece, Whole, acts_of, last_of}
 use Rattle.mdb_bus.specs.declared.scope.Beginning.{Beginning}
 use Rattle.mdb_follow.specs.declared.silence.AskCounts.{AskCounts}
-use Rattle.mdb_follow.specs.Devices.{spec_of}
+use Rattle.mdb_follow.specs.ReportedDevices.{reported_of}
 
 -- how long a device may be silent after these acts, in a recording that begins so, by what it has
 -- told
 abbrev pub limit_of : Beginning → Device → List Act → ℕ
-limit_of begins device acts = (spec_of device).limit ((spec_of device).known begins acts)
+limit_of begins device acts = (reported_of device).limit ((reported_of device).known begins acts)
 
 -- whether an act asks a device
 abbrev pub asks : Device → Act → Bool

@@ -8,7 +8,7 @@ use Rattle.mdb_follow.specs.declared.silence.Silence.{Silence}
 use Rattle.mdb_follow.specs.declared.silence.Silences.{Silences}
 use Rattle.mdb_follow.specs.declared.silence.Unanswered.{Unanswered}
 use Rattle.mdb_follow.specs.declared.silence.Unanswered.TheVariants.{Nothing, Until, Counted}
-use Rattle.mdb_follow.specs.Devices.{device_place}
+use Rattle.mdb_follow.specs.ReportedDevices.{device_place}
 use Rattle.mdb_follow.specs.Silences.{TimedAsk, counts_of, each_count, first_ask, is_silence}
 use Rattle.mdb_follow.specs.Silences.{no_counts}
 

@@ -4,8 +4,12 @@ use Rattle.mdb_bus.specs.declared.act.Act.{Act}
 use Rattle.mdb_machine.specs.Machine.{Machine}
 use Rattle.mdb_follow.specs.declared.cell.Cell.{Cell}
 use Rattle.mdb_follow.specs.Arrivals.{Arrives}
-use Rattle.mdb_follow.specs.Ranges.{IsCell}
+use Rattle.mdb_follow.specs.Cells.{IsCell}
 use Rattle.mdb_follow.specs.Sums.{Sums}
+use Rattle.mdb_msgs.specs.declared.command.Device.{Device}
+use Rattle.mdb_bus.specs.declared.scope.Beginning.{Beginning}
+use Rattle.mdb_follow.specs.Machines.{machine_of}
+use Rattle.mdb_follow.specs.Runs.{AllSums, States}
 
 -- some state that has a code
 pub record ArrivesAt {State : Type 0} (code_of : State → ℕ) (Arrived : State → Sums → Type 0)
@@ -34,3 +38,9 @@ pub record IsTable {State : Type 0} (code_of : State → ℕ) (machine : Machine
     (acts : List Act) (entries : List (ℕ × Cell)) : Type 0 where
   pub some : (state : State) × (sums : Sums) × Arrives machine acts state sums
   pub bounds : Bounds (ArrivesAt code_of (Arrives machine acts)) entries
+
+-- Each device has a way of its own through acts, by its machine, to its state with its sums, in a
+-- recording that begins so.
+abbrev pub EachArrives : Beginning → List Act → States → AllSums → Type 0
+EachArrives begins acts states sums =
+    (device : Device) → Arrives (machine_of begins device) acts (states device) (sums device)

@@ -2,7 +2,7 @@
 
 ghost use Rattle.std.specs.Prelude.{◌≡◌, ◌<◌, ◌^◌};
 ghost use Rattle.mdb_machine.specs.declared.gains.TheConstants.{SLOTS};
-ghost use Rattle.mdb_machine.specs.Gains.{IsSmall};
+ghost use Rattle.mdb_machine.specs.SmallGains.{IsSmall};
 ghost use Rattle.mdb_follow.specs.Cells.{joined_cell, joined_slot, moved_cell, moved_slot};
 ghost use Rattle.mdb_follow.specs.Limits.{IsCellWithin};
 

@@ -1,7 +1,7 @@
 //! The devices that are followed, by their places.
 
 ghost use Rattle.std.specs.Prelude.{◌≡◌, ◌<◌};
-ghost use Rattle.mdb_follow.specs.Devices as spec;
+ghost use Rattle.mdb_follow.specs.ReportedDevices as spec;
 
 use mdb_msgs::{Device, ReaderUnit};
 

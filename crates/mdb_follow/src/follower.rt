@@ -9,7 +9,7 @@ ghost use Rattle.mdb_words.specs.declared.event.Event.{Event};
 ghost use Rattle.mdb_bus.specs.declared.act.Act.{Act};
 ghost use Rattle.mdb_follow.specs.Senders as spec;
 ghost use Rattle.mdb_follow.specs.inner.SideSteps.{AreStanding, AreWithin};
-ghost use Rattle.mdb_bus.specs.Untimely as times;
+ghost use Rattle.mdb_bus.specs.ExtendedTimes as times;
 ghost use Rattle.mdb_follow.specs.SilenceSteps.{AreFew};
 
 use crate::sides::Sides;
@@ -49,12 +49,13 @@ pub struct Follower {
 impl Follower {
     ghost use Rattle.mdb_bus.specs.Bus.{ended_act};
     ghost use Rattle.mdb_follow.specs.EndedActs.{IsEndedAct};
-    ghost use Rattle.mdb_bus.specs.Scopes.{all_joined, power_on};
+    ghost use Rattle.mdb_bus.specs.Scopes.{power_on};
+    ghost use Rattle.mdb_bus.specs.JoinedScopes.{all_joined};
     ghost use Rattle.mdb_follow.specs.Feeding.{HasRefused, HasTakenRows};
     ghost use Rattle.mdb_follow.specs.Follower.{HasAccepted, StandsFor};
-    ghost use Rattle.mdb_follow.specs.Follower.{act_of, offence_of, open_block_of, rows_of, scope_of};
-    ghost use Rattle.mdb_follow.specs.inner.FollowerSteps.{HasFollowedAct, HasStopped};
-    ghost use Rattle.mdb_follow.specs.Offences.{HasOffence};
+    ghost use Rattle.mdb_follow.specs.Follower.{act_of, bus_of, offence_of, open_block_of, rows_of, scope_of};
+    ghost use Rattle.mdb_follow.specs.inner.FollowerSteps.{HasFollowedAct, HasSettled, HasStopped, IsFed, IsLike};
+    ghost use Rattle.mdb_follow.specs.FirstOffences.{HasOffence};
     ghost use Rattle.mdb_follow.specs.Report.{IsReport};
     ghost use Rattle.mdb_follow.specs.ReportLimits.{IsReportWithin};
 
@@ -121,7 +122,7 @@ impl Follower {
         if let Some(offence) = self.offence {
             return Err(offence);
         }
-        match self.take(event) {
+        match self.take(&event) {
             Some(_) => Ok(()),
             None => Err(self.noted()),
         }
@@ -147,7 +148,7 @@ impl Follower {
         if self.offence.is_some() {
             return None;
         }
-        self.take(event)
+        self.take(&event)
     }
 
     /// The act that ended with the last row, where [`Follower::feed_ending`] has just answered that
@@ -166,6 +167,13 @@ impl Follower {
         ensures numbered { IfSome result (λ offence. offence.row ≡ rows_of self.now + 1) }
     {
         self.offence
+    }
+
+    /// The bus. After an offence with the rule `Late` or `Spacing` it is the one before that row.
+    pub fn into_bus(self) -> Bus
+        ensures { result ≡ bus_of self }
+    {
+        self.bus
     }
 
     /// The bytes so far of the block of the controller in which the rows end; none where they end
@@ -205,7 +213,7 @@ impl Follower {
             return Err(offence);
         }
         for event in events {
-            match self.take(*event) {
+            match self.take(event) {
                 Some(_) => {}
                 None => return Err(self.noted()),
             }
@@ -216,39 +224,70 @@ impl Follower {
     /// Takes the next row, after rows that can be. Answers whether an act ends with it, which is
     /// then in `act`, or `None` where the row can't be: then its offence is noted.
     #[inline(always)]
-    fn take(&mut self, event: Event) -> Option<bool>
+    fn take(&mut self, event: &Event) -> Option<bool>
         requires room { rows_of self.old < ROWS_MAX }
         requires going { offence_of self.old ≡ None }
-        ensures taken { OnSome result (HasTakenRows self.old self.new (event ∷ [])) }
+        ensures taken { OnSome result (HasTakenRows self.old self.new (event.now ∷ [])) }
         ensures act { IfSome result (λ ended. (events : List Event) → StandsFor self.old events
-            → IsEndedAct (scope_of self.old) events event (ended_act ended self.new.act)) }
+            → IsEndedAct (scope_of self.old) events event.now (ended_act ended self.new.act)) }
         ensures going { OnSome result (offence_of self.new ≡ None) }
         ensures refused { IfNone result
-            (IsSomeAnd (offence_of self.new) (HasRefused self.old self.new event)) }
+            (IsSomeAnd (offence_of self.new) (HasRefused self.old self.new event.now)) }
+        ensures scope { scope_of self.new ≡ scope_of self.old }
+    {
+        match self.bus.feed_timely(event, &mut self.act) {
+            Some(ended) => self.settle(ended, event, None),
+            None => self.take_slowly(event),
+        }
+    }
+
+    /// The same for any row.
+    // Not inlined, since few rows need it.
+    #[inline(never)]
+    fn take_slowly(&mut self, event: &Event) -> Option<bool>
+        requires room { rows_of self.old < ROWS_MAX }
+        requires going { offence_of self.old ≡ None }
+        ensures settled { (before : Follower) → IsLike self.old before
+            → self.old.bus ≡ before.bus → HasSettled before event.now self.new result }
+        ensures going { OnSome result (offence_of self.new ≡ None) }
+        ensures scope { scope_of self.new ≡ scope_of self.old }
+    {
+        laws::ways_join();
+        let sender = untimely_sender(&self.untimely, &self.bus, event);
+        match self.bus.feed_slowly(event, &mut self.act) {
+            Ok(ended) => self.settle(ended, event, sender),
+            Err(fault) => {
+                stop(&mut self.offence, self.rows, fault);
+                None
+            }
+        }
+    }
+
+    /// Counts a row that the bus has taken, with its sender if it came out of its time, and follows
+    /// the act that it has ended, if it has. Answers as `take` does.
+    #[inline(always)]
+    fn settle(&mut self, ended: bool, event: &Event, sender: Option<Blame>) -> Option<bool>
+        requires room { rows_of self.old < ROWS_MAX }
+        requires going { offence_of self.old ≡ None }
+        ensures settled { (before : Follower)
+            → IsFed before event.now (ended_act ended self.old.act) sender self.old
+            → HasSettled before event.now self.new result }
+        ensures going { OnSome result (offence_of self.new ≡ None) }
         ensures scope { scope_of self.new ≡ scope_of self.old }
     {
         laws::ways_join();
         laws::sales_follow_their_approvals();
         bus_laws::transcripts_have_one_act_list();
-        let sender = untimely_sender(&self.untimely, &self.bus, &event);
-        match self.bus.feed_into(event, &mut self.act) {
-            Err(fault) => {
-                stop(&mut self.offence, self.rows, fault);
-                None
-            }
-            Ok(false) => {
-                note_untimely(&mut self.untimely, sender);
-                self.rows += 1;
-                Some(false)
-            }
-            Ok(true) => {
-                if self.follow(&event) {
-                    note_untimely(&mut self.untimely, sender);
-                    Some(true)
-                } else {
-                    None
-                }
-            }
+        if !ended {
+            note_untimely(&mut self.untimely, sender);
+            self.rows += 1;
+            return Some(false);
+        }
+        if self.follow(event) {
+            note_untimely(&mut self.untimely, sender);
+            Some(true)
+        } else {
+            None
         }
     }
 

@@ -1,24 +1,27 @@
 //! Laws of runs. They follow from the definitions alone.
 
 ghost use Rattle.std.specs.List.{All};
-ghost use Rattle.std.specs.Prelude.{◌≡◌, ◌↔◌, ◌+◌, List, [], ◌∷◌, ◌++◌, None, Result, Some};
+ghost use Rattle.std.specs.Prelude.{◌≡◌, ◌↔◌, ◌+◌, ℕ, List, [], ◌∷◌, ◌++◌, None, Result, Some};
 ghost use Rattle.mdb_words.specs.declared.event.Event.{Event};
 ghost use Rattle.mdb_msgs.specs.declared.command.Device.{Device};
 ghost use Rattle.mdb_msgs.specs.declared.command.Device.TheVariants as devices;
 ghost use Rattle.mdb_bus.specs.declared.act.Act.{Act};
 ghost use Rattle.mdb_bus.specs.ActLists.{ArePieces, IsActList, Piece, acts_of};
+ghost use Rattle.mdb_bus.specs.declared.fault.Rule.{Rule};
 ghost use Rattle.mdb_bus.specs.declared.scope.Beginning.{Beginning};
+ghost use Rattle.mdb_bus.specs.declared.scope.Profile.TheVariants.{Base};
 ghost use Rattle.mdb_bus.specs.declared.scope.Scope.{Scope};
-ghost use Rattle.mdb_bus.specs.LeavingOut.{LeavesOutMore};
+ghost use Rattle.mdb_bus.specs.LeavingOut.{LeavesOutMore, IsLeftOut};
 ghost use Rattle.mdb_bus.specs.LinkFaults.{blame_on};
 ghost use Rattle.mdb_bus.specs.Loss.{Loss, LossFits};
-ghost use Rattle.mdb_bus.specs.Scopes.{IsFollowed, IsLeftOut};
+ghost use Rattle.mdb_bus.specs.Scopes.{IsFollowed, profile_of};
 ghost use Rattle.mdb_machine.specs.Pair.{IsBreak, own_acts};
 ghost use Rattle.mdb_follow.specs.AccountNames.{account_of, sums_of};
-ghost use Rattle.mdb_follow.specs.Arrivals.{EachArrives};
+ghost use Rattle.mdb_follow.specs.Tables.{EachArrives};
 ghost use Rattle.mdb_follow.specs.Choosing.{AllFollow, Choices, choices_of};
-ghost use Rattle.mdb_follow.specs.Devices.{spec_of};
+ghost use Rattle.mdb_follow.specs.ReportedDevices.{reported_of};
 ghost use Rattle.mdb_follow.specs.Follower.{StandsFor, scope_of};
+ghost use Rattle.mdb_follow.specs.declared.account.Account.{Account};
 ghost use Rattle.mdb_follow.specs.declared.account_name.AccountName.{AccountName};
 ghost use Rattle.mdb_follow.specs.declared.follower.Follower.{Follower};
 ghost use Rattle.mdb_follow.specs.declared.offence.Offence.{Offence};
@@ -29,12 +32,15 @@ ghost use Rattle.mdb_follow.specs.declared.silence.TheConstants.{MICROS_PER_SECO
 ghost use Rattle.mdb_follow.specs.declared.silence.TheConstants.{READER_SILENCE_MAX};
 ghost use Rattle.mdb_follow.specs.LeavingOut.{AreSumsWithout, HasNothingLeftOut};
 ghost use Rattle.mdb_follow.specs.LeavingOut.{HaveSameFollowed, IsNotKnown};
-ghost use Rattle.mdb_follow.specs.Offences.{HasOffence, IsOffence};
-ghost use Rattle.mdb_follow.specs.Ranges.{IsAccount};
-ghost use Rattle.mdb_follow.specs.Report.{IsReport, decimals_of};
+ghost use Rattle.mdb_follow.specs.Offences.{IsOffence, act_fault};
+ghost use Rattle.mdb_follow.specs.Senders.{sender_of};
+ghost use Rattle.mdb_follow.specs.FirstOffences.{HasOffence};
+ghost use Rattle.mdb_follow.specs.AccountRanges.{IsAccount};
+ghost use Rattle.mdb_follow.specs.Report.{IsReport, decimals_of, report_of};
 ghost use Rattle.mdb_follow.specs.Report.{device_decimals, device_silences, device_unvalued};
 ghost use Rattle.mdb_follow.specs.Report.{unvalued_of};
-ghost use Rattle.mdb_follow.specs.Runs.{AllSums, HearSameAcks, IsReached, IsWay, Run, States};
+ghost use Rattle.mdb_follow.specs.Runs.{AllSums, IsReached, IsWay, Run, States};
+ghost use Rattle.mdb_follow.specs.SameAcks.{HearSameAcks};
 ghost use Rattle.mdb_follow.specs.Sales.{SalesFollowApprovals};
 ghost use Rattle.mdb_follow.specs.Silences.{silences};
 ghost use Rattle.mdb_follow.specs.Slices.{AnswersRows, AnswersInSlices, joined};
@@ -44,6 +50,19 @@ use mdb_bus::laws;
 use mdb_cash::laws as cash_laws;
 use mdb_cashless::laws as cashless_laws;
 use mdb_machine::laws as machine_laws;
+
+/// The base profile needs nothing of the extended one (`Extended*.antt`): an act by which a machine
+/// has no step breaks the rule of its device, and a report counts no rows out of their time.
+pub fn the_base_profile_stands_alone()
+    ensures acts { (scope : Scope) (pieces : List Piece) (row : Event) (act : Act) (own : Rule)
+        → profile_of scope.begins ≡ Base
+        → act_fault scope pieces row act own ≡ record { rule = own; blame = sender_of act } }
+    ensures reports { (scope : Scope) (rows : ℕ) (pieces : List Piece)
+        (accounts : AccountName → Account) → profile_of scope.begins ≡ Base
+        → (report_of scope rows pieces accounts).untimely ≡ None }
+{
+    laws::the_base_profile_stands_alone();
+}
 
 /// A way of all devices is a way of each device.
 pub fn ways_split()
@@ -214,7 +233,7 @@ pub fn limits_of_silences_are_those_of_the_standard()
 pub fn what_is_known_of_a_device_is_of_its_own_acts()
     ensures known { (begins : Beginning) (device : Device) (acts other : List Act)
         → own_acts device acts ≡ own_acts device other
-        → (spec_of device).known begins acts ≡ (spec_of device).known begins other }
+        → (reported_of device).known begins acts ≡ (reported_of device).known begins other }
     ensures unvalued { (begins : Beginning) (device : Device) (acts other : List Act)
         → own_acts device acts ≡ own_acts device other
         → unvalued_of begins device acts ≡ unvalued_of begins device other }

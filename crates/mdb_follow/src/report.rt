@@ -51,7 +51,7 @@ impl Report {
     ghost use Rattle.mdb_msgs.specs.declared.command.Device.{Device};
     ghost use Rattle.mdb_bus.specs.ActLists.{Piece, acts_of};
     ghost use Rattle.mdb_bus.specs.declared.scope.Scope.{Scope};
-    ghost use Rattle.mdb_bus.specs.Untimely.{times_of};
+    ghost use Rattle.mdb_bus.specs.ExtendedTimes.{times_of};
     ghost use Rattle.mdb_follow.specs.declared.account_name.TheConstants.AccountName.{ALL};
     ghost use Rattle.mdb_follow.specs.declared.report.TheConstants.Report.{DEVICES};
     ghost use Rattle.mdb_follow.specs.AccountNames.{account_of};

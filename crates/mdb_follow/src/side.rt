@@ -6,7 +6,7 @@ ghost use Rattle.mdb_bus.specs.declared.scope.Beginning.{Beginning};
 ghost use Rattle.mdb_follow.specs.Arrivals.{Arrives};
 ghost use Rattle.mdb_follow.specs.Limits.{IsCellWithin};
 ghost use Rattle.mdb_follow.specs.Offences.{HasNoStep};
-ghost use Rattle.mdb_follow.specs.Ranges.{IsCell};
+ghost use Rattle.mdb_follow.specs.Cells.{IsCell};
 ghost use Rattle.mdb_follow.specs.Sides.{IsSide};
 ghost use Rattle.mdb_follow.specs.inner.SideSteps.{Follows, IsSideWithin};
 ghost use Rattle.mdb_follow.specs.Tables.{ArrivesAnywhere};

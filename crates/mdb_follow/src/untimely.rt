@@ -4,7 +4,7 @@ ghost use Rattle.std.specs.Prelude.{◌≡◌, ◌^◌, List};
 ghost use Rattle.std.specs.Option.{ForSome};
 ghost use Rattle.mdb_bus.specs.ActLists.{Piece};
 ghost use Rattle.mdb_bus.specs.Bus.{StandsFor, scope_of};
-ghost use Rattle.mdb_bus.specs.Untimely as times;
+ghost use Rattle.mdb_bus.specs.ExtendedTimes as times;
 ghost use Rattle.mdb_follow.specs.Counted.{counted_with};
 
 use mdb_bus::{Blame, Bus, Untimely};

@@ -89,7 +89,7 @@ kept_fit (message ∷ items) all = kept_fit items all.1
 -- so what a reply keeps fits
 fits : (command : Command) (reply : Reply) → IsReply command reply
     → AllByRecursion Fits (kept_of (tables.parts_of reply))
-fits command (replies.ChangerPoll list) is = kept_fit list.items is.answers.answer.fields
+fits command (replies.ChangerPoll list) is = kept_fit list.items is.answers.fields
 fits command _ is = tt
 
 -- new deposits may be told in the end

@@ -24,16 +24,19 @@ use Rattle.mdb_machine.specs.declared.gains.Gains.{Gains}
 use Rattle.mdb_machine.specs.Gains.{controller_gains, device_gains, in_slots}
 use Rattle.mdb_machine.specs.Known.{Known, known_before}
 use Rattle.mdb_machine.specs.Past.{last_told, or_else, tells_out_of_sequence}
-use Rattle.mdb_machine.specs.PastValues.{known_more}
+use Rattle.mdb_machine.specs.KnownMore.{known_more}
 use Rattle.mdb_machine.specs.Unvalued as amounts
 use Rattle.mdb_machine.specs.Unvalued.{one_if}
 use Rattle.mdb_cashless.specs.declared.approvals.sale.Sale.{Sale}
 use Rattle.mdb_cashless.specs.declared.approvals.sale.Sale.TheVariants.{Unknown, Unawaited, Nothing, Awaited, Asked, Approved, Sold}
 use Rattle.mdb_cashless.specs.declared.approvals.state.ApprovalState.{ApprovalState}
 use Rattle.mdb_cashless.specs.ExtendedFacts.{Facts, approvals_in, facts_after, facts_of}
-use Rattle.mdb_cashless.specs.ExtendedReader.{AckStep, AskStep, IsEarlier, MayAsk, MaySell, ReaderStep, ReplyStep, VmcAckStep, approved_to, last_value, may_be_again, may_be_either, news, read, sold, sold_by, unvalued, unvalued_by, worth}
+use Rattle.mdb_cashless.specs.ExtendedReader.{AckStep, AskStep, IsEarlier, MayAsk, MaySell, ReaderStep, ReplyStep, VmcAckStep, approved_to, last_value, may_be_again, may_be_either, news, read, sold, sold_by, worth}
+use Rattle.mdb_cashless.specs.ExtendedAmounts.{unvalued, unvalued_by}
 use Rattle.mdb_cashless.specs.Reader as base
-use Rattle.mdb_cashless.specs.Reader.{asks_sale, value}
+use Rattle.mdb_cashless.specs.ReaderAmounts as reader_amounts
+use Rattle.mdb_cashless.specs.Reader.{value}
+use Rattle.mdb_cashless.specs.ReaderAmounts.{asks_sale}
 use Rattle.mdb_cashless.specs.ReaderFacts.{amount_by, config_by, known_of, messages_by, own_messages}
 use Rattle.mdb_cashless.specs.ReaderMessages.{messages_of}
 use Rattle.mdb_cashless.specs.Units.{own}
@@ -402,7 +405,7 @@ valued_ask true false false true none = absurd (omega (arith, none))
 module _ (unit : ReaderUnit) (begins : Beginning) where
   ask_valued : (command : Command) (so_far : List Act)
       → unvalued_by unit (facts_of begins unit so_far) (acts.Ask command) ≡ 0
-      → (base.unvalued_by unit (known_of begins unit so_far) (acts.Ask command) ≡ 0)
+      → (reader_amounts.unvalued_by unit (known_of begins unit so_far) (acts.Ask command) ≡ 0)
       × (asks_sale (own unit command) ≡ true → (facts_of begins unit so_far).earlier ≡ false)
   ask_valued command so_far =
       let same = as_base unit begins so_far in
@@ -418,7 +421,7 @@ module _ (unit : ReaderUnit) (begins : Beginning) where
 
   valued_by : (act : Act) (so_far : List Act)
       → unvalued_by unit (facts_of begins unit so_far) act ≡ 0
-      → base.unvalued_by unit (known_of begins unit so_far) act ≡ 0
+      → reader_amounts.unvalued_by unit (known_of begins unit so_far) act ≡ 0
   valued_by (acts.Ask command) so_far none = (ask_valued command so_far none).0
   valued_by act so_far none =
       subst (λ config. amounts.unvalued_by (or_else (config_by unit act) config)
@@ -426,7 +429,7 @@ module _ (unit : ReaderUnit) (begins : Beginning) where
       (as_base unit begins so_far).0 none
 
   valued : (so_far : List Act) → unvalued unit begins so_far ≡ 0
-      → base.unvalued unit begins so_far ≡ 0
+      → reader_amounts.unvalued unit begins so_far ≡ 0
   valued [] none = none
   valued (act ∷ so_far) none =
       let first = valued_by act so_far (omega (arith, none)) in

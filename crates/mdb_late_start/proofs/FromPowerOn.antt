@@ -10,7 +10,8 @@ use Rattle.mdb_bus.specs.declared.scope.Beginning.TheVariants.{PowerOn, Joined}
 use Rattle.mdb_bus.specs.declared.scope.Profile.{Profile}
 use Rattle.mdb_bus.specs.ActLists.{Piece, Whole, IsActList, acts_of}
 use Rattle.mdb_bus.specs.Loss.{Loss}
-use Rattle.mdb_bus.specs.Scopes.{from_power_on, joined_by}
+use Rattle.mdb_bus.specs.Scopes.{from_power_on}
+use Rattle.mdb_bus.specs.JoinedScopes.{joined_by}
 use Rattle.mdb_machine.specs.declared.choice.Choice.{Choice}
 use Rattle.mdb_machine.specs.declared.gains.Gains.{Gains}
 use Rattle.mdb_follow.specs.LeavingOut.{IsNotKnown}
@@ -20,7 +21,7 @@ use Rattle.mdb_follow.specs.Sums.{added, no_sums}
 use Rattle.mdb_late_start.specs.Ends.{AreAlike}
 use Rattle.mdb_late_start.specs.Alone.{MayBeReadAlone}
 use Rattle.mdb_late_start.specs.MidSession.{GoesOnInEnd, HasToldWhatItHolds}
-use Rattle.mdb_bus.specs.Acts.{NamesAReply}
+use Rattle.mdb_bus.specs.Pieces.{NamesAReply}
 use Rattle.mdb_late_start.specs.inner.EndLaws.{EndLaws}
 use Rattle.mdb_late_start.proofs.EndRuns.{all_name}
 use Rattle.mdb_late_start.proofs.InEnds.{AllName, holds_there}

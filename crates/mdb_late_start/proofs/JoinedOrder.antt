@@ -14,7 +14,8 @@ use Rattle.mdb_bus.specs.declared.scope.Scope.{Scope}
 use Rattle.mdb_bus.specs.Acts.{IsBlockWord, Say}
 use Rattle.mdb_bus.specs.ActLists.{Piece, Whole, AskTail, Position, Quiet, InForeign, ArePieces, IsActList, IsSaid, MayCome, events_of, first_position, piece_events}
 use Rattle.mdb_bus.specs.LeavingOut.{with_foreign}
-use Rattle.mdb_bus.specs.Scopes.{from_power_on, joined_by, profile_of}
+use Rattle.mdb_bus.specs.Scopes.{from_power_on, profile_of}
+use Rattle.mdb_bus.specs.JoinedScopes.{joined_by}
 use Rattle.mdb_late_start.specs.Alone.{MayBeReadAlone}
 use Rattle.mdb_late_start.specs.Cuts.{BeginAnew, IsBreakEvent, SplitsAt}
 use Rattle.mdb_late_start.proofs.CutWords.{block_begins}

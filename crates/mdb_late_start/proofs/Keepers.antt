@@ -8,7 +8,8 @@ use Rattle.std.specs.Option.{option_map_or}
 use Rattle.mdb_msgs.specs.declared.command.Command.{Command}
 use Rattle.mdb_msgs.specs.declared.reply.Reply.{Reply}
 use Rattle.mdb_msgs.specs.declared.setups.Setups.{Setups}
-use Rattle.mdb_bus.specs.Acts.{IsReply, NamesAReply}
+use Rattle.mdb_bus.specs.Acts.{IsReply}
+use Rattle.mdb_bus.specs.Pieces.{NamesAReply}
 use Rattle.mdb_bus.specs.declared.act.Act.{Act}
 use Rattle.mdb_bus.specs.declared.act.Act.TheVariants as acts
 use Rattle.mdb_bus.specs.declared.scope.Beginning.{Beginning}

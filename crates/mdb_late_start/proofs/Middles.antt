@@ -18,12 +18,14 @@ use Rattle.mdb_bus.specs.declared.scope.Scope.{Scope}
 use Rattle.mdb_bus.specs.declared.scope.Profile.{Profile}
 use Rattle.mdb_bus.specs.declared.scope.Profile.TheVariants.{Base, Extended}
 use Rattle.mdb_bus.specs.Acts.{IsForeignWord, Say, said_by}
-use Rattle.mdb_bus.specs.ActLists.{Piece, Whole, AskTail, Position, InForeign, ArePieces, IsActList, IsSaid, IsTail, MayCome, acts_of, events_of, first_position, last_of, levels_of, piece_events, position_of}
+use Rattle.mdb_bus.specs.ActLists.{Piece, Whole, AskTail, Position, InForeign, ArePieces, IsActList, IsSaid, MayCome, acts_of, events_of, first_position, last_of, levels_of, piece_events, position_of}
+use Rattle.mdb_bus.specs.Pieces.{IsTail}
 use Rattle.mdb_bus.specs.LeavingOut.{with_foreign}
 use Rattle.mdb_machine.specs.declared.choice.Choice.TheVariants.{Plain}
 use Rattle.mdb_machine.specs.Gains.{no_gains}
 use Rattle.mdb_machine.specs.Pair.{own_acts}
-use Rattle.mdb_follow.specs.Arrivals.{Arrives, EachArrives}
+use Rattle.mdb_follow.specs.Arrivals.{Arrives}
+use Rattle.mdb_follow.specs.Tables.{EachArrives}
 use Rattle.mdb_follow.specs.Machines.{StateOf, machine_of}
 use Rattle.mdb_follow.specs.Runs.{AllSums, Run}
 use Rattle.mdb_follow.specs.Sums.{no_sums}

@@ -1,6 +1,6 @@
 -- Where the end of a transcript has an act list by itself, by the extended profile, its replies are
 -- those of the whole: what is read there with less known of levels is what is read with more.
-use Rattle.std.proofs.Common.{arith, ap, refl, sym, subst, ◌∙◌, ◌≡◌, ◌≢◌, ◌++◌, ◌⊎◌, ◌+◌, ◌%◌, inl, inr, ℕ, Bool, true, false, nat_lt, sum, List, [], ◌∷◌, length, Option, Some, None, IsSome, if◌then◌else◌, append_assoc}
+use Rattle.std.proofs.Common.{arith, ap, refl, sym, subst, ◌∙◌, ◌≡◌, ◌≢◌, ◌++◌, ◌⊎◌, ◌+◌, ◌%◌, inl, inr, ℕ, Bool, true, false, nat_lt, ◌||◌, sum, List, [], ◌∷◌, length, Option, Some, None, IsSome, if◌then◌else◌, append_assoc}
 use Rattle.std.proofs.lemmas.List.{same_from_push}
 use Rattle.mdb_words.specs.declared.event.Event.{Event}
 use Rattle.mdb_words.specs.declared.event.Event.TheVariants.{Word, Break}
@@ -10,23 +10,26 @@ use Rattle.mdb_msgs.specs.declared.answer.DataForm.{DataForm}
 use Rattle.mdb_msgs.specs.declared.command.Command.{Command}
 use Rattle.mdb_msgs.specs.declared.command.Command.TheVariants.{Reader}
 use Rattle.mdb_msgs.specs.declared.command.ReaderUnit.TheVariants.{First, Second}
-use Rattle.mdb_msgs.specs.declared.reading.Reading.TheVariants as readings
+use Rattle.mdb_msgs.specs.declared.reading.Ids.TheVariants.{ByNext, Full}
+use Rattle.mdb_msgs.specs.declared.reading.Reading.{Reading}
 use Rattle.mdb_msgs.specs.declared.reply.Reply.{Reply}
 use Rattle.mdb_msgs.specs.declared.setups.Setups.{Setups}
 use Rattle.mdb_msgs.specs.Replies.{IsReplyTo, reply_bytes}
 use Rattle.mdb_bus.specs.declared.act.Act.TheVariants as acts
 use Rattle.mdb_bus.specs.declared.format.Format.{Format}
-use Rattle.mdb_bus.specs.declared.format.Format.TheVariants.{As, Early, Open}
+use Rattle.mdb_bus.specs.declared.format.Format.TheVariants.{Or, Open}
 use Rattle.mdb_bus.specs.declared.levels.Levels.{Levels}
 use Rattle.mdb_bus.specs.declared.scope.Beginning.{Beginning}
 use Rattle.mdb_bus.specs.declared.scope.Beginning.TheVariants.{PowerOn, Joined}
 use Rattle.mdb_bus.specs.declared.scope.Profile.TheVariants.{Base, Extended}
 use Rattle.mdb_bus.specs.declared.scope.Scope.{Scope}
 use Rattle.mdb_bus.specs.Acts.{IsReply, Say, reply_words, said_by}
-use Rattle.mdb_bus.specs.ActLists.{AnswerMayCome, ArePieces, AreSpaced, Asked, HasActList, InForeign, IsActList, IsPiece, IsReplyFront, MayStand, Piece, ReplyFits, ReplyTail, Whole, events_of, last_of, levels_of, position_of}
-use Rattle.mdb_bus.specs.Formats.{IsReadAs, format_at, format_by, or_short}
+use Rattle.mdb_bus.specs.ActLists.{AnswerMayCome, ArePieces, AreSpaced, Asked, InForeign, IsActList, IsPiece, IsReplyFront, MayStand, Piece, ReplyFits, ReplyTail, Whole, events_of, last_of, levels_of, position_of}
+use Rattle.mdb_bus.specs.Pieces.{HasActList}
+use Rattle.mdb_bus.specs.Formats.{IsReadAs, format_by}
+use Rattle.mdb_bus.specs.ExtendedFormats.{by_asked, by_told, format_at, long, long_format, short, IsFirst}
 use Rattle.mdb_bus.specs.LinkFaults.{situation_of}
-use Rattle.mdb_bus.specs.OpenReplies.{OpenAgrees}
+use Rattle.mdb_bus.specs.OpenReplies.{IsExtended, OpenAgrees}
 use Rattle.mdb_bus.specs.Scopes.{levels_before, no_levels, profile_of}
 use Rattle.mdb_bus.specs.shared.Grammar.{OpenIsAFront}
 use Rattle.mdb_bus.specs.shared.Step.{Step}
@@ -52,111 +55,144 @@ pub record LinkLaws : Type 0 where
 
 -- ---- formats where less is known
 
--- a level decides, or leaves another format
-decides : (is_low : Bool) → ((if is_low then As readings.Short else Open) ≡ Open)
-    ⊎ ((other : Format) → (if is_low then As readings.Short else other) ≡ As readings.Short)
-decides true = inr (λ other. refl)
-decides false = inl refl
+-- What is read in the format with less known: it is open where the other is of a reader's reply, or
+-- the same, or it has a second reading for what has a fault in the only one of the other.
+abbrev pub IsLess : Format → Format → Type 0
+IsLess less more =
+    ((less ≡ Open) × IsExtended more)
+    ⊎ ((less ≡ more)
+    ⊎ ((first second : Reading) × (less ≡ Or first second) × (more ≡ Or first first)))
 
--- a level leaves short what is short
-still_short : (is_low : Bool) → (if is_low then As readings.Short else As readings.Short)
-    ≡ As readings.Short
-still_short true = refl
-still_short false = refl
+-- what is told in one reading alone is told in it and a second one
+told_so : (command : Command) (first second : Reading) (told : Reply)
+    → IsFirst (first ∷ first ∷ []) command told → IsFirst (first ∷ second ∷ []) command told
+told_so command first second told (inl is) = inl is
+told_so command first second told (inr (bad, inl is)) = inl is
+told_so command first second told (inr (bad, inr none)) = absurd none.1
 
--- the level of the controller that is low decides, whatever the reader told
-asked_short : (asked : ℕ) (told : Option ℕ) (untold : Format)
-    → ((other : Format) → or_short asked other ≡ As readings.Short)
-    → format_at untold (Some asked) told ≡ As readings.Short
-asked_short asked None untold short = short untold
-asked_short asked (Some told) untold short = short (or_short told (As readings.Long))
-
--- so does that of the reader
-told_short : (asked : Option ℕ) (told : ℕ) (untold : Format)
-    → ((other : Format) → or_short told other ≡ As readings.Short)
-    → format_at untold asked (Some told) ≡ As readings.Short
-told_short None told untold short = short untold
-told_short (Some asked) told untold short =
-    ap (or_short asked) (short (As readings.Long)) ∙ still_short (nat_lt asked 2)
-
--- where less is known the format is open, or the same
-format_less : (untold : Format) (asked told more_asked more_told : Option ℕ)
-    → IsNothingOr asked more_asked → IsNothingOr told more_told
-    → (format_at Open asked told ≡ Open)
-    ⊎ (format_at Open asked told ≡ format_at untold more_asked more_told)
-format_less untold (Some asked) (Some told) more_asked more_told one other =
-    inr (sym (ap (λ a. format_at untold a more_told) one
-    ∙ ap (format_at untold (Some asked)) other))
-format_less untold (Some asked) None more_asked more_told one other =
-    elim (decides (nat_lt asked 2)) [
-      | inl is_open ↦ inl is_open
-      | inr short ↦ inr (short Open ∙ sym (ap (λ a. format_at untold a more_told) one
-          ∙ asked_short asked more_told untold short))
+-- each format of a reader's reply is one of it
+long_extended : (asked told : ℕ) → IsExtended (long_format asked told)
+long_extended asked told = elim (nat_lt asked 3 || nat_lt told 3) as (λ b.
+    let ids = if b then ByNext else Full in IsExtended (Or (long ids) (short ids))) [
+      | true ↦ (refl, refl)
+      | false ↦ (refl, refl)
     ]
-format_less untold None (Some told) more_asked more_told one other =
-    elim (decides (nat_lt told 2)) [
-      | inl is_open ↦ inl is_open
-      | inr short ↦ inr (short Open ∙ sym (ap (format_at untold more_asked) other
-          ∙ told_short more_asked told untold short))
+
+asked_extended : (asked : ℕ) (format : Format) → IsExtended format
+    → IsExtended (by_asked asked format)
+asked_extended asked format is = elim (nat_lt asked 2) as (λ b.
+    IsExtended (if b then Or (short ByNext) (long ByNext) else format)) [
+      | true ↦ (refl, refl)
+      | false ↦ is
     ]
-format_less untold None None more_asked more_told one other = inl refl
 
--- that of a command's reply
-pub format_alone : (untold : Format) (command : Command) (less more : Levels)
-    → IsLessKnown less more
-    → (format_by Extended Open less command ≡ Open)
-    ⊎ (format_by Extended Open less command ≡ format_by Extended untold more command)
-format_alone untold (Reader First command) less more known =
-    format_less untold less.first.asked less.first.told more.first.asked more.first.told
-    known.first.asked known.first.told
-format_alone untold (Reader Second command) less more known =
-    format_less untold less.second.asked less.second.told more.second.asked more.second.told
-    known.second.asked known.second.told
-format_alone untold command less more known = inr refl
-
--- no format of the extended profile is that of the base profile
-not_short : (is_low : Bool) (format : Format) → format ≢ As readings.Base
-    → (if is_low then As readings.Short else format) ≢ As readings.Base
-not_short true format other is = cc is
-not_short false format other is = other is
-
-not_at : (untold : Format) → untold ≢ As readings.Base → (asked told : Option ℕ)
-    → format_at untold asked told ≢ As readings.Base
-not_at untold other (Some asked) (Some told) =
-    not_short (nat_lt asked 2) (or_short told (As readings.Long))
-    (not_short (nat_lt told 2) (As readings.Long) (λ is. cc is))
-not_at untold other (Some asked) None = not_short (nat_lt asked 2) untold other
-not_at untold other None (Some told) = not_short (nat_lt told 2) untold other
-not_at untold other None None = other
-
-pub not_base : (untold : Format) → untold ≢ As readings.Base → (levels : Levels) (command : Command)
-    → format_by Extended untold levels command ≢ As readings.Base
-not_base untold other levels (Reader First command) =
-    not_at untold other levels.first.asked levels.first.told
-not_base untold other levels (Reader Second command) =
-    not_at untold other levels.second.asked levels.second.told
-not_base untold other levels command = λ is. cc is
-
--- what is read with more known is read with less, where some reply of these bytes is
-read_alone : OpenAgrees → (untold : Format) → untold ≢ As readings.Base → (command : Command)
-    (less more : Levels) → IsLessKnown less more → (reply other : Reply)
-    → IsReplyTo command reply → IsReplyTo command other → reply_bytes reply ≡ reply_bytes other
-    → IsReadAs (format_by Extended untold more command) command reply
-    → IsReadAs (format_by Extended Open less command) command other
-    → IsReadAs (format_by Extended Open less command) command reply
-read_alone agrees untold plain command less more known reply other answers also same is there =
-    let As_one : Format → Type 0 = λ format. IsReadAs format command reply in
-    let As_other : Format → Type 0 = λ format. IsReadAs format command other in
-    let Here : Reply → Type 0 = λ r. IsReadAs (format_by Extended Open less command) command r in
-    elim (format_alone untold command less more known) [
-      | inl is_open ↦
-          let one : reply ≡ other =
-          agrees (format_by Extended untold more command) command reply other
-          (not_base untold plain more command) is (subst As_other is_open there) answers also
-          same in
-          subst Here (sym one) there
-      | inr alike ↦ subst As_one (sym alike) is
+told_extended : (told : ℕ) (format : Format) → IsExtended format → IsExtended (by_told told format)
+told_extended told format is = elim (nat_lt told 2) as (λ b.
+    IsExtended (if b then Or (short ByNext) (short ByNext) else format)) [
+      | true ↦ (refl, refl)
+      | false ↦ is
     ]
+
+at_extended : (untold : Format) → IsExtended untold → (asked told : Option ℕ)
+    → IsExtended (format_at untold asked told)
+at_extended untold is (Some asked) (Some told) =
+    told_extended told _ (asked_extended asked _ (long_extended asked told))
+at_extended untold is (Some asked) None = asked_extended asked untold is
+at_extended untold is None (Some told) = told_extended told untold is
+at_extended untold is None None = is
+
+module _ (untold : Format) (extended : IsExtended untold) where
+  -- the level of the controller is known
+  by_controller : (asked : ℕ) (more_told : Option ℕ)
+      → IsLess (format_at Open (Some asked) None) (format_at untold (Some asked) more_told)
+  by_controller asked None = elim (nat_lt asked 2) as (λ b.
+      IsLess (if b then Or (short ByNext) (long ByNext) else Open)
+      (if b then Or (short ByNext) (long ByNext) else untold)) [
+        | true ↦ inr (inl refl)
+        | false ↦ inl (refl, extended)
+      ]
+  by_controller asked (Some told) = by (nat_lt asked 2) (nat_lt told 2)
+    where
+      by : (low told_low : Bool)
+          → IsLess (if low then Or (short ByNext) (long ByNext) else Open)
+          (if told_low then Or (short ByNext) (short ByNext)
+          else (if low then Or (short ByNext) (long ByNext) else long_format asked told))
+      by false true = inl (refl, (refl, refl))
+      by false false = inl (refl, long_extended asked told)
+      by true true = inr (inr (short ByNext, long ByNext, refl, refl))
+      by true false = inr (inl refl)
+
+  -- that of the reader is
+  by_reader : (told : ℕ) (more_asked : Option ℕ)
+      → IsLess (format_at Open None (Some told)) (format_at untold more_asked (Some told))
+  by_reader told None = elim (nat_lt told 2) as (λ b.
+      IsLess (if b then Or (short ByNext) (short ByNext) else Open)
+      (if b then Or (short ByNext) (short ByNext) else untold)) [
+        | true ↦ inr (inl refl)
+        | false ↦ inl (refl, extended)
+      ]
+  by_reader told (Some asked) = elim (nat_lt told 2) as (λ b.
+      IsLess (if b then Or (short ByNext) (short ByNext) else Open)
+      (if b then Or (short ByNext) (short ByNext)
+      else by_asked asked (long_format asked told))) [
+        | true ↦ inr (inl refl)
+        | false ↦ inl (refl, asked_extended asked _ (long_extended asked told))
+      ]
+
+  format_less : (asked told more_asked more_told : Option ℕ)
+      → IsNothingOr asked more_asked → IsNothingOr told more_told
+      → IsLess (format_at Open asked told) (format_at untold more_asked more_told)
+  format_less (Some asked) (Some told) more_asked more_told one other =
+      inr (inl (sym (ap (λ a. format_at untold a more_told) one
+      ∙ ap (format_at untold (Some asked)) other)))
+  format_less (Some asked) None more_asked more_told one other =
+      subst (λ a. IsLess (format_at Open (Some asked) None) (format_at untold a more_told))
+      (sym one) (by_controller asked more_told)
+  format_less None (Some told) more_asked more_told one other =
+      subst (λ t. IsLess (format_at Open None (Some told)) (format_at untold more_asked t))
+      (sym other) (by_reader told more_asked)
+  format_less None None more_asked more_told one other =
+      inl (refl, at_extended untold extended more_asked more_told)
+
+  -- that of a command's reply
+  pub format_alone : (command : Command) (less more : Levels) → IsLessKnown less more
+      → IsLess (format_by Extended Open less command) (format_by Extended untold more command)
+  format_alone (Reader First command) less more known =
+      format_less less.first.asked less.first.told more.first.asked more.first.told
+      known.first.asked known.first.told
+  format_alone (Reader Second command) less more known =
+      format_less less.second.asked less.second.told more.second.asked more.second.told
+      known.second.asked known.second.told
+  format_alone command less more known = inr (inl refl)
+
+  -- what is read with more known is read with less, where some reply of these bytes is
+  read_alone : OpenAgrees → (command : Command)
+      (less more : Levels) → IsLessKnown less more → (reply other : Reply)
+      → IsReplyTo command reply → IsReplyTo command other → reply_bytes reply ≡ reply_bytes other
+      → IsReadAs (format_by Extended untold more command) command reply
+      → IsReadAs (format_by Extended Open less command) command other
+      → IsReadAs (format_by Extended Open less command) command reply
+  read_alone agrees command less more known reply other answers also same is there =
+      let As_one : Format → Type 0 = λ format. IsReadAs format command reply in
+      let As_other : Format → Type 0 = λ format. IsReadAs format command other in
+      let Here : Reply → Type 0 = λ r. IsReadAs (format_by Extended Open less command) command r in
+      elim (format_alone command less more known) [
+        | inl is_open ↦
+            let one : reply ≡ other =
+            agrees (format_by Extended untold more command) command reply other is_open.1 is
+            (subst As_other is_open.0 there) answers also same in
+            subst Here (sym one) there
+        | inr (inl alike) ↦ subst As_one (sym alike) is
+        | inr (inr two) ↦
+            let first : IsReadAs (Or two.0 two.0) command reply = subst As_one two.3 is in
+            subst As_one (sym two.2) (
+              first.0,
+              told_so command two.0 two.1 first.0 first.1,
+              first.2,
+              first.3,
+              first.4,
+            )
+      ]
 
 -- so a reply fits
 fits_alone : OpenAgrees → (begins : Beginning) (setups : Setups) → profile_of begins ≡ Extended
@@ -167,14 +203,14 @@ fits_alone : OpenAgrees → (begins : Beginning) (setups : Setups) → profile_o
     → ReplyFits (Joined setups (profile_of begins)) less command reply
 fits_alone agrees (PowerOn Extended) setups extended command less more known reply other answers
     also same fits there = (
-      read_alone agrees Early (λ is. cc is) command less more known reply other answers also same
-          fits.0 there.0,
+      read_alone (Or (short Full) (long Full)) (refl, refl) agrees command less more known reply
+          other answers also same fits.0 there.0,
       fits.1,
     )
 fits_alone agrees (Joined told Extended) setups extended command less more known reply other answers
     also same fits there = (
-      read_alone agrees Open (λ is. cc is) command less more known reply other answers also same
-          fits.0 there.0,
+      read_alone Open tt agrees command less more known reply other answers also same fits.0
+          there.0,
       fits.1,
     )
 fits_alone agrees (PowerOn Base) setups extended command less more known reply other answers also
@@ -246,7 +282,7 @@ reply_tail scope pieces are command reply front row first others begins is says 
     let gaps = inside (profile_of scope.begins) (events_of pieces) front row some spaced in
     let kept = first_stays front row first others some begins in
     let begun : IsReplyFront command bytes = record {
-      allowed = subst May (sym is.answers.answer.form) refl;
+      allowed = subst May (sym is.answers.form) refl;
       some = is.content.at_least;
       few = is.content.at_most;
       in_range = is.content.in_range;

@@ -8,7 +8,7 @@ use Rattle.mdb_words.specs.declared.word.Line.TheVariants.{Peripheral}
 use Rattle.mdb_msgs.specs.declared.command.Command.{Command}
 use Rattle.mdb_msgs.specs.declared.fault.MsgFault.{MsgFault}
 use Rattle.mdb_msgs.specs.declared.fault.MsgFault.TheVariants.{Message, Profile as Left, Answer}
-use Rattle.mdb_msgs.specs.declared.reading.Reading.TheVariants as readings
+use Rattle.mdb_msgs.specs.declared.reading.Ids.TheVariants.{Full}
 use Rattle.mdb_msgs.specs.declared.reply.Reply.{Reply}
 use Rattle.mdb_msgs.specs.declared.setups.Setups.{Setups}
 use Rattle.mdb_msgs.specs.Replies.{IsReplyTo, reply_bytes}
@@ -17,24 +17,26 @@ use Rattle.mdb_bus.specs.declared.fault.Blame.{Blame}
 use Rattle.mdb_bus.specs.declared.fault.Rule.{Rule}
 use Rattle.mdb_bus.specs.declared.fault.Rule.TheVariants as rule
 use Rattle.mdb_bus.specs.declared.format.Format.{Format}
-use Rattle.mdb_bus.specs.declared.format.Format.TheVariants.{As, Early, Open}
+use Rattle.mdb_bus.specs.declared.format.Format.TheVariants.{Or, Open}
 use Rattle.mdb_bus.specs.declared.levels.Levels.{Levels}
 use Rattle.mdb_bus.specs.declared.scope.Beginning.{Beginning}
 use Rattle.mdb_bus.specs.declared.scope.Beginning.TheVariants.{PowerOn, Joined}
 use Rattle.mdb_bus.specs.declared.scope.Profile.TheVariants.{Base, Extended}
 use Rattle.mdb_bus.specs.declared.scope.Scope.{Scope}
-use Rattle.mdb_bus.specs.ActLists.{ArePieces, HasActList, InReply, IsActList, Piece, ReplyFits, ReplyTail, Whole, events_of, last_of, levels_of, position_of}
+use Rattle.mdb_bus.specs.ActLists.{ArePieces, InReply, IsActList, Piece, ReplyFits, ReplyTail, Whole, events_of, last_of, levels_of, position_of}
+use Rattle.mdb_bus.specs.Pieces.{HasActList}
 use Rattle.mdb_bus.specs.Formats.{HasFault, IsReadAs, format_by, format_for}
+use Rattle.mdb_bus.specs.ExtendedFormats.{long, short}
 use Rattle.mdb_bus.specs.LinkFaults.{HasBadMessage, IsLinkFault, OutOfOrder, RowBreaks, TooEarly, TooFarApart, TooLate, WrongAnswer, WrongSpeaker, WrongSum, situation_of, asked_device, blame_of, fault_of}
-use Rattle.mdb_bus.specs.OpenReplies.{OpenLeavesOut}
+use Rattle.mdb_bus.specs.OpenReplies.{IsExtended, OpenLeavesOut}
 use Rattle.mdb_bus.specs.Scopes.{levels_before, profile_of}
 use Rattle.mdb_late_start.specs.Alone.{IsLessKnown, TellsLevelsOfFront}
 use Rattle.mdb_late_start.specs.Cuts.{SplitsAt, joined_with}
 use Rattle.mdb_late_start.proofs.Cutting.{AllFitAlone, ComesAlone, Cutting, alone, anew_still, splits}
 use Rattle.mdb_late_start.proofs.LessTold.{by_profile}
-use Rattle.mdb_late_start.proofs.OpenEnds.{LinkLaws, Tail, fit_by_base, format_alone, known_in_reply, not_base, reply_fits_there, reply_tail}
+use Rattle.mdb_late_start.proofs.OpenEnds.{LinkLaws, Tail, fit_by_base, format_alone, known_in_reply, reply_fits_there, reply_tail}
 use Rattle.mdb_bus.proofs.Lists.{front_and_last, last_push}
-use Rattle.mdb_bus.specs.Haste.{counted_in, haste_of}
+use Rattle.mdb_bus.specs.ExtendedHaste.{counted_in, haste_of}
 
 -- what mdb_bus says of faults
 pub record FaultLaws : Type 0 where
@@ -46,18 +48,22 @@ pub record FaultLaws : Type 0 where
 -- ---- the faults of a reply that was read with more known
 
 -- one that isn't left out is a fault there too
-fault_as : OpenLeavesOut → (untold : Format) → untold ≢ As readings.Base → (command : Command)
+fault_as : OpenLeavesOut → (untold : Format) → IsExtended untold → (command : Command)
     (less more : Levels) → IsLessKnown less more → (reply : Reply) (fault : MsgFault)
     → fault ≢ Left → IsReplyTo command reply
     → IsReadAs (format_by Extended untold more command) command reply
     → HasFault (format_by Extended Open less command) command (reply_bytes reply) fault
     → HasFault (format_by Extended untold more command) command (reply_bytes reply) fault
-fault_as leaves untold plain command less more known reply fault other answers is bad =
+fault_as leaves untold extended command less more known reply fault other answers is bad =
     let Bad : Format → Type 0 = λ format. HasFault format command (reply_bytes reply) fault in
-    elim (format_alone untold command less more known) [
+    elim (format_alone untold extended command less more known) [
       | inl is_open ↦ absurd (other (leaves (format_by Extended untold more command) command reply
-          fault (not_base untold plain more command) is answers (subst Bad is_open bad)))
-      | inr alike ↦ subst Bad alike bad
+          fault is_open.1 is answers (subst Bad is_open.0 bad)))
+      | inr (inl alike) ↦ subst Bad alike bad
+      | inr (inr two) ↦
+          let both : HasFault (Or two.0 two.1) command (reply_bytes reply) fault =
+          subst Bad two.2 bad in
+          subst Bad (sym two.3) (both.0, fault, both.0)
     ]
 
 fault_there : OpenLeavesOut → (begins : Beginning) (setups : Setups)
@@ -69,10 +75,11 @@ fault_there : OpenLeavesOut → (begins : Beginning) (setups : Setups)
     → HasFault (format_for begins more command) command (reply_bytes reply) fault
 fault_there leaves (PowerOn Extended) setups extended command less more known reply fault other
     answers fits bad =
-    fault_as leaves Early (λ is. cc is) command less more known reply fault other answers fits.0 bad
+    fault_as leaves (Or (short Full) (long Full)) (refl, refl) command less more known reply fault
+    other answers fits.0 bad
 fault_there leaves (Joined told Extended) setups extended command less more known reply fault other
     answers fits bad =
-    fault_as leaves Open (λ is. cc is) command less more known reply fault other answers fits.0 bad
+    fault_as leaves Open tt command less more known reply fault other answers fits.0 bad
 fault_there leaves (PowerOn Base) setups extended command less more known reply fault other answers
     fits bad = absurd (cc extended)
 fault_there leaves (Joined told Base) setups extended command less more known reply fault other

@@ -12,7 +12,7 @@ use Rattle.mdb_bus.specs.Scopes.{profile_of}
 use Rattle.mdb_machine.specs.Kept.{kept_of}
 use Rattle.mdb_machine.specs.Past.{last_list, last_told, or_else, unless_empty}
 use Rattle.mdb_cashless.specs.declared.reader.transaction.Transaction.{Transaction}
-use Rattle.mdb_cashless.specs.Reader.{unvalued}
+use Rattle.mdb_cashless.specs.ReaderAmounts.{unvalued}
 use Rattle.mdb_cashless.specs.ReaderFacts.{KnownFacts, amount_by, asked_by, config_by, effect_of, known_of, parts_by, taken_told}
 use Rattle.mdb_late_start.specs.MidSession.{AnswersLast, IsNothingOr}
 use Rattle.mdb_late_start.proofs.Covering.{Covers, all_later, asked_over, covers_over, known_over, owed_end, same_over, told_over}

@@ -21,7 +21,8 @@ use Rattle.mdb_machine.specs.Unvalued.{one_if}
 use Rattle.mdb_cashless.specs.declared.reader.messages.ReaderActivity.{ReaderActivity}
 use Rattle.mdb_cashless.specs.declared.reader.state.ReaderState.{ReaderState}
 use Rattle.mdb_cashless.specs.declared.reader.view.View.{View}
-use Rattle.mdb_cashless.specs.Reader.{AckStep, AskStep, ReaderStep, ReplyStep, VmcAckStep, all_approved, all_approved_to, approved, asks_sale, is_repeated, read, sold, sold_any, sold_to, taken, value, view_answered}
+use Rattle.mdb_cashless.specs.Reader.{AckStep, AskStep, ReaderStep, ReplyStep, VmcAckStep, all_approved, all_approved_to, approved, is_repeated, read, sold, sold_any, sold_to, taken, value, view_answered}
+use Rattle.mdb_cashless.specs.ReaderAmounts.{asks_sale}
 use Rattle.mdb_cashless.specs.ReaderDevice as reader_device
 use Rattle.mdb_cashless.specs.ReaderFacts.{Facts, KnownFacts, effect_of_own}
 use Rattle.mdb_cashless.specs.ReaderMessages.{messages_of, part_of, parts_of}

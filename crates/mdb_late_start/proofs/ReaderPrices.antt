@@ -17,7 +17,7 @@ use Rattle.mdb_machine.specs.Known.{known_before}
 use Rattle.mdb_machine.specs.Past.{last_told, or_else}
 use Rattle.mdb_machine.specs.Unvalued as amounts
 use Rattle.mdb_machine.specs.Unvalued.{one_if}
-use Rattle.mdb_cashless.specs.Reader.{asks_sale, is_unpriced, unvalued, unvalued_by}
+use Rattle.mdb_cashless.specs.ReaderAmounts.{asks_sale, is_unpriced, unvalued, unvalued_by}
 use Rattle.mdb_cashless.specs.ReaderFacts.{amount_by, config_by, known_of, messages_by}
 use Rattle.mdb_cashless.specs.ReaderMessages.{config_in, last_said, messages_of}
 use Rattle.mdb_cashless.specs.Units.{own}

@@ -14,7 +14,8 @@ use Rattle.mdb_machine.specs.declared.gains.Gains.{Gains}
 use Rattle.mdb_cashless.specs.declared.by_profile.state.StateByProfile.{StateByProfile}
 use Rattle.mdb_cashless.specs.declared.by_profile.state.StateByProfile.TheVariants.{Base, Extended}
 use Rattle.mdb_cashless.specs.declared.reader.state.ReaderState.{ReaderState}
-use Rattle.mdb_cashless.specs.Reader.{StepKnowing, unvalued}
+use Rattle.mdb_cashless.specs.Reader.{StepKnowing}
+use Rattle.mdb_cashless.specs.ReaderAmounts.{unvalued}
 use Rattle.mdb_cashless.specs.ReaderFacts.{KnownFacts, known_of}
 use Rattle.mdb_follow.specs.Machines.{machine_of}
 use Rattle.mdb_follow.specs.Report.{unvalued_of}

@@ -11,7 +11,8 @@ use Rattle.mdb_bus.specs.declared.scope.Beginning.TheVariants.{Joined}
 use Rattle.mdb_bus.specs.declared.scope.Profile.{Profile}
 use Rattle.mdb_bus.specs.declared.scope.Profile.TheVariants.{Base, Extended}
 use Rattle.mdb_bus.specs.declared.scope.Scope.{Scope}
-use Rattle.mdb_bus.specs.ActLists.{ArePieces, HasActList, IsActList, MayCome, Piece, PieceFits, Position, Whole, events_of, last_of, levels_of, position_of}
+use Rattle.mdb_bus.specs.ActLists.{ArePieces, IsActList, MayCome, Piece, PieceFits, Position, Whole, events_of, last_of, levels_of, position_of}
+use Rattle.mdb_bus.specs.Pieces.{HasActList}
 use Rattle.mdb_bus.specs.LeavingOut.{with_foreign}
 use Rattle.mdb_bus.specs.Scopes.{first_levels, levels_before, no_levels, profile_of, told}
 use Rattle.mdb_late_start.specs.Alone.{MayBeReadAlone}

@@ -19,7 +19,8 @@ use Rattle.mdb_follow.specs.declared.range.Range.{Range}
 use Rattle.mdb_follow.specs.declared.report.Report.{Report}
 use Rattle.mdb_follow.specs.AccountNames.{account_device, account_of, account_slot, sums_of}
 use Rattle.mdb_follow.specs.LeavingOut.{AreSumsWithout}
-use Rattle.mdb_follow.specs.Ranges.{IsAccount, IsRange}
+use Rattle.mdb_follow.specs.Ranges.{IsRange}
+use Rattle.mdb_follow.specs.AccountRanges.{IsAccount}
 use Rattle.mdb_follow.specs.Report.{IsReport, device_unvalued, unvalued_of}
 use Rattle.mdb_follow.specs.Runs.{AllSums, Run}
 use Rattle.mdb_late_start.specs.Alone.{MayBeReadAlone}

@@ -10,7 +10,8 @@ use Rattle.mdb_bus.specs.declared.levels.ReaderLevels.{ReaderLevels}
 use Rattle.mdb_bus.specs.declared.scope.Profile.TheVariants.{Base}
 use Rattle.mdb_bus.specs.declared.scope.Scope.{Scope}
 use Rattle.mdb_bus.specs.Acts.{IsForeignWord}
-use Rattle.mdb_bus.specs.ActLists.{HasActList, IsActList, Piece, levels_of}
+use Rattle.mdb_bus.specs.ActLists.{IsActList, Piece, levels_of}
+use Rattle.mdb_bus.specs.Pieces.{HasActList}
 use Rattle.mdb_bus.specs.Scopes.{levels_before, profile_of}
 use Rattle.mdb_text.specs.declared.outcome.Outcome.{Outcome}
 use Rattle.mdb_text.specs.declared.outcome.Outcome.TheVariants.{Yes, No}

@@ -4,7 +4,8 @@
 use Rattle.std.specs.Prelude.{◌≡◌, List, ◌++◌, All}
 use Rattle.mdb_words.specs.declared.event.Event.{Event}
 use Rattle.mdb_bus.specs.declared.scope.Scope.{Scope}
-use Rattle.mdb_bus.specs.ActLists.{IsActList, IsTail, Piece, events_of}
+use Rattle.mdb_bus.specs.ActLists.{IsActList, Piece, events_of}
+use Rattle.mdb_bus.specs.Pieces.{IsTail}
 use Rattle.mdb_bus.specs.Acts.{IsForeignWord}
 use Rattle.mdb_late_start.specs.Cuts.{BeginAnew}
 

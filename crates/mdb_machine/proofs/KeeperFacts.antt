@@ -6,8 +6,8 @@ use Rattle.mdb_machine.specs.declared.past.Effect.TheVariants as effects
 use Rattle.mdb_machine.specs.declared.keeper.KeeperFacts.{KeeperFacts}
 use Rattle.mdb_machine.specs.Keeper.{Facts, Tables}
 use Rattle.mdb_machine.specs.KeeperValues.{enabled_after, facts_in, facts_taken, facts_told}
-use Rattle.mdb_machine.specs.Past.{PastFacts, effect_answered, or_else, resets}
-use Rattle.mdb_machine.specs.PastValues.{past_after, past_in}
+use Rattle.mdb_machine.specs.Past.{PastFacts, or_else, resets}
+use Rattle.mdb_machine.specs.PastValues.{effect_answered, past_after, past_in}
 use Rattle.mdb_machine.proofs.Masks.{enabled_more, in_mask}
 use Rattle.mdb_machine.proofs.PowerOn.{same_facts}
 

@@ -13,7 +13,8 @@ use Rattle.mdb_machine.specs.Choices.{CanStand}
 use Rattle.mdb_machine.specs.Gains.{Stays, controller_gains, device_gains, no_gains}
 use Rattle.mdb_machine.specs.Keeper.{Facts, Tables}
 use Rattle.mdb_machine.specs.KeeperSteps.{Conduct, KeeperStep, ReplyStep, VmcAckStep, worth}
-use Rattle.mdb_machine.specs.Kept.{IsSummary, MayBeRead, HasNews, has_reset, held, holds_acked, holds_after, holds_read, kept_of}
+use Rattle.mdb_machine.specs.Kept.{MayBeRead, HasNews, has_reset, held, holds_acked, holds_after, holds_read, kept_of}
+use Rattle.mdb_machine.specs.PastValues.{IsSummary}
 use Rattle.mdb_machine.specs.Pair.{IsOnly, IsOnlyStep}
 use Rattle.mdb_machine.specs.Steps.{ForOwn}
 use Rattle.mdb_machine.proofs.KeptLists.{HasNewsOnly, free_acked, only_news}

@@ -7,7 +7,8 @@ use Rattle.mdb_machine.specs.declared.kept.Part.{Part}
 use Rattle.mdb_machine.specs.declared.kept.Part.TheVariants as part
 use Rattle.mdb_machine.specs.declared.choice.Choice.{Choice}
 use Rattle.mdb_machine.specs.declared.choice.Choice.TheVariants.{Plain, Lost, Restart}
-use Rattle.mdb_machine.specs.Kept.{IsNew, MayBeRead, IsSummary, HasNews, has_reset, holds_acked, is_reset, keeps_early, kept_by, kept_of}
+use Rattle.mdb_machine.specs.Kept.{IsNew, MayBeRead, HasNews, has_reset, holds_acked, is_reset, keeps_early, kept_by, kept_of}
+use Rattle.mdb_machine.specs.PastValues.{IsSummary}
 
 -- the kept list of a reply with one message more
 pub kept_of-more : {M : Type 0} (parts : List (Part M)) (p : Part M)

@@ -1,7 +1,6 @@
 -- What a step adds to the sums of a pair, in smallest units of money: for its device and for the
 -- controller, to each of its accounts (this profile). Each account has a slot, from 0.
-use Rattle.std.specs.Prelude.{◌≡◌, ℕ, ◌<◌, ◌^◌, List, [], ◌∷◌, slice_index}
-use Rattle.std.specs.List.{AllByRecursion}
+use Rattle.std.specs.Prelude.{◌≡◌, ℕ, List, [], ◌∷◌, slice_index}
 use Rattle.mdb_machine.specs.declared.gains.Gains.{Gains}
 
 -- one thing for each slot, in their order: as many as there are slots
@@ -23,14 +22,6 @@ device_gains amount = record { device = by_slot amount; controller = by_slot (λ
 -- so much to each of the controller's sums
 abbrev pub controller_gains : (ℕ → ℕ) → Gains
 controller_gains amount = record { device = by_slot (λ slot. 0); controller = by_slot amount }
-
--- few enough that the sums over the 100,000,000 rows of a recording fit in 63 bits
-abbrev pub AreSmall : List ℕ → Type 0
-AreSmall amounts = AllByRecursion (λ amount. amount < 2 ^ 32) amounts
-
-pub record IsSmall (gains : Gains) : Type 0 where
-  pub device : AreSmall gains.device
-  pub controller : AreSmall gains.controller
 
 -- a step that changes nothing
 abbrev pub Stays : {State : Type 0} → State → State → Gains → Type 0

@@ -12,9 +12,9 @@ use Rattle.mdb_bus.specs.declared.scope.Profile.{Profile}
 use Rattle.mdb_bus.specs.Scopes.{profile_of}
 use Rattle.mdb_machine.specs.declared.kept.Part.{Part}
 use Rattle.mdb_machine.specs.declared.past.Effect.{Effect}
-use Rattle.mdb_machine.specs.Enabled.{enabled_of, known_enabled}
+use Rattle.mdb_machine.specs.Enabled.{known_enabled}
 use Rattle.mdb_machine.specs.Known.{Allows, Known, known_before, known_by}
-use Rattle.mdb_machine.specs.Past.{AllowsPast, KnownPast, PastFacts, effect_taken, known_past, last_told, or_else, past_of}
+use Rattle.mdb_machine.specs.Past.{AllowsPast, KnownPast, PastFacts, effect_taken, known_past, last_told, or_else}
 
 -- The tables of such a device: `Own` are its commands, `Setup` its setup tables, `Asked` is what
 -- counts of a command once the controller asks it, and `M` what a kept message says.
@@ -69,17 +69,6 @@ pub record Facts (Setup Asked M : Type 0) : Type 0 where
   pub enabled : ℕ → Bool
   -- the reset message, and the last kept list
   pub past : PastFacts M
-
--- the facts after acts
-abbrev pub facts_of : {Own Setup Asked M : Type 0} → Tables Own Setup Asked M → Profile → List Act
-    → Facts Setup Asked M
-facts_of tables profile acts =
-    record {
-      setup = last_told (setup_by tables) acts;
-      last_asked = last_told (asked_by tables) acts;
-      enabled = enabled_of profile (effect_of tables) acts;
-      past = past_of (effect_of tables) (parts_by tables) acts;
-    }
 
 -- What is known of the facts, where a recording may begin in mid-session.
 pub record KnownFacts (Setup Asked M : Type 0) : Type 0 where

@@ -1,6 +1,6 @@
 -- How the code keeps the facts of a device that keeps messages. `facts_in` says what a value of
 -- facts stands for; the rest serves private functions.
-use Rattle.std.specs.Prelude.{ℕ, Bool, true, false, ◌==◌, ◌&&◌, ◌||◌, [], Some, if◌then◌else◌, option_and_then, option_map}
+use Rattle.std.specs.Prelude.{ℕ, Bool, true, false, ◌==◌, ◌&&◌, ◌||◌, [], Some, if◌then◌else◌, option_and_then, option_map, List}
 use Rattle.std.specs.Int.{bit_at}
 use Rattle.std.specs.Option.{is_none}
 use Rattle.mdb_msgs.specs.declared.command.Command.{Command}
@@ -11,10 +11,11 @@ use Rattle.mdb_bus.specs.declared.scope.Profile.{Profile}
 use Rattle.mdb_machine.specs.declared.past.Effect.{Effect}
 use Rattle.mdb_machine.specs.declared.keeper.KeeperFacts.{KeeperFacts}
 use Rattle.mdb_machine.specs.declared.keeper.KeeperKnown.{KeeperKnown}
-use Rattle.mdb_machine.specs.Enabled.{enables, ends_types}
+use Rattle.mdb_machine.specs.Enabled.{enables, ends_types, enabled_of}
 use Rattle.mdb_machine.specs.Keeper.{Facts, KnownFacts, Tables, asked_by, effect_of, parts_by, setup_by}
-use Rattle.mdb_machine.specs.Past.{effect_answered, effect_by, or_else, powers_on, resets}
-use Rattle.mdb_machine.specs.PastValues.{if_known, known_more, known_past_with, past_after, past_in, past_known, past_with}
+use Rattle.mdb_machine.specs.Past.{effect_by, or_else, powers_on, resets, last_told, past_of}
+use Rattle.mdb_machine.specs.PastValues.{effect_answered, if_known, known_past_with, past_after, past_in, past_known, past_with}
+use Rattle.mdb_machine.specs.KnownMore.{known_more}
 
 -- the facts that are kept
 abbrev pub facts_in : {K Own Setup Asked M Message : Type 0}
@@ -104,3 +105,14 @@ settled tables knows_asked knows_kept (acts.Ask command) =
 settled tables knows_asked knows_kept (acts.Reply command reply) =
     knows_kept || is_none (tables.own command)
 settled tables knows_asked knows_kept act = true
+
+-- the facts after acts
+abbrev pub facts_of : {Own Setup Asked M : Type 0} → Tables Own Setup Asked M → Profile → List Act
+    → Facts Setup Asked M
+facts_of tables profile acts =
+    record {
+      setup = last_told (setup_by tables) acts;
+      last_asked = last_told (asked_by tables) acts;
+      enabled = enabled_of profile (effect_of tables) acts;
+      past = past_of (effect_of tables) (parts_by tables) acts;
+    }

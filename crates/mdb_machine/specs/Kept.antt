@@ -34,13 +34,6 @@ keeps_early (part.Reset ∷ parts) = false
 keeps_early (part.Kept message ∷ parts) = true
 keeps_early (part.Other ∷ parts) = keeps_early parts
 
--- what counts of the messages of a reply
-pub record IsSummary {M : Type 0} (kept : List M) (reset early : Bool)
-    (parts : List (Part M)) : Type 0 where
-  pub kept_is : kept ≡ kept_of parts
-  pub reset_is : reset ≡ has_reset parts
-  pub early_is : early ≡ keeps_early parts
-
 -- A reply can be read as telling of a restart where there is a reset message, and no kept message
 -- in front of the first one. As plain, each can be read. What a device tells again, it holds: that
 -- is never chosen.

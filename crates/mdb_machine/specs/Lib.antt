@@ -6,11 +6,13 @@ pub mod KeeperSteps
 pub mod KeeperValues
 pub mod Kept
 pub mod Known
+pub mod KnownMore
 pub mod Machine
 pub mod MidSession
 pub mod Pair
 pub mod Past
 pub mod PastValues
+pub mod SmallGains
 pub mod Steps
 pub mod Unvalued
 pub mod inner

@@ -52,10 +52,6 @@ abbrev pub acts_from : (Act → Bool) → List Act → List Act
 acts_from passes [] = []
 acts_from passes (act ∷ acts) = act ∷ (if passes act then [] else acts_from passes acts)
 
--- what a command is to its device where an answer tells whether it is taken
-abbrev pub effect_answered : Effect → Reply → Effect
-effect_answered effect reply = if tells_out_of_sequence reply then effects.Other else effect
-
 -- what a command is, if there is one
 abbrev pub effect_taken : {Own : Type 0} → (Own → Effect) → Option Own → Effect
 effect_taken effect_of (Some command) = effect_of command

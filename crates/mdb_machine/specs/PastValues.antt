@@ -1,6 +1,6 @@
 -- What counts of the acts so far, act by act: of no act, and after one act more; and what of it a
 -- value of `Past` stands for. The public functions of `Past` say by this what they do.
-use Rattle.std.specs.Prelude.{ℕ, Bool, true, false, not, ◌&&◌, ◌||◌, List, [], Option, Some, None, unwrap_or}
+use Rattle.std.specs.Prelude.{ℕ, Bool, true, false, not, ◌&&◌, ◌||◌, List, [], unwrap_or, ◌≡◌, if◌then◌else◌}
 use Rattle.mdb_msgs.specs.declared.command.Command.{Command}
 use Rattle.mdb_bus.specs.declared.act.Act.{Act}
 use Rattle.mdb_bus.specs.declared.scope.Beginning.{Beginning}
@@ -8,9 +8,12 @@ use Rattle.mdb_bus.specs.declared.scope.Beginning.TheVariants.{PowerOn, Joined}
 use Rattle.mdb_machine.specs.declared.kept.Part.{Part}
 use Rattle.mdb_machine.specs.declared.past.Effect.{Effect}
 use Rattle.mdb_machine.specs.declared.past.Past.{Past}
-use Rattle.mdb_machine.specs.Kept.{has_reset, kept_of}
+use Rattle.mdb_machine.specs.Kept.{has_reset, kept_of, keeps_early}
 use Rattle.mdb_machine.specs.Known.{Known, Unknown, Is}
-use Rattle.mdb_machine.specs.Past.{KnownPast, PastFacts, powers_on, unless_empty}
+use Rattle.mdb_machine.specs.Past.{KnownPast, PastFacts, powers_on, unless_empty, tells_out_of_sequence}
+use Rattle.mdb_msgs.specs.declared.reply.Reply.{Reply}
+use Rattle.mdb_machine.specs.declared.past.Effect.TheVariants as effects
+use Rattle.mdb_machine.specs.KnownMore.{known_more}
 
 -- what counts of no act
 abbrev pub no_past : {M : Type 0} → PastFacts M
@@ -54,11 +57,6 @@ abbrev pub if_known : {X : Type 0} → Bool → X → Known X
 if_known true x = Is x
 if_known false x = Unknown
 
--- what is known after one act more, by what that tells, if it tells something
-abbrev pub known_more : {X : Type 0} → Option X → Known X → Known X
-known_more (Some x) known = Is x
-known_more None known = known
-
 -- what is known of what counts, where a value has it, and the last kept list is known or isn't
 abbrev pub past_known : {M : Type 0} {CAP : ℕ} → Bool → Past M CAP → KnownPast M
 past_known knows past =
@@ -79,3 +77,14 @@ abbrev pub known_past_with : {M : Type 0} → (Command → Effect) → (Act → 
     → KnownPast M → KnownPast M
 known_past_with effect_of parts_by act past =
     known_past_after (powers_on effect_of act) (parts_by act) past
+
+-- what counts of the messages of a reply
+pub record IsSummary {M : Type 0} (kept : List M) (reset early : Bool)
+    (parts : List (Part M)) : Type 0 where
+  pub kept_is : kept ≡ kept_of parts
+  pub reset_is : reset ≡ has_reset parts
+  pub early_is : early ≡ keeps_early parts
+
+-- what a command is to its device where an answer tells whether it is taken
+abbrev pub effect_answered : Effect → Reply → Effect
+effect_answered effect reply = if tells_out_of_sequence reply then effects.Other else effect

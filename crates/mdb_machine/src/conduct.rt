@@ -1,7 +1,8 @@
 //! What a device that keeps messages does, and the controller with it.
 
 ghost use Rattle.std.specs.Prelude.{◌≡◌, ◌≤◌, ◌<◌, ◌+◌, ◌^◌, ◌↔◌, ◌⊎◌, true, false, List, ◌∷◌, Contains, IfSome, Option, Some, length, option_and_then, sum_by};
-ghost use Rattle.mdb_machine.specs.Gains.{AreSmall, IsSmall, by_slot};
+ghost use Rattle.mdb_machine.specs.Gains.{by_slot};
+ghost use Rattle.mdb_machine.specs.SmallGains.{AreSmall, IsSmall};
 ghost use Rattle.mdb_machine.specs.KeeperSteps as spec;
 ghost use Rattle.arrayvec.specs.ArrayVec.{array_vec_len};
 ghost use Rattle.mdb_msgs.specs.declared.command.Command.{Command};

@@ -2,6 +2,7 @@
 
 ghost use Rattle.std.specs.Prelude.{◌≡◌};
 ghost use Rattle.mdb_machine.specs.Gains as spec;
+ghost use Rattle.mdb_machine.specs.SmallGains as small_gains;
 
 /// How many accounts a pair has at most. Each has a slot of its own, from 0.
 pub const SLOTS: usize = 2;
@@ -31,7 +32,7 @@ impl Gains {
     #[inline(always)]
     pub fn of_device(amounts: &[u64]) -> Gains
         ensures gains { result ≡ spec.device_gains (spec.in_slots amounts.now) }
-        ensures small { spec.AreSmall amounts.now → spec.IsSmall result }
+        ensures small { small_gains.AreSmall amounts.now → small_gains.IsSmall result }
     {
         Gains {
             device: by_slot(amounts),
@@ -44,7 +45,7 @@ impl Gains {
     #[inline(always)]
     pub fn of_controller(amounts: &[u64]) -> Gains
         ensures gains { result ≡ spec.controller_gains (spec.in_slots amounts.now) }
-        ensures small { spec.AreSmall amounts.now → spec.IsSmall result }
+        ensures small { small_gains.AreSmall amounts.now → small_gains.IsSmall result }
     {
         Gains {
             device: [0; SLOTS],
@@ -57,7 +58,7 @@ impl Gains {
 #[inline(always)]
 fn by_slot(amounts: &[u64]) -> [u64; SLOTS]
     ensures amounts { result ≡ spec.by_slot (spec.in_slots amounts.now) }
-    ensures small { spec.AreSmall amounts.now → spec.AreSmall result }
+    ensures small { small_gains.AreSmall amounts.now → small_gains.AreSmall result }
 {
     [amount_at(amounts, 0), amount_at(amounts, 1)]
 }

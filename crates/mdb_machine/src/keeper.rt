@@ -5,8 +5,8 @@ ghost use Rattle.std.specs.Option.{is_some};
 ghost use Rattle.mdb_machine.specs.Enabled.{known_enabled};
 ghost use Rattle.mdb_machine.specs.Keeper.{Tables, asked_by, effect_of, parts_by};
 ghost use Rattle.mdb_machine.specs.Past.{unless_empty};
-ghost use Rattle.mdb_machine.specs.PastValues.{from_power_on};
-ghost use Rattle.mdb_machine.specs.Kept.{IsSummary, kept_of};
+ghost use Rattle.mdb_machine.specs.PastValues.{from_power_on, IsSummary};
+ghost use Rattle.mdb_machine.specs.Kept.{kept_of};
 ghost use Rattle.mdb_machine.specs.inner.Sizes.{TakesFewBytes};
 
 use crate::kept::{KeptAmong, Summary, summary_of};

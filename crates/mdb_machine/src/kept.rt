@@ -6,7 +6,8 @@ ghost use Rattle.std.specs.List.{list_any};
 ghost use Rattle.arrayvec.specs.ArrayVec.{array_vec_len};
 ghost use Rattle.mdb_machine.specs.Kept as spec;
 ghost use Rattle.mdb_machine.specs.declared.kept.Part.{Part};
-ghost use Rattle.mdb_machine.specs.Kept.{CanBeRead, IsNew, IsSummary, MayBeRead, HasNews};
+ghost use Rattle.mdb_machine.specs.Kept.{CanBeRead, IsNew, MayBeRead, HasNews};
+ghost use Rattle.mdb_machine.specs.PastValues.{IsSummary};
 
 use crate::choice::Choice;
 use arrayvec::ArrayVec;

@@ -11,7 +11,8 @@ ghost use Rattle.mdb_machine.specs.declared.choice.Choice.{Choice};
 ghost use Rattle.mdb_machine.specs.declared.choice.Choice.TheVariants.{Plain};
 ghost use Rattle.mdb_machine.specs.declared.gains.Gains.{Gains};
 ghost use Rattle.mdb_machine.specs.Choices.{CanStand};
-ghost use Rattle.mdb_machine.specs.Gains.{IsSmall, Stays, no_gains};
+ghost use Rattle.mdb_machine.specs.Gains.{Stays, no_gains};
+ghost use Rattle.mdb_machine.specs.SmallGains.{IsSmall};
 ghost use Rattle.mdb_machine.specs.Machine.{Machine};
 ghost use Rattle.mdb_machine.specs.Pair.{CanStandFor, IsActOf, IsChosenStep, IsMachineOf, IsMove, IsOfAnother, IsOnlyStep, IsOtherMove, IsStep};
 

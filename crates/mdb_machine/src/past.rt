@@ -3,8 +3,9 @@
 ghost use Rattle.std.specs.Prelude.{◌≡◌, ◌≤◌, List, [], length, true, false};
 ghost use Rattle.std.specs.List.{list_any};
 ghost use Rattle.mdb_machine.specs.Past as spec;
+ghost use Rattle.mdb_machine.specs.PastValues as past_values;
 ghost use Rattle.mdb_machine.specs.declared.kept.Part.{Part};
-ghost use Rattle.mdb_machine.specs.Kept.{IsSummary};
+ghost use Rattle.mdb_machine.specs.PastValues.{IsSummary};
 
 use crate::kept::{KeptMessage, Summary};
 use arrayvec::ArrayVec;
@@ -114,7 +115,7 @@ impl<M: KeptMessage + Drop, const CAP: usize> Past<M, CAP> {
 
 /// What a command is to the device that replies to it: it takes it, or says that it doesn't.
 pub fn effect_answered(effect: Effect, reply: &Reply) -> Effect
-    ensures { result ≡ spec.effect_answered effect reply.now }
+    ensures { result ≡ past_values.effect_answered effect reply.now }
 {
     if tells_out_of_sequence(reply) {
         Effect::Other

@@ -10,7 +10,8 @@ use Rattle.mdb_msgs.specs.declared.command.Device.TheVariants.{Changer, Bill, Re
 use Rattle.mdb_msgs.specs.declared.need.Need.{Need}
 use Rattle.mdb_msgs.specs.declared.need.Need.TheVariants.{More, Exactly, Foreign, Outside}
 use Rattle.mdb_msgs.specs.Commands.{IsByte, Spells}
-use Rattle.mdb_msgs.specs.Needs.{IsOpen, IsShort, IsTold, bill_need, changer_need, device_at, need, need_for, needed, reader_need}
+use Rattle.mdb_msgs.specs.Needs.{bill_need, changer_need, device_at, need, need_for, needed, reader_need}
+use Rattle.mdb_msgs.specs.OpenBlocks.{IsOpen, IsShort, IsTold}
 use Rattle.mdb_msgs.proofs.Contents.{spelled}
 use Rattle.mdb_msgs.proofs.Prefixes.{first_bytes}
 

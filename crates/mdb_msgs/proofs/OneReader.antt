@@ -6,9 +6,8 @@ use Rattle.mdb_msgs.specs.declared.fault.MsgFault.{MsgFault}
 use Rattle.mdb_msgs.specs.declared.fault.MsgFault.TheVariants as faults
 use Rattle.mdb_msgs.specs.declared.reading.Reading.{Reading}
 use Rattle.mdb_msgs.specs.declared.reply.reader.ReaderMsg.{ReaderMsg}
-use Rattle.mdb_msgs.specs.declared.reply.reader.ReaderMsg.TheVariants.{JustReset, Config, Display, BeginSession, BeginSessionLong, CancelRequest, VendApproved, VendDenied, EndSession, Cancelled, PeripheralId, PeripheralIdWithOptions, Malfunction, OutOfSequence, OutOfSequenceIn, RevalueApproved, RevalueDenied, RevalueLimit, TimeAsked}
-use Rattle.mdb_msgs.specs.Reader.{ReaderMessages, head_bytes, text_of, reader_msg_bytes, reader_list_bytes, session_bytes, AreReaderMsgs, IsLeftOut, IsReaderList, IsReaderMsg, IsTextOf, NoReaderMsg, ReaderStopsAt}
-use Rattle.mdb_msgs.specs.Readings.{is_long}
+use Rattle.mdb_msgs.specs.declared.reply.reader.ReaderMsg.TheVariants.{JustReset, Config, Display, BeginSession, BeginSessionLong, CancelRequest, VendApproved, VendDenied, EndSession, Cancelled, PeripheralId, PeripheralIdWithOptions, Malfunction, OutOfSequence, OutOfSequenceIn, TimeAsked}
+use Rattle.mdb_msgs.specs.Reader.{ReaderMessages, head_bytes, text_of, reader_msg_bytes, reader_list_bytes, session_bytes, AreReaderMsgs, IsReaderList, IsReaderMsg, IsTextOf, NoReaderMsg, ReaderStopsAt}
 use Rattle.mdb_msgs.specs.Lists.{Stand}
 use Rattle.mdb_msgs.specs.TwoBytes.{four_bytes}
 use Rattle.mdb_msgs.specs.ReaderBytes.{messages_of}
@@ -27,17 +26,12 @@ least r first =
     else (if first == 5 then 2
     else (if first == 9 then 29
     else (if first == 10 then 1
-    else (if first == 15 then 2
-    else 0))))))
-
--- a first byte, 0C or above, of feature levels 2 and 3
-abbrev IsAbove : Reading → ℕ → Type 0
-IsAbove r first = (is_long r ≡ true) × (IsLeftOut first → ⊥)
+    else 0)))))
 
 -- bytes that a message begins
 abbrev IsFront : Reading → ℕ → List ℕ → Type 0
 IsFront r first further =
-    ((first ≤ 11) ⊎ IsAbove r first) × ((first ≢ 2) ⊎ (length further ≤ 33))
+    ((first ≤ 11) ⊎ ((r.is_long ≡ true) × (first ≡ 17))) × ((first ≢ 2) ⊎ (length further ≤ 33))
     × (least r first ≤ length further)
 
 long : (r : Reading) (n first : ℕ) (further : List ℕ) → IsFront r first further → first ≡ n
@@ -61,21 +55,20 @@ no_fault r first further faults.Message h (inr (inr (inr (inl (five, short))))) 
     omega (arith, long r 5 first further h five, short)
 no_fault r first further faults.Message h (inr (inr (inr (inr (inl none))))) =
     omega (arith, long r 9 first further h none.0, none.1)
-no_fault r first further faults.Message h (inr (inr (inr (inr (inr (inl none)))))) =
+no_fault r first further faults.Message h (inr (inr (inr (inr (inr none))))) =
     let nothing : length further ≡ 0 = ap length none.1 in omega (
       arith,
       long r 10 first further h
           none.0,
       nothing,
     )
-no_fault r first further faults.Message h (inr (inr (inr (inr (inr (inr none)))))) =
-    omega (arith, long r 15 first further h none.0, none.2)
 no_fault r first further faults.Profile h none = by h.0 none.1
   where
-    by : (first ≤ 11) ⊎ IsAbove r first → (is_long r ≡ false) ⊎ IsLeftOut first → ⊥
+    by : (first ≤ 11) ⊎ ((r.is_long ≡ true) × (first ≡ 17))
+        → (r.is_long ≡ false) ⊎ (first ≢ 17) → ⊥
     by (inl low) other = omega (arith, low, none.0)
     by (inr above) (inl short) = cc (above.0, short)
-    by (inr above) (inr out) = above.1 out
+    by (inr above) (inr out) = out above.1
 no_fault r first further faults.Length h none = none
 no_fault r first further faults.Answer h none = none
 
@@ -121,14 +114,8 @@ goes_on r id text OutOfSequence x h e =
     no_end r 11 x (inl (omega arith), inl (omega arith), omega arith) e
 goes_on r id text (OutOfSequenceIn status) x h e =
     no_end r 11 (status ∷ x) (inl (omega arith), inl (omega arith), omega arith) e
-goes_on r id text RevalueApproved x h e =
-    no_end r 13 x (inr (h.1, λ out. out.0 refl), inl (omega arith), omega arith) e
-goes_on r id text RevalueDenied x h e =
-    no_end r 14 x (inr (h.1, λ out. out.1 refl), inl (omega arith), omega arith) e
-goes_on r id text (RevalueLimit amount) x h e =
-    no_end r 15 _ (inr (h.1, λ out. out.2 refl), inl (omega arith), omega arith) e
 goes_on r id text TimeAsked x h e =
-    no_end r 17 x (inr (h.1, λ out. out.3 refl), inl (omega arith), omega arith) e
+    no_end r 17 x (inr (h.1, refl), inl (omega arith), omega arith) e
 
 -- two lists of messages with the same bytes before an end are one
 one_stand : (r : Reading) (id text other words : List ℕ) (xs ys : List ReaderMsg) (p q : List ℕ)
@@ -219,13 +206,7 @@ not_both r (first ∷ further) (inr (inl none)) k = omega (arith, none.0, k.0)
 not_both r (first ∷ further) (inr (inr (inl none))) k = omega (arith, none.0, k.0)
 not_both r (first ∷ further) (inr (inr (inr (inl none)))) k = omega (arith, none.0, k.0)
 not_both r (first ∷ further) (inr (inr (inr (inr (inl none))))) k = omega (arith, none.0, k.0)
-not_both r (first ∷ further) (inr (inr (inr (inr (inr (inl none)))))) k =
-    omega (arith, none.0, k.0)
-not_both r (first ∷ further) (inr (inr (inr (inr (inr (inr none)))))) k = by k.1
-  where
-    by : (is_long r ≡ false) ⊎ IsLeftOut first → ⊥
-    by (inl short) = cc (none.1, short)
-    by (inr out) = out.2 none.0
+not_both r (first ∷ further) (inr (inr (inr (inr (inr none))))) k = omega (arith, none.0, k.0)
 
 pub one_reader_stop : (r : Reading) (bytes : List ℕ) (a b : MsgFault) → ReaderStopsAt r bytes a
     → ReaderStopsAt r bytes b → a ≡ b

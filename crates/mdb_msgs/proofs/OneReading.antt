@@ -1,11 +1,10 @@
 -- Bytes have one reading as a list of messages.
-use Rattle.std.proofs.Common.{◌≡◌, ℕ, ◌+◌, ◌*◌, ◌-◌, ◌/◌, ◌%◌, ◌<◌, ◌≤◌, ◌⊎◌, inl, inr, nat_lt, nat_eq, if◌then◌else◌, true, List, [], ◌∷◌, ◌++◌, length, refl, sym, ap, ◌∙◌, arith, append-nil, subst}
+use Rattle.std.proofs.Common.{◌≡◌, ℕ, ◌+◌, ◌*◌, ◌-◌, ◌/◌, ◌%◌, ◌<◌, ◌≤◌, ◌⊎◌, inl, inr, nat_lt, nat_eq, if◌then◌else◌, Bool, true, List, [], ◌∷◌, ◌++◌, length, refl, sym, ap, ◌∙◌, arith, append-nil, subst}
 use Rattle.std.specs.List.{flat_map, AllByRecursion}
 use Rattle.std.proofs.lemmas.List.{append_cancel_left}
 use Rattle.std.proofs.lemmas.Bool.Decides.{nat_tests}
 use Rattle.mdb_msgs.specs.declared.fault.MsgFault.{MsgFault}
 use Rattle.mdb_msgs.specs.declared.fault.MsgFault.TheVariants as faults
-use Rattle.mdb_msgs.specs.declared.reading.Reading.{Reading}
 use Rattle.mdb_msgs.specs.declared.reply.bill.BillMsg.{BillMsg}
 use Rattle.mdb_msgs.specs.declared.reply.bill.BillMsg.TheVariants as bill
 use Rattle.mdb_msgs.specs.declared.reply.changer.ChangerMsg.{ChangerMsg}
@@ -13,7 +12,6 @@ use Rattle.mdb_msgs.specs.declared.reply.changer.ChangerMsg.TheVariants as chang
 use Rattle.mdb_msgs.specs.Bill.{bill_msg_bytes, IsBillMsg, IsOfRecycler, NoBillMsg}
 use Rattle.mdb_msgs.specs.Changer.{changer_msg_bytes, IsChangerMsg, NoChangerMsg}
 use Rattle.mdb_msgs.specs.Lists.{StopsAt}
-use Rattle.mdb_msgs.specs.Readings.{is_extended}
 use Rattle.mdb_msgs.proofs.Standing.{NoEndBefore, OneBefore, one_standing, stand_all}
 
 -- where messages end: nothing is left, or no message stands there
@@ -125,7 +123,7 @@ bill_find (b ∷ x) =
     else (if nat_lt b 208 then bill.Rejected (b - 192)
     else bill.RecyclerStatus b))))))
 
-bill_found : (r : Reading) (m : BillMsg) (x : List ℕ) → IsBillMsg r m
+bill_found : (r : Bool) (m : BillMsg) (x : List ℕ) → IsBillMsg r m
     → bill_find (bill_msg_bytes m ++ x) ≡ m
 unfolding bill_find
 bill_found r (bill.Stacked b) x h = grind (arith, nat_tests)
@@ -138,7 +136,7 @@ bill_found r bill.Reset x h = refl
 bill_found r (bill.Status byte) x h = grind (arith, nat_tests)
 bill_found r (bill.RecyclerStatus byte) x h = grind (arith, nat_tests, h.0)
 
-pub one_bill : (r : Reading) → OneFront bill_msg_bytes (IsBillMsg r)
+pub one_bill : (r : Bool) → OneFront bill_msg_bytes (IsBillMsg r)
 one_bill r = one_front bill_msg_bytes (IsBillMsg r) bill_find (bill_found r)
 
 -- what a message of the validator begins with
@@ -147,7 +145,7 @@ IsPlainBill first =
     ((first < 27) ⊎ ((32 ≤ first) × (first < 96)))
     ⊎ (((128 ≤ first) × (first < 176)) ⊎ ((192 ≤ first) × (first < 208)))
 
-bill_class : (r : Reading) (first : ℕ) (further : List ℕ) (fault : MsgFault) → IsPlainBill first
+bill_class : (r : Bool) (first : ℕ) (further : List ℕ) (fault : MsgFault) → IsPlainBill first
     → NoBillMsg r (first ∷ further) fault → ⊥
 bill_class r first further faults.Message h none = omega (arith, h, none)
 bill_class r first further faults.Profile h (inl none) = omega (arith, h, none)
@@ -155,15 +153,15 @@ bill_class r first further faults.Profile h (inr none) = omega (arith, h, none.0
 bill_class r first further faults.Length h none = none
 bill_class r first further faults.Answer h none = none
 
-recycler_class : (r : Reading) (first : ℕ) (further : List ℕ) (fault : MsgFault)
-    → IsOfRecycler first → is_extended r ≡ true → NoBillMsg r (first ∷ further) fault → ⊥
+recycler_class : (r : Bool) (first : ℕ) (further : List ℕ) (fault : MsgFault)
+    → IsOfRecycler first → r ≡ true → NoBillMsg r (first ∷ further) fault → ⊥
 recycler_class r first further faults.Message h e none = omega (arith, h, none)
 recycler_class r first further faults.Profile h e (inl none) = omega (arith, h, none)
 recycler_class r first further faults.Profile h e (inr none) = cc (e, none.1)
 recycler_class r first further faults.Length h e none = none
 recycler_class r first further faults.Answer h e none = none
 
-bill_goes_on : (r : Reading) → NoEnd bill_msg_bytes (IsBillMsg r) (Ends (NoBillMsg r))
+bill_goes_on : (r : Bool) → NoEnd bill_msg_bytes (IsBillMsg r) (Ends (NoBillMsg r))
 bill_goes_on r m x h (inl e) = not_empty m e
   where
     not_empty : (m : BillMsg) → bill_msg_bytes m ++ x ≡ [] → ⊥
@@ -196,7 +194,7 @@ pub one_changer_list : (xs ys : List ChangerMsg) (p q : List ℕ) → AllByRecur
 one_changer_list = one_list changer_msg_bytes IsChangerMsg (Ends NoChangerMsg) one_changer
     changer_goes_on
 
-pub one_bill_list : (r : Reading) (xs ys : List BillMsg) (p q : List ℕ)
+pub one_bill_list : (r : Bool) (xs ys : List BillMsg) (p q : List ℕ)
     → AllByRecursion (IsBillMsg r) xs → AllByRecursion (IsBillMsg r) ys
     → flat_map bill_msg_bytes xs ++ p ≡ flat_map bill_msg_bytes ys ++ q → Ends (NoBillMsg r) p
     → Ends (NoBillMsg r) q → (xs ≡ ys) × (p ≡ q)
@@ -222,7 +220,7 @@ changer_none faults.Profile h = h
 changer_none faults.Length h = h
 changer_none faults.Answer h = h
 
-bill_none : (r : Reading) (fault : MsgFault) → NoBillMsg r [] fault → ⊥
+bill_none : (r : Bool) (fault : MsgFault) → NoBillMsg r [] fault → ⊥
 bill_none r faults.Message h = h
 bill_none r faults.Profile h = h
 bill_none r faults.Length h = h
@@ -235,7 +233,7 @@ changer_no_stop xs fault h stop =
     (append-nil (flat_map changer_msg_bytes xs) ∙ stop.3) (inl refl) (inr (fault, stop.4)) in
     changer_none fault (subst (λ x. NoChangerMsg x fault) (sym one.1) stop.4)
 
-pub bill_no_stop : (r : Reading) (xs : List BillMsg) (fault : MsgFault)
+pub bill_no_stop : (r : Bool) (xs : List BillMsg) (fault : MsgFault)
     → AllByRecursion (IsBillMsg r) xs
     → StopsAt bill_msg_bytes (IsBillMsg r) (NoBillMsg r) (flat_map bill_msg_bytes xs) fault → ⊥
 bill_no_stop r xs fault h stop =
@@ -257,15 +255,15 @@ changer_not_both [] h k = h
 changer_not_both (first ∷ further) (inl none) k = omega (arith, none.0, k)
 changer_not_both (first ∷ further) (inr none) k = omega (arith, none.0, k)
 
-bill_no_length : (r : Reading) (rest : List ℕ) → NoBillMsg r rest faults.Length → ⊥
+bill_no_length : (r : Bool) (rest : List ℕ) → NoBillMsg r rest faults.Length → ⊥
 bill_no_length r [] h = h
 bill_no_length r (first ∷ further) h = h
 
-bill_no_answer : (r : Reading) (rest : List ℕ) → NoBillMsg r rest faults.Answer → ⊥
+bill_no_answer : (r : Bool) (rest : List ℕ) → NoBillMsg r rest faults.Answer → ⊥
 bill_no_answer r [] h = h
 bill_no_answer r (first ∷ further) h = h
 
-bill_not_both : (r : Reading) (rest : List ℕ) → NoBillMsg r rest faults.Message
+bill_not_both : (r : Bool) (rest : List ℕ) → NoBillMsg r rest faults.Message
     → NoBillMsg r rest faults.Profile → ⊥
 bill_not_both r [] h k = h
 bill_not_both r (first ∷ further) h (inl none) = omega (arith, h, none)
@@ -280,7 +278,7 @@ one_changer_stop bytes a b h k =
     same_fault (NoChangerMsg k.1) (changer_no_length k.1) (changer_no_answer k.1)
     (changer_not_both k.1) a b (subst (λ x. NoChangerMsg x a) one.1 h.4) k.4
 
-pub one_bill_stop : (r : Reading) (bytes : List ℕ) (a b : MsgFault)
+pub one_bill_stop : (r : Bool) (bytes : List ℕ) (a b : MsgFault)
     → StopsAt bill_msg_bytes (IsBillMsg r) (NoBillMsg r) bytes a
     → StopsAt bill_msg_bytes (IsBillMsg r) (NoBillMsg r) bytes b → a ≡ b
 one_bill_stop r bytes a b h k =

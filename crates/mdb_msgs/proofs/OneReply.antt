@@ -14,7 +14,9 @@ use Rattle.mdb_msgs.specs.declared.reply.setup.ChangerSetup.{ChangerSetup}
 use Rattle.mdb_msgs.specs.declared.reply.setup.Stacker.{Stacker}
 use Rattle.mdb_msgs.specs.declared.reply.setup.TubeStatus.{TubeStatus}
 use Rattle.mdb_msgs.specs.Answers.{IsDataLength}
-use Rattle.mdb_msgs.specs.Replies.{form_of_reply, reply_bytes, HasFields, IsIn, tells_of_sales, IsAnswerTo, IsReplyTo, NoReply, IsNoReplyTo, IsReadFault, SpellsReply}
+use Rattle.mdb_msgs.specs.Readings.{is_extended}
+use Rattle.mdb_msgs.specs.Replies.{form_of_reply, reply_bytes, HasFields, HasMessages, IsIn, tells_of_sales, IsReplyTo, NoReply, IsNoReplyTo, IsReadFault}
+use Rattle.mdb_msgs.specs.ReplyFaults.{SpellsReply}
 use Rattle.mdb_msgs.specs.Setup.{changer_setup_bytes, tube_status_bytes, bill_setup_bytes, stacker_bytes, IsStacker}
 use Rattle.mdb_msgs.proofs.OneReader.{one_reader_list, reader_no_stop, one_reader_stop}
 use Rattle.mdb_msgs.proofs.ReaderBytes.{same_fronts}
@@ -118,7 +120,7 @@ same_stacker a b ha hb e =
 
 -- of one form, two replies with the same bytes are one
 same_reply : (r : Reading) (a b : Reply) → form_of_reply a ≡ form_of_reply b → HasFields a
-    → HasFields b → IsIn r a → IsIn r b
+    → HasFields b → HasMessages r a → HasMessages r b
     → reply_bytes a ≡ reply_bytes b → a ≡ b
 same_reply r (reply.ChangerSetup a) (reply.ChangerSetup b) f ha hb ia ib e =
     ap reply.ChangerSetup (same_changer_setup a b e)
@@ -133,7 +135,8 @@ same_reply r (reply.BillSetup a) (reply.BillSetup b) f ha hb ia ib e =
     ap reply.BillSetup (same_bill_setup a b e)
 same_reply r (reply.BillPoll a) (reply.BillPoll b) f ha hb ia ib e =
     ap (λ x. reply.BillPoll (record { items = x }))
-    (one_bill_list r a.items b.items [] [] ia ib (ap (λ x. x ++ []) e) (inl refl) (inl refl)).0
+    (one_bill_list (is_extended r) a.items b.items [] [] ia ib (ap (λ x. x ++ []) e) (inl refl)
+    (inl refl)).0
 same_reply r (reply.Stacker a) (reply.Stacker b) f ha hb ia ib e =
     ap reply.Stacker (same_stacker a b ha hb e)
 same_reply r (reply.BillIdentification a) (reply.BillIdentification b) f ha hb ia ib e =
@@ -148,8 +151,8 @@ some_inj : {A : Type 0} {a b : A} → Some a ≡ Some b → a ≡ b
 some_inj e = cc
 
 -- for a command, two replies with the same bytes are one
-pub one_answer : (r : Reading) (command : Command) (a b : Reply) → IsAnswerTo command a
-    → IsAnswerTo command b → IsIn r a → IsIn r b
+pub one_answer : (r : Reading) (command : Command) (a b : Reply) → IsReplyTo command a
+    → IsReplyTo command b → HasMessages r a → HasMessages r b
     → reply_bytes a ≡ reply_bytes b → a ≡ b
 one_answer r command a b ha hb ia ib e = same_reply r a b (some_inj (sym ha.form ∙ hb.form))
     ha.fields hb.fields ia ib e
@@ -168,46 +171,44 @@ escrow_byte true h k = k refl
 escrow_byte false h k = h refl
 
 -- a reply's bytes are a reply of its form
-reply_is_one : (r : Reading) (a : Reply) (fault : MsgFault) → HasFields a → IsIn r a
+reply_is_one : (r : Reading) (a : Reply) (fault : MsgFault) → HasFields a → HasMessages r a
     → NoReply r (form_of_reply a) (reply_bytes a) fault → ⊥
 reply_is_one r (reply.ChangerPoll a) fault h is none = changer_no_stop a.items fault h none
-reply_is_one r (reply.BillPoll a) fault h is none = bill_no_stop r a.items fault is none
+reply_is_one r (reply.BillPoll a) fault h is none =
+    bill_no_stop (is_extended r) a.items fault is none
 reply_is_one r (reply.Reader a) fault h is none = reader_no_stop r a fault is none
 reply_is_one r (reply.BillSetup a) fault h is none = escrow_byte a.escrow none.1 none.2
 reply_is_one r a fault h is none = none
 
 answer_is_one : (r : Reading) (command : Command) (a : Reply) (fault : MsgFault)
-    → IsAnswerTo command a → IsIn r a → IsNoReplyTo r command (reply_bytes a) fault → ⊥
+    → IsReplyTo command a → HasMessages r a → IsNoReplyTo r command (reply_bytes a) fault → ⊥
 answer_is_one r command a fault h is none =
     let same : none.0 ≡ form_of_reply a = some_inj (sym none.1 ∙ h.form) in
     reply_is_one r a fault h.fields is (subst (λ f. NoReply r f (reply_bytes a) fault) same none.3)
 
 -- what may answer a command can be read
 pub reply_has_no_fault : (r : Reading) (command : Command) (a : Reply) (fault : MsgFault)
-    → IsReplyTo command a → IsIn r a → IsReadFault r command (reply_bytes a) fault → ⊥
+    → IsReplyTo command a → IsIn r command a → IsReadFault r command (reply_bytes a) fault → ⊥
 reply_has_no_fault r command a faults.Length h is none =
-    let same : none.0 ≡ form_of_reply a = some_inj (sym none.1 ∙ h.answer.form) in
-    none.2 (subst (λ f. IsDataLength f (length (reply_bytes a))) (sym same) h.answer.count)
-reply_has_no_fault r command a faults.Message h is none = answer_is_one r command a faults.Message
-    h.answer
-    is none
-reply_has_no_fault r command a faults.Profile h is none = answer_is_one r command a faults.Profile
-    h.answer
-    is none
-reply_has_no_fault r command a faults.Answer h is (inl none) = let form = h.answer.form in
+    let same : none.0 ≡ form_of_reply a = some_inj (sym none.1 ∙ h.form) in
+    none.2 (subst (λ f. IsDataLength f (length (reply_bytes a))) (sym same) h.count)
+reply_has_no_fault r command a faults.Message h is none =
+    answer_is_one r command a faults.Message h is.0 none
+reply_has_no_fault r command a faults.Profile h is none =
+    answer_is_one r command a faults.Profile h is.0 none
+reply_has_no_fault r command a faults.Answer h is (inl none) = let form = h.form in
     cc (none, form)
 reply_has_no_fault r command a faults.Answer h is (inr kept) =
-    let same : a ≡ kept.0 = one_answer r command a kept.0 h.answer kept.1 is kept.2
-    kept.3 in
-    let told : tells_of_sales a ≡ true = ap tells_of_sales same ∙ kept.4 in
-    let none : tells_of_sales a ≡ false = h.kept kept.5 in
+    let same : a ≡ kept.0 = one_answer r command a kept.0 h kept.1 is.0 kept.2 kept.3 in
+    let told : tells_of_sales a ≡ true = ap tells_of_sales same ∙ kept.5 in
+    let none : tells_of_sales a ≡ false = is.1 kept.4 kept.6 in
     cc (told, none)
 
 -- of one form, bytes have one fault
 one_form_fault : (r : Reading) (f : DataForm) (bytes : List ℕ) (a b : MsgFault)
     → NoReply r f bytes a → NoReply r f bytes b → a ≡ b
 one_form_fault r form.ChangerPoll bytes a b h k = one_changer_stop bytes a b h k
-one_form_fault r form.BillPoll bytes a b h k = one_bill_stop r bytes a b h k
+one_form_fault r form.BillPoll bytes a b h k = one_bill_stop (is_extended r) bytes a b h k
 one_form_fault r form.Reader bytes a b h k = one_reader_stop r bytes a b h k
 one_form_fault r form.BillSetup bytes a b h k = h.0 ∙ sym k.0
 one_form_fault r _ bytes a b h k = absurd h
@@ -273,11 +274,10 @@ one_read_fault r command bytes faults.Answer faults.Profile h k =
 one_read_fault r command bytes faults.Answer faults.Answer h k = refl
 
 -- for a command, a block has one reply
-pub one_reply : (r : Reading) (command : Command) (block : List ℕ) (a b : Reply) → IsIn r a
-    → IsIn r b → SpellsReply command a block
+pub one_reply : (r : Reading) (command : Command) (block : List ℕ) (a b : Reply) → IsIn r command a
+    → IsIn r command b → SpellsReply command a block
     → SpellsReply command b block → a ≡ b
-one_reply r command block a b ia ib h k = one_answer r command a b h.answers.answer
-    k.answers.answer ia ib
+one_reply r command block a b ia ib h k = one_answer r command a b h.answers k.answers ia.0 ib.0
     (one_content _ _ (sym h.bytes ∙ k.bytes))
 
 -- what reading a block found, it spells
@@ -295,11 +295,11 @@ found_reply command block content (Err a) e is spelled = spelled
 -- and that is the only thing that it spells
 pub only_reply : (r : Reading) (command : Command) (block content : List ℕ) (result : Result Reply
     MsgFault)
-    → block ≡ block_of content → IfOk result (IsIn r)
+    → block ≡ block_of content → IfOk result (IsIn r command)
     → IfOk result (λ found. SpellsReply command found block)
     → IfErr result (IsReadFault r command content) → (other : Reply)
     → SpellsReply command other block
-    → IsIn r other → result ≡ Ok other
+    → IsIn r command other → result ≡ Ok other
 only_reply r command block content (Ok found) e in_it is fault other h in_too =
     ap Ok (one_reply r command block found other in_it in_too is h)
 only_reply r command block content (Err a) e in_it is fault other h in_too =
@@ -310,12 +310,12 @@ only_reply r command block content (Err a) e in_it is fault other h in_too =
 -- bytes are read as the only reply that they are
 pub only_content : (r : Reading) (command : Command) (content : List ℕ) (result : Result Reply
     MsgFault)
-    → IfOk result (IsReplyTo command) → IfOk result (IsIn r)
+    → IfOk result (IsReplyTo command) → IfOk result (IsIn r command)
     → IfOk result (λ found. content ≡ reply_bytes found)
     → IfErr result (IsReadFault r command content) → (other : Reply) → IsReplyTo command other
-    → IsIn r other → content ≡ reply_bytes other → result ≡ Ok other
+    → IsIn r command other → content ≡ reply_bytes other → result ≡ Ok other
 only_content r command content (Ok found) is in_it spelled fault other to in_too same =
-    ap Ok (one_answer r command found other is.answer to.answer in_it in_too (sym spelled ∙ same))
+    ap Ok (one_answer r command found other is to in_it.0 in_too.0 (sym spelled ∙ same))
 only_content r command content (Err a) is in_it spelled fault other to in_too same =
     let P : List ℕ → Type 0 = λ x. IsReadFault r command x a in
     absurd (reply_has_no_fault r command other a to in_too (subst P same fault))
@@ -334,7 +334,7 @@ read_fault r command block content (Err a) e fault = λ other d.
 -- and the only one
 pub only_read_fault : (r : Reading) (command : Command) (block content : List ℕ) (result : Result
     Reply MsgFault)
-    → block ≡ block_of content → IfOk result (IsIn r)
+    → block ≡ block_of content → IfOk result (IsIn r command)
     → IfOk result (λ found. SpellsReply command found block)
     → IfErr result (IsReadFault r command content) → (other : List ℕ) (b : MsgFault)
     → block ≡ block_of other → IsReadFault r command other b → result ≡ Err b

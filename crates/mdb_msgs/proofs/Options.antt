@@ -14,7 +14,8 @@ use Rattle.mdb_msgs.specs.declared.command.ReaderCommand.{ReaderCommand}
 use Rattle.mdb_msgs.specs.declared.command.ReaderCommand.TheVariants as reader
 use Rattle.mdb_msgs.specs.declared.command.ReaderUnit.TheVariants.{First, Second}
 use Rattle.mdb_msgs.specs.Commands.{IsByte, Spells, bill_bytes, changer_bytes, command_bytes, is_enable_options, reader_bytes}
-use Rattle.mdb_msgs.specs.Needs.{IsOpen, begins_options}
+use Rattle.mdb_msgs.specs.Needs.{begins_options}
+use Rattle.mdb_msgs.specs.OpenBlocks.{IsOpen}
 use Rattle.mdb_msgs.proofs.Fronts.{open_is_a_front}
 
 changers : (command : ChangerCommand) → begins_options (block_of (changer_bytes command)) ≡ false

@@ -10,7 +10,8 @@ use Rattle.mdb_msgs.specs.declared.command.ReaderCommand.TheVariants as reader
 use Rattle.mdb_msgs.specs.declared.command.ReaderUnit.TheVariants.{First, Second}
 use Rattle.mdb_msgs.specs.declared.need.Need.TheVariants.{Exactly}
 use Rattle.mdb_msgs.specs.Commands.{Spells}
-use Rattle.mdb_msgs.specs.Needs.{IsTold, TellsLength, device_at, need_for, needed}
+use Rattle.mdb_msgs.specs.Needs.{device_at, need_for, needed}
+use Rattle.mdb_msgs.specs.OpenBlocks.{IsTold, TellsLength}
 
 -- the first two bytes of a command's block tell its length
 pub whole : (block : List ℕ) (command : Command) → Spells command block

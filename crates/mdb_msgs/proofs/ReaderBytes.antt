@@ -1,14 +1,14 @@
 -- The bytes of a reader's answer are read as the answer.
-use Rattle.std.proofs.Common.{◌≡◌, ℕ, zero, suc, ◌+◌, ◌*◌, ◌/◌, ◌%◌, ◌<◌, ◌≤◌, ◌⊎◌, inl, inr, if◌then◌else◌, Bool, true, false, nat_le, List, get_or, [], ◌∷◌, ◌++◌, length, take, drop, replicate, refl, sym, ap, ◌∙◌, arith, append_assoc, append-nil, length-append, subst}
+use Rattle.std.proofs.Common.{◌≡◌, ℕ, zero, suc, ◌+◌, ◌*◌, ◌/◌, ◌%◌, ◌<◌, ◌≤◌, ◌⊎◌, inl, inr, if◌then◌else◌, Bool, true, false, List, get_or, [], ◌∷◌, ◌++◌, length, take, drop, replicate, slice_index_or, Fits, w8, refl, sym, ap, ◌∙◌, arith, append_assoc, append-nil, length-append, subst}
 use Rattle.std.specs.List.{flat_map, list_any}
-use Rattle.std.proofs.lemmas.Bool.Decides.{nat_tests}
-use Rattle.std.proofs.lemmas.List.{append_cancel_left, get_or-append-add, length-take-le, take-append-drop}
-use Rattle.mdb_msgs.specs.TwoBytes.{four_bytes}
+use Rattle.std.proofs.lemmas.List.{append_cancel_left, drop-take, get_or-append-add, get_or-drop, length-drop, length-take-le, take-append-drop}
+use Rattle.mdb_msgs.specs.TwoBytes.{two_bytes, four_bytes}
+use Rattle.mdb_msgs.specs.declared.reading.Ids.{Ids}
 use Rattle.mdb_msgs.specs.declared.reading.Reading.{Reading}
 use Rattle.mdb_msgs.specs.declared.reply.reader.ReaderMsg.{ReaderMsg}
-use Rattle.mdb_msgs.specs.declared.reply.reader.ReaderMsg.TheVariants.{JustReset, Config, Display, BeginSession, BeginSessionLong, CancelRequest, VendApproved, VendDenied, EndSession, Cancelled, PeripheralId, PeripheralIdWithOptions, Malfunction, OutOfSequence, OutOfSequenceIn, RevalueApproved, RevalueDenied, RevalueLimit, TimeAsked}
+use Rattle.mdb_msgs.specs.declared.reply.reader.ReaderMsg.TheVariants.{JustReset, Config, Display, BeginSession, BeginSessionLong, CancelRequest, VendApproved, VendDenied, EndSession, Cancelled, PeripheralId, PeripheralIdWithOptions, Malfunction, OutOfSequence, OutOfSequenceIn, TimeAsked}
 use Rattle.mdb_msgs.specs.Reader.{ReaderMessages, head_bytes, is_display, is_id, reading_of, text_of, reader_msg_bytes, reader_list_bytes, AreReaderMsgs, IsReaderList, IsReaderMsg, IsTextOf}
-use Rattle.mdb_msgs.specs.Readings.{is_extended, is_long}
+use Rattle.mdb_msgs.specs.Readings.{allows, takes_options}
 use Rattle.mdb_msgs.specs.Lists.{Stand}
 use Rattle.mdb_msgs.specs.ReaderBytes.{number_at, long_number_at, front_id, front_session, out_of, front_message, front_text, no_messages, before_messages, messages_in, messages_of, AreMessages}
 use Rattle.mdb_msgs.specs.inner.ReaderSteps.{StandAsMessages, IsNextMessage}
@@ -34,51 +34,100 @@ bare_out true x (inr none) = ap (out_of true) none
 bare_out false x (inr none) = refl
 
 -- an identification without and with options
-few : (m n : ℕ) → n < m → nat_le m n ≡ false
-few m n h = grind (arith, nat_tests)
+drop_front : (s x : List ℕ) → drop (length s) (s ++ x) ≡ x
+drop_front [] x = refl
+drop_front (b ∷ s) x = drop_front s x
 
-enough : (m n : ℕ) → m ≤ n → nat_le m n ≡ true
-enough m n h = grind (arith, nat_tests)
-
-bare_id : (b : Bool) (text x : List ℕ) → length text ≡ 29 → (b ≡ false) ⊎ (length x < 4)
-    → front_id b (9 ∷ (text ++ x)) ≡ PeripheralId
-bare_id false text x l h = refl
-bare_id true text x l (inl e) = absurd (cc)
-bare_id true text x l (inr short) =
+bare_id : (ids : Ids) (text x : List ℕ) → length text ≡ 29 → takes_options ids x ≡ false
+    → front_id ids (9 ∷ (text ++ x)) ≡ PeripheralId
+bare_id ids text x l bare =
+    let same : drop 29 (text ++ x) ≡ x = ap (λ n. drop n (text ++ x)) (sym l) ∙ drop_front text x in
     ap (λ b. if b then PeripheralIdWithOptions (long_number_at (9 ∷ (text ++ x)) 30)
-    else PeripheralId) (few 34 (suc (length (text ++ x))) (omega (
-      arith,
-      l,
-      short,
-      length-append text x,
-    )))
+    else PeripheralId) (ap (takes_options ids) same ∙ bare)
 
-options_at : (text x : List ℕ) (options : ℕ) → length text ≡ 33
-    → drop 29 text ≡ four_bytes options → long_number_at (9 ∷ (text ++ x)) 30 ≡ options
-unfolding long_number_at number_at
-options_at text x options l e =
-    let s = take 29 text in
-    let count : length s ≡ 29 = length-take-le 29 text (omega (arith, l)) in
-    let y = four_bytes options ++ x in
-    let same : text ++ x ≡ s ++ y = ap (λ t. t ++ x) (sym (take-append-drop 29 text))
-    ∙ append_assoc s (drop 29 text) x ∙ ap (λ t. s ++ (t ++ x)) e in
-    let at : (i : ℕ) → get_or (text ++ x) (29 + i) 0 ≡ get_or y i 0 = λ i.
-    ap (λ l. get_or l (29 + i) 0) same ∙ ap (λ n. get_or (s ++ y) (n + i) 0) (sym count)
-    ∙ get_or-append-add s y i 0 in
-    four_numbers _ _ _ _ _ _ _ _ (at 0) (at 1) (at 2) (at 3) ∙ whole_long options
+module _ (text x : List ℕ) (options : ℕ) (l : length text ≡ 33)
+    (e : drop 29 text ≡ four_bytes options) where
+  first_text : List ℕ
+  first_text = take 29 text
 
-full_id : (b : Bool) (options : ℕ) (text x : List ℕ) → length text ≡ 33
-    → drop 29 text ≡ four_bytes options → b ≡ true
-    → front_id b (9 ∷ (text ++ x)) ≡ PeripheralIdWithOptions options
-full_id true options text x l e h =
-    ap (λ b. if b then PeripheralIdWithOptions (long_number_at (9 ∷ (text ++ x)) 30)
-    else PeripheralId) (enough 34 (suc (length (text ++ x))) (omega (
-      arith,
-      l,
-      length-append text x,
-    )))
-    ∙ ap PeripheralIdWithOptions (options_at text x options l e)
-full_id false options text x l e h = absurd (cc)
+  count : length first_text ≡ 29
+  unfolding first_text
+  count = length-take-le 29 text (omega (arith, l))
+
+  split_text : text ++ x ≡ first_text ++ (four_bytes options ++ x)
+  unfolding first_text
+  split_text = ap (λ t. t ++ x) (sym (take-append-drop 29 text))
+      ∙ append_assoc first_text (drop 29 text) x ∙ ap (λ t. first_text ++ (t ++ x)) e
+
+  options_at : long_number_at (9 ∷ (text ++ x)) 30 ≡ options
+  unfolding long_number_at number_at
+  options_at =
+      let y = four_bytes options ++ x in
+      let at : (i : ℕ) → get_or (text ++ x) (29 + i) 0 ≡ get_or y i 0 = λ i.
+      ap (λ l. get_or l (29 + i) 0) split_text
+      ∙ ap (λ n. get_or (first_text ++ y) (n + i) 0) (sym count)
+      ∙ get_or-append-add first_text y i 0 in
+      four_numbers _ _ _ _ _ _ _ _ (at 0) (at 1) (at 2) (at 3) ∙ whole_long options
+
+  full_id : (ids : Ids) → allows ids (options / 65536 / 256) ≡ true
+      → front_id ids (9 ∷ (text ++ x)) ≡ PeripheralIdWithOptions options
+  full_id ids allowed =
+      let y = four_bytes options ++ x in
+      let same : drop 29 (text ++ x) ≡ y = ap (drop 29) split_text
+      ∙ ap (λ n. drop n (first_text ++ y)) (sym count) ∙ drop_front first_text y in
+      ap (λ b. if b then PeripheralIdWithOptions (long_number_at (9 ∷ (text ++ x)) 30)
+      else PeripheralId) (ap (takes_options ids) same ∙ allowed)
+      ∙ ap PeripheralIdWithOptions options_at
+
+-- two bytes are those of their number
+pub pair_bytes : (high low : ℕ) → low < 256 → high ∷ low ∷ [] ≡ two_bytes (256 * high + low)
+pair_bytes high low small =
+    let first : high ≡ (256 * high + low) / 256 = omega arith in
+    let second : low ≡ (256 * high + low) % 256 = omega arith in
+    cc
+
+pub four : (a b c d : ℕ) → b < 256 → c < 256 → d < 256
+    → a ∷ b ∷ c ∷ d ∷ [] ≡ four_bytes (65536 * (256 * a + b) + (256 * c + d))
+four a b c d b_small c_small d_small =
+    let first : a ≡ (65536 * (256 * a + b) + (256 * c + d)) / 65536 / 256 = omega arith in
+    let second : b ≡ ((65536 * (256 * a + b) + (256 * c + d)) / 65536) % 256 = omega arith in
+    let third : c ≡ (65536 * (256 * a + b) + (256 * c + d)) % 65536 / 256 = omega arith in
+    let fourth : d ≡ ((65536 * (256 * a + b) + (256 * c + d)) % 65536) % 256 = omega arith in
+    cc
+
+-- an identification with options, where four bytes stand behind the first 30 that are allowed
+pub text_with_options : (r : Reading) (further : List ℕ) (a b c d : ℕ) (rest : List ℕ) (options : ℕ)
+    → drop 29 further ≡ a ∷ b ∷ c ∷ d ∷ rest → b < 256 → c < 256 → d < 256
+    → options ≡ 65536 * (256 * a + b) + (256 * c + d) → allows r.ids a ≡ true
+    → IsTextOf r (PeripheralIdWithOptions options) (take 33 further) (drop 33 further)
+text_with_options r further a b c d rest options e b_small c_small d_small is allowed =
+    let next : a ≡ options / 65536 / 256 = omega arith in (
+      length-take-le 33 further (omega (arith, ap length e, length-drop 29 further)),
+      drop-take 29 4 further ∙ ap (take 4) e ∙ four a b c d b_small c_small d_small
+          ∙ ap four_bytes (sym is),
+      ap (allows r.ids) (sym next) ∙ allowed,
+    )
+
+-- the same of bytes that are read
+pub read_options : (r : Reading) (further after text : List ℕ) (options : ℕ)
+    → ((i : ℕ) → Fits w8 (slice_index_or further i 0)) → after ≡ drop 29 further
+    → 4 ≤ length after → text ≡ take 33 further
+    → options ≡ 65536 * (256 * slice_index_or after 0 0 + slice_index_or after 1 0)
+    + (256 * slice_index_or after 2 0 + slice_index_or after 3 0)
+    → allows r.ids (slice_index_or after 0 0) ≡ true
+    → IsTextOf r (PeripheralIdWithOptions options) text (drop 33 further)
+read_options r further (a ∷ b ∷ c ∷ d ∷ rest) text options bytes is long front e allowed =
+    let same : (i : ℕ) → get_or (a ∷ b ∷ c ∷ d ∷ rest) i 0 ≡ get_or further (29 + i) 0 = λ i.
+    ap (λ l. get_or l i 0) is ∙ get_or-drop 29 further i 0 in
+    let second : b ≡ get_or further 30 0 = same 1 in
+    let third : c ≡ get_or further 31 0 = same 2 in
+    let fourth : d ≡ get_or further 32 0 = same 3 in
+    let b_small : b < 256 = omega (arith, bytes 30, second) in
+    let c_small : c < 256 = omega (arith, bytes 31, third) in
+    let d_small : d < 256 = omega (arith, bytes 32, fourth) in
+    subst (λ t. IsTextOf r (PeripheralIdWithOptions options) t (drop 33 further)) (sym front)
+    (text_with_options r further a b c d rest options (sym is) b_small c_small d_small e allowed)
+read_options r further after text options bytes is long front e allowed = absurd (omega arith)
 
 -- the message in front is found
 pub front_found : (r : Reading) (m : ReaderMsg) (text x : List ℕ) → IsTextOf r m text x
@@ -100,16 +149,13 @@ front_found r (VendApproved amount) text x h = ap VendApproved (whole amount)
 front_found r VendDenied text x h = refl
 front_found r EndSession text x h = refl
 front_found r Cancelled text x h = refl
-front_found r PeripheralId text x h = bare_id (is_extended r) text x h.0 h.1
+front_found r PeripheralId text x h = bare_id r.ids text x h.0 h.1
 front_found r (PeripheralIdWithOptions options) text x h =
-    full_id (is_extended r) options text x h.0 h.1 h.2
+    full_id text x options h.0 h.1 r.ids h.2
 front_found r (Malfunction code) text x h = refl
 front_found r OutOfSequence text x h =
-    ap (λ t. out_of (is_long r) (t ++ x)) h.0 ∙ bare_out (is_long r) x h.1
+    ap (λ t. out_of r.is_long (t ++ x)) h.0 ∙ bare_out r.is_long x h.1
 front_found r (OutOfSequenceIn status) text x h = ap (λ b. out_of b (status ∷ (text ++ x))) h.1
-front_found r RevalueApproved text x h = refl
-front_found r RevalueDenied text x h = refl
-front_found r (RevalueLimit amount) text x h = ap RevalueLimit (whole amount)
 front_found r TimeAsked text x h = refl
 
 -- lists of one length are the same where they begin the same bytes
@@ -121,10 +167,6 @@ same_fronts (a ∷ s) (b ∷ t) x y l e =
     let rest : s ++ x ≡ t ++ y = cc in
     let same = same_fronts s t x y (omega arith) rest in
     (cc, same.1)
-
-drop_front : (s x : List ℕ) → drop (length s) (s ++ x) ≡ x
-drop_front [] x = refl
-drop_front (b ∷ s) x = drop_front s x
 
 take_front : (s x : List ℕ) → take (length s) (s ++ x) ≡ s
 take_front [] x = refl
@@ -140,9 +182,6 @@ no_text r (BeginSession funds) text x i d h = h.0
 no_text r (BeginSessionLong funds media kind details) text x i d h = h.0
 no_text r OutOfSequence text x i d h = h.0
 no_text r (OutOfSequenceIn status) text x i d h = h.0
-no_text r RevalueApproved text x i d h = h.0
-no_text r RevalueDenied text x i d h = h.0
-no_text r (RevalueLimit amount) text x i d h = h.0
 no_text r TimeAsked text x i d h = h.0
 no_text r m text x i d h = h
 
@@ -187,9 +226,6 @@ head_counts (PeripheralIdWithOptions options) = omega arith
 head_counts (Malfunction code) = omega arith
 head_counts OutOfSequence = omega arith
 head_counts (OutOfSequenceIn status) = omega arith
-head_counts RevalueApproved = omega arith
-head_counts RevalueDenied = omega arith
-head_counts (RevalueLimit amount) = omega arith
 head_counts TimeAsked = omega arith
 
 -- a message in front of other bytes is read before them

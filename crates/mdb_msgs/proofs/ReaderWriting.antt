@@ -5,7 +5,7 @@ use Rattle.std.specs.Result.{result_ok}
 use Rattle.std.proofs.lemmas.List.Folds.{length-flat_map-take}
 use Rattle.mdb_msgs.specs.declared.reading.Reading.{Reading}
 use Rattle.mdb_msgs.specs.declared.reply.reader.ReaderMsg.{ReaderMsg}
-use Rattle.mdb_msgs.specs.declared.reply.reader.ReaderMsg.TheVariants.{JustReset, Config, Display, BeginSession, BeginSessionLong, CancelRequest, VendApproved, VendDenied, EndSession, Cancelled, PeripheralId, PeripheralIdWithOptions, Malfunction, OutOfSequence, OutOfSequenceIn, RevalueApproved, RevalueDenied, RevalueLimit, TimeAsked}
+use Rattle.mdb_msgs.specs.declared.reply.reader.ReaderMsg.TheVariants.{JustReset, Config, Display, BeginSession, BeginSessionLong, CancelRequest, VendApproved, VendDenied, EndSession, Cancelled, PeripheralId, PeripheralIdWithOptions, Malfunction, OutOfSequence, OutOfSequenceIn, TimeAsked}
 use Rattle.std.proofs.lemmas.Bool.Decides.{nat_tests}
 use Rattle.mdb_msgs.specs.contracts.reply.reader.ReaderMsgPartialEq.TheImpl.{eq-value}
 use Rattle.mdb_msgs.specs.declared.fault.MsgFault.{MsgFault}
@@ -33,9 +33,6 @@ told_same (PeripheralIdWithOptions options) (PeripheralIdWithOptions other) h =
 told_same (Malfunction code) (Malfunction other) h = grind (arith, nat_tests)
 told_same OutOfSequence OutOfSequence h = refl
 told_same (OutOfSequenceIn status) (OutOfSequenceIn other) h = grind (arith, nat_tests)
-told_same RevalueApproved RevalueApproved h = refl
-told_same RevalueDenied RevalueDenied h = refl
-told_same (RevalueLimit amount) (RevalueLimit other) h = grind (arith, nat_tests)
 told_same TimeAsked TimeAsked h = refl
 told_same a b h = absurd (never h)
 
@@ -48,7 +45,6 @@ is_same (VendApproved amount) = grind (arith, nat_tests)
 is_same (Malfunction code) = grind (arith, nat_tests)
 is_same (OutOfSequenceIn status) = grind (arith, nat_tests)
 is_same (PeripheralIdWithOptions options) = grind (arith, nat_tests)
-is_same (RevalueLimit amount) = grind (arith, nat_tests)
 is_same _ = refl
 
 pub same_again : (a b : ReaderMsg) → a ≡ b → eq-value.it a b ≡ true

@@ -1,13 +1,15 @@
 -- The readings of a reader's messages.
-use Rattle.std.proofs.Common.{◌≡◌, ℕ, ◌<◌, ◌⊎◌, inl, inr, if◌then◌else◌, Bool, true, false, ◌||◌, List, [], ◌∷◌, length, refl, ap}
+use Rattle.std.proofs.Common.{◌≡◌, ℕ, ◌+◌, ◌/◌, ◌<◌, ◌==◌, ◌⊎◌, inl, inr, if◌then◌else◌, Bool, true, false, ◌||◌, List, [], ◌∷◌, ◌++◌, refl, sym, ap, subst, ◌∙◌, get_or, length, take}
 use Rattle.std.specs.List.{list_any}
+use Rattle.std.proofs.lemmas.List.{take_more}
+use Rattle.mdb_msgs.specs.declared.reading.Ids.{Ids}
+use Rattle.mdb_msgs.specs.declared.reading.Ids.TheVariants.{Bare, ByNext, Full}
 use Rattle.mdb_msgs.specs.declared.reading.Reading.{Reading}
-use Rattle.mdb_msgs.specs.declared.reading.Reading.TheVariants.{Base, Short, Long}
 use Rattle.mdb_msgs.specs.declared.reply.reader.ReaderMsg.{ReaderMsg}
-use Rattle.mdb_msgs.specs.declared.reply.reader.ReaderMsg.TheVariants.{PeripheralId, PeripheralIdWithOptions, BeginSession, BeginSessionLong, OutOfSequence, OutOfSequenceIn, RevalueApproved, RevalueDenied, RevalueLimit, TimeAsked}
+use Rattle.mdb_msgs.specs.declared.reply.reader.ReaderMsg.TheVariants.{JustReset, PeripheralId, PeripheralIdWithOptions, BeginSession, BeginSessionLong, OutOfSequence, OutOfSequenceIn, TimeAsked}
 use Rattle.mdb_msgs.specs.Lists.{Stand}
-use Rattle.mdb_msgs.specs.Reader.{ReaderMessages, has_long, has_options, own_reading, reader_msg_bytes, reading_of, session_bytes, AreReaderMsgs, IsReaderMsg, IsTextOf}
-use Rattle.mdb_msgs.specs.Readings.{is_extended, is_long}
+use Rattle.mdb_msgs.specs.Reader.{ReaderMessages, has_long, ids_of, own_ids, reader_msg_bytes, reading_of, session_bytes, wider, AreReaderMsgs, IsReaderMsg, IsTextOf}
+use Rattle.mdb_msgs.specs.Readings.{allows, takes_options}
 
 pub or_parts : (a b : Bool) → (a || b) ≡ false → (a ≡ false) × (b ≡ false)
 or_parts true b h = absurd (cc)
@@ -17,156 +19,175 @@ pub or_first : (a b : Bool) → (a || b) ≡ true → a ≡ false → b ≡ true
 or_first true b h e = absurd (cc)
 or_first false b h e = h
 
+or_second : (a : Bool) {b : Bool} → b ≡ true → (a || b) ≡ true
+or_second true h = refl
+or_second false h = h
+
 -- how many bytes 03 has after its first
-pub short_bytes : (r : Reading) → is_long r ≡ false → session_bytes r ≡ 2
+pub short_bytes : (r : Reading) → r.is_long ≡ false → session_bytes r ≡ 2
 short_bytes r h = ap (λ b. if b then 9 else 2) h
 
-pub long_bytes : (r : Reading) → is_long r ≡ true → session_bytes r ≡ 9
+pub long_bytes : (r : Reading) → r.is_long ≡ true → session_bytes r ≡ 9
 long_bytes r h = ap (λ b. if b then 9 else 2) h
 
-long_is_extended : (r : Reading) → is_long r ≡ true → is_extended r ≡ true
-long_is_extended Base h = absurd (cc)
-long_is_extended Short h = absurd (cc)
-long_is_extended Long h = refl
+-- ---- how identifications are read
 
--- messages of a long reading may stand so in Long
-one_in_long : (r : Reading) (m : ReaderMsg) (text rest : List ℕ) → is_long r ≡ true
-    → IsTextOf r m text rest → IsTextOf Long m text rest
-one_in_long r PeripheralId text rest e is = (is.0, by is.1)
-  where
-    by : (is_extended r ≡ false) ⊎ (length rest < 4) → (is_extended Long ≡ false)
-        ⊎ (length rest < 4)
-    by (inl bare) = let extended = long_is_extended r e in absurd (cc)
-    by (inr short) = inr short
-one_in_long r (PeripheralIdWithOptions options) text rest e is = (is.0, is.1, refl)
-one_in_long r (BeginSession funds) text rest e is = let short = is.1 in absurd (cc)
-one_in_long r (BeginSessionLong funds media kind details) text rest e is = (is.0, refl)
-one_in_long r OutOfSequence text rest e is = (is.0, by is.1)
-  where
-    by : (is_long r ≡ false) ⊎ (rest ≡ []) → (is_long Long ≡ false) ⊎ (rest ≡ [])
-    by (inl bare) = absurd (cc)
-    by (inr none) = inr none
-one_in_long r (OutOfSequenceIn status) text rest e is = (is.0, refl)
-one_in_long r RevalueApproved text rest e is = (is.0, refl)
-one_in_long r RevalueDenied text rest e is = (is.0, refl)
-one_in_long r (RevalueLimit amount) text rest e is = (is.0, refl)
-one_in_long r TimeAsked text rest e is = (is.0, refl)
-one_in_long r m text rest e is = is
+-- the one allows no options that the other doesn't
+abbrev Narrower : Ids → Ids → Type 0
+Narrower a b = (next : ℕ) → allows a next ≡ true → allows b next ≡ true
 
--- where no message is of feature levels 2 and 3 alone, those of an extended reading in Short
-one_in_short : (r : Reading) (m : ReaderMsg) (text rest : List ℕ) → has_long m ≡ false
-    → is_extended r ≡ true → IsTextOf r m text rest → IsTextOf Short m text rest
-one_in_short r PeripheralId text rest short e is = (is.0, by is.1)
-  where
-    by : (is_extended r ≡ false) ⊎ (length rest < 4) → (is_extended Short ≡ false)
-        ⊎ (length rest < 4)
-    by (inl bare) = absurd (cc)
-    by (inr few) = inr few
-one_in_short r (PeripheralIdWithOptions options) text rest short e is = (is.0, is.1, refl)
-one_in_short r (BeginSession funds) text rest short e is = (is.0, refl)
-one_in_short r (BeginSessionLong funds media kind details) text rest short e is = absurd (cc)
-one_in_short r OutOfSequence text rest short e is = (is.0, inl refl)
-one_in_short r (OutOfSequenceIn status) text rest short e is = absurd (cc)
-one_in_short r RevalueApproved text rest short e is = absurd (cc)
-one_in_short r RevalueDenied text rest short e is = absurd (cc)
-one_in_short r (RevalueLimit amount) text rest short e is = absurd (cc)
-one_in_short r TimeAsked text rest short e is = absurd (cc)
-one_in_short r m text rest short e is = is
+first_narrower : (a b : Ids) → Narrower a (wider a b)
+first_narrower Full b next is = is
+first_narrower ByNext Full next is = refl
+first_narrower ByNext Bare next is = is
+first_narrower ByNext ByNext next is = is
+first_narrower Bare b next is = absurd (cc is)
 
--- and where none has options either, in Base
-one_in_base : (r : Reading) (m : ReaderMsg) (text rest : List ℕ) → has_long m ≡ false
-    → has_options m ≡ false → IsTextOf r m text rest → IsTextOf Base m text rest
-one_in_base r PeripheralId text rest short bare is = (is.0, inl refl)
-one_in_base r (PeripheralIdWithOptions options) text rest short bare is = absurd (cc)
-one_in_base r (BeginSession funds) text rest short bare is = (is.0, refl)
-one_in_base r (BeginSessionLong funds media kind details) text rest short bare is = absurd (cc)
-one_in_base r OutOfSequence text rest short bare is = (is.0, inl refl)
-one_in_base r (OutOfSequenceIn status) text rest short bare is = absurd (cc)
-one_in_base r RevalueApproved text rest short bare is = absurd (cc)
-one_in_base r RevalueDenied text rest short bare is = absurd (cc)
-one_in_base r (RevalueLimit amount) text rest short bare is = absurd (cc)
-one_in_base r TimeAsked text rest short bare is = absurd (cc)
-one_in_base r m text rest short bare is = is
+second_narrower : (a b : Ids) → Narrower b (wider a b)
+second_narrower Full b next is = refl
+second_narrower ByNext Full next is = is
+second_narrower ByNext Bare next is = absurd (cc is)
+second_narrower ByNext ByNext next is = is
+second_narrower Bare b next is = is
+
+both_narrower : (a b c : Ids) → Narrower a c → Narrower b c → Narrower (wider a b) c
+both_narrower Full b c one other = one
+both_narrower ByNext Full c one other = other
+both_narrower ByNext Bare c one other = one
+both_narrower ByNext ByNext c one other = one
+both_narrower Bare b c one other = other
+
+-- options are allowed by what they ask for, which is the least that allows them
+asked_for : (next : ℕ) → allows (if next == 0 then ByNext else Full) next ≡ true
+asked_for next = elim (next == 0) as (λ b. (next == 0) ≡ b
+    → allows (if b then ByNext else Full) next ≡ true) [
+      | true ↦ λ e. e
+      | false ↦ λ e. refl
+    ] refl
+
+least_asked : (ids : Ids) (next : ℕ) → allows ids next ≡ true
+    → Narrower (if next == 0 then ByNext else Full) ids
+least_asked Bare next is = absurd (cc is)
+least_asked ByNext next is = λ other e.
+    subst (λ b. allows (if b then ByNext else Full) other ≡ true → (other == 0) ≡ true) (sym is)
+    (λ same. same) e
+least_asked Full next is = λ other e. refl
+
+-- where the one takes no options, a narrower one doesn't
+fewer : (a b : Ids) (after : List ℕ) → Narrower a b → takes_options b after ≡ false
+    → takes_options a after ≡ false
+fewer a b (first ∷ second ∷ third ∷ fourth ∷ rest) narrower none = by (allows a first) refl
+  where
+    by : (is : Bool) → allows a first ≡ is → allows a first ≡ false
+    by true e = let also = narrower first e in absurd (cc (also, none))
+    by false e = e
+fewer a b after narrower none = refl
+
+-- what messages ask for, with one more
+wider_all : (a b c : Ids) → wider a (wider b c) ≡ wider (wider a b) c
+wider_all Full b c = refl
+wider_all ByNext Full c = refl
+wider_all ByNext Bare c = refl
+wider_all ByNext ByNext Full = refl
+wider_all ByNext ByNext Bare = refl
+wider_all ByNext ByNext ByNext = refl
+wider_all Bare b c = refl
+
+wider_bare : (a : Ids) → wider a Bare ≡ a
+wider_bare Full = refl
+wider_bare ByNext = refl
+wider_bare Bare = refl
+
+pub own_more : (ms : List ReaderMsg) (m : ReaderMsg)
+    → own_ids (ms ++ m ∷ []) ≡ wider (own_ids ms) (ids_of m)
+own_more [] m = wider_bare (ids_of m)
+own_more (first ∷ ms) m =
+    ap (wider (ids_of first)) (own_more ms m)
+    ∙ wider_all (ids_of first) (own_ids ms) (ids_of m)
+
+pub own_next : (ms : List ReaderMsg) (i : ℕ) (ids : Ids) → i < length ms
+    → ids ≡ own_ids (take i ms)
+    → wider ids (ids_of (get_or ms i JustReset)) ≡ own_ids (take (i + 1) ms)
+own_next ms i ids below e =
+    ap (λ x. wider x (ids_of (get_or ms i JustReset))) e
+    ∙ sym (own_more (take i ms) (get_or ms i JustReset))
+    ∙ ap own_ids (sym (take_more ms i JustReset below))
+
+-- ---- messages of a reading are of a narrower one that has them
 
 abbrev Standing : Reading → List ℕ → List ℕ → List ReaderMsg → List ℕ → Type 0
 Standing r id text ms tail = Stand (reader_msg_bytes id text) (IsReaderMsg r id text) ms tail
 
-in_long : (r : Reading) (id text : List ℕ) (ms : List ReaderMsg) (tail : List ℕ)
-    → is_long r ≡ true → Standing r id text ms tail → Standing Long id text ms tail
-in_long r id text [] tail e stand = tt
-in_long r id text (m ∷ ms) tail e stand =
-    (one_in_long r m _ _ e stand.0, in_long r id text ms tail e stand.1)
+module _ (r own : Reading) (longer : own.is_long ≡ true → r.is_long ≡ true)
+    (narrower : Narrower own.ids r.ids) where
+  short : r.is_long ≡ false → own.is_long ≡ false
+  short e = by own.is_long longer
+    where
+      by : (b : Bool) → (b ≡ true → r.is_long ≡ true) → b ≡ false
+      by true more = sym (more refl) ∙ e
+      by false more = refl
 
-in_short : (r : Reading) (id text : List ℕ) (ms : List ReaderMsg) (tail : List ℕ)
-    → list_any has_long ms ≡ false → is_extended r ≡ true → Standing r id text ms tail
-    → Standing Short id text ms tail
-in_short r id text [] tail short e stand = tt
-in_short r id text (m ∷ ms) tail short e stand =
-    let parts = or_parts (has_long m) (list_any has_long ms) short in
-    (one_in_short r m _ _ parts.0 e stand.0, in_short r id text ms tail parts.1 e stand.1)
+  one_in : (m : ReaderMsg) (text rest : List ℕ) → (has_long m ≡ true → own.is_long ≡ true)
+      → Narrower (ids_of m) own.ids → IsTextOf r m text rest → IsTextOf own m text rest
+  one_in PeripheralId text rest long asked is =
+      (is.0, fewer own.ids r.ids rest narrower is.1)
+  one_in (PeripheralIdWithOptions options) text rest long asked is =
+      (is.0, is.1, asked _ (asked_for (options / 65536 / 256)))
+  one_in (BeginSession funds) text rest long asked is = (is.0, short is.1)
+  one_in (BeginSessionLong funds media kind details) text rest long asked is = (is.0, long refl)
+  one_in OutOfSequence text rest long asked is =
+      (is.0, elim is.1 [ inl e ↦ inl (short e) | inr none ↦ inr none ])
+  one_in (OutOfSequenceIn status) text rest long asked is = (is.0, long refl)
+  one_in TimeAsked text rest long asked is = (is.0, long refl)
+  one_in m text rest long asked is = is
 
-in_base : (r : Reading) (id text : List ℕ) (ms : List ReaderMsg) (tail : List ℕ)
-    → list_any has_long ms ≡ false → list_any has_options ms ≡ false
-    → Standing r id text ms tail → Standing Base id text ms tail
-in_base r id text [] tail short bare stand = tt
-in_base r id text (m ∷ ms) tail short bare stand =
-    let parts = or_parts (has_long m) (list_any has_long ms) short in
-    let others = or_parts (has_options m) (list_any has_options ms) bare in (
-      one_in_base r m _ _ parts.0 others.0 stand.0,
-      in_base r id text ms tail parts.1 others.1
-          stand.1,
-    )
-
--- a message with options stands in an extended reading alone
-one_is_extended : (r : Reading) (m : ReaderMsg) (text rest : List ℕ) → has_options m ≡ true
-    → IsTextOf r m text rest → is_extended r ≡ true
-one_is_extended r (PeripheralIdWithOptions options) text rest some is = is.2
-one_is_extended r m text rest some is = absurd (cc)
-
-extended_says : (r : Reading) (id text : List ℕ) (ms : List ReaderMsg) (tail : List ℕ)
-    → Standing r id text ms tail → list_any has_options ms ≡ true → is_extended r ≡ true
-extended_says r id text [] tail stand some = absurd (cc)
-extended_says r id text (m ∷ ms) tail stand some = by (extended_says r id text ms tail stand.1)
-    (has_options m) refl
-  where
-    by : (list_any has_options ms ≡ true → is_extended r ≡ true) → (b : Bool)
-        → has_options m ≡ b → is_extended r ≡ true
-    by more true e = one_is_extended r m _ _ e stand.0
-    by more false e = more (or_first (has_options m) (list_any has_options ms) some e)
+  all_in : (id text : List ℕ) (ms : List ReaderMsg) (tail : List ℕ)
+      → (list_any has_long ms ≡ true → own.is_long ≡ true) → Narrower (own_ids ms) own.ids
+      → Standing r id text ms tail → Standing own id text ms tail
+  all_in id text [] tail long asked stand = tt
+  all_in id text (m ∷ ms) tail long asked stand = (
+    one_in m _ _ (λ e. long (ap (λ b. b || list_any has_long ms) e))
+        (λ next is. asked next (first_narrower (ids_of m) (own_ids ms) next is)) stand.0,
+    all_in id text ms tail (λ e. long (or_second (has_long m) e))
+        (λ next is. asked next (second_narrower (ids_of m) (own_ids ms) next is)) stand.1,
+  )
 
 -- a message of feature levels 2 and 3 stands in their reading alone
 one_is_long : (r : Reading) (m : ReaderMsg) (text rest : List ℕ) → has_long m ≡ true
-    → IsTextOf r m text rest → is_long r ≡ true
+    → IsTextOf r m text rest → r.is_long ≡ true
 one_is_long r (BeginSessionLong funds media kind details) text rest long is = is.1
 one_is_long r (OutOfSequenceIn status) text rest long is = is.1
-one_is_long r RevalueApproved text rest long is = is.1
-one_is_long r RevalueDenied text rest long is = is.1
-one_is_long r (RevalueLimit amount) text rest long is = is.1
 one_is_long r TimeAsked text rest long is = is.1
 one_is_long r m text rest long is = absurd (cc)
 
+-- and what it asks for is allowed
+one_asks : (r : Reading) (m : ReaderMsg) (text rest : List ℕ) → IsTextOf r m text rest
+    → Narrower (ids_of m) r.ids
+one_asks r (PeripheralIdWithOptions options) text rest is = least_asked r.ids _ is.2
+one_asks r m text rest is = λ next no. absurd (cc no)
+
 long_says : (r : Reading) (id text : List ℕ) (ms : List ReaderMsg) (tail : List ℕ)
-    → Stand (reader_msg_bytes id text) (IsReaderMsg r id text) ms tail
-    → list_any has_long ms ≡ true → is_long r ≡ true
+    → Standing r id text ms tail → list_any has_long ms ≡ true → r.is_long ≡ true
 long_says r id text [] tail stand some = absurd (cc)
 long_says r id text (m ∷ ms) tail stand some = by (long_says r id text ms tail stand.1)
     (has_long m) refl
   where
-    by : (list_any has_long ms ≡ true → is_long r ≡ true) → (b : Bool) → has_long m ≡ b
-        → is_long r ≡ true
+    by : (list_any has_long ms ≡ true → r.is_long ≡ true) → (b : Bool) → has_long m ≡ b
+        → r.is_long ≡ true
     by more true e = one_is_long r m _ _ e stand.0
     by more false e = more (or_first (has_long m) (list_any has_long ms) some e)
+
+ids_say : (r : Reading) (id text : List ℕ) (ms : List ReaderMsg) (tail : List ℕ)
+    → Standing r id text ms tail → Narrower (own_ids ms) r.ids
+ids_say r id text [] tail stand = λ next no. absurd (cc no)
+ids_say r id text (m ∷ ms) tail stand =
+    both_narrower (ids_of m) (own_ids ms) r.ids (one_asks r m _ _ stand.0)
+    (ids_say r id text ms tail stand.1)
 
 -- messages of a reading are of the one that they are kept in
 pub in_own : (r : Reading) (list : ReaderMessages) → AreReaderMsgs r list []
     → AreReaderMsgs (reading_of list.messages) list []
-in_own r list stand = by (list_any has_long list.messages) (list_any has_options list.messages)
-    refl refl
-  where
-    by : (b c : Bool) → list_any has_long list.messages ≡ b
-        → list_any has_options list.messages ≡ c → AreReaderMsgs (own_reading b c) list []
-    by true c e d = in_long r list.id list.text list.messages []
-        (long_says r list.id list.text list.messages [] stand e) stand
-    by false true e d = in_short r list.id list.text list.messages [] e
-        (extended_says r list.id list.text list.messages [] stand d) stand
-    by false false e d = in_base r list.id list.text list.messages [] e d stand
+in_own r list stand =
+    all_in r (reading_of list.messages) (long_says r list.id list.text list.messages [] stand)
+    (ids_say r list.id list.text list.messages [] stand) list.id list.text list.messages []
+    (λ e. e) (λ next e. e) stand

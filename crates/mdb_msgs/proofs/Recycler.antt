@@ -1,18 +1,16 @@
--- The validator's messages of any reading are those of the extended profile.
-use Rattle.std.proofs.Common.{List, [], ◌∷◌, refl}
+-- The validator's messages of any profile are those of the extended profile.
+use Rattle.std.proofs.Common.{Bool, true, List, [], ◌∷◌, refl}
 use Rattle.std.specs.List.{AllByRecursion}
-use Rattle.mdb_msgs.specs.declared.reading.Reading.{Reading}
-use Rattle.mdb_msgs.specs.declared.reading.Reading.TheVariants.{Long}
 use Rattle.mdb_msgs.specs.declared.reply.bill.BillMsg.{BillMsg}
 use Rattle.mdb_msgs.specs.declared.reply.bill.BillMsg.TheVariants as bill
 use Rattle.mdb_msgs.specs.Bill.{IsBillMsg}
 
-one_extended : (r : Reading) (m : BillMsg) → IsBillMsg r m → IsBillMsg Long m
+one_extended : (r : Bool) (m : BillMsg) → IsBillMsg r m → IsBillMsg true m
 one_extended r (bill.Recycled b) is = (is.0, refl)
 one_extended r (bill.RecyclerStatus byte) is = (is.0, refl)
 one_extended r m is = is
 
-pub all_extended : (r : Reading) (ms : List BillMsg) → AllByRecursion (IsBillMsg r) ms
-    → AllByRecursion (IsBillMsg Long) ms
+pub all_extended : (r : Bool) (ms : List BillMsg) → AllByRecursion (IsBillMsg r) ms
+    → AllByRecursion (IsBillMsg true) ms
 all_extended r [] all = tt
 all_extended r (m ∷ ms) all = (one_extended r m all.0, all_extended r ms all.1)

@@ -1,8 +1,8 @@
 -- Bytes are messages, or there is a leftmost place where no message stands.
-use Rattle.std.proofs.Common.{◌≡◌, ◌≢◌, ℕ, zero, suc, ◌+◌, ◌-◌, ◌*◌, ◌/◌, ◌%◌, ◌<◌, ◌≤◌, ◌⊎◌, inl, inr, true, false, List, [], ◌∷◌, ◌++◌, length, take, drop, All, refl, sym, ap, ◌∙◌, arith, append_assoc, append-nil, subst}
+use Rattle.std.proofs.Common.{◌≡◌, ◌≢◌, ℕ, zero, suc, ◌+◌, ◌-◌, ◌*◌, ◌/◌, ◌%◌, ◌<◌, ◌≤◌, ◌⊎◌, inl, inr, Bool, true, false, List, [], ◌∷◌, ◌++◌, length, take, drop, All, refl, sym, ap, ◌∙◌, arith, append_assoc, append-nil, subst}
 use Rattle.std.specs.List.{flat_map, AllByRecursion}
 use Rattle.std.proofs.lemmas.List.{length-take-le, length-drop, take-append-drop}
-use Rattle.std.proofs.lemmas.List.Elements.{All-drop, All-nil, All-take}
+use Rattle.std.proofs.lemmas.List.Elements.{All-drop, All-nil}
 use Rattle.mdb_msgs.specs.declared.fault.MsgFault.{MsgFault}
 use Rattle.mdb_msgs.specs.declared.fault.MsgFault.TheVariants.{Message, Profile}
 use Rattle.mdb_msgs.specs.declared.reply.bill.BillMsg.{BillMsg}
@@ -16,11 +16,12 @@ use Rattle.mdb_msgs.specs.Bill.{bill_msg_bytes, IsBillMsg, NoBillMsg}
 use Rattle.mdb_msgs.specs.Changer.{changer_msg_bytes, IsChangerMsg, NoChangerMsg}
 use Rattle.mdb_msgs.specs.Commands.{IsByte}
 use Rattle.mdb_msgs.specs.Lists.{StopsAt}
-use Rattle.mdb_msgs.specs.Reader.{ReaderMessages, head_bytes, reader_list_bytes, session_bytes, AreReaderMsgs, IsLeftOut, IsReaderList, IsTextOf, NoReaderMsg, ReaderStopsAt}
-use Rattle.mdb_msgs.specs.Readings.{is_extended, is_long}
+use Rattle.mdb_msgs.specs.Reader.{ReaderMessages, head_bytes, reader_list_bytes, session_bytes, AreReaderMsgs, IsReaderList, IsTextOf, NoReaderMsg, ReaderStopsAt}
+use Rattle.mdb_msgs.specs.Readings.{allows, takes_options}
 use Rattle.mdb_msgs.specs.ReaderBytes.{no_messages}
 use Rattle.mdb_msgs.specs.inner.ReaderSteps.{with_message}
 use Rattle.mdb_msgs.specs.TwoBytes.{two_bytes, four_bytes}
+use Rattle.mdb_msgs.proofs.ReaderBytes.{four, pair_bytes, text_with_options}
 use Rattle.mdb_msgs.proofs.Readings.{long_bytes, short_bytes}
 use Rattle.mdb_msgs.proofs.ReaderReading.{Taken, nothing_taken, takes_next, stops_next, all_read}
 
@@ -42,13 +43,6 @@ same_or_not m n = by (split n m) (split (suc n) m)
     by (inl less) other = inr (λ is. omega (arith, less, is))
     by (inr least) (inl most) = inl (omega (arith, least, most))
     by (inr least) (inr more) = inr (λ is. omega (arith, more, is))
-
--- two bytes are those of their number
-pub pair_bytes : (high low : ℕ) → low < 256 → high ∷ low ∷ [] ≡ two_bytes (256 * high + low)
-pair_bytes high low small =
-    let first : high ≡ (256 * high + low) / 256 = omega arith in
-    let second : low ≡ (256 * high + low) % 256 = omega arith in
-    cc
 
 -- bytes are messages
 pub record Reads {M : Type 0} (f : M → List ℕ) (Is : M → Type 0) (bytes : List ℕ) : Type 0 where
@@ -206,7 +200,7 @@ changer_reads bytes low = reads changer_msg_bytes IsChangerMsg NoChangerMsg chan
     (length bytes) bytes (omega arith) low
 
 -- the validator's messages
-bill_one : (r : Reading) (first : ℕ) (further : List ℕ) (message : BillMsg)
+bill_one : (r : Bool) (first : ℕ) (further : List ℕ) (message : BillMsg)
     → All IsByte (first ∷ further)
     → IsBillMsg r message → first ∷ [] ≡ bill_msg_bytes message
     → Front bill_msg_bytes (IsBillMsg r) (first ∷ further)
@@ -219,7 +213,7 @@ bill_one r first further message low right is = record {
   low = All-drop IsByte 1 (first ∷ further) low;
 }
 
-bill_status : (r : Reading) (first : ℕ) (further : List ℕ) → All IsByte (first ∷ further)
+bill_status : (r : Bool) (first : ℕ) (further : List ℕ) → All IsByte (first ∷ further)
     → (first < 27) ⊎ ((32 ≤ first) × (first < 64)) → (first ≡ 6) ⊎ (first ≢ 6)
     → Front bill_msg_bytes (IsBillMsg r) (first ∷ further)
 bill_status r first further low small (inl reset) = bill_one r first further bill.Reset low tt
@@ -228,14 +222,14 @@ bill_status r first further low small (inr other) = bill_one r first further (bi
     (other, small) refl
 
 -- a byte of the recycler is a message, or the base profile leaves it out
-abbrev BillFound : Reading → ℕ → List ℕ → Type 0
+abbrev BillFound : Bool → ℕ → List ℕ → Type 0
 BillFound r first further =
     Front bill_msg_bytes (IsBillMsg r) (first ∷ further)
     ⊎ (NoBillMsg r (first ∷ further) Message ⊎ NoBillMsg r (first ∷ further) Profile)
 
-recycled : (r : Reading) (first : ℕ) (further : List ℕ) → All IsByte (first ∷ further)
+recycled : (r : Bool) (first : ℕ) (further : List ℕ) → All IsByte (first ∷ further)
     → 176 ≤ first → first < 192 → BillFound r first further
-recycled r first further low least most = elim (is_extended r) as (λ b. is_extended r ≡ b
+recycled r first further low least most = elim r as (λ b. r ≡ b
     → BillFound r first further) [
       | true ↦ λ e. inl (bill_one r first further (bill.Recycled (first - 176)) low
           (omega (arith, least, most), e)
@@ -243,15 +237,15 @@ recycled r first further low least most = elim (is_extended r) as (λ b. is_exte
       | false ↦ λ e. inr (inr (inr (inl (least, most), e)))
     ] refl
 
-recycler_status : (r : Reading) (first : ℕ) (further : List ℕ) → All IsByte (first ∷ further)
+recycler_status : (r : Bool) (first : ℕ) (further : List ℕ) → All IsByte (first ∷ further)
     → 208 ≤ first → BillFound r first further
-recycler_status r first further low least = elim (is_extended r) as (λ b. is_extended r ≡ b
+recycler_status r first further low least = elim r as (λ b. r ≡ b
     → BillFound r first further) [
       | true ↦ λ e. inl (bill_one r first further (bill.RecyclerStatus first) low (least, e) refl)
       | false ↦ λ e. inr (inr (inr (inr least, e)))
     ] refl
 
-bill_step : (r : Reading) → Step bill_msg_bytes (IsBillMsg r) (NoBillMsg r)
+bill_step : (r : Bool) → Step bill_msg_bytes (IsBillMsg r) (NoBillMsg r)
 bill_step r first further low = low_half (split 27 first) (split 32 first) (split 64 first)
     (split 96 first) (split 128 first)
   where
@@ -295,7 +289,7 @@ bill_step r first further low = low_half (split 27 first) (split 32 first) (spli
         high_half e (split 144 first) (split 160 first) (split 176 first) (split 192 first)
         (split 208 first)
 
-pub bill_reads : (r : Reading) (bytes : List ℕ) → All IsByte bytes
+pub bill_reads : (r : Bool) (bytes : List ℕ) → All IsByte bytes
     → Reads bill_msg_bytes (IsBillMsg r) bytes
     ⊎ Stops bill_msg_bytes (IsBillMsg r) (NoBillMsg r) bytes
 bill_reads r bytes low = reads bill_msg_bytes (IsBillMsg r) (NoBillMsg r) (bill_step r)
@@ -369,7 +363,7 @@ no_session : (r : Reading) (further : List ℕ) → length further < session_byt
     → ReaderFront r 3 further ⊎ NoFront r 3 further
 no_session r further few = inr (inl (inr (inr (inl (refl, few)))))
 
-session : (r : Reading) (further : List ℕ) → is_long r ≡ false → All IsByte (3 ∷ further)
+session : (r : Reading) (further : List ℕ) → r.is_long ≡ false → All IsByte (3 ∷ further)
     → ReaderFront r 3 further ⊎ NoFront r 3 further
 session r (a ∷ b ∷ rest) short low =
     let small : b < 256 = low 2 0 (omega arith) in
@@ -384,16 +378,7 @@ session r (a ∷ b ∷ rest) short low =
     })
 session r further short low = no_session r further (omega (arith, short_bytes r short))
 
-four : (a b c d : ℕ) → b < 256 → c < 256 → d < 256
-    → a ∷ b ∷ c ∷ d ∷ [] ≡ four_bytes (65536 * (256 * a + b) + (256 * c + d))
-four a b c d b_small c_small d_small =
-    let first : a ≡ (65536 * (256 * a + b) + (256 * c + d)) / 65536 / 256 = omega arith in
-    let second : b ≡ ((65536 * (256 * a + b) + (256 * c + d)) / 65536) % 256 = omega arith in
-    let third : c ≡ (65536 * (256 * a + b) + (256 * c + d)) % 65536 / 256 = omega arith in
-    let fourth : d ≡ ((65536 * (256 * a + b) + (256 * c + d)) % 65536) % 256 = omega arith in
-    cc
-
-long_session : (r : Reading) (further : List ℕ) → is_long r ≡ true → All IsByte (3 ∷ further)
+long_session : (r : Reading) (further : List ℕ) → r.is_long ≡ true → All IsByte (3 ∷ further)
     → ReaderFront r 3 further ⊎ NoFront r 3 further
 long_session r (a ∷ b ∷ c ∷ d ∷ e ∷ f ∷ kind ∷ g ∷ h ∷ rest) long low =
     let funds : a ∷ b ∷ [] ≡ two_bytes (256 * a + b) = pair_bytes a b (low 2 0 (omega arith)) in
@@ -417,7 +402,7 @@ long_session r further long low = no_session r further (omega (arith, long_bytes
 
 any_session : (r : Reading) (further : List ℕ) → All IsByte (3 ∷ further)
     → ReaderFront r 3 further ⊎ NoFront r 3 further
-any_session r further low = elim (is_long r) as (λ b. is_long r ≡ b
+any_session r further low = elim r.is_long as (λ b. r.is_long ≡ b
     → ReaderFront r 3 further ⊎ NoFront r 3 further) [
       | true ↦ λ e. long_session r further e low
       | false ↦ λ e. session r further e low
@@ -439,7 +424,7 @@ approved r (a ∷ b ∷ rest) low =
 approved r further low = inr (inl (inr (inr (inr (inl (refl, omega arith))))))
 
 bare_id : (r : Reading) (further : List ℕ) → All IsByte (9 ∷ further) → 29 ≤ length further
-    → (is_extended r ≡ false) ⊎ (length (drop 29 further) < 4)
+    → takes_options r.ids (drop 29 further) ≡ false
     → ReaderFront r 9 further ⊎ NoFront r 9 further
 bare_id r further low long bare =
     inl (record {
@@ -452,58 +437,48 @@ bare_id r further low long bare =
       low = All-drop IsByte 30 (9 ∷ further) low;
     })
 
-four_of : (l : List ℕ) → All IsByte l → length l ≡ 4 → (n : ℕ) × (l ≡ four_bytes n)
-four_of (a ∷ b ∷ c ∷ d ∷ []) low four_long = (
-  65536 * (256 * a + b) + (256 * c + d),
-  four a b c d (low 1 0 (omega arith)) (low 2 0 (omega arith)) (low 3 0 (omega arith)),
-)
-four_of (a ∷ b ∷ c ∷ d ∷ e ∷ l) low four_long = absurd (omega arith)
-four_of l low four_long = absurd (omega arith)
-
-full_id : (r : Reading) (further : List ℕ) → All IsByte (9 ∷ further) → 33 ≤ length further
-    → is_extended r ≡ true → ReaderFront r 9 further ⊎ NoFront r 9 further
-full_id r further low long extended =
-    let text = take 33 further in
-    let count : length text ≡ 33 = length-take-le 33 further long in
-    let low_text : All IsByte text = All-take IsByte 33 further (All-drop IsByte 1 (9 ∷ further)
-    low) in
-    let options = four_of (drop 29 text) (All-drop IsByte 29 text low_text)
-    (omega (arith, count, length-drop 29 text)) in
+full_id : (r : Reading) (further : List ℕ) → All IsByte (9 ∷ further) → 29 ≤ length further
+    → (a b c d : ℕ) (rest : List ℕ) → drop 29 further ≡ a ∷ b ∷ c ∷ d ∷ rest
+    → allows r.ids a ≡ true → ReaderFront r 9 further ⊎ NoFront r 9 further
+full_id r further low long a b c d rest e allowed =
+    let Low : List ℕ → Type 0 = All IsByte in
+    let after : All IsByte (a ∷ b ∷ c ∷ d ∷ rest) = subst Low e
+    (All-drop IsByte 30 (9 ∷ further) low) in
+    let options = 65536 * (256 * a + b) + (256 * c + d) in
     inl (record {
-      message = reader.PeripheralIdWithOptions options.0;
-      text = text;
+      message = reader.PeripheralIdWithOptions options;
+      text = take 33 further;
       rest = drop 33 further;
-      is_text = (count, options.1, extended);
+      is_text = text_with_options r further a b c d rest options e (after 1 0 (omega arith))
+          (after 2 0 (omega arith)) (after 3 0 (omega arith)) refl allowed;
       spelled = ap (λ l. 9 ∷ l) (sym (take-append-drop 33 further));
       shorter = omega (arith, length-drop 33 further);
       low = All-drop IsByte 34 (9 ∷ further) low;
     })
 
+options_or_not : (r : Reading) (further : List ℕ) → All IsByte (9 ∷ further)
+    → 29 ≤ length further → (after : List ℕ) → drop 29 further ≡ after
+    → ReaderFront r 9 further ⊎ NoFront r 9 further
+options_or_not r further low long (a ∷ b ∷ c ∷ d ∷ rest) e =
+    elim (allows r.ids a) as (λ is. allows r.ids a ≡ is
+    → ReaderFront r 9 further ⊎ NoFront r 9 further) [
+      | true ↦ λ is. full_id r further low long a b c d rest e is
+      | false ↦ λ is. bare_id r further low long (ap (takes_options r.ids) e ∙ is)
+    ] refl
+options_or_not r further low long after e =
+    bare_id r further low long (ap (takes_options r.ids) e)
+
 identification : (r : Reading) (further : List ℕ) → All IsByte (9 ∷ further)
     → (length further < 29) ⊎ (29 ≤ length further) → ReaderFront r 9 further ⊎ NoFront r 9 further
 identification r further low (inl short) =
     inr (inl (inr (inr (inr (inr (inl (refl, short)))))))
-identification r further low (inr long) = by (split 33 (length further))
-  where
-    by : (length further < 33) ⊎ (33 ≤ length further) → ReaderFront r 9 further
-        ⊎ NoFront r 9 further
-    by (inl few) = bare_id r further low long (inr (omega (
-      arith,
-      few,
-      long,
-      length-drop 29
-          further,
-    )))
-    by (inr all) = elim (is_extended r) as (λ b. is_extended r ≡ b
-        → ReaderFront r 9 further ⊎ NoFront r 9 further) [
-          | true ↦ λ e. full_id r further low all e
-          | false ↦ λ e. bare_id r further low long (inl e)
-        ] refl
+identification r further low (inr long) =
+    options_or_not r further low long (drop 29 further) refl
 
 malfunction : (r : Reading) (further : List ℕ) → All IsByte (10 ∷ further)
     → ReaderFront r 10 further
     ⊎ NoFront r 10 further
-malfunction r [] low = inr (inl (inr (inr (inr (inr (inr (inl (refl, refl))))))))
+malfunction r [] low = inr (inl (inr (inr (inr (inr (inr (refl, refl)))))))
 malfunction r (code ∷ rest) low =
     inl (record {
       message = reader.Malfunction code;
@@ -515,12 +490,12 @@ malfunction r (code ∷ rest) low =
       low = All-drop IsByte 2 (10 ∷ code ∷ rest) low;
     })
 
-bare_out_of : (r : Reading) (further : List ℕ) → (is_long r ≡ false) ⊎ (further ≡ [])
+bare_out_of : (r : Reading) (further : List ℕ) → (r.is_long ≡ false) ⊎ (further ≡ [])
     → All IsByte (11 ∷ further) → ReaderFront r 11 further ⊎ NoFront r 11 further
 bare_out_of r further bare low = short_message r 11 further reader.OutOfSequence low (refl, bare)
     refl
 
-long_out_of : (r : Reading) (further : List ℕ) → is_long r ≡ true → All IsByte (11 ∷ further)
+long_out_of : (r : Reading) (further : List ℕ) → r.is_long ≡ true → All IsByte (11 ∷ further)
     → ReaderFront r 11 further ⊎ NoFront r 11 further
 long_out_of r [] long low = bare_out_of r [] (inr refl) low
 long_out_of r (status ∷ rest) long low =
@@ -536,57 +511,32 @@ long_out_of r (status ∷ rest) long low =
 
 out_of_sequence : (r : Reading) (further : List ℕ) → All IsByte (11 ∷ further)
     → ReaderFront r 11 further ⊎ NoFront r 11 further
-out_of_sequence r further low = elim (is_long r) as (λ b. is_long r ≡ b
+out_of_sequence r further low = elim r.is_long as (λ b. r.is_long ≡ b
     → ReaderFront r 11 further ⊎ NoFront r 11 further) [
       | true ↦ λ e. long_out_of r further e low
       | false ↦ λ e. bare_out_of r further (inl e) low
     ] refl
 
 left_out : (r : Reading) (first : ℕ) (further : List ℕ) → 12 ≤ first
-    → (is_long r ≡ false) ⊎ IsLeftOut first → ReaderFront r first further ⊎ NoFront r first further
+    → (r.is_long ≡ false) ⊎ (first ≢ 17) → ReaderFront r first further ⊎ NoFront r first further
 left_out r first further high out = inr (inr (high, out))
 
-revalue_limit : (r : Reading) (further : List ℕ) → is_long r ≡ true → All IsByte (15 ∷ further)
-    → ReaderFront r 15 further ⊎ NoFront r 15 further
-revalue_limit r (a ∷ b ∷ rest) long low =
-    let small : b < 256 = low 2 0 (omega arith) in
-    inl (record {
-      message = reader.RevalueLimit (256 * a + b);
-      text = [];
-      rest = rest;
-      is_text = (refl, long);
-      spelled = ap (λ l. 15 ∷ (l ++ rest)) (pair_bytes a b small);
-      shorter = omega arith;
-      low = All-drop IsByte 3 (15 ∷ a ∷ b ∷ rest) low;
-    })
-revalue_limit r further long low =
-    inr (inl (inr (inr (inr (inr (inr (inr (refl, long, omega arith))))))))
+time_asked : (r : Reading) (further : List ℕ) → r.is_long ≡ true → All IsByte (17 ∷ further)
+    → ReaderFront r 17 further ⊎ NoFront r 17 further
+time_asked r further long low = short_message r 17 further reader.TimeAsked low (refl, long) refl
 
--- a first byte of 0C or above, by how much it is above
-long_above : (r : Reading) (more : ℕ) (further : List ℕ) → is_long r ≡ true
-    → All IsByte ((12 + more) ∷ further) → ReaderFront r (12 + more) further
-    ⊎ NoFront r (12 + more) further
-long_above r zero further long low =
-    left_out r 12 further (omega arith) (inr (omega arith, omega arith, omega arith, omega arith))
-long_above r (suc zero) further long low =
-    short_message r 13 further reader.RevalueApproved low (refl, long) refl
-long_above r (suc (suc zero)) further long low =
-    short_message r 14 further reader.RevalueDenied low (refl, long) refl
-long_above r (suc (suc (suc zero))) further long low = revalue_limit r further long low
-long_above r (suc (suc (suc (suc zero)))) further long low =
-    left_out r 16 further (omega arith) (inr (omega arith, omega arith, omega arith, omega arith))
-long_above r (suc (suc (suc (suc (suc zero))))) further long low =
-    short_message r 17 further reader.TimeAsked low (refl, long) refl
-long_above r (suc (suc (suc (suc (suc (suc more)))))) further long low =
-    left_out r (12 + suc (suc (suc (suc (suc (suc more)))))) further (omega arith)
-    (inr (omega arith, omega arith, omega arith, omega arith))
-
-above : (r : Reading) (more : ℕ) (further : List ℕ) → All IsByte ((12 + more) ∷ further)
-    → ReaderFront r (12 + more) further ⊎ NoFront r (12 + more) further
-above r more further low = elim (is_long r) as (λ b. is_long r ≡ b
-    → ReaderFront r (12 + more) further ⊎ NoFront r (12 + more) further) [
-      | true ↦ λ e. long_above r more further e low
-      | false ↦ λ e. left_out r (12 + more) further (omega arith) (inl e)
+-- a first byte of 0C or above
+above : (r : Reading) (first : ℕ) (further : List ℕ) → 12 ≤ first → All IsByte (first ∷ further)
+    → ReaderFront r first further ⊎ NoFront r first further
+above r first further high low = elim r.is_long as (λ b. r.is_long ≡ b
+    → ReaderFront r first further ⊎ NoFront r first further) [
+      | true ↦ λ e. elim (same_or_not first 17) [
+        | inl is ↦ subst (λ n. All IsByte (n ∷ further)
+            → ReaderFront r n further ⊎ NoFront r n further) (sym is)
+            (λ l. time_asked r further e l) low
+        | inr other ↦ left_out r first further high (inr other)
+      ]
+      | false ↦ λ e. left_out r first further high (inl e)
     ] refl
 
 reader_step : (r : Reading) (first : ℕ) (further : List ℕ) → All IsByte (first ∷ further)
@@ -612,12 +562,7 @@ reader_step r (suc (suc (suc (suc (suc (suc (suc (suc (suc (suc zero)))))))))) f
 reader_step r (suc (suc (suc (suc (suc (suc (suc (suc (suc (suc (suc zero))))))))))) further low =
     out_of_sequence r further low
 reader_step r (suc (suc (suc (suc (suc (suc (suc (suc (suc (suc (suc (suc first)))))))))))) further
-    low =
-    let same : 12 + first ≡ suc (suc (suc (suc (suc (suc (suc (suc (suc (suc (suc (suc
-    (first)))))))))))) =
-    omega arith in
-    subst (λ n. All IsByte (n ∷ further) → ReaderFront r n further ⊎ NoFront r n further) same
-    (above r first further) low
+    low = above r _ further (omega arith) low
 
 -- bytes are a reader's list
 pub record ReadsList (r : Reading) (bytes : List ℕ) : Type 0 where

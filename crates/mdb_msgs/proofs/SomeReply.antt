@@ -17,18 +17,20 @@ use Rattle.mdb_msgs.specs.Answers.{form_of, lengths_of, may_tell_of_sales, IsDat
 use Rattle.mdb_msgs.specs.Bill.{bill_msg_bytes, IsBillMsg, NoBillMsg}
 use Rattle.mdb_msgs.specs.Changer.{changer_msg_bytes, IsChangerMsg, NoChangerMsg}
 use Rattle.mdb_msgs.specs.Commands.{IsByte}
-use Rattle.mdb_msgs.specs.Replies.{form_of_reply, reply_bytes, tells_of_sales, HasFields, IsIn, IsAnswerTo, IsReplyTo, IsReadFault, NoReply}
+use Rattle.mdb_msgs.specs.Readings.{is_extended}
+use Rattle.mdb_msgs.specs.Replies.{form_of_reply, reply_bytes, tells_of_sales, HasFields, HasMessages, IsIn, IsReplyTo, MayTell, IsReadFault, NoReply}
 use Rattle.mdb_msgs.specs.Setup.{changer_setup_bytes, tube_status_bytes, bill_setup_bytes, stacker_bytes, IsStacker}
 use Rattle.mdb_msgs.specs.TwoBytes.{two_bytes}
+use Rattle.mdb_msgs.proofs.ReaderBytes.{pair_bytes}
 use Rattle.mdb_msgs.proofs.Recycler.{all_extended}
-use Rattle.mdb_msgs.proofs.SomeReading.{split, same_or_not, pair_bytes, Reads, ReadsList, Stops, ReaderStops, changer_reads, bill_reads, reader_reads}
+use Rattle.mdb_msgs.proofs.SomeReading.{split, same_or_not, Reads, ReadsList, Stops, ReaderStops, changer_reads, bill_reads, reader_reads}
 
 -- bytes are a reply of a form
 record ReadsForm (r : Reading) (f : DataForm) (bytes : List ℕ) : Type 0 where
   reply : Reply
   form : form_of_reply reply ≡ f
   fields : HasFields reply
-  is_in : IsIn r reply
+  is_in : HasMessages r reply
   spelled : bytes ≡ reply_bytes reply
 
 abbrev NoReading : Reading → DataForm → List ℕ → Type 0
@@ -215,16 +217,16 @@ reads_form r form.BillSetup bytes low count = by (setup_of_bill bytes low count.
           spelled = found.1;
         })
     by (inr none) = inr (inl (refl, none.0, none.1))
-reads_form r form.BillPoll bytes low count = by (bill_reads r bytes low)
+reads_form r form.BillPoll bytes low count = by (bill_reads (is_extended r) bytes low)
   where
-    by : Reads bill_msg_bytes (IsBillMsg r) bytes ⊎ Stops bill_msg_bytes (IsBillMsg r) (NoBillMsg
-        r) bytes
+    by : Reads bill_msg_bytes (IsBillMsg (is_extended r)) bytes
+        ⊎ Stops bill_msg_bytes (IsBillMsg (is_extended r)) (NoBillMsg (is_extended r)) bytes
         → ReadsForm r form.BillPoll bytes ⊎ NoReading r form.BillPoll bytes
     by (inl read) =
         inl (record {
           reply = reply.BillPoll (record { items = read.list });
           form = refl;
-          fields = all_extended r read.list read.messages;
+          fields = all_extended (is_extended r) read.list read.messages;
           is_in = read.messages;
           spelled = read.spelled;
         })
@@ -278,25 +280,28 @@ allowed_or_not f count = by (split (lengths_of f).0 count) (split (suc (lengths_
     by (inr least) (inl most) = inl (least, omega (arith, most))
     by (inr least) (inr many) = inr (λ h. omega (arith, many, h.1))
 
-kept_or_not : (kept may : Bool) → ((kept ≡ true) × (may ≡ false)) ⊎ (may ≡ false → kept ≡ false)
-kept_or_not true true = inr (λ h. h)
-kept_or_not true false = inl (refl, refl)
-kept_or_not false may = inr (λ h. refl)
+kept_or_not : (extended kept may : Bool)
+    → ((extended ≡ false) × (kept ≡ true) × (may ≡ false))
+    ⊎ (extended ≡ false → may ≡ false → kept ≡ false)
+kept_or_not true kept may = inr (λ h. absurd (cc h))
+kept_or_not false true true = inr (λ e h. h)
+kept_or_not false true false = inl (refl, refl, refl)
+kept_or_not false false may = inr (λ e h. refl)
 
 abbrev Decided : Reading → Command → List ℕ → Type 0
-Decided r command bytes = ((reply : Reply) × IsReplyTo command reply × IsIn r reply × (bytes ≡
-    reply_bytes reply))
+Decided r command bytes =
+    ((reply : Reply) × IsReplyTo command reply × IsIn r command reply × (bytes ≡ reply_bytes reply))
     ⊎ ((fault : MsgFault) × IsReadFault r command bytes fault)
 
 by_keeping : (r : Reading) (command : Command) (bytes : List ℕ) (found : Reply)
-    → IsAnswerTo command found
-    → IsIn r found → bytes ≡ reply_bytes found
-    → ((tells_of_sales found ≡ true) × (may_tell_of_sales command ≡ false))
-    ⊎ (may_tell_of_sales command ≡ false → tells_of_sales found ≡ false) → Decided r command bytes
+    → IsReplyTo command found → HasMessages r found → bytes ≡ reply_bytes found
+    → ((is_extended r ≡ false) × (tells_of_sales found ≡ true)
+    × (may_tell_of_sales command ≡ false))
+    ⊎ MayTell (is_extended r) command found → Decided r command bytes
 by_keeping r command bytes found answer is_in spelled (inl kept) =
-    inr (Answer, inr (found, answer, is_in, spelled, kept.0, kept.1))
+    inr (Answer, inr (found, answer, is_in, spelled, kept.0, kept.1, kept.2))
 by_keeping r command bytes found answer is_in spelled (inr free) =
-    inl (found, record { answer = answer; kept = free }, is_in, spelled)
+    inl (found, answer, (is_in, free), spelled)
 
 by_reading : (r : Reading) (command : Command) (bytes : List ℕ) (f : DataForm)
     → form_of command ≡ Some f
@@ -305,13 +310,13 @@ by_reading : (r : Reading) (command : Command) (bytes : List ℕ) (f : DataForm)
 by_reading r command bytes f e count (inl read) =
     let P : DataForm → Type 0 = λ g. IsDataLength g (length bytes) in
     let Q : List ℕ → Type 0 = λ x. IsDataLength (form_of_reply read.reply) (length x) in
-    let answer : IsAnswerTo command read.reply = record {
+    let answer : IsReplyTo command read.reply = record {
       form = e ∙ ap Some (sym read.form);
       count = subst Q read.spelled (subst P (sym read.form) count);
       fields = read.fields;
     } in
     by_keeping r command bytes read.reply answer read.is_in read.spelled
-    (kept_or_not (tells_of_sales read.reply) (may_tell_of_sales command))
+    (kept_or_not (is_extended r) (tells_of_sales read.reply) (may_tell_of_sales command))
 by_reading r command bytes f e count (inr (inl none)) = inr (Message, (f, e, count, none))
 by_reading r command bytes f e count (inr (inr none)) = inr (Profile, (f, e, count, none))
 

@@ -64,9 +64,9 @@ abbrev pub HasDataAnswer : Command → ℕ → Type 0
 HasDataAnswer command count =
     (form : DataForm) × (form_of command ≡ Some form) × IsDataLength form count
 
--- whether answers to the command may tell of sessions and sales: POLL, and the five commands of a
--- session, VEND REQUEST to SESSION COMPLETE, alone: 12 and 13 00 to 13 04 to the first reader, 62
--- and 63 00 to 63 04 to the second (this profile)
+-- whether answers to the command may tell of sessions and sales by the base profile: POLL, and the
+-- five commands of a session, VEND REQUEST to SESSION COMPLETE, alone: 12 and 13 00 to 13 04 to the
+-- first reader, 62 and 63 00 to 63 04 to the second (this profile)
 abbrev pub reader_may_tell_of_sales : ReaderCommand → Bool
 reader_may_tell_of_sales reader.Poll = true
 reader_may_tell_of_sales (reader.VendRequest price item) = true

@@ -1,5 +1,5 @@
 -- Sets of devices.
-use Rattle.std.specs.Prelude.{Bool, true}
+use Rattle.std.specs.Prelude.{Bool}
 use Rattle.mdb_msgs.specs.declared.command.Device.{Device}
 use Rattle.mdb_msgs.specs.declared.command.Device.TheVariants.{Changer, Bill, Reader}
 use Rattle.mdb_msgs.specs.declared.command.ReaderUnit.TheVariants.{First, Second}
@@ -11,10 +11,3 @@ has set Changer = set.changer
 has set Bill = set.bill
 has set (Reader First) = set.first_reader
 has set (Reader Second) = set.second_reader
-
--- a set and one device more; the same where it is one of them
-abbrev pub with_device : DeviceSet → Device → DeviceSet
-with_device set Changer = record set { changer = true }
-with_device set Bill = record set { bill = true }
-with_device set (Reader First) = record set { first_reader = true }
-with_device set (Reader Second) = record set { second_reader = true }

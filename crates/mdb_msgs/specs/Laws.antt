@@ -1,5 +1,5 @@
 -- Laws about commands and replies.
-use Rattle.std.specs.Prelude.{◌≡◌, ◌≢◌, ◌<◌, ◌≤◌, ◌⊎◌, ◌++◌, List, [], ℕ, length, All, false}
+use Rattle.std.specs.Prelude.{◌≡◌, ◌≢◌, ◌<◌, ◌≤◌, ◌⊎◌, ◌++◌, Bool, List, [], ℕ, length, All, false}
 use Rattle.mdb_blocks.specs.Block.{IsContent}
 use Rattle.mdb_msgs.specs.declared.command.Command.{Command}
 use Rattle.mdb_msgs.specs.declared.fault.MsgFault.{MsgFault}
@@ -8,10 +8,12 @@ use Rattle.mdb_msgs.specs.declared.reading.Reading.{Reading}
 use Rattle.mdb_msgs.specs.declared.reply.Reply.{Reply}
 use Rattle.mdb_msgs.specs.Answers.{HasDataAnswer}
 use Rattle.mdb_msgs.specs.Commands.{IsByte, Spells, is_enable_options}
-use Rattle.mdb_msgs.specs.Needs.{IsOpen, begins_options}
+use Rattle.mdb_msgs.specs.Needs.{begins_options}
+use Rattle.mdb_msgs.specs.OpenBlocks.{IsOpen}
 use Rattle.mdb_msgs.specs.declared.setups.Setups.{Setups}
 use Rattle.mdb_msgs.specs.SetupData.{IsSetupOf}
-use Rattle.mdb_msgs.specs.Replies.{reply_bytes, IsIn, IsReplyTo, IsReadFault, SpellsReply}
+use Rattle.mdb_msgs.specs.Replies.{reply_bytes, IsIn, IsReplyTo, IsReadFault}
+use Rattle.mdb_msgs.specs.ReplyFaults.{SpellsReply}
 
 -- open bytes are the front of some command's block
 abbrev pub OpenIsAFront : Type 0
@@ -38,7 +40,7 @@ FrontIsOpen =
 abbrev pub BlockHasOneReply : Type 0
 BlockHasOneReply =
     (reading : Reading) (command : Command) (block : List ℕ) (one other : Reply)
-    → IsIn reading one → IsIn reading other → SpellsReply command one block
+    → IsIn reading command one → IsIn reading command other → SpellsReply command one block
     → SpellsReply command other block → one ≡ other
 
 -- the data bytes of a reply are as many as the command allows
@@ -57,7 +59,7 @@ abbrev pub DataIsAReplyOrHasAFault : Type 0
 DataIsAReplyOrHasAFault =
     (reading : Reading) (command : Command) (bytes : List ℕ)
     → IsContent bytes
-    → ((reply : Reply) × IsReplyTo command reply × IsIn reading reply
+    → ((reply : Reply) × IsReplyTo command reply × IsIn reading command reply
     × (bytes ≡ reply_bytes reply))
     ⊎ ((fault : MsgFault) × IsReadFault reading command bytes fault)
 
@@ -65,7 +67,7 @@ DataIsAReplyOrHasAFault =
 abbrev pub ReplyHasNoFault : Type 0
 ReplyHasNoFault =
     (reading : Reading) (command : Command) (reply : Reply) (fault : MsgFault)
-    → IsReplyTo command reply → IsIn reading reply
+    → IsReplyTo command reply → IsIn reading command reply
     → IsReadFault reading command (reply_bytes reply) fault → ⊥
 
 -- data bytes have at most one fault
@@ -77,5 +79,6 @@ BytesHaveOneFault =
 -- with a device's answer to SETUP, one thing is known
 abbrev pub AnswerTellsOneSetup : Type 0
 AnswerTellsOneSetup =
-    (device : Device) (block : List ℕ) (before one other : Setups)
-    → IsSetupOf device block before one → IsSetupOf device block before other → one ≡ other
+    (extended : Bool) (device : Device) (block : List ℕ) (before one other : Setups)
+    → IsSetupOf extended device block before one → IsSetupOf extended device block before other
+    → one ≡ other

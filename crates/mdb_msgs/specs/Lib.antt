@@ -5,13 +5,17 @@ pub mod CommandFaults
 pub mod Commands
 pub mod DeviceSets
 pub mod Devices
+pub mod ExtendedLevels
 pub mod Laws
 pub mod Lists
 pub mod Needs
+pub mod OpenBlocks
 pub mod Reader
 pub mod ReaderBytes
 pub mod Readings
 pub mod Replies
+pub mod ReplyFaults
+pub mod Settings
 pub mod Setup
 pub mod SetupData
 pub mod Setups

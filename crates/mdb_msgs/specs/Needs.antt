@@ -1,6 +1,6 @@
 -- What the first bytes of a block of the controller tell (MDB/ICP 4.3, commands of the four
 -- devices; what is outside and what is foreign, this profile).
-use Rattle.std.specs.Prelude.{◌≡◌, ◌<◌, ℕ, length, ◌/◌, ◌%◌, ◌==◌, ◌||◌, ◌&&◌, Bool, false, List, Option, Some, None, slice_index, slice_get, if◌then◌else◌}
+use Rattle.std.specs.Prelude.{ℕ, ◌/◌, ◌%◌, ◌==◌, ◌||◌, ◌&&◌, Bool, false, List, Option, Some, None, slice_index, slice_get, if◌then◌else◌}
 use Rattle.mdb_msgs.specs.declared.command.Device.{Device}
 use Rattle.mdb_msgs.specs.declared.command.Device.TheVariants as device
 use Rattle.mdb_msgs.specs.declared.command.ReaderUnit.TheVariants.{First, Second}
@@ -137,36 +137,8 @@ abbrev pub is_to_one_of : DeviceSet → ℕ → Bool
 is_to_one_of set first =
     elim (device_at first) [ Some device ↦ has set device | None ↦ false ]
 
--- The same where devices are left out: whatever is said to one of them is foreign, by its first
--- byte.
-abbrev pub needed_without : DeviceSet → List ℕ → Need
-needed_without left_out prefix =
-    if is_to_one_of left_out (slice_index prefix 0) then Foreign else needed prefix
-
 -- whether bytes begin as ENABLE OPTIONS does: by 17 04 or 67 04
 abbrev pub begins_options : List ℕ → Bool
 begins_options bytes =
     (slice_index bytes 0 == 0x17 || slice_index bytes 0 == 0x67)
     && elim (slice_get bytes 1) [ Some second ↦ second == 0x04 | None ↦ false ]
-
--- the need of so many first bytes of a block tells its length, but one byte may leave that to the
--- second
-abbrev pub IsTold : Need → ℕ → ℕ → Type 0
-IsTold (Exactly n) count whole = n ≡ whole
-IsTold More count whole = count ≡ 1
-IsTold _ count whole = ⊥
-
--- the first bytes of a block tell its length
-abbrev pub TellsLength : List ℕ → ℕ → Type 0
-TellsLength prefix whole = IsTold (needed prefix) (length prefix) whole
-
--- a block needs more than so many first bytes of it: more bytes, or, after its first, its
--- subcommand
-abbrev pub IsShort : Need → ℕ → Type 0
-IsShort (Exactly n) count = count < n
-IsShort More count = count ≡ 1
-IsShort _ count = ⊥
-
--- bytes that want more for a command
-abbrev pub IsOpen : List ℕ → Type 0
-IsOpen bytes = IsShort (needed bytes) (length bytes)

@@ -1,11 +1,13 @@
 -- Bytes taken for a reader's answer, message after message (MDB/ICP 4.3, cashless device): what a
 -- `ReaderList`, which keeps its bytes, stands for.
-use Rattle.std.specs.Prelude.{◌≡◌, ℕ, zero, suc, ◌+◌, ◌*◌, ◌==◌, if◌then◌else◌, Bool, true, false, nat_le, List, [], ◌∷◌, ◌++◌, length, slice_index, take, drop, replicate}
+use Rattle.std.specs.Prelude.{◌≡◌, ℕ, zero, suc, ◌+◌, ◌*◌, ◌==◌, if◌then◌else◌, Bool, true, false, List, [], ◌∷◌, ◌++◌, length, slice_index, take, drop, replicate}
+use Rattle.mdb_msgs.specs.declared.reading.Ids.{Ids}
 use Rattle.mdb_msgs.specs.declared.reading.Reading.{Reading}
 use Rattle.mdb_msgs.specs.declared.reply.reader.ReaderMsg.{ReaderMsg}
-use Rattle.mdb_msgs.specs.declared.reply.reader.ReaderMsg.TheVariants.{JustReset, Config, Display, BeginSession, BeginSessionLong, CancelRequest, VendApproved, VendDenied, EndSession, Cancelled, PeripheralId, PeripheralIdWithOptions, Malfunction, OutOfSequence, OutOfSequenceIn, RevalueApproved, RevalueDenied, RevalueLimit, TimeAsked}
+use Rattle.mdb_msgs.specs.declared.reply.reader.ReaderMsg.TheVariants.{JustReset, Config, Display, BeginSession, BeginSessionLong, CancelRequest, VendApproved, VendDenied, EndSession, Cancelled, PeripheralId, PeripheralIdWithOptions, Malfunction, OutOfSequence, OutOfSequenceIn, TimeAsked}
 use Rattle.mdb_msgs.specs.Reader.{ReaderMessages, head_bytes, is_display, is_id, reading_of, reader_list_bytes, IsReaderList}
-use Rattle.mdb_msgs.specs.Readings.{is_extended, is_long}
+use Rattle.mdb_msgs.specs.Readings.{takes_options}
+use Rattle.mdb_msgs.specs.TwoBytes.{four_bytes}
 
 -- the number whose two bytes stand at an index
 unfoldable pub number_at : List ℕ → ℕ → ℕ
@@ -23,11 +25,10 @@ front_session true bytes =
 front_session false bytes = BeginSession (number_at bytes 1)
 
 -- the message 09 that bytes begin with
-abbrev pub front_id : Bool → List ℕ → ReaderMsg
-front_id true bytes =
-    if nat_le 34 (length bytes) then PeripheralIdWithOptions (long_number_at bytes 30)
+abbrev pub front_id : Ids → List ℕ → ReaderMsg
+front_id ids bytes =
+    if takes_options ids (drop 30 bytes) then PeripheralIdWithOptions (long_number_at bytes 30)
     else PeripheralId
-front_id false bytes = PeripheralId
 
 -- the message 0B that goes on so after its first byte
 abbrev pub out_of : Bool → List ℕ → ReaderMsg
@@ -42,19 +43,16 @@ front_message reading bytes =
     else (if first == 1 then Config (slice_index bytes 1) (number_at bytes 2)
     (slice_index bytes 4) (slice_index bytes 5) (slice_index bytes 6) (slice_index bytes 7)
     else (if first == 2 then Display (slice_index bytes 1)
-    else (if first == 3 then front_session (is_long reading) bytes
+    else (if first == 3 then front_session reading.is_long bytes
     else (if first == 4 then CancelRequest
     else (if first == 5 then VendApproved (number_at bytes 1)
     else (if first == 6 then VendDenied
     else (if first == 7 then EndSession
     else (if first == 8 then Cancelled
-    else (if first == 9 then front_id (is_extended reading) bytes
+    else (if first == 9 then front_id reading.ids bytes
     else (if first == 10 then Malfunction (slice_index bytes 1)
-    else (if first == 13 then RevalueApproved
-    else (if first == 14 then RevalueDenied
-    else (if first == 15 then RevalueLimit (number_at bytes 1)
     else (if first == 17 then TimeAsked
-    else out_of (is_long reading) (drop 1 bytes)))))))))))))))
+    else out_of reading.is_long (drop 1 bytes))))))))))))
 
 -- its text, of the bytes after its others: an identification takes 29, or 33 with its options, and
 -- a display request all
@@ -97,3 +95,8 @@ pub record AreMessages (reading : Reading) (bytes : List ℕ) : Type 0 where
   pub is_list : IsReaderList (messages_of reading bytes)
   pub spelled : reader_list_bytes (messages_of reading bytes) ≡ bytes
   pub own : reading_of (messages_of reading bytes).messages ≡ reading
+
+-- the options of an identification, which stand after its text of 29 bytes
+abbrev pub foot_bytes : ReaderMsg → List ℕ
+foot_bytes (PeripheralIdWithOptions options) = four_bytes options
+foot_bytes _ = []

@@ -1,14 +1,12 @@
 -- Replies: what they spell, and which of them may answer a command.
 use Rattle.std.specs.Prelude.{◌≡◌, ◌≢◌, ℕ, ◌⊎◌, Bool, true, false, List, [], length, Some, None, slice_index}
 use Rattle.std.specs.List.{flat_map, list_any, AllByRecursion}
-use Rattle.mdb_blocks.specs.Block.{block_of}
 use Rattle.mdb_msgs.specs.declared.answer.DataForm.{DataForm}
 use Rattle.mdb_msgs.specs.declared.answer.DataForm.TheVariants as form
 use Rattle.mdb_msgs.specs.declared.command.Command.{Command}
 use Rattle.mdb_msgs.specs.declared.fault.MsgFault.{MsgFault}
 use Rattle.mdb_msgs.specs.declared.fault.MsgFault.TheVariants as faults
 use Rattle.mdb_msgs.specs.declared.reading.Reading.{Reading}
-use Rattle.mdb_msgs.specs.declared.reading.Reading.TheVariants.{Long}
 use Rattle.mdb_msgs.specs.declared.reply.Reply.{Reply}
 use Rattle.mdb_msgs.specs.declared.reply.Reply.TheVariants as reply
 use Rattle.mdb_msgs.specs.Answers.{form_of, IsDataLength, may_tell_of_sales}
@@ -16,6 +14,7 @@ use Rattle.mdb_msgs.specs.Bill.{bill_msg_bytes, IsBillMsg, NoBillMsg}
 use Rattle.mdb_msgs.specs.Changer.{changer_msg_bytes, IsChangerMsg, NoChangerMsg}
 use Rattle.mdb_msgs.specs.Lists.{StopsAt}
 use Rattle.mdb_msgs.specs.Reader.{is_kept, reader_list_bytes, AreReaderMsgs, IsReaderList, ReaderStopsAt}
+use Rattle.mdb_msgs.specs.Readings.{is_extended}
 use Rattle.mdb_msgs.specs.Setup.{changer_setup_bytes, tube_status_bytes, bill_setup_bytes, stacker_bytes, IsStacker}
 
 -- the form of a reply
@@ -45,40 +44,42 @@ reply_bytes (reply.BillIdentificationWithOptions id) = id
 reply_bytes (reply.Reader list) = reader_list_bytes list
 
 -- its fields are in their ranges, a display request is last, and some reading has its messages: of
--- the validator's, Long has all
+-- the validator's, each of the extended profile has all
 abbrev pub HasFields : Reply → Type 0
 HasFields (reply.ChangerPoll list) = AllByRecursion IsChangerMsg list.items
-HasFields (reply.BillPoll list) = AllByRecursion (IsBillMsg Long) list.items
+HasFields (reply.BillPoll list) = AllByRecursion (IsBillMsg true) list.items
 HasFields (reply.Stacker stacker) = IsStacker stacker
 HasFields (reply.Reader list) = IsReaderList list
 HasFields _ = Unit {0}
-
--- it is one of a reading: all are, but for the messages of a reader and of the validator
-abbrev pub IsIn : Reading → Reply → Type 0
-IsIn reading (reply.Reader list) = AreReaderMsgs reading list []
-IsIn reading (reply.BillPoll list) = AllByRecursion (IsBillMsg reading) list.items
-IsIn reading _ = Unit {0}
 
 -- whether it tells of sessions and sales
 abbrev pub tells_of_sales : Reply → Bool
 tells_of_sales (reply.Reader list) = list_any is_kept list.messages
 tells_of_sales _ = false
 
--- a reply of the form that the command asks for, of an allowed number of bytes
-pub record IsAnswerTo (command : Command) (reply : Reply) : Type 0 where
+-- its messages are those of a reading
+abbrev pub HasMessages : Reading → Reply → Type 0
+HasMessages reading (reply.Reader list) = AreReaderMsgs reading list []
+HasMessages reading (reply.BillPoll list) =
+    AllByRecursion (IsBillMsg (is_extended reading)) list.items
+HasMessages reading _ = Unit {0}
+
+-- the base profile allows a reply that tells of sessions and sales to some commands alone
+abbrev pub MayTell : Bool → Command → Reply → Type 0
+MayTell extended command reply =
+    extended ≡ false → may_tell_of_sales command ≡ false → tells_of_sales reply ≡ false
+
+-- it is one of a reading, as the answer to a command
+abbrev pub IsIn : Reading → Command → Reply → Type 0
+IsIn reading command reply =
+    HasMessages reading reply × MayTell (is_extended reading) command reply
+
+-- a reply that may answer the command: one of the form that it asks for, of an allowed number of
+-- bytes
+pub record IsReplyTo (command : Command) (reply : Reply) : Type 0 where
   pub form : form_of command ≡ Some (form_of_reply reply)
   pub count : IsDataLength (form_of_reply reply) (length (reply_bytes reply))
   pub fields : HasFields reply
-
--- a reply that may answer the command
-pub record IsReplyTo (command : Command) (reply : Reply) : Type 0 where
-  pub answer : IsAnswerTo command reply
-  pub kept : may_tell_of_sales command ≡ false → tells_of_sales reply ≡ false
-
--- a reply to a command and its block
-pub record SpellsReply (command : Command) (reply : Reply) (block : List ℕ) : Type 0 where
-  pub answers : IsReplyTo command reply
-  pub bytes : block ≡ block_of (reply_bytes reply)
 
 -- why bytes of an allowed number are no reply of this form: the leftmost message that can't be
 -- taken, or a byte for the escrow that is neither FF nor 00
@@ -86,7 +87,8 @@ abbrev pub NoReply : Reading → DataForm → List ℕ → MsgFault → Type 0
 NoReply reading form.ChangerPoll bytes fault =
     StopsAt changer_msg_bytes IsChangerMsg NoChangerMsg bytes fault
 NoReply reading form.BillPoll bytes fault =
-    StopsAt bill_msg_bytes (IsBillMsg reading) (NoBillMsg reading) bytes fault
+    StopsAt bill_msg_bytes (IsBillMsg (is_extended reading)) (NoBillMsg (is_extended reading)) bytes
+    fault
 NoReply reading form.Reader bytes fault = ReaderStopsAt reading bytes fault
 NoReply reading form.BillSetup bytes fault =
     (fault ≡ faults.Message) × (slice_index bytes 10 ≢ 0) × (slice_index bytes 10 ≢ 255)
@@ -99,10 +101,11 @@ IsNoReplyTo reading command bytes fault =
     × NoReply reading form bytes fault
 
 -- they are a reply of the command's form, which tells of sessions and sales though the command may
--- not have that
+-- not have that by the base profile
 abbrev pub IsKeptFault : Reading → Command → List ℕ → Type 0
 IsKeptFault reading command bytes =
-    (reply : Reply) × IsAnswerTo command reply × IsIn reading reply × (bytes ≡ reply_bytes reply)
+    (reply : Reply) × IsReplyTo command reply × HasMessages reading reply
+    × (bytes ≡ reply_bytes reply) × (is_extended reading ≡ false)
     × (tells_of_sales reply ≡ true) × (may_tell_of_sales command ≡ false)
 
 -- why data bytes are no reply to a command, in the order in which the checks are made
@@ -113,18 +116,3 @@ IsReadFault reading command bytes faults.Message = IsNoReplyTo reading command b
 IsReadFault reading command bytes faults.Profile = IsNoReplyTo reading command bytes faults.Profile
 IsReadFault reading command bytes faults.Answer =
     (form_of command ≡ None) ⊎ IsKeptFault reading command bytes
-
--- why a reply to a command has no block, in the order in which the checks are made
-abbrev pub IsWriteFault : Command → Reply → MsgFault → Type 0
-IsWriteFault command reply faults.Length =
-    (form : DataForm) × (form_of command ≡ Some form)
-    × (IsDataLength form (length (reply_bytes reply)) → ⊥)
-IsWriteFault command reply faults.Message =
-    (form : DataForm) × (form_of command ≡ Some form)
-    × IsDataLength form (length (reply_bytes reply))
-    × ((form_of_reply reply ≢ form) ⊎ (HasFields reply → ⊥))
-IsWriteFault command reply faults.Profile = ⊥
-IsWriteFault command reply faults.Answer =
-    (form_of command ≡ None)
-    ⊎ (IsAnswerTo command reply × (tells_of_sales reply ≡ true)
-    × (may_tell_of_sales command ≡ false))

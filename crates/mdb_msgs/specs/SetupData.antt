@@ -1,9 +1,9 @@
 -- What a device's answer to SETUP tells of how it is set up, and what the controller's SETUP config
 -- and ENABLE OPTIONS tell of a reader (MDB/ICP 4.3, coin changer, bill validator and cashless
 -- device; that it may be known from an earlier recording, this profile).
-use Rattle.std.specs.Prelude.{◌≡◌, ℕ, Bool, true, false, List, [], ◌∷◌, Option, Some, None, option_map, is_some}
+use Rattle.std.specs.Prelude.{◌≡◌, ◌⊎◌, ℕ, Bool, true, false, List, [], ◌∷◌, Option, Some, None, option_map, is_some}
 use Rattle.std.specs.Option.{option_or}
-use Rattle.mdb_blocks.specs.Block.{IsBlock}
+use Rattle.mdb_blocks.specs.BlockFaults.{IsBlock}
 use Rattle.mdb_msgs.specs.declared.command.BillCommand.TheVariants as bill
 use Rattle.mdb_msgs.specs.declared.command.ChangerCommand.TheVariants as changer
 use Rattle.mdb_msgs.specs.declared.command.Command.{Command}
@@ -13,6 +13,7 @@ use Rattle.mdb_msgs.specs.declared.command.Device.TheVariants.{Changer, Bill, Re
 use Rattle.mdb_msgs.specs.declared.command.ReaderCommand.TheVariants as reader
 use Rattle.mdb_msgs.specs.declared.command.ReaderUnit.{ReaderUnit}
 use Rattle.mdb_msgs.specs.declared.command.ReaderUnit.TheVariants.{First, Second}
+use Rattle.mdb_msgs.specs.declared.fault.MsgFault.{MsgFault}
 use Rattle.mdb_msgs.specs.declared.reply.reader.ReaderMsg.{ReaderMsg}
 use Rattle.mdb_msgs.specs.declared.reply.reader.ReaderMsg.TheVariants as message
 use Rattle.mdb_msgs.specs.declared.reply.Reply.{Reply}
@@ -20,11 +21,13 @@ use Rattle.mdb_msgs.specs.declared.reply.Reply.TheVariants as reply
 use Rattle.mdb_msgs.specs.declared.setups.ReaderConfig.{ReaderConfig}
 use Rattle.mdb_msgs.specs.declared.setups.ReaderSetup.{ReaderSetup}
 use Rattle.mdb_msgs.specs.declared.setups.Setups.{Setups}
-use Rattle.mdb_msgs.specs.declared.reading.Reading.TheVariants.{Base}
 use Rattle.mdb_msgs.specs.Commands.{EnablesMore, Spells, device_of}
-use Rattle.mdb_msgs.specs.Reader.{last_level}
-use Rattle.mdb_msgs.specs.Replies.{IsIn, SpellsReply}
-use Rattle.mdb_msgs.specs.Setups.{reader_known, with_reader}
+use Rattle.mdb_msgs.specs.ExtendedLevels.{last_level}
+use Rattle.mdb_msgs.specs.Readings.{base, early, early_long}
+use Rattle.mdb_msgs.specs.Replies.{IsIn, IsReadFault, reply_bytes}
+use Rattle.mdb_msgs.specs.ReplyFaults.{SpellsReply}
+use Rattle.mdb_msgs.specs.Setups.{reader_known}
+use Rattle.mdb_msgs.specs.Settings.{with_reader}
 
 -- the command asks the device how it is set up: SETUP, of a reader SETUP config
 abbrev pub IsSetup : Device → Command → Type 0
@@ -76,14 +79,24 @@ leveled (Reader unit) (reply.Reader list) known =
     with_reader known unit (with_told (reader_known known unit) list.messages)
 leveled device answer known = known
 
--- These bytes, their sum included, are the block of a device's answer to its SETUP, and so much is
--- known with it, where this was known before.
-pub record IsSetupOf (device : Device) (bytes : List ℕ) (before after : Setups) : Type 0 where
+-- A told answer is read so: as the base profile reads it, or as the extended one does where no
+-- feature level is known.
+abbrev pub IsToldAs : Bool → Command → Reply → Type 0
+IsToldAs false asked answer = IsIn base asked answer
+IsToldAs true asked answer =
+    IsIn early asked answer
+    ⊎ (IsIn early_long asked answer
+    × (fault : MsgFault) × IsReadFault early asked (reply_bytes answer) fault)
+
+-- These bytes, their sum included, are the block of a device's answer to its SETUP, by the extended
+-- profile or by the base one, and so much is known with it, where this was known before.
+pub record IsSetupOf (extended : Bool) (device : Device) (bytes : List ℕ) (before after : Setups)
+    : Type 0 where
   pub block : IsBlock bytes
   pub asked : Command
   pub asks : IsSetup device asked
   pub answer : Reply
-  pub reading : IsIn Base answer
+  pub reading : IsToldAs extended asked answer
   pub spells : SpellsReply asked answer bytes
   pub told : option_map (leveled device answer) (known_with before device answer) ≡ Some after
 

@@ -119,9 +119,9 @@ impl Command {
     }
 }
 
-/// Whether answers to this command may report sessions and sales (this profile). The commands are a
-/// reader's POLL and the five commands of a session, VEND REQUEST to SESSION COMPLETE. They are 12
-/// and 13 00 to 13 04, or 62 and 63 00 to 63 04.
+/// Whether answers to this command may report sessions and sales by the base profile (this
+/// profile). The commands are a reader's POLL and the five commands of a session, VEND REQUEST to
+/// SESSION COMPLETE. They are 12 and 13 00 to 13 04, or 62 and 63 00 to 63 04.
 pub(crate) fn may_tell_of_sales(command: &Command) -> bool
     ensures { result ≡ may_tell_of_sales command.now }
 {

@@ -1,7 +1,8 @@
 //! Sets of devices.
 
 ghost use Rattle.std.specs.Prelude.{◌≡◌, ◌≢◌, true};
-ghost use Rattle.mdb_msgs.specs.DeviceSets.{has, with_device};
+ghost use Rattle.mdb_msgs.specs.DeviceSets.{has};
+ghost use Rattle.mdb_msgs.specs.Settings.{with_device};
 ghost use Rattle.mdb_msgs.specs.Needs.{is_to_one_of};
 ghost use Rattle.mdb_msgs.specs.declared.command.Device.{Device};
 

@@ -7,7 +7,8 @@ ghost use Rattle.mdb_msgs.specs.declared.need.Need.TheVariants.{Exactly};
 ghost use Rattle.mdb_msgs.specs.declared.device_set.DeviceSet.{DeviceSet};
 ghost use Rattle.mdb_msgs.specs.Commands.{IsByte, Spells, device_of, is_enable_options};
 ghost use Rattle.mdb_msgs.specs.DeviceSets.{has};
-ghost use Rattle.mdb_msgs.specs.Needs.{TellsLength, begins_options, is_to_one_of, needed};
+ghost use Rattle.mdb_msgs.specs.Needs.{begins_options, is_to_one_of, needed};
+ghost use Rattle.mdb_msgs.specs.OpenBlocks.{TellsLength};
 ghost use Rattle.mdb_msgs.specs.Laws.{OpenIsAFront, OpenIsAnothersFront, FrontIsOpen, BlockHasOneReply, ReplyHasItsLength, DataFitsABlock, DataIsAReplyOrHasAFault, ReplyHasNoFault, BytesHaveOneFault, AnswerTellsOneSetup};
 
 /// A block has at most one command.

@@ -33,7 +33,7 @@ pub use device_set::DeviceSet;
 pub use fault::MsgFault;
 pub use need::Need;
 pub use needs::{begins_options, need_of, need_without};
-pub use reading::Reading;
+pub use reading::{Ids, Reading};
 pub use reply::bill::BillMsg;
 pub use reply::changer::ChangerMsg;
 pub use reply::reader::{ReaderIter, ReaderList, ReaderMsg};

@@ -1,7 +1,8 @@
 //! The length of a controller's block, from its first bytes.
 
 ghost use Rattle.std.specs.Prelude.{◌≡◌, ◌<◌, length};
-ghost use Rattle.mdb_msgs.specs.Needs.{begins_options, bill_need, changer_need, needed, needed_without, reader_need};
+ghost use Rattle.mdb_msgs.specs.Needs.{begins_options, bill_need, changer_need, needed, reader_need};
+ghost use Rattle.mdb_msgs.specs.OpenBlocks.{needed_without};
 
 use crate::device_set::DeviceSet;
 use crate::first_needs::FIRST;

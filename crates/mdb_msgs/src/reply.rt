@@ -5,7 +5,8 @@ ghost use Rattle.mdb_blocks.specs.Block.{block_of};
 ghost use Rattle.mdb_msgs.specs.Answers.{IsDataLength};
 ghost use Rattle.mdb_msgs.specs.declared.fault.MsgFault.{MsgFault};
 ghost use Rattle.mdb_msgs.specs.declared.reply.Reply.{Reply};
-ghost use Rattle.mdb_msgs.specs.Replies.{form_of_reply, reply_bytes, tells_of_sales, HasFields, IsIn, IsReplyTo, NoReply, IsReadFault, IsWriteFault, SpellsReply};
+ghost use Rattle.mdb_msgs.specs.Replies.{form_of_reply, reply_bytes, tells_of_sales, HasFields, HasMessages, IsIn, IsReplyTo, NoReply, IsReadFault};
+ghost use Rattle.mdb_msgs.specs.ReplyFaults.{IsWriteFault, SpellsReply};
 
 pub mod bill;
 pub mod changer;
@@ -170,7 +171,7 @@ fn read_form(reading: Reading, form: DataForm, bytes: &[u8]) -> Result<Reply, Ms
     requires { IsDataLength form (length bytes.now) }
     ensures form { IfOk result (λ reply. form_of_reply reply ≡ form) }
     ensures fields { IfOk result HasFields }
-    ensures reading { IfOk result (IsIn reading) }
+    ensures reading { IfOk result (HasMessages reading) }
     ensures bytes { IfOk result (λ reply. bytes.now ≡ reply_bytes reply) }
     ensures err { IfErr result (NoReply reading form bytes.now) }
 {
@@ -180,7 +181,7 @@ fn read_form(reading: Reading, form: DataForm, bytes: &[u8]) -> Result<Reply, Ms
         DataForm::ChangerPoll => Reply::ChangerPoll(changer::read_messages(bytes)?),
         DataForm::ChangerIdentification => Reply::ChangerIdentification(array_of(bytes)),
         DataForm::BillSetup => Reply::BillSetup(setup::read_bill_setup(bytes)?),
-        DataForm::BillPoll => Reply::BillPoll(bill::read_messages(reading, bytes)?),
+        DataForm::BillPoll => Reply::BillPoll(bill::read_messages(reading.is_extended(), bytes)?),
         DataForm::Stacker => Reply::Stacker(setup::read_stacker(bytes)),
         DataForm::BillIdentification => Reply::BillIdentification(array_of(bytes)),
         DataForm::BillIdentificationWithOptions => {
@@ -196,11 +197,11 @@ fn read_form(reading: Reading, form: DataForm, bytes: &[u8]) -> Result<Reply, Ms
 #[inline(always)]
 pub fn reply_of(reading: Reading, command: &Command, content: &[u8]) -> Result<Reply, MsgFault>
     ensures found { IfOk result (IsReplyTo command.now) }
-    ensures reading { IfOk result (IsIn reading) }
+    ensures reading { IfOk result (IsIn reading command.now) }
     ensures spelled { IfOk result (λ reply. content.now ≡ reply_bytes reply) }
     ensures only { (reply : Reply) →
-        IsReplyTo command.now reply → IsIn reading reply → content.now ≡ reply_bytes reply →
-        result ≡ Ok reply }
+        IsReplyTo command.now reply → IsIn reading command.now reply →
+        content.now ≡ reply_bytes reply → result ≡ Ok reply }
     ensures fault { IfErr result (IsReadFault reading command.now content.now) }
     ensures refused { (fault : MsgFault) →
         IsReadFault reading command.now content.now fault → result ≡ Err fault }
@@ -212,7 +213,7 @@ pub fn reply_of(reading: Reading, command: &Command, content: &[u8]) -> Result<R
 #[inline(always)]
 fn read_content(reading: Reading, command: &Command, content: &[u8]) -> Result<Reply, MsgFault>
     ensures found { IfOk result (IsReplyTo command.now) }
-    ensures reading { IfOk result (IsIn reading) }
+    ensures reading { IfOk result (IsIn reading command.now) }
     ensures spelled { IfOk result (λ reply. content.now ≡ reply_bytes reply) }
     ensures fault { IfErr result (IsReadFault reading command.now content.now) }
 {
@@ -222,7 +223,7 @@ fn read_content(reading: Reading, command: &Command, content: &[u8]) -> Result<R
     }
     let read = read_form(reading, form, content);
     if let Ok(reply) = &read {
-        if !may_tell_of_sales(command) && reply.tells_of_sales() {
+        if !may_tell_of_sales(command) && reply.tells_of_sales() && !reading.is_extended() {
             return Err(MsgFault::Answer);
         }
     }
@@ -239,14 +240,15 @@ fn read_content(reading: Reading, command: &Command, content: &[u8]) -> Result<R
 /// - `Length`: the command's answer doesn't have this number of data bytes.
 /// - `Message` or `Profile`: the leftmost message that can't be read. `Message` too if the escrow
 ///   byte of a validator's SETUP is neither FF nor 00.
-/// - `Answer`: a reader's message about a session or a sale (03, 05, 06, 07, 0D, 0E) in an answer
-///   to another command than POLL and the five commands of a session. These are 13 00 to 13 04, or
-///   63 00 to 63 04.
+/// - `Answer`: by the base profile, a reader's message about a session or a sale (03, 05, 06, 07)
+///   in an answer to another command than POLL and the five commands of a session. These are 13 00
+///   to 13 04, or 63 00 to 63 04.
 pub fn read_reply(reading: Reading, command: &Command, block: &Block) -> Result<Reply, MsgFault>
     ensures found { IfOk result (λ reply. SpellsReply command.now reply block.now) }
-    ensures reading { IfOk result (IsIn reading) }
+    ensures reading { IfOk result (IsIn reading command.now) }
     ensures only { (reply : Reply) →
-        SpellsReply command.now reply block.now → IsIn reading reply → result ≡ Ok reply }
+        SpellsReply command.now reply block.now → IsIn reading command.now reply →
+        result ≡ Ok reply }
     ensures fault { IfErr result (λ fault. (content : List ℕ) →
         block.now ≡ block_of content → IsReadFault reading command.now content fault) }
     ensures refused { (content : List ℕ) (fault : MsgFault) →
@@ -274,9 +276,6 @@ fn block_with(bytes: &[u8]) -> Block
 /// - `Answer`: the command can't have a data answer.
 /// - `Length`: the command's answer doesn't have as many bytes as the reply, whatever its form.
 /// - `Message`: the reply has the form of another command's, or a field is outside its range.
-/// - `Answer`: a reader's message about a session or a sale (03, 05, 06, 07, 0D, 0E) in an answer
-///   to another command than POLL and the five commands of a session. These are 13 00 to 13 04, or
-///   63 00 to 63 04.
 pub fn write_reply(command: &Command, reply: &Reply) -> Result<Block, MsgFault>
     ensures exactly { IsOk result ↔ IsReplyTo command.now reply.now }
     ensures written { IfOk result (λ block. SpellsReply command.now reply.now block) }
@@ -300,9 +299,6 @@ fn written_bytes(command: &Command, reply: &Reply) -> Result<Bytes, MsgFault>
     }
     if reply.form() != form || !reply.is_valid() {
         return Err(MsgFault::Message);
-    }
-    if !may_tell_of_sales(command) && reply.tells_of_sales() {
-        return Err(MsgFault::Answer);
     }
     Ok(reply.bytes())
 }

@@ -1,10 +1,12 @@
 //! What a device's answer to SETUP reports of how it is set up, and what the controller's blocks
 //! to a reader report of it.
 
-ghost use Rattle.std.specs.Prelude.{◌≡◌, None, Some, true, false};
-ghost use Rattle.mdb_msgs.specs.SetupData.{IsSetupOf};
-ghost use Rattle.mdb_msgs.specs.Reader.{last_level, level_in};
+ghost use Rattle.std.specs.Prelude.{◌≡◌, None, Some, true, false, IfSome};
+ghost use Rattle.mdb_msgs.specs.SetupData.{IsSetupOf, IsToldAs};
+ghost use Rattle.mdb_msgs.specs.ExtendedLevels.{last_level, level_in};
+ghost use Rattle.mdb_msgs.specs.ReplyFaults.{SpellsReply};
 ghost use Rattle.mdb_msgs.specs.SetupData as spec;
+ghost use Rattle.mdb_msgs.specs.declared.reply.Reply.{Reply as Answer};
 ghost use Rattle.mdb_msgs.specs.declared.setups.Setups.{Setups};
 ghost use Rattle.mdb_msgs.specs.inner.SetupAsked.{setup_of};
 
@@ -25,24 +27,28 @@ impl Setups {
     /// messages, the last counts (this profile). They replace what was known of that device, except
     /// a feature level. What is known of the other devices stays.
     ///
+    /// Both profiles read the answer as that of a reader of level 1. If it has a fault so, the
+    /// extended one (`is_extended`) reads it as one of levels 2 and 3.
+    ///
     /// The return value is `false`, and nothing changes, if the block is no answer to that command,
     /// or if a reader's answer has no config message.
-    pub fn learn(&mut self, device: Device, answer: &Block) -> bool
-        ensures learnt { result ≡ true → IsSetupOf device answer.now self.old self.new }
-        ensures only { (after : Setups) → IsSetupOf device answer.now self.old after
-            → result ≡ true }
+    pub fn learn(&mut self, is_extended: bool, device: Device, answer: &Block) -> bool
+        ensures learnt { result ≡ true
+            → IsSetupOf is_extended device answer.now self.old self.new }
+        ensures only { (after : Setups)
+            → IsSetupOf is_extended device answer.now self.old after → result ≡ true }
         ensures kept { result ≡ false → self.new ≡ self.old }
     {
         answer.bytes();
-        match read_reply(Reading::Base, &setup_of(device), answer) {
-            Ok(reply) => {
+        match read_told(is_extended, &setup_of(device), answer) {
+            Some(reply) => {
                 let is_answer = self.learn_reply(device, &reply);
                 if is_answer {
                     self.learn_level(device, &reply);
                 }
                 is_answer
             }
-            Err(_) => false,
+            None => false,
         }
     }
 
@@ -108,6 +114,22 @@ impl Setups {
             Command::Reader(unit, ReaderCommand::EnableOptions(_)) => self.reader(unit).options,
             _ => false,
         }
+    }
+}
+
+/// The reply to a command that a told answer is, by the extended profile or by the base one.
+fn read_told(is_extended: bool, asked: &Command, answer: &Block) -> Option<Reply>
+    ensures found { IfSome result (λ reply. SpellsReply asked.now reply answer.now) }
+    ensures told { IfSome result (IsToldAs is_extended asked.now) }
+    ensures only { (reply : Answer) → SpellsReply asked.now reply answer.now
+        → IsToldAs is_extended asked.now reply → result ≡ Some reply }
+{
+    if !is_extended {
+        return read_reply(Reading::BASE, asked, answer).ok();
+    }
+    match read_reply(Reading::EARLY, asked, answer) {
+        Ok(reply) => Some(reply),
+        Err(_) => read_reply(Reading::EARLY_LONG, asked, answer).ok(),
     }
 }
 

@@ -1,7 +1,8 @@
 //! Setup data that are known from elsewhere.
 
 ghost use Rattle.std.specs.Prelude.{◌≡◌};
-ghost use Rattle.mdb_msgs.specs.Setups.{config_known, has_answer, reader_known, with_level, with_reader};
+ghost use Rattle.mdb_msgs.specs.Setups.{config_known, reader_known};
+ghost use Rattle.mdb_msgs.specs.Settings.{has_answer, with_level, with_reader};
 
 use super::command::{Device, ReaderUnit};
 use super::reply::setup::{BillSetup, ChangerSetup};

@@ -10,9 +10,10 @@ use Rattle.mdb_follow.specs.declared.account.Account.{Account}
 use Rattle.mdb_follow.specs.declared.range.Range.{Range}
 use Rattle.mdb_follow.specs.declared.report.Report.{Report}
 use Rattle.mdb_follow.specs.AccountNames.{sums_of}
-use Rattle.mdb_follow.specs.Arrivals.{EachArrives}
+use Rattle.mdb_follow.specs.Tables.{EachArrives}
 use Rattle.mdb_follow.specs.EndedActs.{IsEndedAct}
-use Rattle.mdb_follow.specs.Ranges.{IsAccount, IsRange}
+use Rattle.mdb_follow.specs.Ranges.{IsRange}
+use Rattle.mdb_follow.specs.AccountRanges.{IsAccount}
 use Rattle.mdb_follow.specs.Report.{IsReport, report_of}
 use Rattle.mdb_follow.specs.Runs.{AllSums, IsWay, Run, States}
 use Rattle.mdb_follow.specs.Sums.{AccountSums}

@@ -7,7 +7,8 @@ use Rattle.mdb_bus.specs.declared.act.Act.{Act}
 use Rattle.mdb_bus.specs.declared.act.Act.TheVariants as acts
 use Rattle.mdb_bus.specs.declared.scope.Profile.{Profile}
 use Rattle.mdb_bus.specs.declared.scope.Scope.{Scope}
-use Rattle.mdb_bus.specs.ActLists.{Piece, Whole, AskTail, ReplyTail, RepeatTail, Position, InAsk, InReply, InRepeat, ArePieces, BlockMayCome, IsPiece, IsSaid, IsTail, MayCome, MayStand, act_in, events_of, piece_events}
+use Rattle.mdb_bus.specs.ActLists.{Piece, Whole, AskTail, ReplyTail, RepeatTail, Position, InAsk, InReply, InRepeat, ArePieces, BlockMayCome, IsPiece, IsSaid, MayCome, MayStand, events_of, piece_events}
+use Rattle.mdb_bus.specs.Pieces.{IsTail, act_in}
 use Rattle.mdb_bus.specs.Bus.{Grown}
 use Rattle.mdb_page.specs.Acts.{closed_pieces}
 use Rattle.mdb_page.specs.inner.Listing.{AreOf, HasAdded, HasBegun, HasListed, HasTakenPieces, Lengthens, open_events}

@@ -9,7 +9,7 @@ use Rattle.mdb_bus.specs.declared.act.Act.{Act}
 use Rattle.mdb_bus.specs.declared.bus.Bus.{Bus}
 use Rattle.mdb_bus.specs.declared.fault.LinkFault.{LinkFault}
 use Rattle.mdb_bus.specs.declared.scope.Scope.{Scope}
-use Rattle.mdb_bus.specs.Acts.{NamesAReply}
+use Rattle.mdb_bus.specs.Pieces.{NamesAReply}
 use Rattle.mdb_bus.specs.ActLists.{ArePieces, Piece, Whole, events_of, piece_events}
 use Rattle.mdb_bus.specs.Bus.{GoesOn, StandsFor, ended_act, scope_of}
 use Rattle.mdb_bus.specs.LinkFaults.{IsLinkFault}

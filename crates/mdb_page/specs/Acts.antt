@@ -1,5 +1,6 @@
 -- What the list of the acts has of a text.
-use Rattle.std.specs.Prelude.{◌≡◌, ◌≢◌, ◌+◌, ◌-◌, ◌%◌, ◌<◌, ◌≤◌, ◌⊎◌, ℕ, List, [], ◌∷◌, ◌++◌, length, take, map, get_or, if◌then◌else◌, nat_lt, Option, Some, None}
+use Rattle.std.specs.Prelude.{◌≡◌, ◌≢◌, ◌+◌, ◌-◌, ◌%◌, ◌<◌, ◌≤◌, ◌⊎◌, ℕ, Bool, true, false, List, [], ◌∷◌, ◌++◌, length, take, map, get_or, if◌then◌else◌, nat_lt, Option, Some, None}
+use Rattle.std.specs.List.{list_any}
 use Rattle.mdb_words.specs.declared.event.Event.{Event}
 use Rattle.mdb_words.specs.declared.row.RowFault.{RowFault}
 use Rattle.mdb_words.specs.Event.{start_of}
@@ -9,18 +10,19 @@ use Rattle.mdb_msgs.specs.declared.command.Device.{Device}
 use Rattle.mdb_msgs.specs.declared.command.Device.TheVariants.{Changer, Bill, Reader}
 use Rattle.mdb_msgs.specs.declared.command.ReaderUnit.TheVariants.{First, Second}
 use Rattle.mdb_msgs.specs.Commands.{command_bytes, device_of}
-use Rattle.mdb_msgs.specs.declared.reading.Reading.{Reading}
-use Rattle.mdb_msgs.specs.declared.reading.Reading.TheVariants.{Base, Short, Long}
 use Rattle.mdb_msgs.specs.declared.reply.Reply.{Reply}
 use Rattle.mdb_msgs.specs.declared.reply.Reply.TheVariants as replies
-use Rattle.mdb_msgs.specs.Reader.{reading_of}
+use Rattle.mdb_msgs.specs.declared.reply.reader.ReaderMsg.{ReaderMsg}
+use Rattle.mdb_msgs.specs.declared.reply.reader.ReaderMsg.TheVariants.{PeripheralIdWithOptions}
+use Rattle.mdb_msgs.specs.Reader.{has_long}
 use Rattle.mdb_msgs.specs.Replies.{reply_bytes}
 use Rattle.mdb_bus.specs.declared.act.Act.{Act}
 use Rattle.mdb_bus.specs.declared.act.Act.TheVariants as acts
 use Rattle.mdb_bus.specs.declared.fault.Blame.{Blame}
 use Rattle.mdb_bus.specs.declared.fault.Rule.{Rule}
 use Rattle.mdb_bus.specs.declared.scope.Scope.{Scope}
-use Rattle.mdb_bus.specs.ActLists.{IsActList, Piece, Whole, AskTail, ReplyTail, RepeatTail, act_in, events_of, piece_events}
+use Rattle.mdb_bus.specs.ActLists.{IsActList, Piece, Whole, AskTail, ReplyTail, RepeatTail, events_of, piece_events}
+use Rattle.mdb_bus.specs.Pieces.{act_in}
 use Rattle.mdb_bus.specs.LinkFaults.{IsLinkFault}
 use Rattle.mdb_follow.specs.declared.follower.TheConstants.{ROWS_MAX}
 use Rattle.mdb_page.specs.Answers.{number_of}
@@ -35,16 +37,18 @@ device_number Bill = 2
 device_number (Reader First) = 3
 device_number (Reader Second) = 4
 
--- the number of a reading
-abbrev pub number_of_reading : Reading → ℕ
-number_of_reading Base = 0
-number_of_reading Short = 1
-number_of_reading Long = 2
+-- whether a message is an identification with options
+abbrev pub has_options : ReaderMsg → Bool
+has_options (PeripheralIdWithOptions options) = true
+has_options _ = false
 
--- the number of the first reading that has the messages of a reader's reply. Other replies have 0:
--- their bytes are the same messages in each reading
+-- the number of how the messages of a reader's reply are read: 2 for a long reading, and 1 more
+-- where identifications have options. Other replies have 0: their bytes are the same messages in
+-- each reading
 abbrev pub reading_number : Reply → ℕ
-reading_number (replies.Reader list) = number_of_reading (reading_of list.messages)
+reading_number (replies.Reader list) =
+    (if list_any has_long list.messages then 2 else 0)
+    + (if list_any has_options list.messages then 1 else 0)
 reading_number reply = 0
 
 -- An entry shows the number of a kind, that of a device, the bytes of a block, the number of the

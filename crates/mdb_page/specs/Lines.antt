@@ -2,7 +2,9 @@
 use Rattle.std.specs.Prelude.{◌≡◌, ◌≢◌, ◌⊎◌, ℕ, List, [], ◌∷◌, ◌++◌, All, drop, slice_index_or}
 use Rattle.mdb_words.specs.declared.event.Event.{Event}
 use Rattle.mdb_words.specs.declared.row.RowFault.{RowFault}
-use Rattle.mdb_words.specs.Row.{IsRefusal, IsRow, joined_by_commas}
+use Rattle.mdb_words.specs.Row.{IsRow}
+use Rattle.mdb_words.specs.RowsWritten.{joined_by_commas}
+use Rattle.mdb_words.specs.Refusals.{IsRefusal}
 
 -- a text with a byte order mark in front of it
 pub record HasMark (text : List ℕ) : Type 0 where

@@ -9,7 +9,7 @@ use Rattle.mdb_msgs.specs.declared.setups.ReaderSetup.{ReaderSetup}
 use Rattle.mdb_msgs.specs.declared.setups.Setups.{Setups}
 use Rattle.mdb_msgs.specs.DeviceSets.{has}
 use Rattle.mdb_msgs.specs.SetupData.{IsSetupOf, IsToldBy}
-use Rattle.mdb_msgs.specs.Setups.{nothing_known, with_level}
+use Rattle.mdb_msgs.specs.Settings.{nothing_known, with_level}
 use Rattle.mdb_msgs.specs.declared.command.ReaderUnit.{ReaderUnit}
 use Rattle.mdb_bus.specs.declared.scope.Beginning.TheVariants.{Joined, PowerOn}
 use Rattle.mdb_bus.specs.declared.scope.Profile.{Profile}
@@ -37,19 +37,19 @@ devices_of marks = record {
   second_reader = is_set (slice_index_or marks 3 0);
 }
 
--- the first bytes given, as many as are counted, are the block of the device's answer to SETUP, and
--- the device isn't left out
-pub record IsAnswerOf (left_out : DeviceSet) (device : Device) (answer : PageSetup)
-    (before after : Setups) : Type 0 where
+-- the first bytes given, as many as are counted, are the block of the device's answer to SETUP, by
+-- the extended profile or by the base one, and the device isn't left out
+pub record IsAnswerOf (extended : Bool) (left_out : DeviceSet) (device : Device)
+    (answer : PageSetup) (before after : Setups) : Type 0 where
   pub followed : has left_out device ≡ false
   pub fits : answer.count ≤ 36
-  pub is : IsSetupOf device (take answer.count answer.bytes) before after
+  pub is : IsSetupOf extended device (take answer.count answer.bytes) before after
 
 -- what is known with what is given of a device: with no bytes, what was known before
-pub record Adds (left_out : DeviceSet) (device : Device) (answer : PageSetup)
+pub record Adds (extended : Bool) (left_out : DeviceSet) (device : Device) (answer : PageSetup)
     (before after : Setups) : Type 0 where
   pub not_given : answer.count ≡ 0 → after ≡ before
-  pub given : answer.count ≢ 0 → IsAnswerOf left_out device answer before after
+  pub given : answer.count ≢ 0 → IsAnswerOf extended left_out device answer before after
 
 -- no block
 abbrev pub nothing_given : PageSetup
@@ -108,16 +108,16 @@ GivesNothing readers = TellsNothing (told_at readers 0) × TellsNothing (told_at
 
 -- So much is known by the answers of the four devices, in the order of a report: of each device
 -- what its own answer tells.
-pub record AreAnswers (left_out : DeviceSet) (answers : List PageSetup) (setups : Setups)
-    : Type 0 where
+pub record AreAnswers (extended : Bool) (left_out : DeviceSet) (answers : List PageSetup)
+    (setups : Setups) : Type 0 where
   pub by_changer : Setups
   pub by_bill : Setups
   pub by_first : Setups
   pub by_second : Setups
-  pub changer : Adds left_out Changer (given_at answers 0) nothing_known by_changer
-  pub bill : Adds left_out Bill (given_at answers 1) nothing_known by_bill
-  pub first : Adds left_out (Reader First) (given_at answers 2) nothing_known by_first
-  pub second : Adds left_out (Reader Second) (given_at answers 3) nothing_known by_second
+  pub changer : Adds extended left_out Changer (given_at answers 0) nothing_known by_changer
+  pub bill : Adds extended left_out Bill (given_at answers 1) nothing_known by_bill
+  pub first : Adds extended left_out (Reader First) (given_at answers 2) nothing_known by_first
+  pub second : Adds extended left_out (Reader Second) (given_at answers 3) nothing_known by_second
   pub together : setups ≡ record {
     changer = by_changer.changer;
     bill = by_bill.bill;
@@ -154,7 +154,7 @@ pub record AreSetups (left_out : DeviceSet) (options : PageOptions) (setups : Se
     : Type 0 where
   pub by_answers : Setups
   pub by_readers : Setups
-  pub answers : AreAnswers left_out options.setups by_answers
+  pub answers : AreAnswers (is_set options.extended) left_out options.setups by_answers
   pub readers : AreTold left_out options.readers nothing_known by_readers
   pub together : setups ≡ both by_answers by_readers
 

@@ -5,12 +5,13 @@ ghost use Rattle.std.specs.List.{list_any};
 ghost use Rattle.mdb_words.specs.declared.event.Event.{Event};
 ghost use Rattle.mdb_blocks.specs.Block.{block_of};
 ghost use Rattle.mdb_msgs.specs.Commands.{device_of};
-ghost use Rattle.mdb_msgs.specs.Reader.{has_long, has_options};
+ghost use Rattle.mdb_msgs.specs.Reader.{has_long};
 ghost use Rattle.mdb_msgs.specs.Replies.{reply_bytes};
-ghost use Rattle.mdb_bus.specs.ActLists.{IsTail, Piece, Whole, events_of, piece_events};
-ghost use Rattle.mdb_bus.specs.Acts.{IsReply, NamesAReply};
+ghost use Rattle.mdb_bus.specs.ActLists.{Piece, Whole, events_of, piece_events};
+ghost use Rattle.mdb_bus.specs.Pieces.{IsTail, NamesAReply};
+ghost use Rattle.mdb_bus.specs.Acts.{IsReply};
 ghost use Rattle.mdb_follow.specs.declared.follower.TheConstants.{ROWS_MAX};
-ghost use Rattle.mdb_page.specs.Acts.{Shows, ShowsAct, ShowsReply, device_number, reading_number};
+ghost use Rattle.mdb_page.specs.Acts.{Shows, ShowsAct, ShowsReply, device_number, has_options, reading_number};
 ghost use Rattle.mdb_page.specs.declared.acts.PageAct.{PageAct};
 ghost use Rattle.mdb_page.specs.inner.Listing.{AreOf, HasListed, Moves, with_rows};
 
@@ -200,13 +201,17 @@ fn put_block(place: &mut PageAct, kind: u8, command: &Command, block: &Block)
     place.count = bytes.len() as u8;
 }
 
-/// The number of the first reading that has the messages of a reader's reply; of other replies 0.
+/// The number of how a reader's reply is read: 2 for a long reading, and 1 more where
+/// identifications have options; of other replies 0.
 fn reading_number(reply: &Reply) -> u8
     ensures { result ≡ reading_number reply.now }
 {
     match reply {
-        Reply::Reader(list) if have_long(list) => 2,
-        Reply::Reader(list) if have_options(list) => 1,
+        Reply::Reader(list) => {
+            let long = if have_long(list) { 2 } else { 0 };
+            let options = if have_options(list) { 1 } else { 0 };
+            long + options
+        }
         _ => 0,
     }
 }
@@ -219,9 +224,6 @@ fn have_long(list: &ReaderList) -> bool
         match message {
             ReaderMsg::BeginSessionLong { .. }
             | ReaderMsg::OutOfSequenceIn(_)
-            | ReaderMsg::RevalueApproved
-            | ReaderMsg::RevalueDenied
-            | ReaderMsg::RevalueLimit(_)
             | ReaderMsg::TimeAsked => return true,
             _ => {}
         }

@@ -1,10 +1,9 @@
 //! The options of a check, as the page gives them.
 
 ghost use Rattle.std.specs.Prelude.{◌≡◌, ◌≤◌, ◌↔◌, take, IfNone, IfSome, IsTrue, if◌then◌else◌, true, false};
-ghost use Rattle.mdb_blocks.specs.Block.{IsBlock};
+ghost use Rattle.mdb_blocks.specs.BlockFaults.{IsBlock};
 ghost use Rattle.mdb_bus.specs.declared.scope.Scope.{Scope};
-ghost use Rattle.mdb_msgs.specs.DeviceSets.{with_device};
-ghost use Rattle.mdb_msgs.specs.Setups.{nothing_known};
+ghost use Rattle.mdb_msgs.specs.Settings.{with_device, nothing_known};
 ghost use Rattle.mdb_msgs.specs.declared.setups.Setups.{Setups};
 ghost use Rattle.mdb_page.specs.Options.{Adds, AddsAsk, AddsLevel, AddsTold, AreAnswers, AreSetups, AreTold, GivesNone};
 ghost use Rattle.mdb_page.specs.Options.{GivesNothing, IsTakenSo, IsTold, TellsNothing, both, devices_of, profile_by, reader_with};
@@ -163,7 +162,7 @@ fn setups_of(without: DeviceSet, options: &PageOptions) -> Option<Setups>
     ensures told { IfSome result (AreSetups without options.now) }
     ensures refused { IfNone result ((setups : Setups) → AreSetups without options.now setups → ⊥) }
 {
-    let Some(answers) = answers_of(without, &options.setups) else {
+    let Some(answers) = answers_of(options.extended != 0, without, &options.setups) else {
         return None;
     };
     let mut told = Setups::NONE;
@@ -196,23 +195,23 @@ fn reader_with(answer: ReaderSetup, told: ReaderSetup) -> ReaderSetup
 }
 
 /// What is known by the answers to SETUP.
-fn answers_of(without: DeviceSet, answers: &[PageSetup; 4]) -> Option<Setups>
-    ensures told { IfSome result (AreAnswers without answers.now) }
+fn answers_of(is_extended: bool, without: DeviceSet, answers: &[PageSetup; 4]) -> Option<Setups>
+    ensures told { IfSome result (AreAnswers is_extended without answers.now) }
     ensures refused { IfNone result ((setups : Setups)
-        → AreAnswers without answers.now setups → ⊥) }
+        → AreAnswers is_extended without answers.now setups → ⊥) }
 {
-    let Some(changer) = answer_of(without, Device::Changer, &answers[0]) else {
+    let Some(changer) = answer_of(is_extended, without, Device::Changer, &answers[0]) else {
         return None;
     };
-    let Some(bill) = answer_of(without, Device::Bill, &answers[1]) else {
+    let Some(bill) = answer_of(is_extended, without, Device::Bill, &answers[1]) else {
         return None;
     };
     let first = Device::Reader(ReaderUnit::First);
-    let Some(first) = answer_of(without, first, &answers[2]) else {
+    let Some(first) = answer_of(is_extended, without, first, &answers[2]) else {
         return None;
     };
     let second = Device::Reader(ReaderUnit::Second);
-    let Some(second) = answer_of(without, second, &answers[3]) else {
+    let Some(second) = answer_of(is_extended, without, second, &answers[3]) else {
         return None;
     };
     Some(Setups {
@@ -225,13 +224,18 @@ fn answers_of(without: DeviceSet, answers: &[PageSetup; 4]) -> Option<Setups>
 
 /// What is known by a device's answer to SETUP alone: nothing if there is none. `None` if it may
 /// not stand in the options.
-fn answer_of(without: DeviceSet, device: Device, answer: &PageSetup) -> Option<Setups>
-    ensures told { IfSome result (Adds without device answer.now nothing_known) }
+fn answer_of(
+    is_extended: bool,
+    without: DeviceSet,
+    device: Device,
+    answer: &PageSetup,
+) -> Option<Setups>
+    ensures told { IfSome result (Adds is_extended without device answer.now nothing_known) }
     ensures refused { IfNone result ((after : Setups)
-        → Adds without device answer.now nothing_known after → ⊥) }
+        → Adds is_extended without device answer.now nothing_known after → ⊥) }
 {
     let mut setups = Setups::NONE;
-    if add(&mut setups, without, device, answer) {
+    if add(&mut setups, is_extended, without, device, answer) {
         Some(setups)
     } else {
         None
@@ -253,10 +257,17 @@ fn add_readers(setups: &mut Setups, without: DeviceSet, readers: &[PageReader; 2
 
 /// Adds what a device's answer tells, if there is one. Returns whether that may stand in the
 /// options.
-fn add(setups: &mut Setups, without: DeviceSet, device: Device, answer: &PageSetup) -> bool
-    ensures added { result ≡ true → Adds without device answer.now setups.old setups.new }
+fn add(
+    setups: &mut Setups,
+    is_extended: bool,
+    without: DeviceSet,
+    device: Device,
+    answer: &PageSetup,
+) -> bool
+    ensures added { result ≡ true
+        → Adds is_extended without device answer.now setups.old setups.new }
     ensures refused { result ≡ false → (after : Setups)
-        → Adds without device answer.now setups.old after → ⊥ }
+        → Adds is_extended without device answer.now setups.old after → ⊥ }
 {
     if answer.count == 0 {
         return true;
@@ -265,7 +276,7 @@ fn add(setups: &mut Setups, without: DeviceSet, device: Device, answer: &PageSet
         return false;
     }
     match block_in(answer) {
-        Some(block) => setups.learn(device, &block),
+        Some(block) => setups.learn(is_extended, device, &block),
         None => false,
     }
 }

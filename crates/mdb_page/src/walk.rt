@@ -3,7 +3,7 @@
 ghost use Rattle.std.specs.Prelude.{◌≡◌, ◌≢◌, ◌<◌, ◌≤◌, ◌+◌, ℕ, List, [], Some, length, true};
 ghost use Rattle.mdb_bus.specs.declared.scope.Scope.{Scope};
 ghost use Rattle.mdb_bus.specs.ActLists.{Piece};
-ghost use Rattle.mdb_bus.specs.Acts.{NamesAReply};
+ghost use Rattle.mdb_bus.specs.Pieces.{NamesAReply};
 ghost use Rattle.mdb_bus.specs.Bus.{StandsFor, ended_act, scope_of};
 ghost use Rattle.mdb_follow.specs.declared.follower.TheConstants.{ROWS_MAX};
 ghost use Rattle.mdb_page.specs.Acts.{IsListing};

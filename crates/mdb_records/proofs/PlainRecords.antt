@@ -13,7 +13,7 @@ use Rattle.csv.specs.Writing.{default_writer, field_text, fields_text, is_blank,
 use Rattle.csv.specs.Writing.{read_back, row_text}
 use Rattle.csv.specs.declared.parser.State.TheVariants as st
 use Rattle.csv.proofs.RoundTrip.{read-write, rows_text}
-use Rattle.mdb_words.specs.Row.{joined_by_commas}
+use Rattle.mdb_words.specs.RowsWritten.{joined_by_commas}
 
 -- the line of a record
 abbrev record_line : List (List ℕ) → List ℕ

@@ -8,8 +8,9 @@ use Rattle.mdb_words.specs.declared.event.Event.{Event}
 use Rattle.mdb_words.specs.declared.event.Event.TheVariants.{Word, Break}
 use Rattle.mdb_words.specs.declared.word.Line.{Line}
 use Rattle.mdb_words.specs.declared.word.Line.TheVariants.{Controller, Peripheral}
-use Rattle.mdb_words.specs.Digits.{IsDecimal, hex_word}
-use Rattle.mdb_words.specs.Row.{IsRow, break_letter, letter_of, row_fields}
+use Rattle.mdb_words.specs.Digits.{IsDecimal}
+use Rattle.mdb_words.specs.RowsWritten.{hex_word, row_fields}
+use Rattle.mdb_words.specs.Row.{IsRow, break_letter, letter_of}
 use Rattle.mdb_records.proofs.PlainRecords.{IsPlain, IsPlainByte}
 use Rattle.mdb_words.proofs.Numerals.{IsDecimal-decimal, IsDecimal-lt, IsHexWord-hex_word}
 

@@ -4,14 +4,16 @@ use Rattle.std.proofs.Common.{arith, refl, ap, sym, subst, ◌∙◌, ◌≡◌,
 use Rattle.std.proofs.lemmas.List.{append-nil}
 use Rattle.mdb_words.specs.declared.event.Event.{Event}
 use Rattle.mdb_words.specs.declared.row.RowFault.{RowFault}
-use Rattle.mdb_words.specs.Row.{IsRow, IsRefusal}
+use Rattle.mdb_words.specs.Row.{IsRow}
+use Rattle.mdb_words.specs.Refusals.{IsRefusal}
 use Rattle.mdb_bus.specs.declared.fault.LinkFault.{LinkFault}
 use Rattle.mdb_bus.specs.declared.fault.Blame.TheVariants as blame
 use Rattle.mdb_bus.specs.declared.fault.Rule.TheVariants as rules
 use Rattle.mdb_bus.specs.declared.scope.Profile.{Profile}
 use Rattle.mdb_bus.specs.declared.scope.Profile.TheVariants.{Base, Extended}
-use Rattle.mdb_bus.specs.ActLists.{Piece, Whole, ArePieces, HasActList, events_of}
-use Rattle.mdb_bus.specs.Haste.{counted_in, haste_by, is_excused, is_in_haste}
+use Rattle.mdb_bus.specs.ActLists.{Piece, Whole, ArePieces, events_of}
+use Rattle.mdb_bus.specs.Pieces.{HasActList}
+use Rattle.mdb_bus.specs.ExtendedHaste.{counted_in, haste_by, is_excused, is_in_haste}
 use Rattle.mdb_bus.specs.LinkFaults.{IsLinkFault}
 use Rattle.mdb_follow.specs.declared.follower.TheConstants.{ROWS_MAX}
 use Rattle.mdb_follow.specs.declared.offence.Offence.{Offence}

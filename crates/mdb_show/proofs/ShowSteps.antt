@@ -7,7 +7,7 @@ use Rattle.mdb_words.specs.declared.event.Event.{Event}
 use Rattle.mdb_bus.specs.declared.act.Act.{Act}
 use Rattle.mdb_bus.specs.declared.bus.Bus.{Bus}
 use Rattle.mdb_bus.specs.declared.fault.LinkFault.{LinkFault}
-use Rattle.mdb_bus.specs.Acts.{NamesAReply}
+use Rattle.mdb_bus.specs.Pieces.{NamesAReply}
 use Rattle.mdb_bus.specs.ActLists.{Piece, Whole, ArePieces, events_of, piece_events}
 use Rattle.mdb_bus.specs.Bus.{GoesOn, StandsFor, scope_of}
 use Rattle.mdb_bus.specs.LinkFaults.{IsLinkFault}

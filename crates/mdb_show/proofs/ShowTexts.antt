@@ -7,7 +7,8 @@ use Rattle.std.specs.Fmt.{digit_glyph}
 use Rattle.mdb_words.specs.declared.event.Event.{Event}
 use Rattle.mdb_bus.specs.declared.act.Act.{Act}
 use Rattle.mdb_bus.specs.declared.act.Act.TheVariants as acts
-use Rattle.mdb_bus.specs.ActLists.{Piece, Whole, AskTail, ReplyTail, RepeatTail, Position, Quiet, InAsk, Asked, InReply, Replied, Returned, InRepeat, InForeign, ArePieces, BlockMayCome, IsTail, MayCome, MayStand, act_in, events_of, piece_events}
+use Rattle.mdb_bus.specs.ActLists.{Piece, Whole, AskTail, ReplyTail, RepeatTail, Position, Quiet, InAsk, Asked, InReply, Replied, Returned, InRepeat, InForeign, ArePieces, BlockMayCome, MayCome, MayStand, events_of, piece_events}
+use Rattle.mdb_bus.specs.Pieces.{IsTail, act_in}
 use Rattle.mdb_bus.specs.Bus.{Grown}
 use Rattle.mdb_show.specs.inner.ShowSteps.{cut_text, ended_text}
 use Rattle.mdb_show.specs.Lines.{LineForm, closed_pieces, lines_of, piece_line}

@@ -2,7 +2,8 @@
 use Rattle.std.proofs.Common.{arith, refl, ap, sym, subst, inl, inr, ◌∙◌, ◌≡◌, ◌+◌, ◌≤◌, ℕ, List, [], ◌∷◌, ◌++◌, Option, Some, None, Result, Ok, Err, length, length-append, append_assoc}
 use Rattle.std.specs.Result.{result_transpose}
 use Rattle.mdb_words.specs.declared.event.Event.{Event}
-use Rattle.mdb_words.specs.Row.{IsRefusal, IsRow}
+use Rattle.mdb_words.specs.Row.{IsRow}
+use Rattle.mdb_words.specs.Refusals.{IsRefusal}
 use Rattle.mdb_bus.specs.declared.fault.LinkFault.{LinkFault}
 use Rattle.mdb_bus.specs.ActLists.{ArePieces, events_of}
 use Rattle.mdb_bus.specs.Bus.{StandsFor, scope_of}

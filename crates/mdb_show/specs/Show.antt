@@ -3,7 +3,8 @@ use Rattle.std.specs.Prelude.{◌≡◌, ◌≢◌, ◌+◌, ◌<◌, ◌≤◌,
 use Rattle.csv.specs.Reading.{default_config, records, strip_bom}
 use Rattle.mdb_words.specs.declared.event.Event.{Event}
 use Rattle.mdb_words.specs.declared.row.RowFault.{RowFault}
-use Rattle.mdb_words.specs.Row.{IsRow, IsRefusal}
+use Rattle.mdb_words.specs.Row.{IsRow}
+use Rattle.mdb_words.specs.Refusals.{IsRefusal}
 use Rattle.mdb_bus.specs.declared.fault.LinkFault.{LinkFault}
 use Rattle.mdb_bus.specs.ActLists.{Piece, ArePieces, events_of}
 use Rattle.mdb_bus.specs.LinkFaults.{IsLinkFault}

@@ -1,7 +1,7 @@
 //! The lines in either form, on their way to a writer.
 
 ghost use Rattle.std.specs.Prelude.{◌≡◌, ◌<◌, ◌≤◌, ◌++◌, IfErr, OnOk};
-ghost use Rattle.mdb_bus.specs.Acts.{NamesAReply};
+ghost use Rattle.mdb_bus.specs.Pieces.{NamesAReply};
 ghost use Rattle.mdb_follow.specs.declared.follower.TheConstants.{ROWS_MAX};
 ghost use Rattle.mdb_show.specs.Show.{lines_in};
 ghost use Rattle.mdb_show.specs.inner.ShowSteps.{cut_text, ended_text};

@@ -2,7 +2,8 @@
 
 ghost use Rattle.std.specs.Prelude.{◌≡◌, ◌∷◌, [], ◌++◌, OnOk, codes};
 ghost use Rattle.json.specs.Print.{quoted};
-ghost use Rattle.mdb_bus.specs.Acts.{IsReply, NamesAReply};
+ghost use Rattle.mdb_bus.specs.Acts.{IsReply};
+ghost use Rattle.mdb_bus.specs.Pieces.{NamesAReply};
 ghost use Rattle.mdb_blocks.specs.Block.{block_of};
 ghost use Rattle.mdb_msgs.specs.Replies.{reply_bytes};
 ghost use Rattle.mdb_show.specs.ShowJson.{hex_text};

@@ -15,7 +15,8 @@ use Rattle.mdb_msgs.specs.Commands.{device_of}
 use Rattle.mdb_msgs.specs.Reader.{ReaderMessages}
 use Rattle.mdb_msgs.specs.SetupData as setup
 use Rattle.mdb_msgs.specs.SetupData.{known_with, last_config, with_config}
-use Rattle.mdb_msgs.specs.Setups.{config_known, nothing_known}
+use Rattle.mdb_msgs.specs.Setups.{config_known}
+use Rattle.mdb_msgs.specs.Settings.{nothing_known}
 use Rattle.mdb_bus.specs.declared.act.Act.{Act}
 use Rattle.mdb_bus.specs.declared.act.Act.TheVariants as acts
 use Rattle.mdb_bus.specs.declared.scope.Beginning.{Beginning}
@@ -29,7 +30,7 @@ use Rattle.mdb_cash.specs.ChangerFacts as changer
 use Rattle.mdb_machine.specs.Keeper.{setup_by}
 use Rattle.mdb_machine.specs.Known.{known_before}
 use Rattle.mdb_machine.specs.Past.{last_told, or_else}
-use Rattle.mdb_cashless.specs.ByProfile.{config_of, facts_of}
+use Rattle.mdb_cashless.specs.ByProfileFacts.{config_of, facts_of}
 use Rattle.mdb_cashless.specs.ExtendedFacts as extended
 use Rattle.mdb_cashless.specs.ReaderFacts as reader
 use Rattle.mdb_cashless.specs.ReaderMessages.{config_in, last_said}

@@ -9,7 +9,8 @@ use Rattle.mdb_bus.specs.ActLists.{Piece, acts_of, position_of}
 use Rattle.mdb_bus.specs.Bus.{open_block}
 use Rattle.mdb_follow.specs.declared.offence.Offence.{Offence}
 use Rattle.mdb_follow.specs.declared.report.Report.{Report}
-use Rattle.mdb_follow.specs.Offences.{HasOffence, IsOffence}
+use Rattle.mdb_follow.specs.Offences.{IsOffence}
+use Rattle.mdb_follow.specs.FirstOffences.{HasOffence}
 use Rattle.mdb_follow.specs.Report.{IsReport}
 use Rattle.mdb_follow.specs.Runs.{IsReached}
 use Rattle.mdb_stretches.specs.declared.stretch.Ended.{Ended}

@@ -14,7 +14,7 @@ use Rattle.mdb_bus.specs.declared.scope.Profile.{Profile}
 use Rattle.mdb_bus.specs.declared.scope.Profile.TheVariants.{Extended}
 use Rattle.mdb_bus.specs.declared.scope.Scope.{Scope}
 use Rattle.mdb_bus.specs.Scopes.{first_levels, levels_before, profile_of}
-use Rattle.mdb_bus.specs.WideMoney.{first_known}
+use Rattle.mdb_bus.specs.ExtendedMoney.{first_known}
 use Rattle.mdb_machine.specs.Past.{effect_taken, last_told, or_else, powers_on, resets, taken_by}
 use Rattle.mdb_cashless.specs.ReaderFacts.{effect_of, own_of}
 use Rattle.mdb_cashless.specs.Units.{own}

@@ -8,7 +8,8 @@ use Rattle.mdb_msgs.specs.declared.command.Device.TheVariants.{Changer, Bill, Re
 use Rattle.mdb_msgs.specs.declared.command.ReaderUnit.{ReaderUnit}
 use Rattle.mdb_msgs.specs.declared.command.ReaderUnit.TheVariants.{First, Second}
 use Rattle.mdb_msgs.specs.declared.device_set.DeviceSet.{DeviceSet}
-use Rattle.mdb_msgs.specs.DeviceSets.{has, with_device}
+use Rattle.mdb_msgs.specs.DeviceSets.{has}
+use Rattle.mdb_msgs.specs.Settings.{with_device}
 use Rattle.mdb_bus.specs.declared.fault.Blame.{Blame}
 use Rattle.mdb_bus.specs.declared.fault.Blame.TheVariants as blames
 use Rattle.mdb_bus.specs.declared.fault.Rule.{Rule}
@@ -19,7 +20,8 @@ use Rattle.mdb_bus.specs.declared.scope.Scope.{Scope}
 use Rattle.mdb_bus.specs.ActLists.{Piece, acts_of, position_of}
 use Rattle.mdb_bus.specs.Bus.{open_block}
 use Rattle.mdb_bus.specs.LinkFaults.{blame_on}
-use Rattle.mdb_bus.specs.Scopes.{IsFollowed, IsLeftOut, profile_of}
+use Rattle.mdb_bus.specs.Scopes.{IsFollowed, profile_of}
+use Rattle.mdb_bus.specs.LeavingOut.{IsLeftOut}
 use Rattle.mdb_follow.specs.declared.offence.Offence.{Offence}
 use Rattle.mdb_follow.specs.declared.report.Report.{Report}
 use Rattle.mdb_follow.specs.Offences.{IsOffence}

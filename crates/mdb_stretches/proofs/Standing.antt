@@ -10,7 +10,8 @@ use Rattle.mdb_bus.specs.declared.scope.Beginning.{Beginning}
 use Rattle.mdb_bus.specs.declared.scope.Profile.{Profile}
 use Rattle.mdb_bus.specs.declared.scope.Profile.TheVariants.{Base, Extended}
 use Rattle.mdb_bus.specs.declared.scope.Scope.{Scope}
-use Rattle.mdb_bus.specs.ActLists.{IsActList, Piece, acts_of, position_of, with_act}
+use Rattle.mdb_bus.specs.ActLists.{IsActList, Piece, acts_of, position_of}
+use Rattle.mdb_bus.specs.Pieces.{with_act}
 use Rattle.mdb_bus.specs.Bus.{open_block}
 use Rattle.mdb_bus.specs.Scopes.{profile_of}
 use Rattle.mdb_follow.specs.declared.follower.Follower.{Follower}

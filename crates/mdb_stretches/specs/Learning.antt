@@ -11,7 +11,7 @@ use Rattle.mdb_bus.specs.declared.scope.Beginning.{Beginning}
 use Rattle.mdb_machine.specs.Past.{last_told, or_else, powers_on, taken_by}
 use Rattle.mdb_cash.specs.BillFacts as bill
 use Rattle.mdb_cash.specs.ChangerFacts as changer
-use Rattle.mdb_cashless.specs.ByProfile.{config_of, facts_of}
+use Rattle.mdb_cashless.specs.ByProfileFacts.{config_of, facts_of}
 use Rattle.mdb_cashless.specs.ReaderFacts.{effect_of, own_of}
 
 -- These setup data are those that the machines of the devices know after acts of a recording that

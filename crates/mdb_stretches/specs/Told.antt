@@ -9,7 +9,7 @@ use Rattle.mdb_msgs.specs.declared.setups.ReaderSetup.{ReaderSetup}
 use Rattle.mdb_msgs.specs.declared.setups.Setups.{Setups}
 use Rattle.mdb_msgs.specs.Commands.{device_of}
 use Rattle.mdb_msgs.specs.SetupData.{known_with}
-use Rattle.mdb_msgs.specs.Setups.{nothing_known}
+use Rattle.mdb_msgs.specs.Settings.{nothing_known}
 use Rattle.mdb_bus.specs.declared.act.Act.{Act}
 use Rattle.mdb_bus.specs.declared.act.Act.TheVariants as acts
 use Rattle.mdb_bus.specs.declared.levels.Levels.{Levels}

@@ -3,14 +3,14 @@ use Rattle.std.specs.Prelude.{◌+◌, ◌^◌, ◌≤◌, ◌+ℤ◌, ℕ, List
 use Rattle.std.specs.Option.{ForSome}
 use Rattle.mdb_msgs.specs.declared.command.Device.{Device}
 use Rattle.mdb_bus.specs.declared.untimely.Untimely.{Untimely}
-use Rattle.mdb_bus.specs.Untimely.{AreFew}
+use Rattle.mdb_bus.specs.ExtendedTimes.{AreFew}
 use Rattle.mdb_follow.specs.declared.account.Account.{Account}
 use Rattle.mdb_follow.specs.declared.account_name.AccountName.{AccountName}
 use Rattle.mdb_follow.specs.declared.account_name.TheConstants.AccountName.{ALL}
 use Rattle.mdb_follow.specs.declared.range.Range.{Range}
 use Rattle.mdb_follow.specs.declared.report.Report.{Report}
 use Rattle.mdb_follow.specs.declared.report.TheConstants.Report.{DEVICES}
-use Rattle.mdb_follow.specs.Devices.{device_place}
+use Rattle.mdb_follow.specs.ReportedDevices.{device_place}
 use Rattle.mdb_follow.specs.Limits.{IsAccountWithin}
 use Rattle.mdb_follow.specs.Ranges.{no_account}
 use Rattle.mdb_follow.specs.ReportLimits.{IsReportWithin}

@@ -2,7 +2,7 @@
 
 ghost use Rattle.std.specs.Prelude.{◌≡◌, ◌+◌, ◌^◌, ◌+ℤ◌, ◌≤ℤ◌, neg_ℤ, pos};
 ghost use Rattle.std.specs.Option.{ForSome};
-ghost use Rattle.mdb_bus.specs.Untimely.{AreFew};
+ghost use Rattle.mdb_bus.specs.ExtendedTimes.{AreFew};
 ghost use Rattle.mdb_follow.specs.Limits.{IsAccountWithin, IsRangeWithin};
 ghost use Rattle.mdb_follow.specs.Report.{device_silences, device_unvalued};
 ghost use Rattle.mdb_follow.specs.AccountNames.{account_of};

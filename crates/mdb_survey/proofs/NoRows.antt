@@ -10,7 +10,8 @@ use Rattle.mdb_follow.specs.declared.follower.Follower.{Follower}
 use Rattle.mdb_follow.specs.declared.report.Report.{Report}
 use Rattle.mdb_follow.specs.AccountNames.{account_device, account_slot, sums_of}
 use Rattle.mdb_follow.specs.Follower.{StandsFor, scope_of}
-use Rattle.mdb_follow.specs.Ranges.{IsAccount, IsRange, no_account, no_range}
+use Rattle.mdb_follow.specs.Ranges.{IsRange, no_account, no_range}
+use Rattle.mdb_follow.specs.AccountRanges.{IsAccount}
 use Rattle.mdb_follow.specs.Report.{IsReport, report_of}
 use Rattle.mdb_follow.specs.Runs.{AllSums, IsReached, IsWay, Run}
 use Rattle.mdb_follow.specs.Sums.{AccountSums, Sums, no_sums}

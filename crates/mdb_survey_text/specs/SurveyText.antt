@@ -3,7 +3,7 @@ use Rattle.std.specs.Prelude.{◌==◌, ℕ, List, [], ◌++◌, codes, if◌the
 use Rattle.std.specs.Fmt.{decimal}
 use Rattle.std.specs.List.{flat_map}
 use Rattle.mdb_bus.specs.FaultWords.{blame_word, rule_word}
-use Rattle.mdb_bus.specs.Scopes.{joined}
+use Rattle.mdb_bus.specs.JoinedScopes.{joined}
 use Rattle.mdb_follow.specs.declared.account_name.TheConstants.AccountName.{ALL}
 use Rattle.mdb_follow.specs.declared.offence.Offence.{Offence}
 use Rattle.mdb_stretches.specs.declared.counts.FaultCounts.{FaultCounts}

@@ -24,7 +24,7 @@ fn is_kept(command: &Command, bytes: &[u8]) -> bool {
     let Ok(block) = seal(bytes) else {
         return false;
     };
-    let Ok(reply) = read_reply(Reading::Base, command, &block) else {
+    let Ok(reply) = read_reply(Reading::BASE, command, &block) else {
         return false;
     };
     match write_reply(command, &reply.copy()) {
@@ -105,7 +105,7 @@ fn is_setup(rt: &impl Abort, data: &[u8], credits: &[u8]) {
     same(rt, written.bytes(), block.bytes());
     same(
         rt,
-        &read_reply(Reading::Base, &CHANGER_SETUP, &block),
+        &read_reply(Reading::BASE, &CHANGER_SETUP, &block),
         &Ok(setup),
     );
 }

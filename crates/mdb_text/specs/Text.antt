@@ -18,7 +18,7 @@ use Rattle.mdb_follow.specs.declared.range.Range.{Range}
 use Rattle.mdb_follow.specs.declared.report.Report.{Report}
 use Rattle.mdb_follow.specs.declared.report.TheConstants.Report.{DEVICES}
 use Rattle.mdb_follow.specs.AccountNames.{account_of, account_word}
-use Rattle.mdb_follow.specs.Devices.{device_place}
+use Rattle.mdb_follow.specs.ReportedDevices.{device_place}
 use Rattle.mdb_follow.specs.Ends.{side_range}
 use Rattle.mdb_follow.specs.Report.{device_decimals, device_silences, device_unvalued}
 use Rattle.mdb_text.specs.declared.outcome.Outcome.{Outcome}

@@ -1,7 +1,7 @@
 //! The devices of whose set-up something is known from elsewhere.
 
 ghost use Rattle.std.specs.Prelude.{◌≡◌, if◌then◌else◌};
-ghost use Rattle.mdb_msgs.specs.DeviceSets.{with_device};
+ghost use Rattle.mdb_msgs.specs.Settings.{with_device};
 ghost use Rattle.mdb_text.specs.Known.{is_known, known_devices};
 
 use mdb_msgs::{Device, DeviceSet, ReaderSetup, ReaderUnit, Setups};

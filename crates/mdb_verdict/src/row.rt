@@ -4,7 +4,8 @@ ghost use Rattle.std.specs.Prelude.{◌≡◌, ◌<◌, List, ℕ, IfErr, IfOk, 
 ghost use Rattle.csv.specs.Records.{field_at};
 ghost use Rattle.mdb_records.specs.Fields.{fields_of};
 ghost use Rattle.mdb_words.specs.declared.row.RowFault.{RowFault};
-ghost use Rattle.mdb_words.specs.Row.{IsRefusal, IsRow};
+ghost use Rattle.mdb_words.specs.Row.{IsRow};
+ghost use Rattle.mdb_words.specs.Refusals.{IsRefusal};
 
 use mdb_records::Record;
 use mdb_words::{Event, Line, RowFault, Time, Word};

@@ -10,9 +10,10 @@ ghost use Rattle.mdb_text.specs.Text.{report_text};
 ghost use Rattle.mdb_verdict.specs.Verdict.{HasCause, HasNoRoom, IsAnswer, IsYes, HasMet, IsNoYes, IsToldAs};
 ghost use Rattle.mdb_verdict.specs.Ending.{HasFollowedRows};
 ghost use Rattle.mdb_follow.specs.Follower.{StandsFor, rows_of, scope_of};
-ghost use Rattle.mdb_follow.specs.Offences.{HasOffence};
+ghost use Rattle.mdb_follow.specs.FirstOffences.{HasOffence};
 ghost use Rattle.mdb_bus.specs.declared.scope.Scope.{Scope};
-ghost use Rattle.mdb_bus.specs.Scopes.{all_joined, power_on};
+ghost use Rattle.mdb_bus.specs.Scopes.{power_on};
+ghost use Rattle.mdb_bus.specs.JoinedScopes.{all_joined};
 ghost use Rattle.mdb_words.specs.declared.event.Event.{Event};
 
 use super::batch::Batch;

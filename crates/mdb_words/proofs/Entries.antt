@@ -3,7 +3,7 @@ use Rattle.std.proofs.Common.{◌≡◌, ℕ, zero, suc, ◌+◌, ◌-◌, ◌*�
 use Rattle.std.proofs.lemmas.Bool.{cases_eq}
 use Rattle.std.proofs.lemmas.Bool.Decides.{nat_tests}
 use Rattle.std.specs.Char.{digit_value}
-use Rattle.mdb_words.specs.Digits.{IsCount}
+use Rattle.mdb_words.specs.inner.Counts.{IsCount}
 use Rattle.mdb_words.specs.declared.tables.TheConstants.{DECIMAL, HEX, POWERS}
 
 -- a digit's entry, where its value is below the base, else an entry for none

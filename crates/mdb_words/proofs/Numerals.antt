@@ -15,7 +15,9 @@ use Rattle.std.specs.Fmt.{decimal, digit_glyph}
 use Rattle.std.specs.Prelude.{⊤}
 use Rattle.std.specs.Option.{SomeIff, IfSome, IfNone}
 use Rattle.std.specs.Str.Parse.{AllDigits, digits_value, digits_value_after}
-use Rattle.mdb_words.specs.Digits.{IsCount, IsCounted, IsDecimal, IsHexWord, hex_word, positional}
+use Rattle.mdb_words.specs.Digits.{IsDecimal, IsHexWord, positional}
+use Rattle.mdb_words.specs.inner.Counts.{IsCount, IsCounted}
+use Rattle.mdb_words.specs.RowsWritten.{hex_word}
 
 -- numbers of digits in a base
 

@@ -9,8 +9,10 @@ use Rattle.std.specs.Char.{IsAsciiDigit}
 use Rattle.std.specs.Fmt.{decimal, digit_glyph}
 use Rattle.mdb_words.proofs.Numerals.{IsDecimal-decimal, IsHexWord-hex_word, decimal_digits}
 use Rattle.mdb_words.specs.Event.{start_of}
-use Rattle.mdb_words.specs.Digits.{IsDecimal, hex_word}
-use Rattle.mdb_words.specs.Row.{IsFieldByte, IsLetter, IsRefusal, IsRow, Tells, break_letter, letter_of, row_fields}
+use Rattle.mdb_words.specs.Digits.{IsDecimal}
+use Rattle.mdb_words.specs.RowsWritten.{hex_word, IsFieldByte, row_fields}
+use Rattle.mdb_words.specs.Row.{IsRow, break_letter, letter_of}
+use Rattle.mdb_words.specs.Refusals.{IsLetter, IsRefusal, Tells}
 use Rattle.mdb_words.specs.declared.event.Event.{Event}
 use Rattle.mdb_words.specs.declared.event.Event.TheVariants.{Word, Break}
 use Rattle.mdb_words.specs.declared.word.Line.{Line}

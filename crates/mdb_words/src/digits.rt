@@ -5,7 +5,9 @@ ghost use Rattle.std.specs.Fmt.{decimal, digit_glyph};
 ghost use Rattle.std.specs.Option.{SomeIff};
 ghost use Rattle.std.specs.Str.Parse.{AllDigits, digits_value};
 ghost use Rattle.arrayvec.specs.ArrayString.{array_string_len};
-ghost use Rattle.mdb_words.specs.Digits.{IsCount, IsCounted, IsDecimal, IsHexWord, hex_word};
+ghost use Rattle.mdb_words.specs.Digits.{IsDecimal, IsHexWord};
+ghost use Rattle.mdb_words.specs.inner.Counts.{IsCount, IsCounted};
+ghost use Rattle.mdb_words.specs.RowsWritten.{hex_word};
 
 use super::tables::{DECIMAL, HEX, POWERS};
 use arrayvec::ArrayString;

@@ -2,7 +2,9 @@
 
 ghost use Rattle.std.specs.Prelude.{◌≡◌, ◌≢◌, ◌<◌, ◌≤◌, ◌^◌, ◌↔◌, ◌∷◌, length, [], List, ℕ, All, map, IfSome, IfNone, IfOk, IfErr, IsTrue, Ok};
 ghost use Rattle.mdb_words.specs.Event.{AtLeast, AtMost, IsGap, start_of, end_of};
-ghost use Rattle.mdb_words.specs.Row.{IsFieldByte, IsRefusal, IsRow, Tells, break_letter, joined_by_commas, letter_of, row_fields};
+ghost use Rattle.mdb_words.specs.Row.{IsRow, break_letter, letter_of};
+ghost use Rattle.mdb_words.specs.RowsWritten.{IsFieldByte, joined_by_commas, row_fields};
+ghost use Rattle.mdb_words.specs.Refusals.{IsRefusal, Tells};
 ghost use Rattle.mdb_words.specs.Digits.{IsDecimal};
 ghost use Rattle.mdb_words.specs.declared.word.Line.{Line};
 

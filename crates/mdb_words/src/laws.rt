@@ -1,7 +1,8 @@
 //! Laws of rows. Each function's contract is the law, and its body is empty.
 
 ghost use Rattle.std.specs.Prelude.{◌≡◌, ◌+◌, ℕ, List};
-ghost use Rattle.mdb_words.specs.Row.{IsRefusal, IsRow};
+ghost use Rattle.mdb_words.specs.Row.{IsRow};
+ghost use Rattle.mdb_words.specs.Refusals.{IsRefusal};
 ghost use Rattle.mdb_words.specs.declared.event.Event.{Event};
 ghost use Rattle.mdb_words.specs.declared.limits.TheConstants.{ANSWER_GAP_MAX, BLOCK_GAP_MAX, BREAK_LENGTH_MIN, NEW_BLOCK_GAP_MIN, SETUP_GAP_MIN, WORD_GAP_MIN};
 ghost use Rattle.mdb_words.specs.declared.row.RowFault.{RowFault};

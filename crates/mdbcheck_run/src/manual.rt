@@ -57,8 +57,8 @@ CHECK
                      With --extended a reader may have two more: the line of
                      the controller's SETUP (11 00), which gives its feature
                      level, and that of its ENABLE OPTIONS (17 04), which
-                     says whether the reader sells without a session. To the
-                     reader at 60H they begin with 61 00 and 67 04.
+                     says that no money of 32 bits is meant. To the reader at
+                     60H they begin with 61 00 and 67 04.
     --setup 'DEVICE level 3'
                      With --joined and --extended: gives the feature level of
                      a reader and of the controller, 1, 2 or 3, in the place

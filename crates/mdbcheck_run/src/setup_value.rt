@@ -56,7 +56,7 @@ fn add_value(
     if is_asked(profile, device, bytes.as_slice()) {
         add_ask(&mut given.setups, device, bytes.as_slice())
     } else {
-        add_answer(given, device, bytes.as_slice())
+        add_answer(profile, given, device, bytes.as_slice())
     }
 }
 
@@ -89,12 +89,18 @@ fn is_asked(profile: Profile, device: Device, bytes: &[u8]) -> bool {
 }
 
 /// Adds what a device's answer to SETUP reports.
-fn add_answer(given: &mut Given, device: Device, bytes: &[u8]) -> Result<(), SetupFault> {
+fn add_answer(
+    profile: Profile,
+    given: &mut Given,
+    device: Device,
+    bytes: &[u8],
+) -> Result<(), SetupFault> {
     if given.setups.has_answer(device) {
         return Err(SetupFault::Twice);
     }
     let answer = sealed(bytes)?;
-    if !given.setups.learn(device, &answer) {
+    let is_extended = profile == Profile::Extended;
+    if !given.setups.learn(is_extended, device, &answer) {
         return Err(SetupFault::NoAnswer);
     }
     match (device, bytes) {

@@ -1,13 +1,13 @@
--- How a bus goes a step.
+-- How a bus goes a step. Its haste is told apart.
 use Rattle.std.specs.Prelude.{◌≡◌, Option, Some}
 use Rattle.mdb_words.specs.declared.event.Event.{Event}
 use Rattle.mdb_bus.specs.declared.act.Act.{Act}
 use Rattle.mdb_bus.specs.declared.bus.Bus.{Bus}
-use Rattle.mdb_bus.specs.ActLists.{levels_if}
+use Rattle.mdb_bus.specs.Pieces.{levels_if}
 use Rattle.mdb_bus.specs.Bus.{position_at}
-use Rattle.mdb_bus.specs.Haste.{haste_after, haste_by}
+use Rattle.mdb_bus.specs.LinkFaults.{Situation}
 use Rattle.mdb_bus.specs.Scopes.{profile_of}
-use Rattle.mdb_bus.specs.WideMoney.{known_if}
+use Rattle.mdb_bus.specs.ExtendedMoney.{known_if}
 use Rattle.mdb_bus.specs.shared.Step.{Step}
 use Rattle.mdb_bus.specs.shared.Steps.{HasAdvanced, asked_after}
 
@@ -20,5 +20,12 @@ pub record HasGone (old : Bus) (next : Step) (row : Event) (new : Bus)
   pub levels : new.levels ≡ levels_if (profile_of old.scope.begins) act old.levels
   pub options : new.options ≡ known_if act old.options
   pub asked : new.asked ≡ asked_after old.asked next
-  pub haste : new.haste ≡ haste_by (profile_of old.scope.begins)
-      (haste_after (position_at old.place) old.last row old.haste)
+
+-- the situation that a bus is in
+abbrev pub situation_at : Bus → Situation
+situation_at bus = record {
+  scope = bus.scope;
+  position = position_at bus.place;
+  last = bus.last;
+  levels = bus.levels;
+}

@@ -3,7 +3,8 @@ use Rattle.std.specs.Prelude.{ℕ, List, length}
 use Rattle.std.specs.Coded.{Coded-set, Unit-prop, coded_ℕ, le_prop}
 use Rattle.mdb_msgs.specs.declared.need.Need.{Need}
 use Rattle.mdb_msgs.specs.declared.need.Need.TheVariants.{Exactly, More, Foreign, Outside}
-use Rattle.mdb_msgs.specs.Needs.{IsOpen, IsShort, needed}
+use Rattle.mdb_msgs.specs.Needs.{needed}
+use Rattle.mdb_msgs.specs.OpenBlocks.{IsOpen, IsShort}
 use Rattle.mdb_bus.specs.declared.phase.Phase.{Phase}
 use Rattle.mdb_bus.specs.declared.phase.Phase.TheVariants as phase
 

@@ -6,7 +6,7 @@ use Rattle.mdb_msgs.specs.declared.fault.MsgFault.{MsgFault}
 use Rattle.mdb_msgs.specs.declared.need.Need.TheVariants.{Exactly}
 use Rattle.mdb_msgs.specs.declared.reply.Reply.{Reply}
 use Rattle.mdb_msgs.specs.Commands.{IsByte}
-use Rattle.mdb_msgs.specs.Needs.{IsShort, IsTold}
+use Rattle.mdb_msgs.specs.OpenBlocks.{IsShort, IsTold}
 use Rattle.mdb_msgs.specs.Replies.{IsReplyTo, reply_bytes}
 use Rattle.mdb_msgs.specs.Answers.{HasDataAnswer}
 use Rattle.mdb_bus.specs.declared.scope.Scope.{Scope}

@@ -1,5 +1,5 @@
 -- How a row leads from one situation to the next.
-use Rattle.std.specs.Prelude.{◌≡◌, ◌≢◌, ◌+◌, ◌%◌, ◌<◌, ◌≤◌, ◌⊎◌, ℕ, List, [], ◌∷◌, ◌++◌, length, slice_get, sum, Option, Some, None, Result, Ok, Err}
+use Rattle.std.specs.Prelude.{◌≡◌, ◌≢◌, ◌+◌, ◌%◌, ◌<◌, ◌≤◌, ◌⊎◌, ℕ, List, [], ◌∷◌, ◌++◌, length, slice_get, sum, false, Option, Some, None, Result, Ok, Err, OnOk}
 use Rattle.mdb_words.specs.declared.limits.TheConstants.{WORD_GAP_MIN}
 use Rattle.mdb_words.specs.declared.event.Event.{Event}
 use Rattle.mdb_words.specs.declared.event.Event.TheVariants.{Word, Break}
@@ -16,7 +16,8 @@ use Rattle.mdb_msgs.specs.declared.fault.MsgFault.TheVariants as reading
 use Rattle.mdb_msgs.specs.declared.need.Need.TheVariants as need
 use Rattle.mdb_msgs.specs.Answers.{HasDataAnswer, MayHaveData}
 use Rattle.mdb_msgs.specs.Commands.{EnablesMore, Spells, device_of}
-use Rattle.mdb_msgs.specs.Needs.{IsOpen, needed}
+use Rattle.mdb_msgs.specs.Needs.{needed}
+use Rattle.mdb_msgs.specs.OpenBlocks.{IsOpen}
 use Rattle.mdb_msgs.specs.Replies.{reply_bytes}
 use Rattle.mdb_bus.specs.declared.act.Act.{Act}
 use Rattle.mdb_bus.specs.declared.act.Act.TheVariants as acts
@@ -31,12 +32,15 @@ use Rattle.mdb_bus.specs.shared.Step.{Step, SomeStep, word_in}
 use Rattle.mdb_bus.specs.shared.Step as step
 use Rattle.mdb_bus.specs.declared.scope.Beginning.{Beginning}
 use Rattle.mdb_bus.specs.declared.scope.Profile.{Profile}
+use Rattle.mdb_bus.specs.declared.scope.Profile.TheVariants.{Base, Extended}
 use Rattle.mdb_bus.specs.declared.scope.Scope.{Scope}
 use Rattle.mdb_bus.specs.Formats.{HasFault, format_for}
 use Rattle.mdb_bus.specs.Scopes.{Asks, HasCommand, needed_by, profile_of}
 use Rattle.mdb_bus.specs.Times.{break_least, rest_after}
+use Rattle.mdb_bus.specs.ExtendedTimes.{is_untimely}
 use Rattle.mdb_bus.specs.Acts.{IsForeignOpening, IsReply, reply_words}
-use Rattle.mdb_bus.specs.ActLists.{Piece, Whole, AskTail, ReplyTail, RepeatTail, Position, Quiet, InAsk, Asked, InReply, Replied, Returned, InRepeat, InForeign, BlockMayCome, BreakMayCome, InAnswerTime, InBlockTime, IsAskFront, IsRepeatFront, IsReplyFront, NotBefore, ReplyFits, act_in, left_by, position_of}
+use Rattle.mdb_bus.specs.ActLists.{Piece, Whole, AskTail, ReplyTail, RepeatTail, Position, Quiet, InAsk, Asked, InReply, Replied, Returned, InRepeat, InForeign, BlockMayCome, BreakMayCome, InAnswerTime, InBlockTime, IsAskFront, IsRepeatFront, IsReplyFront, NotBefore, ReplyFits, left_by, position_of}
+use Rattle.mdb_bus.specs.Pieces.{act_in}
 use Rattle.mdb_bus.specs.LinkFaults.{LeavesProfile, IsBefore, IsPast, IsOutside, Situation}
 use Rattle.mdb_bus.specs.shared.RulePlaces.{IsFirstByPlace}
 
@@ -198,6 +202,29 @@ abbrev pub IsJudged : Situation → Event → Result Judged Rule → Type 0
 IsJudged s row (Ok judged.Reply) = IsEnded s row
 IsJudged s row (Ok found) = SomeStep found row (Leads s row)
 IsJudged s row (Err broken) = IsFirstByPlace s row broken
+
+-- what comes in the times of a profile comes in those of another
+abbrev pub Covers : Profile → Profile → Type 0
+Covers Base profile = Unit {0}
+Covers Extended Base = ⊥
+Covers Extended Extended = Unit {0}
+
+-- what is made of a row by the times of a profile counts for another: for each profile whose times
+-- those cover, and a fault for the same profile alone
+abbrev pub Counts : Profile → Profile → Result Judged Rule → Type 0
+Counts times profile (Ok found) = Covers times profile
+Counts times profile (Err broken) = times ≡ profile
+
+-- by the base profile's times a row is in its time
+abbrev pub IsTimely : Profile → Position → Option Event → Event → Type 0
+IsTimely Base position from to = is_untimely position from to ≡ false
+IsTimely Extended position from to = Unit {0}
+
+-- what is made of a row by the times of a profile
+pub record IsJudgedBy (times : Profile) (s : Situation) (row : Event)
+    (result : Result Judged Rule) : Type 0 where
+  pub judged : Counts times (profile_of s.scope.begins) result → IsJudged s row result
+  pub timely : OnOk result (IsTimely times s.position s.last row)
 
 -- the rule that a block breaks whose content can't be read
 abbrev pub rule_of : MsgFault → Rule

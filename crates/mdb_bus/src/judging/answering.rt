@@ -1,15 +1,14 @@
 //! Words that answer a command, or a reply.
 
-ghost use Rattle.std.specs.Prelude.{◌≡◌, ◌<◌, ℕ, List, IfOk};
+ghost use Rattle.std.specs.Prelude.{◌<◌, ℕ, List, IfOk};
 ghost use Rattle.mdb_words.specs.declared.event.Event.{Event};
 ghost use Rattle.mdb_msgs.specs.declared.command.Command.{Command};
 ghost use Rattle.mdb_msgs.specs.declared.reply.Reply.{Reply};
 ghost use Rattle.mdb_bus.specs.declared.levels.Levels.{Levels};
 ghost use Rattle.mdb_bus.specs.declared.scope.Scope.{Scope};
-ghost use Rattle.mdb_bus.specs.Scopes.{profile_of};
 ghost use Rattle.mdb_bus.specs.ActLists as lists;
 ghost use Rattle.mdb_bus.specs.LinkFaults.{OutOfOrder};
-ghost use Rattle.mdb_bus.specs.shared.Steps.{Belongs, IsJudged};
+ghost use Rattle.mdb_bus.specs.shared.Steps.{Belongs, IsJudgedBy};
 
 use crate::fault::Rule;
 use crate::gaps::{in_answer_time, word_row};
@@ -22,7 +21,7 @@ use mdb_words::{Event, Line, Time, Word};
 
 /// A peripheral's first word in answer to a command.
 pub(crate) fn answer(
-    profile: Profile,
+    times: Profile,
     command: &Command,
     last: &Option<Event>,
     at: Time,
@@ -30,7 +29,7 @@ pub(crate) fn answer(
 ) -> Result<Judged, Rule>
     requires { OutOfOrder last.now (Event.Word at Line.Peripheral word) → ⊥ }
     ensures judged { (scope : Scope) (levels : Levels)
-        → profile ≡ profile_of scope.begins → IsJudged (record {
+        → IsJudgedBy times (record {
           scope = scope;
           position = lists.Asked command.now;
           last = last.now;
@@ -41,7 +40,7 @@ pub(crate) fn answer(
         → IfOk result (Belongs Phase.Asked bytes (Event.Word at Line.Peripheral word)) }
 {
     let row = word_row(at, Line::Peripheral, word);
-    in_answer_time(profile, last, &row)?;
+    in_answer_time(times, last, &row)?;
     if word.marked() {
         match Answer::of(word.byte()) {
             Some(Answer::Ack) => Ok(Judged::Ack),
@@ -58,7 +57,7 @@ pub(crate) fn answer(
 
 /// An unmarked word of the controller in answer to a reply.
 pub(crate) fn answer_reply(
-    profile: Profile,
+    times: Profile,
     last: &Option<Event>,
     at: Time,
     word: Word,
@@ -66,7 +65,7 @@ pub(crate) fn answer_reply(
     requires in_order { OutOfOrder last.now (Event.Word at Line.Controller word) → ⊥ }
     requires unmarked { word < 256 }
     ensures judged { (scope : Scope) (levels : Levels) (command : Command) (reply : Reply)
-        → profile ≡ profile_of scope.begins → IsJudged (record {
+        → IsJudgedBy times (record {
           scope = scope;
           position = lists.Replied command reply;
           last = last.now;
@@ -77,7 +76,7 @@ pub(crate) fn answer_reply(
         → IfOk result (Belongs Phase.Replied bytes row) }
 {
     let row = word_row(at, Line::Controller, word);
-    in_answer_time(profile, last, &row)?;
+    in_answer_time(times, last, &row)?;
     match Answer::of(word.byte()) {
         Some(Answer::Ack) => Ok(Judged::VmcAck),
         Some(Answer::Nak) => Ok(Judged::VmcNak),

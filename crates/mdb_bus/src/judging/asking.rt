@@ -6,7 +6,8 @@ ghost use Rattle.mdb_blocks.specs.Block.{block_of};
 ghost use Rattle.mdb_msgs.specs.declared.command.Command.{Command};
 ghost use Rattle.mdb_msgs.specs.declared.need.Need.TheVariants.{Exactly};
 ghost use Rattle.mdb_msgs.specs.Commands.{EnablesMore, Spells};
-ghost use Rattle.mdb_msgs.specs.Needs.{IsOpen, begins_options, is_to_one_of, needed};
+ghost use Rattle.mdb_msgs.specs.Needs.{begins_options, is_to_one_of, needed};
+ghost use Rattle.mdb_msgs.specs.OpenBlocks.{IsOpen};
 ghost use Rattle.mdb_bus.specs.declared.levels.Levels.{Levels};
 ghost use Rattle.mdb_bus.specs.declared.scope.Profile.{Profile as Prof};
 ghost use Rattle.mdb_bus.specs.declared.scope.Scope.{Scope};
@@ -14,7 +15,7 @@ ghost use Rattle.mdb_bus.specs.Scopes.{leaves_options, profile_of};
 ghost use Rattle.mdb_bus.specs.declared.phase.Phase.{Phase};
 ghost use Rattle.mdb_bus.specs.ActLists as lists;
 ghost use Rattle.mdb_bus.specs.LinkFaults.{OutOfOrder};
-ghost use Rattle.mdb_bus.specs.shared.Steps.{Belongs, IsGoingOn, IsJudged, IsOpened};
+ghost use Rattle.mdb_bus.specs.shared.Steps.{Belongs, IsGoingOn, IsJudgedBy, IsOpened};
 
 use crate::begun::Begun;
 use crate::fault::Rule;
@@ -60,7 +61,8 @@ pub(crate) fn begin_block(
 /// A word of the controller inside its block, which is to a device that is followed.
 #[inline(always)]
 pub(crate) fn go_on_asking(
-    profile: Profile,
+    times: Profile,
+    scope: &Scope,
     bytes: &Begun,
     last: &Option<Event>,
     at: Time,
@@ -68,11 +70,11 @@ pub(crate) fn go_on_asking(
 ) -> Result<Judged, Rule>
     requires in_order { OutOfOrder last.now (Event.Word at Line.Controller word) → ⊥ }
     requires begun { IsOpen bytes.now }
-    ensures judged { (scope : Scope) (levels : Levels) → profile ≡ profile_of scope.begins
-        → (leaves_options profile && begins_options bytes.now) ≡ false
-        → is_to_one_of scope.without (slice_index bytes.now 0) ≡ false
-        → IsJudged (record {
-          scope = scope;
+    ensures judged { (levels : Levels)
+        → (leaves_options (profile_of scope.now.begins) && begins_options bytes.now) ≡ false
+        → is_to_one_of scope.now.without (slice_index bytes.now 0) ≡ false
+        → IsJudgedBy times (record {
+          scope = scope.now;
           position = lists.InAsk bytes.now;
           last = last.now;
           levels = levels;
@@ -85,29 +87,29 @@ pub(crate) fn go_on_asking(
     if word.marked() {
         return Err(Rule::Mode);
     }
-    in_block_time(profile, last, &row)?;
+    in_block_time(times, last, &row)?;
     laws::front_of_a_command_is_open();
     laws::first_byte_tells_the_device();
     match bytes.as_slice() {
-        [first] => second_byte(profile, bytes, *first, word),
+        [first] => second_byte(scope, bytes, *first, word),
         more => further_byte(bytes, more, word),
     }
 }
 
 /// The second byte of a block: its sum, a field, or a subcommand, which may make the block foreign.
 #[inline(always)]
-fn second_byte(profile: Profile, bytes: &Begun, first: u8, word: Word) -> Result<Judged, Rule>
+fn second_byte(scope: &Scope, bytes: &Begun, first: u8, word: Word) -> Result<Judged, Rule>
     requires is { bytes.now ≡ first ∷ [] }
     requires unmarked { word < 256 }
     requires begun { IsOpen bytes.now }
-    ensures { IsGoingOn profile bytes.now word result }
+    ensures { IsGoingOn (profile_of scope.now.begins) bytes.now word result }
 {
     laws::need_leaves_a_command_open();
     laws::first_two_bytes_tell_enable_options();
     if need_of(&[first]) == Need::Exactly(2) {
         return judge_end_of_ask(bytes, word);
     }
-    match profile.need_of(&[first, word.byte()]) {
+    match scope.begins.profile().need_of(&[first, word.byte()]) {
         Need::Outside => Err(Rule::Profile),
         Need::Foreign => Ok(Judged::Foreign),
         Need::More | Need::Exactly(_) => Ok(Judged::AskByte),

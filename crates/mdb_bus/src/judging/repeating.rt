@@ -1,15 +1,14 @@
 //! Words of a peripheral that sends its reply again.
 
-ghost use Rattle.std.specs.Prelude.{◌≡◌, ◌<◌, ℕ, List, IfOk, take};
+ghost use Rattle.std.specs.Prelude.{◌<◌, ℕ, List, IfOk, take};
 ghost use Rattle.mdb_words.specs.declared.event.Event.{Event};
 ghost use Rattle.mdb_msgs.specs.declared.command.Command.{Command};
 ghost use Rattle.mdb_bus.specs.declared.levels.Levels.{Levels};
 ghost use Rattle.mdb_bus.specs.declared.scope.Scope.{Scope};
-ghost use Rattle.mdb_bus.specs.Scopes.{profile_of};
 ghost use Rattle.mdb_bus.specs.Acts.{reply_words};
 ghost use Rattle.mdb_bus.specs.ActLists as lists;
 ghost use Rattle.mdb_bus.specs.LinkFaults.{OutOfOrder};
-ghost use Rattle.mdb_bus.specs.shared.Steps.{Belongs, IsJudged};
+ghost use Rattle.mdb_bus.specs.shared.Steps.{Belongs, IsJudgedBy};
 
 use crate::fault::Rule;
 use crate::gaps::{in_answer_time, in_block_time, word_row};
@@ -21,7 +20,7 @@ use mdb_words::{Event, Line, Time, Word};
 
 /// The first word of a repeat.
 pub(crate) fn begin_repeat(
-    profile: Profile,
+    times: Profile,
     last_reply: &Spelled,
     last: &Option<Event>,
     at: Time,
@@ -29,7 +28,7 @@ pub(crate) fn begin_repeat(
 ) -> Result<Judged, Rule>
     requires { OutOfOrder last.now (Event.Word at Line.Peripheral word) → ⊥ }
     ensures judged { (scope : Scope) (levels : Levels) (command : Command)
-        → profile ≡ profile_of scope.begins → IsJudged (record {
+        → IsJudgedBy times (record {
           scope = scope;
           position = lists.Returned command last_reply.now.reply;
           last = last.now;
@@ -40,7 +39,7 @@ pub(crate) fn begin_repeat(
         → IfOk result (Belongs Phase.Returned bytes row) }
 {
     let row = word_row(at, Line::Peripheral, word);
-    in_answer_time(profile, last, &row)?;
+    in_answer_time(times, last, &row)?;
     if last_reply.word(0) == Some(word) {
         Ok(Judged::RepeatWord)
     } else {
@@ -50,7 +49,7 @@ pub(crate) fn begin_repeat(
 
 /// A further word of a repeat, of which so many were said.
 pub(crate) fn go_on_repeating(
-    profile: Profile,
+    times: Profile,
     last_reply: &Spelled,
     said: u8,
     last: &Option<Event>,
@@ -59,7 +58,7 @@ pub(crate) fn go_on_repeating(
 ) -> Result<Judged, Rule>
     requires { OutOfOrder last.now (Event.Word at Line.Peripheral word) → ⊥ }
     ensures judged { (scope : Scope) (levels : Levels) (command : Command)
-        → profile ≡ profile_of scope.begins → IsJudged
+        → IsJudgedBy times
         (record {
           scope = scope;
           position = lists.InRepeat command last_reply.now.reply
@@ -72,7 +71,7 @@ pub(crate) fn go_on_repeating(
         → IfOk result (Belongs (Phase.InRepeat said) bytes row) }
 {
     let row = word_row(at, Line::Peripheral, word);
-    in_block_time(profile, last, &row)?;
+    in_block_time(times, last, &row)?;
     if last_reply.word(usize::from(said)) != Some(word) {
         return Err(Rule::Same);
     }

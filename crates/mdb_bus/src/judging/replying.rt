@@ -1,15 +1,15 @@
 //! Words inside a peripheral's block.
 
-ghost use Rattle.std.specs.Prelude.{◌≡◌, ◌<◌, ◌≤◌, ℕ, List, IfOk, IsErr};
+ghost use Rattle.std.specs.Prelude.{◌<◌, ◌≤◌, ℕ, List, IfOk, IsErr};
 ghost use Rattle.mdb_words.specs.declared.event.Event.{Event};
 ghost use Rattle.mdb_msgs.specs.declared.command.Command.{Command};
 ghost use Rattle.mdb_msgs.specs.declared.reply.Reply.{Reply};
 ghost use Rattle.mdb_bus.specs.declared.levels.Levels.{Levels};
+ghost use Rattle.mdb_bus.specs.declared.scope.Profile.{Profile as Prof};
 ghost use Rattle.mdb_bus.specs.declared.scope.Scope.{Scope};
-ghost use Rattle.mdb_bus.specs.Scopes.{profile_of};
 ghost use Rattle.mdb_bus.specs.ActLists as lists;
 ghost use Rattle.mdb_bus.specs.LinkFaults.{OutOfOrder};
-ghost use Rattle.mdb_bus.specs.shared.Steps.{Belongs, IsJudged, IsReplyEnd};
+ghost use Rattle.mdb_bus.specs.shared.Steps.{Belongs, IsJudgedBy, IsReplyEnd};
 
 use crate::begun::Begun;
 use crate::fault::Rule;
@@ -23,7 +23,7 @@ use mdb_words::{BLOCK_GAP_MAX, Event, Line, Time, Word};
 
 /// A peripheral's word inside its reply.
 pub(crate) fn go_on_replying(
-    profile: Profile,
+    times: Profile,
     command: &Command,
     bytes: &Begun,
     last: &Option<Event>,
@@ -32,7 +32,7 @@ pub(crate) fn go_on_replying(
 ) -> Result<Judged, Rule>
     requires { OutOfOrder last.now (Event.Word at Line.Peripheral word) → ⊥ }
     ensures judged { (scope : Scope) (levels : Levels)
-        → profile ≡ profile_of scope.begins → IsJudged (record {
+        → IsJudgedBy times (record {
           scope = scope;
           position = lists.InReply command.now bytes.now;
           last = last.now;
@@ -43,7 +43,7 @@ pub(crate) fn go_on_replying(
         (Belongs Phase.InReply bytes.now (Event.Word at Line.Peripheral word)) }
 {
     let row = word_row(at, Line::Peripheral, word);
-    in_block_time(profile, last, &row)?;
+    in_block_time(times, last, &row)?;
     laws::bytes_have_one_fault();
     laws::reply_has_no_fault();
     if word.marked() {
@@ -73,17 +73,18 @@ fn judge_end_of_reply(command: &Command, bytes: &Begun, word: Word) -> Result<Ju
 /// A word of the controller inside a peripheral's block.
 pub(crate) fn cut_in(last: &Option<Event>, at: Time, word: Word) -> Result<Judged, Rule>
     requires { OutOfOrder last.now (Event.Word at Line.Controller word) → ⊥ }
-    ensures reply { (scope : Scope) (levels : Levels) (command : Command) (bytes : List ℕ)
-        → IsJudged (record {
+    ensures reply { (times : Prof) (scope : Scope) (levels : Levels) (command : Command)
+        (bytes : List ℕ)
+        → IsJudgedBy times (record {
           scope = scope;
           position = lists.InReply command bytes;
           last = last.now;
           levels = levels;
         })
         (Event.Word at Line.Controller word) result }
-    ensures repeat { (scope : Scope) (levels : Levels) (command : Command) (reply : Reply)
-        (words : List ℕ)
-        → IsJudged (record {
+    ensures repeat { (times : Prof) (scope : Scope) (levels : Levels) (command : Command)
+        (reply : Reply) (words : List ℕ)
+        → IsJudgedBy times (record {
           scope = scope;
           position = lists.InRepeat command reply words;
           last = last.now;

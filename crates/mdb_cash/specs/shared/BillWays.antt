@@ -18,14 +18,15 @@ use Rattle.mdb_machine.specs.declared.choice.Choice.TheVariants.{Plain, Restart,
 use Rattle.mdb_cash.specs.declared.bill.state.BillState.{BillState}
 use Rattle.mdb_machine.specs.declared.choice.Choice.{Choice}
 use Rattle.mdb_machine.specs.declared.gains.Gains.{Gains}
-use Rattle.mdb_cash.specs.Bill.{BillStep, MovesBill, MovesBills, conduct, machine, power_on, unvalued}
+use Rattle.mdb_cash.specs.Bill.{MovesBill, MovesBills, conduct, machine, power_on}
+use Rattle.mdb_cash.specs.BillAmounts.{unvalued}
+use Rattle.mdb_cash.specs.BillValues.{BillStep, Value, known_in}
 use Rattle.mdb_cash.specs.BillFacts.{Facts, KnownFacts, known_of, own, tables}
 use Rattle.mdb_machine.specs.Gains.{Stays, no_gains}
 use Rattle.mdb_machine.specs.shared.KeeperPlain.{LooksAway, as_plain}
 use Rattle.mdb_machine.specs.shared.Guesses.{Overlooks, guessing}
 use Rattle.mdb_machine.specs.shared.KeeperWays as keeper_ways
 use Rattle.mdb_machine.specs.shared.KnowingWays.{all_known, all_settled, as_choice, knows, some_facts, starts_in, stays}
-use Rattle.mdb_cash.specs.BillValues.{Value, known_in}
 use Rattle.mdb_machine.specs.Keeper.{asked_by, parts_by}
 use Rattle.mdb_machine.specs.KeeperValues.{settled}
 use Rattle.mdb_machine.specs.Past.{last_list, last_told}

@@ -18,14 +18,15 @@ use Rattle.mdb_cash.specs.declared.changer.state.ChangerState.{ChangerState}
 use Rattle.mdb_machine.specs.declared.choice.Choice.{Choice}
 use Rattle.mdb_machine.specs.declared.choice.Choice.TheVariants.{Plain, Lost, Restart, Again}
 use Rattle.mdb_machine.specs.declared.gains.Gains.{Gains}
-use Rattle.mdb_cash.specs.Changer.{AskStep, ChangerStep, MayBeNew, TakeStep, conduct, dispensed_value, is_last, machine, power_on, unvalued}
+use Rattle.mdb_cash.specs.Changer.{AskStep, MayBeNew, TakeStep, conduct, dispensed_value, is_last, machine, power_on}
+use Rattle.mdb_cash.specs.ChangerAmounts.{unvalued}
+use Rattle.mdb_cash.specs.ChangerValues.{ChangerStep, Value, known_in}
 use Rattle.mdb_cash.specs.ChangerFacts.{Facts, KnownFacts, asked_of, known_of, own, tables}
 use Rattle.mdb_machine.specs.Gains.{Stays, controller_gains, in_slots, no_gains}
 use Rattle.mdb_machine.specs.shared.KeeperPlain.{LooksAway, as_plain}
 use Rattle.mdb_machine.specs.shared.Guesses.{Overlooks, guessing}
 use Rattle.mdb_machine.specs.shared.KeeperWays as keeper_ways
 use Rattle.mdb_machine.specs.shared.KnowingWays.{all_known, all_settled, as_choice, knows, some_facts, starts_in, stays}
-use Rattle.mdb_cash.specs.ChangerValues.{Value, known_in}
 use Rattle.mdb_machine.specs.Keeper.{asked_by, parts_by}
 use Rattle.mdb_machine.specs.KeeperValues.{settled}
 use Rattle.mdb_machine.specs.Past.{last_list, last_told}

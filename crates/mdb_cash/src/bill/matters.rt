@@ -6,7 +6,7 @@ ghost use Rattle.mdb_msgs.specs.declared.command.Device.TheVariants as devices;
 ghost use Rattle.mdb_machine.specs.declared.choice.Choice.{Choice};
 ghost use Rattle.mdb_machine.specs.declared.choice.Choice.TheVariants.{Plain};
 ghost use Rattle.mdb_machine.specs.declared.gains.Gains.{Gains};
-ghost use Rattle.mdb_cash.specs.Bill.{BillStep};
+ghost use Rattle.mdb_cash.specs.BillValues.{BillStep};
 ghost use Rattle.mdb_cash.specs.BillFacts.{Facts};
 ghost use Rattle.mdb_machine.specs.Choices.{CanStand};
 ghost use Rattle.mdb_machine.specs.Pair.{IsActOf};

@@ -6,7 +6,7 @@ ghost use Rattle.std.specs.List.{AllByRecursion};
 ghost use Rattle.mdb_cash.specs.declared.changer.activity.ChangerActivity.TheVariants.{CashBox};
 ghost use Rattle.mdb_cash.specs.Changer as spec;
 ghost use Rattle.mdb_cash.specs.shared.ChangerWays as ways;
-ghost use Rattle.mdb_machine.specs.Gains.{IsSmall};
+ghost use Rattle.mdb_machine.specs.SmallGains.{IsSmall};
 ghost use Rattle.mdb_machine.specs.KeeperValues.{facts_in};
 ghost use Rattle.mdb_machine.specs.Pair.{IsOnlyStep};
 

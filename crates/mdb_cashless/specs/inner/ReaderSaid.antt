@@ -3,7 +3,8 @@ use Rattle.std.specs.Prelude.{◌≡◌, Bool, List, map}
 use Rattle.std.specs.List.{list_any}
 use Rattle.std.specs.Option.{is_some}
 use Rattle.mdb_msgs.specs.declared.reply.reader.ReaderMsg.{ReaderMsg}
-use Rattle.mdb_machine.specs.Kept.{IsSummary, kept_by}
+use Rattle.mdb_machine.specs.Kept.{kept_by}
+use Rattle.mdb_machine.specs.PastValues.{IsSummary}
 use Rattle.mdb_machine.specs.Past.{is_out_of_sequence}
 use Rattle.mdb_cashless.specs.declared.reader.messages.Said.{Said}
 use Rattle.mdb_cashless.specs.ReaderMessages.{amount_in, begin_session, config_in, last_said, part_of}

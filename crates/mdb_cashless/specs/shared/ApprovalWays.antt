@@ -35,7 +35,8 @@ use Rattle.mdb_machine.specs.Known.{Is, Known}
 use Rattle.mdb_machine.specs.Machine.{StartsIn}
 use Rattle.mdb_machine.specs.Pair.{IsActOf, IsMachineOf}
 use Rattle.mdb_machine.specs.Past.{tells_out_of_sequence}
-use Rattle.mdb_machine.specs.PastValues.{if_known, known_more}
+use Rattle.mdb_machine.specs.PastValues.{if_known}
+use Rattle.mdb_machine.specs.KnownMore.{known_more}
 use Rattle.mdb_machine.specs.Steps.{ForOwn}
 use Rattle.mdb_machine.specs.shared.OwnWays.{IsOfOwn, same_known}
 use Rattle.mdb_machine.specs.shared.StepWays as step_ways
@@ -44,7 +45,8 @@ use Rattle.mdb_cashless.specs.declared.approvals.sale.Sale.{Sale}
 use Rattle.mdb_cashless.specs.declared.approvals.sale.Sale.TheVariants.{Unknown, Unawaited, Awaited}
 use Rattle.mdb_cashless.specs.declared.approvals.state.ApprovalState.{ApprovalState}
 use Rattle.mdb_cashless.specs.ExtendedFacts.{Facts, approvals_in, facts_after, facts_of, sale_all_heard, sale_asked, sale_heard}
-use Rattle.mdb_cashless.specs.ExtendedReader.{ReaderStep, ReplyStep, approve, before_messages, effect, machine, may_be_again, may_be_either, news, power_on, unvalued, unvalued_by}
+use Rattle.mdb_cashless.specs.ExtendedReader.{ReaderStep, ReplyStep, approve, before_messages, effect, machine, may_be_again, may_be_either, news, power_on}
+use Rattle.mdb_cashless.specs.ExtendedAmounts.{unvalued, unvalued_by}
 use Rattle.mdb_cashless.specs.ReaderFacts.{own_messages, own_transaction}
 use Rattle.mdb_cashless.specs.ReaderMessages.{messages_of}
 use Rattle.mdb_cashless.specs.Transactions.{is_request}

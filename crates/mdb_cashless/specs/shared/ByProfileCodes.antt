@@ -1,6 +1,6 @@
 -- The codes of a reader's states by either profile: first those of the base profile. States and
 -- codes are one to one.
-use Rattle.std.specs.Prelude.{◌≡◌, ℕ, ◌+◌, ◌-◌, ◌<◌, ◌≤◌, ◌⊎◌}
+use Rattle.std.specs.Prelude.{◌≡◌, ℕ, ◌+◌, ◌-◌, ◌<◌}
 use Rattle.std.proofs.Common.{ap, arith, inl, inr}
 use Rattle.std.proofs.lemmas.Bool.{cases_lt}
 use Rattle.mdb_cashless.specs.declared.by_profile.state.StateByProfile.{StateByProfile}

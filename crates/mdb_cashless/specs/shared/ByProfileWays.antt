@@ -24,11 +24,11 @@ use Rattle.mdb_cashless.specs.declared.by_profile.facts.KnownByProfile.TheVarian
 use Rattle.mdb_cashless.specs.declared.by_profile.state.StateByProfile.{StateByProfile}
 use Rattle.mdb_cashless.specs.declared.by_profile.state.StateByProfile.TheVariants.{Base, Extended}
 use Rattle.mdb_cashless.specs.declared.reader.state.ReaderState.{ReaderState}
-use Rattle.mdb_cashless.specs.ByProfile.{FactsByProfile, StepOf, base_state, by_base, by_extended, by_profile, extended_state, facts_of, known_in, machine, machine_in, strayed, unvalued}
-use Rattle.mdb_cashless.specs.ExtendedFacts as extended_facts
+use Rattle.mdb_cashless.specs.ByProfile.{StepOf, base_state, by_profile, extended_state, machine, machine_in, strayed}
+use Rattle.mdb_cashless.specs.ByProfileFacts.{FactsByProfile, facts_of, unvalued}
+use Rattle.mdb_cashless.specs.ByProfileValues.{known_in}
 use Rattle.mdb_cashless.specs.ExtendedReader as extended
 use Rattle.mdb_cashless.specs.Reader as base
-use Rattle.mdb_cashless.specs.ReaderFacts as base_facts
 use Rattle.mdb_cashless.specs.ReaderValues as base_values
 use Rattle.mdb_cashless.specs.inner.Approvals as extended_values
 use Rattle.mdb_cashless.specs.inner.KnowingReader as knowing

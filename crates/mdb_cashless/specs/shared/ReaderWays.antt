@@ -35,7 +35,8 @@ use Rattle.mdb_cashless.specs.inner.KnowingReader.{as_choice, some_facts, starts
 use Rattle.mdb_cashless.specs.inner.PlainReader.{as_plain, restarts}
 use Rattle.mdb_machine.specs.shared.StepWays as step_ways
 use Rattle.mdb_machine.specs.shared.StepWays.{IsOwnOf}
-use Rattle.mdb_cashless.specs.Reader.{ReaderStep, StepKnowing, asks_sale, is_unpriced, machine, power_on, unvalued, unvalued_by}
+use Rattle.mdb_cashless.specs.Reader.{ReaderStep, StepKnowing, machine, power_on}
+use Rattle.mdb_cashless.specs.ReaderAmounts.{asks_sale, is_unpriced, unvalued, unvalued_by}
 use Rattle.mdb_cashless.specs.ReaderFacts.{Facts, KnownFacts, asked_by, config_by, effect_of, effect_of_own, known_of, messages_by, own_of, own_transaction, parts_by, taken_told}
 use Rattle.mdb_cashless.specs.ReaderMessages.{config_in, last_said, messages_of}
 use Rattle.mdb_cashless.specs.ReaderValues.{known_with}

@@ -13,6 +13,7 @@ ghost use Rattle.mdb_machine.specs.Pair.{IsActOf};
 ghost use Rattle.mdb_cashless.specs.declared.approvals.state.ApprovalState.{ApprovalState};
 ghost use Rattle.mdb_cashless.specs.ExtendedFacts.{Facts};
 ghost use Rattle.mdb_cashless.specs.ExtendedReader as spec;
+ghost use Rattle.mdb_cashless.specs.ExtendedAmounts as extended_amounts;
 ghost use Rattle.mdb_cashless.specs.inner.Approvals.{changes, facts_in, takes};
 
 use super::facts::ApprovalFacts;
@@ -110,7 +111,7 @@ fn may_be_either(state: ApprovalState) -> bool
 /// How many amounts without a value an act tells, after the acts before it.
 #[inline(always)]
 pub(crate) fn unvalued_by(unit: ReaderUnit, facts: &ApprovalFacts, act: &Act) -> u64
-    ensures count { result ≡ spec.unvalued_by unit (facts_in facts.now) act.now }
+    ensures count { result ≡ extended_amounts.unvalued_by unit (facts_in facts.now) act.now }
     ensures small { result ≤ 35 }
 {
     match act {
@@ -128,7 +129,7 @@ pub(crate) fn unvalued_by(unit: ReaderUnit, facts: &ApprovalFacts, act: &Act) ->
 
 /// Whether the value of a sale isn't known.
 fn is_unpriced(facts: &ApprovalFacts) -> bool
-    ensures { result ≡ spec.is_unpriced (facts_in facts.now) }
+    ensures { result ≡ extended_amounts.is_unpriced (facts_in facts.now) }
 {
     facts.config.is_none() || facts.amount.is_none() || facts.earlier
 }

@@ -1,7 +1,7 @@
 //! The steps of a reader that follows approvals, and of the controller.
 
 ghost use Rattle.std.specs.Prelude.{◌≡◌, ◌↔◌, ◌||◌, ◌<◌, ◌≤◌, ◌^◌, ℕ, not, true, IsTrue, IfNone, IfSome, None, Some};
-ghost use Rattle.mdb_machine.specs.Gains.{IsSmall};
+ghost use Rattle.mdb_machine.specs.SmallGains.{IsSmall};
 ghost use Rattle.mdb_machine.specs.Pair.{IsOnly, IsOnlyStep};
 ghost use Rattle.mdb_cashless.specs.ExtendedFacts.{approvals_in};
 ghost use Rattle.mdb_cashless.specs.ExtendedReader as spec;

@@ -5,7 +5,7 @@ ghost use Rattle.arrayvec.specs.ArrayVec.{array_vec_len};
 ghost use Rattle.mdb_bus.specs.declared.act.Act.{Act};
 ghost use Rattle.mdb_msgs.specs.declared.command.ReaderUnit.{ReaderUnit};
 ghost use Rattle.mdb_machine.specs.declared.gains.Gains.{Gains};
-ghost use Rattle.mdb_machine.specs.Gains.{IsSmall};
+ghost use Rattle.mdb_machine.specs.SmallGains.{IsSmall};
 ghost use Rattle.mdb_cashless.specs.declared.approvals.state.ApprovalState.{ApprovalState};
 ghost use Rattle.mdb_cashless.specs.ExtendedReader as spec;
 ghost use Rattle.mdb_cashless.specs.inner.Approvals as inner;

@@ -19,7 +19,9 @@ pub enum KnownByProfile {
 
 impl KnownByProfile {
     ghost use Rattle.std.specs.Prelude.{◌≡◌, option_map};
-    ghost use Rattle.mdb_cashless.specs.ByProfile.{config_of, known_in, strayed};
+    ghost use Rattle.mdb_cashless.specs.ByProfile.{strayed};
+    ghost use Rattle.mdb_cashless.specs.ByProfileFacts.{config_of};
+    ghost use Rattle.mdb_cashless.specs.ByProfileValues.{known_in};
     ghost use Rattle.mdb_cashless.specs.shared.ByProfileWays.{power_on_in};
 
     /// The decimal places of the reader's amounts: Z6 of its last config message, where one is

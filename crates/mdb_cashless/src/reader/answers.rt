@@ -2,7 +2,7 @@
 
 ghost use Rattle.std.specs.Prelude.{◌≡◌, ◌≤◌, ◌<◌, ◌^◌, IfSome, List, length, map};
 ghost use Rattle.std.specs.Bool.{OnFalse};
-ghost use Rattle.mdb_machine.specs.Gains.{AreSmall, IsSmall};
+ghost use Rattle.mdb_machine.specs.SmallGains.{AreSmall, IsSmall};
 ghost use Rattle.std.specs.List.{list_any};
 ghost use Rattle.mdb_machine.specs.Kept.{MayBeRead, holds_acked, kept_of};
 ghost use Rattle.mdb_machine.specs.Past.{is_out_of_sequence};

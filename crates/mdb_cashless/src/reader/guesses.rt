@@ -5,7 +5,7 @@
 ghost use Rattle.std.specs.Prelude.{◌≡◌, ◌<◌, ◌≤◌, ◌+◌, ◌↔◌, ◌⊎◌, Contains, IfSome, Option, Some, false, true};
 ghost use Rattle.arrayvec.specs.ArrayVec.{array_vec_len};
 ghost use Rattle.mdb_machine.specs.declared.gains.Gains.{Gains};
-ghost use Rattle.mdb_machine.specs.Gains.{IsSmall};
+ghost use Rattle.mdb_machine.specs.SmallGains.{IsSmall};
 ghost use Rattle.mdb_machine.specs.Known.{Unknown};
 ghost use Rattle.mdb_machine.specs.Pair.{IsOnlyStep};
 ghost use Rattle.mdb_machine.specs.PastValues.{if_known};

@@ -3,7 +3,8 @@
 ghost use Rattle.std.specs.Prelude.{◌≡◌, ◌≤◌, length};
 ghost use Rattle.std.specs.List.{list_any};
 ghost use Rattle.std.specs.Option.{is_some};
-ghost use Rattle.mdb_machine.specs.Kept.{IsSummary, is_reset, kept_by};
+ghost use Rattle.mdb_machine.specs.Kept.{is_reset, kept_by};
+ghost use Rattle.mdb_machine.specs.PastValues.{IsSummary};
 ghost use Rattle.mdb_cashless.specs.ReaderMessages as spec;
 
 use mdb_machine::kept::{KeptMessage, Part, Summary};

@@ -2,7 +2,7 @@
 
 ghost use Rattle.std.specs.Prelude.{◌≡◌};
 ghost use Rattle.std.specs.Bool.{OnFalse};
-ghost use Rattle.mdb_machine.specs.Gains.{AreSmall};
+ghost use Rattle.mdb_machine.specs.SmallGains.{AreSmall};
 ghost use Rattle.mdb_cashless.specs.Reader as spec;
 ghost use Rattle.mdb_cashless.specs.ReaderValues.{facts_in};
 ghost use Rattle.mdb_cashless.specs.Transactions.{amounts};

@@ -1,8 +1,9 @@
 //! The commands of a session.
 
 ghost use Rattle.std.specs.Prelude.{◌≡◌, ◌<◌, ◌^◌};
-ghost use Rattle.mdb_machine.specs.Gains.{AreSmall};
+ghost use Rattle.mdb_machine.specs.SmallGains.{AreSmall};
 ghost use Rattle.mdb_cashless.specs.Transactions as spec;
+ghost use Rattle.mdb_cashless.specs.ReaderAmounts as reader_amounts;
 
 use mdb_msgs::ReaderCommand;
 
@@ -58,7 +59,7 @@ impl Ended {
 impl Transaction {
     /// Whether it ends an approved sale.
     pub(crate) fn ends_sale(self) -> bool
-        ensures { result ≡ spec.ends_sale self }
+        ensures { result ≡ reader_amounts.ends_sale self }
     {
         matches!(self, Transaction::Success { .. })
     }

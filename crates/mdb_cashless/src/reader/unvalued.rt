@@ -5,7 +5,7 @@ ghost use Rattle.mdb_machine.specs.Choices.{is_approval};
 ghost use Rattle.mdb_machine.specs.Past.{or_else};
 ghost use Rattle.mdb_machine.specs.Unvalued as amounts;
 ghost use Rattle.mdb_machine.specs.Unvalued.{one_if};
-ghost use Rattle.mdb_cashless.specs.Reader as spec;
+ghost use Rattle.mdb_cashless.specs.ReaderAmounts as spec;
 ghost use Rattle.mdb_cashless.specs.ReaderMessages.{config_in, last_said, messages_of};
 ghost use Rattle.mdb_cashless.specs.ReaderValues.{known_in};
 

@@ -3,7 +3,8 @@ use Rattle.std.specs.Prelude.{◌≢◌, ℕ, List, Result, Ok, Err}
 use Rattle.mdb_words.specs.declared.row.RowFault.{RowFault}
 use Rattle.mdb_words.specs.declared.row.RowFault.TheVariants.{FieldCount, BadTime, BadLine, BadValue}
 use Rattle.mdb_words.specs.Digits.{IsDecimal}
-use Rattle.mdb_words.specs.Row.{IsRow, IsRefusal}
+use Rattle.mdb_words.specs.Row.{IsRow}
+use Rattle.mdb_words.specs.Refusals.{IsRefusal}
 use Rattle.mdb_follow.specs.declared.offence.Offence.{Offence}
 use Rattle.mdb_explained_runs.specs.declared.replay.ReplayFault.{ReplayFault}
 use Rattle.mdb_explained_runs.specs.declared.replay.ReplayFault.TheVariants as faults

@@ -22,7 +22,7 @@ use Rattle.mdb_follow.specs.Choosing.{Choices, Follows}
 use Rattle.mdb_msgs.specs.Devices.{same_device}
 use Rattle.mdb_explained_runs.specs.declared.mark.Mark.{Mark}
 use Rattle.mdb_explained_runs.specs.Marks.{own_marks}
-use Rattle.mdb_follow.specs.Devices.{device_place}
+use Rattle.mdb_follow.specs.ReportedDevices.{device_place}
 use Rattle.mdb_follow.specs.Machines.{StateOf, machine_of}
 use Rattle.mdb_follow.specs.Sides.{FactsOf, code_of, codes_of, stands_for}
 use Rattle.mdb_follow.specs.Sums.{Sums}

@@ -7,7 +7,8 @@ use Rattle.mdb_bus.specs.declared.act.Act.{Act}
 use Rattle.mdb_bus.specs.ActLists.{Piece, acts_of}
 use Rattle.mdb_machine.specs.declared.choice.Choice.{Choice}
 use Rattle.mdb_machine.specs.declared.gains.Gains.{Gains}
-use Rattle.mdb_machine.specs.Gains.{IsSmall, Stays}
+use Rattle.mdb_machine.specs.Gains.{Stays}
+use Rattle.mdb_machine.specs.SmallGains.{IsSmall}
 use Rattle.mdb_machine.specs.Machine.{Machine}
 use Rattle.mdb_machine.specs.Pair.{IsStep}
 use Rattle.mdb_explained_runs.specs.declared.explain.best.Best.{Best}

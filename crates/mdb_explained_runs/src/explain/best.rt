@@ -2,7 +2,7 @@
 
 ghost use Rattle.std.specs.Prelude.{◌≡◌, ◌<◌, ◌^◌, ℕ, ℤ, pos, neg_ℤ, ◌≤ℤ◌, length};
 ghost use Rattle.std.specs.Bool.{OnFalse, OnTrue};
-ghost use Rattle.mdb_machine.specs.Gains.{IsSmall};
+ghost use Rattle.mdb_machine.specs.SmallGains.{IsSmall};
 ghost use Rattle.mdb_follow.specs.Ends.{side_value};
 ghost use Rattle.mdb_explained_runs.specs.Marks.{marks_at};
 ghost use Rattle.mdb_explained_runs.specs.inner.Paths.{IsAsGood};

@@ -6,7 +6,8 @@ use Rattle.std.specs.Prelude.{length, slice_index, slice_index_or}
 use Rattle.mdb_bus.specs.declared.act.Act.{Act}
 use Rattle.mdb_machine.specs.declared.choice.Choice.{Choice}
 use Rattle.mdb_machine.specs.declared.gains.Gains.{Gains}
-use Rattle.mdb_machine.specs.Gains.{IsSmall, no_gains}
+use Rattle.mdb_machine.specs.Gains.{no_gains}
+use Rattle.mdb_machine.specs.SmallGains.{IsSmall}
 use Rattle.mdb_machine.specs.Machine.{Machine}
 use Rattle.mdb_follow.specs.declared.cell.Cell.{Cell}
 use Rattle.mdb_follow.specs.Cells.{joined_cell, moved_cell}

@@ -3,7 +3,7 @@
 ghost use Rattle.std.specs.Prelude.{◌≡◌, ◌<◌, ◌^◌, [], ◌∷◌, ◌↔◌, ℕ, List, IsTrue, None, IfSome};
 ghost use Rattle.std.specs.Prelude.{All, length};
 ghost use Rattle.std.specs.Bool.{OnFalse, OnTrue};
-ghost use Rattle.mdb_machine.specs.Gains.{IsSmall};
+ghost use Rattle.mdb_machine.specs.SmallGains.{IsSmall};
 ghost use Rattle.mdb_machine.specs.declared.gains.Gains.{Gains};
 ghost use Rattle.mdb_follow.specs.declared.cell.Cell.{Cell};
 ghost use Rattle.mdb_follow.specs.Cells.{moved_cell};

@@ -7,11 +7,11 @@ use Rattle.mdb_bus.specs.declared.act.Act.{Act}
 use Rattle.mdb_bus.specs.declared.levels.Levels.{Levels}
 use Rattle.mdb_bus.specs.declared.scope.Beginning.{Beginning}
 use Rattle.mdb_bus.specs.declared.scope.Scope.{Scope}
-use Rattle.mdb_bus.specs.Acts.{NamesAReply}
+use Rattle.mdb_bus.specs.Pieces.{NamesAReply}
 use Rattle.mdb_bus.specs.ActLists.{ArePieces, IsActList, Piece, Whole, acts_of}
 use Rattle.mdb_bus.specs.LeavingOut.{with_foreign}
 use Rattle.mdb_bus.specs.Loss.{Loss, LossFits}
-use Rattle.mdb_follow.specs.Arrivals.{EachArrives}
+use Rattle.mdb_follow.specs.Tables.{EachArrives}
 use Rattle.mdb_follow.specs.Runs.{AllSums, IsWay, States}
 use Rattle.mdb_late_start.specs.Alone.{MayBeReadAlone}
 use Rattle.mdb_late_start.specs.Cuts.{SplitsAt}

@@ -17,7 +17,8 @@ use Rattle.mdb_machine.specs.Keeper.{KnownFacts, Tables, asked_by, effect_of, kn
 use Rattle.mdb_machine.specs.Known.{known_before, known_by}
 use Rattle.mdb_machine.specs.KeeperSteps.{Conduct, StepKnowing}
 use Rattle.mdb_machine.specs.KeeperValues.{enabled_after, known_with}
-use Rattle.mdb_machine.specs.PastValues.{known_more, known_past_after}
+use Rattle.mdb_machine.specs.PastValues.{known_past_after}
+use Rattle.mdb_machine.specs.KnownMore.{known_more}
 use Rattle.mdb_machine.specs.Pair.{IsActOf, IsBreak, own_acts}
 use Rattle.mdb_machine.specs.Past.{effect_taken, last_told, or_else, resets}
 use Rattle.mdb_machine.specs.Kept.{kept_of}

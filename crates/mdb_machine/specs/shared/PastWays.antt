@@ -20,7 +20,8 @@ use Rattle.mdb_bus.specs.declared.scope.Beginning.{Beginning}
 use Rattle.mdb_bus.specs.declared.scope.Beginning.TheVariants.{PowerOn, Joined}
 use Rattle.mdb_machine.specs.Known.{known_by}
 use Rattle.mdb_machine.specs.Past.{KnownPast, PastFacts, known_past, last_list, runs_on, acts_from, effect_by, effect_taken, or_else, powers_on, tells_out_of_sequence, unless_empty}
-use Rattle.mdb_machine.specs.PastValues.{known_more, known_past_with}
+use Rattle.mdb_machine.specs.PastValues.{known_past_with}
+use Rattle.mdb_machine.specs.KnownMore.{known_more}
 
 -- what counts is the same where its fields are
 pub same_past : {M : Type 0} {one other : PastFacts M} → one.reset_owed ≡ other.reset_owed

@@ -1,14 +1,12 @@
 //! The messages of the validator's POLL answer (MDB/ICP 4.3, bill validator).
 
-ghost use Rattle.std.specs.Prelude.{◌≡◌, ℕ, ◌≤◌, List, [], ◌∷◌, ◌↔◌, length, IsTrue, IfOk, IfErr};
+ghost use Rattle.std.specs.Prelude.{◌≡◌, ℕ, ◌≤◌, true, List, [], ◌∷◌, ◌↔◌, length, IsTrue, IfOk, IfErr};
 ghost use Rattle.std.specs.List.{flat_map, AllByRecursion};
 ghost use Rattle.mdb_msgs.specs.Bill.{bill_msg_bytes, IsBillMsg, NoBillMsg};
-ghost use Rattle.mdb_msgs.specs.declared.reading.Reading.TheVariants.{Long};
 ghost use Rattle.mdb_msgs.specs.Lists.{StopsAt};
 
 use super::list::Bytes;
 use crate::fault::MsgFault;
-use crate::reading::Reading;
 use arrayvec::ArrayVec;
 
 /// A message of the validator's POLL answer.
@@ -38,7 +36,7 @@ pub enum BillMsg {
 impl BillMsg {
     /// Whether its field is in its range.
     fn is_valid(self) -> bool
-        ensures { IsTrue result ↔ IsBillMsg Long self }
+        ensures { IsTrue result ↔ IsBillMsg true self }
     {
         match self {
             BillMsg::Stacked(bill)
@@ -55,7 +53,7 @@ impl BillMsg {
 
     /// Its byte.
     fn byte(self) -> u8
-        requires { IsBillMsg Long self }
+        requires { IsBillMsg true self }
         ensures { bill_msg_bytes self ≡ result ∷ [] }
     {
         match self {
@@ -71,11 +69,12 @@ impl BillMsg {
     }
 }
 
-/// The message of a reading that is this byte.
-fn read_message(reading: Reading, byte: u8) -> Result<BillMsg, MsgFault>
-    ensures fields { IfOk result (IsBillMsg reading) }
+/// The message of a profile that is this byte.
+fn read_message(is_extended: bool, byte: u8) -> Result<BillMsg, MsgFault>
+    ensures fields { IfOk result (IsBillMsg is_extended) }
     ensures bytes { IfOk result (λ message. bill_msg_bytes message ≡ byte ∷ []) }
-    ensures err { IfErr result (λ fault. (rest : List ℕ) → NoBillMsg reading (byte ∷ rest) fault) }
+    ensures err { IfErr result (λ fault. (rest : List ℕ)
+        → NoBillMsg is_extended (byte ∷ rest) fault) }
 {
     match byte {
         0x06 => Ok(BillMsg::Reset),
@@ -87,35 +86,35 @@ fn read_message(reading: Reading, byte: u8) -> Result<BillMsg, MsgFault>
         0x90..=0x9F => Ok(BillMsg::Escrow(byte - 0x90)),
         0xA0..=0xAF => Ok(BillMsg::Returned(byte - 0xA0)),
         0xC0..=0xCF => Ok(BillMsg::Rejected(byte - 0xC0)),
-        _ if !reading.is_extended() => Err(MsgFault::Profile),
+        _ if !is_extended => Err(MsgFault::Profile),
         0xB0..=0xBF => Ok(BillMsg::Recycled(byte - 0xB0)),
         _ => Ok(BillMsg::RecyclerStatus(byte)),
     }
 }
 
-/// The messages of a reading that these bytes are, or the fault of the leftmost that can't be
+/// The messages of a profile that these bytes are, or the fault of the leftmost that can't be
 /// taken.
 pub(crate) fn read_messages(
-    reading: Reading,
+    is_extended: bool,
     bytes: &[u8],
 ) -> Result<ArrayVec<BillMsg, 16>, MsgFault>
     requires { length bytes.now ≤ 16 }
-    ensures fields { IfOk result (λ list. AllByRecursion (IsBillMsg Long) list.items) }
-    ensures reading { IfOk result (λ list. AllByRecursion (IsBillMsg reading) list.items) }
+    ensures fields { IfOk result (λ list. AllByRecursion (IsBillMsg true) list.items) }
+    ensures reading { IfOk result (λ list. AllByRecursion (IsBillMsg is_extended) list.items) }
     ensures bytes { IfOk result (λ list. bytes.now ≡ flat_map bill_msg_bytes list.items) }
-    ensures err { IfErr result (StopsAt bill_msg_bytes (IsBillMsg reading) (NoBillMsg reading)
-        bytes.now) }
+    ensures err { IfErr result (StopsAt bill_msg_bytes (IsBillMsg is_extended)
+        (NoBillMsg is_extended) bytes.now) }
 {
     let mut messages = ArrayVec::new();
     for byte in bytes {
-        messages.push(read_message(reading, *byte)?);
+        messages.push(read_message(is_extended, *byte)?);
     }
     Ok(messages)
 }
 
 /// Whether the fields of all messages are in their ranges.
 pub(crate) fn are_valid(messages: &[BillMsg]) -> bool
-    ensures { IsTrue result ↔ AllByRecursion (IsBillMsg Long) messages.now }
+    ensures { IsTrue result ↔ AllByRecursion (IsBillMsg true) messages.now }
 {
     messages.iter().all(|message| message.is_valid())
 }
@@ -129,7 +128,7 @@ pub(crate) fn count_of(messages: &[BillMsg]) -> usize
 
 /// The bytes of the messages, put end to end.
 pub(crate) fn bytes_of(messages: &[BillMsg]) -> Bytes
-    requires fields { AllByRecursion (IsBillMsg Long) messages.now }
+    requires fields { AllByRecursion (IsBillMsg true) messages.now }
     requires room { length messages.now ≤ 16 }
     ensures { result.items ≡ flat_map bill_msg_bytes messages.now }
 {

@@ -6,13 +6,14 @@ ghost use Rattle.mdb_msgs.specs.declared.fault.MsgFault.{MsgFault as Fault};
 ghost use Rattle.mdb_msgs.specs.declared.fault.MsgFault.TheVariants.{Message};
 ghost use Rattle.mdb_msgs.specs.declared.reading.Reading.{Reading as Read};
 ghost use Rattle.mdb_msgs.specs.TwoBytes.{two_bytes, four_bytes};
-ghost use Rattle.mdb_msgs.specs.Reader.{head_bytes, reader_msg_bytes, reader_list_bytes, is_display, is_id, is_kept, foot_bytes, has_long, has_options, own_reading, reading_of, session_bytes, tells_level, text_of, AreReaderMsgs, IsListFault, IsReaderBlock, IsReaderList, IsTextOf, NoReaderMsg, ReaderStopsAt};
-ghost use Rattle.mdb_msgs.specs.ReaderBytes.{messages_of, no_messages};
+ghost use Rattle.mdb_msgs.specs.Reader.{head_bytes, reader_msg_bytes, reader_list_bytes, is_display, is_id, is_kept, has_long, ids_of, own_ids, reading_of, session_bytes, tells_level, text_of, AreReaderMsgs, IsReaderList, IsTextOf, NoReaderMsg, ReaderStopsAt, wider};
+ghost use Rattle.mdb_msgs.specs.ReplyFaults.{IsListFault, IsReaderBlock};
+ghost use Rattle.mdb_msgs.specs.ReaderBytes.{foot_bytes, messages_of, no_messages};
 ghost use Rattle.mdb_msgs.specs.inner.ReaderSteps.{IsNextMessage, StandAsMessages};
 
 use super::list::{Bytes, append, list_of};
 use crate::fault::MsgFault;
-use crate::reading::Reading;
+use crate::reading::{Ids, Reading};
 use crate::two_bytes::{high, high_half, long_number, low, low_half, number};
 use arrayvec::ArrayVec;
 use std::marker::Model;
@@ -74,7 +75,7 @@ pub enum ReaderMsg {
     Cancelled,
     /// 09: the peripheral's identification. Its bytes are [`ReaderList::id`].
     PeripheralId,
-    /// 09 of the extended profile, where at least 34 bytes are left: the peripheral's
+    /// 09 of the extended profile, where the reading takes 34 bytes: the peripheral's
     /// identification with its options. Its other bytes are [`ReaderList::id`].
     PeripheralIdWithOptions {
         /// The options, Z31-Z34.
@@ -86,20 +87,14 @@ pub enum ReaderMsg {
     OutOfSequence,
     /// 0B of feature levels 2 and 3, where it isn't the last byte: its status.
     OutOfSequenceIn(u8),
-    /// 0D of feature levels 2 and 3: a revalue is approved.
-    RevalueApproved,
-    /// 0E of feature levels 2 and 3: a revalue is denied.
-    RevalueDenied,
-    /// 0F of feature levels 2 and 3: how much may be put on the card, in units of the scale factor.
-    RevalueLimit(u16),
     /// 11 of feature levels 2 and 3: the reader asks for time and date.
     TimeAsked,
 }
 
 impl ReaderMsg {
-    /// Whether the message tells of a session or a sale (03, 05, 06, 07, 0D and 0E), and so may
-    /// stand in answers to POLL and the five commands of a session alone: 12 and 13 00 to 13 04 of
-    /// the first reader, 62 and 63 00 to 63 04 of the second (this profile).
+    /// Whether the message tells of a session or a sale (03, 05, 06 and 07), and so may stand in
+    /// answers to POLL and the five commands of a session alone by the base profile: 12 and 13 00
+    /// to 13 04 of the first reader, 62 and 63 00 to 63 04 of the second (this profile).
     fn is_kept(self) -> bool
         ensures { result ≡ is_kept self }
     {
@@ -110,8 +105,6 @@ impl ReaderMsg {
                 | ReaderMsg::VendApproved { .. }
                 | ReaderMsg::VendDenied
                 | ReaderMsg::EndSession
-                | ReaderMsg::RevalueApproved
-                | ReaderMsg::RevalueDenied
         )
     }
 
@@ -133,9 +126,6 @@ impl ReaderMsg {
             self,
             ReaderMsg::BeginSessionLong { .. }
                 | ReaderMsg::OutOfSequenceIn(_)
-                | ReaderMsg::RevalueApproved
-                | ReaderMsg::RevalueDenied
-                | ReaderMsg::RevalueLimit(_)
                 | ReaderMsg::TimeAsked
         )
     }
@@ -155,11 +145,20 @@ impl ReaderMsg {
         )
     }
 
-    /// Whether the message is an identification with options.
-    fn has_options(self) -> bool
-        ensures { result ≡ has_options self }
+    /// How identifications have to be read at least, where the messages before it ask for `ids`.
+    fn widened(self, ids: Ids) -> Ids
+        ensures { result ≡ wider ids (ids_of self) }
     {
-        matches!(self, ReaderMsg::PeripheralIdWithOptions { .. })
+        match (self, ids) {
+            (ReaderMsg::PeripheralIdWithOptions { options }, Ids::Bare | Ids::ByNext) => {
+                if high(high_half(options)) == 0 {
+                    Ids::ByNext
+                } else {
+                    Ids::Full
+                }
+            }
+            _ => ids,
+        }
     }
 
     /// Its options, of an identification with options.
@@ -230,9 +229,6 @@ impl ReaderMsg {
             ReaderMsg::Malfunction(code) => list_of(&[0x0A, code]),
             ReaderMsg::OutOfSequence => list_of(&[0x0B]),
             ReaderMsg::OutOfSequenceIn(status) => list_of(&[0x0B, status]),
-            ReaderMsg::RevalueApproved => list_of(&[0x0D]),
-            ReaderMsg::RevalueDenied => list_of(&[0x0E]),
-            ReaderMsg::RevalueLimit(amount) => list_of(&[0x0F, high(amount), low(amount)]),
             ReaderMsg::TimeAsked => list_of(&[0x11]),
         }
     }
@@ -456,7 +452,7 @@ impl<'a> ReaderIter<'a> {
         ensures { result ≡ [] }
     {
         ReaderIter {
-            reading: Reading::Base,
+            reading: Reading::BASE,
             rest: &[],
         }
     }
@@ -524,14 +520,21 @@ fn are_same(messages: &[ReaderMsg], others: &[ReaderMsg]) -> bool
 fn reading_of(messages: &[ReaderMsg]) -> Reading
     ensures { result ≡ reading_of messages.now }
 {
-    own_reading(have_long(messages), have_options(messages))
+    Reading {
+        is_long: have_long(messages),
+        ids: own_ids(messages),
+    }
 }
 
-/// Whether one of the messages is an identification with options.
-fn have_options(messages: &[ReaderMsg]) -> bool
-    ensures { result ≡ list_any has_options messages.now }
+/// How identifications have to be read at least for these messages.
+fn own_ids(messages: &[ReaderMsg]) -> Ids
+    ensures { result ≡ own_ids messages.now }
 {
-    messages.iter().any(|message| message.has_options())
+    let mut ids = Ids::Bare;
+    for message in messages {
+        ids = message.widened(ids);
+    }
+    ids
 }
 
 /// Whether one of the messages is of feature levels 2 and 3 alone.
@@ -539,18 +542,6 @@ fn have_long(messages: &[ReaderMsg]) -> bool
     ensures { result ≡ list_any has_long messages.now }
 {
     messages.iter().any(|message| message.has_long())
-}
-
-/// The reading that messages are kept in, by whether one of them is of feature levels 2 and 3, and
-/// whether one is an identification with options.
-fn own_reading(has_long: bool, has_options: bool) -> Reading
-    ensures { result ≡ own_reading has_long has_options }
-{
-    match (has_long, has_options) {
-        (true, _) => Reading::Long,
-        (false, true) => Reading::Short,
-        (false, false) => Reading::Base,
-    }
 }
 
 /// The list of these messages and texts, if it is what their bytes are read as.
@@ -622,7 +613,7 @@ fn read_session(reading: Reading, further: &[u8]) -> Result<(ReaderMsg, &[u8]), 
     ensures err { IfErr result (λ fault. (fault ≡ Message)
         × (length further.now < session_bytes reading)) }
 {
-    if !reading.is_long() {
+    if !reading.is_long {
         let (funds, rest) = read_number(further)?;
         return Ok((ReaderMsg::BeginSession { funds }, rest));
     }
@@ -647,7 +638,7 @@ fn read_out_of_sequence(reading: Reading, further: &[u8]) -> (ReaderMsg, &[u8])
     ensures text { IsTextOf reading result.0 [] result.1.now }
 {
     match further {
-        [status, rest @ ..] if reading.is_long() => (ReaderMsg::OutOfSequenceIn(*status), rest),
+        [status, rest @ ..] if reading.is_long => (ReaderMsg::OutOfSequenceIn(*status), rest),
         _ => (ReaderMsg::OutOfSequence, further),
     }
 }
@@ -661,20 +652,11 @@ fn read_above(reading: Reading, first: u8, further: &[u8]) -> Result<(ReaderMsg,
     ensures text { IfOk result (λ x. IsTextOf reading x.0 [] x.1.now) }
     ensures err { IfErr result (NoReaderMsg reading (first ∷ further.now)) }
 {
-    if !reading.is_long() {
-        return Err(MsgFault::Profile);
+    if reading.is_long && first == 0x11 {
+        Ok((ReaderMsg::TimeAsked, further))
+    } else {
+        Err(MsgFault::Profile)
     }
-    let message = match first {
-        0x0D => ReaderMsg::RevalueApproved,
-        0x0E => ReaderMsg::RevalueDenied,
-        0x0F => {
-            let (amount, rest) = read_number(further)?;
-            return Ok((ReaderMsg::RevalueLimit(amount), rest));
-        }
-        0x11 => ReaderMsg::TimeAsked,
-        _ => return Err(MsgFault::Profile),
-    };
-    Ok((message, further))
 }
 
 /// The message of a reading without a text that begins with `first` and goes on with `further`,
@@ -721,17 +703,14 @@ fn read_id(reading: Reading, further: &[u8]) -> Result<(ReaderMsg, &[u8], &[u8])
     if further.len() < 29 {
         return Err(MsgFault::Message);
     }
-    if !reading.is_extended() || further.len() < 33 {
-        let (id, rest) = further.split_at(29);
-        return Ok((ReaderMsg::PeripheralId, id, rest));
-    }
-    let (text, rest) = further.split_at(33);
-    match text.split_at(29).1 {
-        [a, b, c, d] => {
+    let (id, rest) = further.split_at(29);
+    match rest {
+        [a, b, c, d, ..] if reading.ids.allows(*a) => {
             let options = long_number(number(*a, *b), number(*c, *d));
+            let (text, rest) = further.split_at(33);
             Ok((ReaderMsg::PeripheralIdWithOptions { options }, text, rest))
         }
-        _ => Err(MsgFault::Message),
+        _ => Ok((ReaderMsg::PeripheralId, id, rest)),
     }
 }
 
@@ -785,16 +764,16 @@ pub(crate) fn read_messages(reading: Reading, bytes: &[u8]) -> Result<ReaderList
     ensures err { IfErr result (ReaderStopsAt reading bytes.now) }
 {
     let mut rest = bytes;
-    let mut has_long = false;
-    let mut has_options = false;
+    let mut is_long = false;
+    let mut ids = Ids::Bare;
     while let Some((first, further)) = rest.split_first() {
         let (message, _, after) = read_message(reading, *first, further)?;
-        has_long |= message.has_long();
-        has_options |= message.has_options();
+        is_long |= message.has_long();
+        ids = message.widened(ids);
         rest = after;
     }
     Ok(ReaderList {
         bytes: list_of(bytes),
-        reading: own_reading(has_long, has_options),
+        reading: Reading { is_long, ids },
     })
 }

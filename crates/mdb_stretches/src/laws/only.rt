@@ -5,7 +5,7 @@ ghost use Rattle.mdb_words.specs.declared.event.Event.{Event};
 ghost use Rattle.mdb_bus.specs.declared.scope.Scope.{Scope};
 ghost use Rattle.mdb_follow.specs.declared.follower.TheConstants.{ROWS_MAX};
 ghost use Rattle.mdb_follow.specs.declared.offence.Offence.{Offence};
-ghost use Rattle.mdb_follow.specs.Offences.{HasOffence};
+ghost use Rattle.mdb_follow.specs.FirstOffences.{HasOffence};
 ghost use Rattle.mdb_follow.specs.Report.{IsReport};
 ghost use Rattle.mdb_stretches.specs.declared.stretch.Ended.{Ended};
 ghost use Rattle.mdb_stretches.specs.declared.stretch.Stretch.{Stretch};

@@ -10,8 +10,9 @@ ghost use Rattle.mdb_bus.specs.declared.scope.Profile.TheVariants.{Base, Extende
 ghost use Rattle.mdb_bus.specs.declared.scope.Scope.{Scope};
 ghost use Rattle.mdb_bus.specs.ActLists.{Piece, acts_of, levels_of};
 ghost use Rattle.mdb_bus.specs.LinkFaults.{blame_on};
-ghost use Rattle.mdb_bus.specs.Scopes.{IsFollowed, IsLeftOut, levels_before, profile_of};
-ghost use Rattle.mdb_bus.specs.WideMoney.{first_known};
+ghost use Rattle.mdb_bus.specs.Scopes.{IsFollowed, levels_before, profile_of};
+ghost use Rattle.mdb_bus.specs.LeavingOut.{IsLeftOut};
+ghost use Rattle.mdb_bus.specs.ExtendedMoney.{first_known};
 ghost use Rattle.mdb_stretches.specs.declared.stretch.Ended.{Ended};
 ghost use Rattle.mdb_stretches.specs.declared.stretch.Stretch.{Stretch};
 ghost use Rattle.mdb_stretches.specs.declared.told.Told.{Told};

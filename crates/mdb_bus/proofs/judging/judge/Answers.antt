@@ -7,7 +7,7 @@ use Rattle.mdb_bus.proofs.judging.judge.Goals as goal
 
 pub returns-in-Break-clause-judged : goal.returns-in-Break-clause-judged
 returns-in-Break-clause-judged c =
-    λ levels sound. judged_row (record {
+    λ levels sound. judged_row c.args.times (record {
       scope = c.args.scope.now;
       position = position_at c.args.place.now;
       last = c.args.last.now;
@@ -15,12 +15,11 @@ returns-in-Break-clause-judged c =
     })
     c.args.row.now _
     c.judge_break.result c.in-Break.is
-    (c.judge_break.ensures.judged c.args.scope.now (position_at c.args.place.now) levels
-    c.profile-profile.ensures)
+    (c.judge_break.ensures.judged c.args.scope.now (position_at c.args.place.now) levels)
 
 pub returns-in-Controller-clause-judged : goal.returns-in-Controller-clause-judged
 returns-in-Controller-clause-judged c =
-    λ levels sound. judged_row (record {
+    λ levels sound. judged_row c.args.times (record {
       scope = c.args.scope.now;
       position = position_at c.args.place.now;
       last = c.args.last.now;
@@ -33,7 +32,7 @@ returns-in-Controller-clause-judged c =
 
 pub returns-in-Peripheral-clause-judged : goal.returns-in-Peripheral-clause-judged
 returns-in-Peripheral-clause-judged c =
-    λ levels sound. judged_row (record {
+    λ levels sound. judged_row c.args.times (record {
       scope = c.args.scope.now;
       position = position_at c.args.place.now;
       last = c.args.last.now;
@@ -42,7 +41,7 @@ returns-in-Peripheral-clause-judged c =
     c.args.row.now _
     c.judge_peripheral.result
     (c.in-Word.is ∙ ap (λ (line : Line). Word c.in-Word.at line c.in-Word.word) c.in-Peripheral.is)
-    (c.judge_peripheral.ensures.judged c.args.scope.now levels c.profile-profile.ensures)
+    (c.judge_peripheral.ensures.judged c.args.scope.now levels)
 
 pub returns-in-Break-clause-belongs : goal.returns-in-Break-clause-belongs
 returns-in-Break-clause-belongs c =

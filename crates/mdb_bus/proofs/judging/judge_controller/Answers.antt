@@ -1,54 +1,49 @@
 use Rattle.mdb_words.specs.declared.event.Event.TheVariants.{Word}
 use Rattle.mdb_words.specs.declared.word.Line.TheVariants.{Controller}
-use Rattle.std.proofs.Common.{subst, sym}
-use Rattle.mdb_bus.specs.declared.scope.Profile.{Profile}
-use Rattle.mdb_bus.proofs.Masked.{AreKnown}
 use Rattle.mdb_bus.proofs.Verdicts.{asking_followed, asking_known, belongs_at, judged_at, not_asking}
 use Rattle.mdb_bus.specs.declared.phase.Phase.TheVariants as phase
 use Rattle.mdb_bus.proofs.judging.judge_controller.Goals as goal
 
 pub returns-in-InAsk-clause-judged : goal.returns-in-InAsk-clause-judged
 returns-in-InAsk-clause-judged c =
-    let Known : Profile → Type 0 = λ profile. AreKnown profile c.args.place.now.bytes in
-    λ levels sound. judged_at c.args.scope.now c.args.place.now _ c.args.last.now levels
-    (Word c.args.at Controller c.args.word)
+    λ levels sound. judged_at c.args.times c.args.scope.now c.args.place.now _ c.args.last.now
+    levels (Word c.args.at Controller c.args.word)
     c.go_on_asking.result c.in-InAsk.is
-    (c.go_on_asking.ensures.judged c.args.scope.now levels c.profile-profile.ensures
-    (subst Known (sym c.profile-profile.ensures)
+    (c.go_on_asking.ensures.judged levels
     (asking_known c.first_two_bytes_tell_enable_options.ensures c.args.scope.now c.args.place.now
-    c.in-InAsk.is sound))
+    c.in-InAsk.is sound)
     (asking_followed c.first_byte_tells_the_device.ensures c.args.scope.now c.args.place.now
     c.in-InAsk.is sound))
 
 pub returns-in-InReply-clause-judged : goal.returns-in-InReply-clause-judged
 returns-in-InReply-clause-judged c =
-    λ levels sound. judged_at c.args.scope.now c.args.place.now _ c.args.last.now levels
-    (Word c.args.at Controller c.args.word)
-    c.cut_in.result c.in-InReply.is (c.cut_in.ensures.reply c.args.scope.now levels
+    λ levels sound. judged_at c.args.times c.args.scope.now c.args.place.now _ c.args.last.now
+    levels (Word c.args.at Controller c.args.word)
+    c.cut_in.result c.in-InReply.is (c.cut_in.ensures.reply c.args.times c.args.scope.now levels
     c.args.place.now.command c.args.place.now.bytes)
 
 pub returns-in-InRepeat-clause-judged : goal.returns-in-InRepeat-clause-judged
 returns-in-InRepeat-clause-judged c =
-    λ levels sound. judged_at c.args.scope.now c.args.place.now _ c.args.last.now levels
-    (Word c.args.at Controller c.args.word)
+    λ levels sound. judged_at c.args.times c.args.scope.now c.args.place.now _ c.args.last.now
+    levels (Word c.args.at Controller c.args.word)
     c.cut_in-in-InRepeat.result c.in-InRepeat.is
-    (c.cut_in-in-InRepeat.ensures.repeat c.args.scope.now levels c.args.place.now.command
-    c.args.place.now.last_reply.reply _)
+    (c.cut_in-in-InRepeat.ensures.repeat c.args.times c.args.scope.now levels
+    c.args.place.now.command c.args.place.now.last_reply.reply _)
 
 pub returns-in-Replied-2-clause-judged : goal.returns-in-Replied-2-clause-judged
 returns-in-Replied-2-clause-judged c =
-    λ levels sound. judged_at c.args.scope.now c.args.place.now _ c.args.last.now levels
-    (Word c.args.at Controller c.args.word)
+    λ levels sound. judged_at c.args.times c.args.scope.now c.args.place.now _ c.args.last.now
+    levels (Word c.args.at Controller c.args.word)
     c.answer_reply.result c.in-Replied-2.is
     (c.answer_reply.ensures.judged c.args.scope.now levels c.args.place.now.command
-    c.args.place.now.last_reply.reply c.profile-profile.ensures)
+    c.args.place.now.last_reply.reply)
 
 pub returns-in-InForeign-2-clause-judged : goal.returns-in-InForeign-2-clause-judged
 returns-in-InForeign-2-clause-judged c =
-    λ levels sound. judged_at c.args.scope.now c.args.place.now _ c.args.last.now levels
-    (Word c.args.at Controller c.args.word)
+    λ levels sound. judged_at c.args.times c.args.scope.now c.args.place.now _ c.args.last.now
+    levels (Word c.args.at Controller c.args.word)
     c.go_on_foreign.result c.in-InForeign-2.is
-    (c.go_on_foreign.ensures.judged c.args.scope.now levels)
+    (c.go_on_foreign.ensures.judged c.args.times c.args.scope.now levels)
 
 pub returns-in-InAsk-clause-belongs : goal.returns-in-InAsk-clause-belongs
 returns-in-InAsk-clause-belongs c =

@@ -5,35 +5,36 @@ use Rattle.mdb_bus.proofs.judging.judge_peripheral.Goals as goal
 
 pub returns-in-Asked-clause-judged : goal.returns-in-Asked-clause-judged
 returns-in-Asked-clause-judged c =
-    λ scope levels by. judged_at scope c.args.place.now _ c.args.last.now levels
+    λ scope levels. judged_at c.args.times scope c.args.place.now _ c.args.last.now levels
     (Word c.args.at Peripheral c.args.word) c.answer.result
-    c.in-Asked.is (c.answer.ensures.judged scope levels by)
+    c.in-Asked.is (c.answer.ensures.judged scope levels)
 
 pub returns-in-Returned-clause-judged : goal.returns-in-Returned-clause-judged
 returns-in-Returned-clause-judged c =
-    λ scope levels by. judged_at scope c.args.place.now _ c.args.last.now levels
+    λ scope levels. judged_at c.args.times scope c.args.place.now _ c.args.last.now levels
     (Word c.args.at Peripheral c.args.word)
     c.begin_repeat.result c.in-Returned.is
-    (c.begin_repeat.ensures.judged scope levels c.args.place.now.command by)
+    (c.begin_repeat.ensures.judged scope levels c.args.place.now.command)
 
 pub returns-in-InRepeat-clause-judged : goal.returns-in-InRepeat-clause-judged
 returns-in-InRepeat-clause-judged c =
-    λ scope levels by. judged_at scope c.args.place.now _ c.args.last.now levels
+    λ scope levels. judged_at c.args.times scope c.args.place.now _ c.args.last.now levels
     (Word c.args.at Peripheral c.args.word)
     c.go_on_repeating.result c.in-InRepeat.is
-    (c.go_on_repeating.ensures.judged scope levels c.args.place.now.command by)
+    (c.go_on_repeating.ensures.judged scope levels c.args.place.now.command)
 
 pub returns-in-InForeign-clause-judged : goal.returns-in-InForeign-clause-judged
 returns-in-InForeign-clause-judged c =
-    λ scope levels by. judged_at scope c.args.place.now _ c.args.last.now levels
+    λ scope levels. judged_at c.args.times scope c.args.place.now _ c.args.last.now levels
     (Word c.args.at Peripheral c.args.word)
-    c.go_on_foreign.result c.in-InForeign.is (c.go_on_foreign.ensures.judged scope levels)
+    c.go_on_foreign.result c.in-InForeign.is
+    (c.go_on_foreign.ensures.judged c.args.times scope levels)
 
 pub returns-in-InReply-clause-judged : goal.returns-in-InReply-clause-judged
 returns-in-InReply-clause-judged c =
-    λ scope levels by. judged_at scope c.args.place.now _ c.args.last.now levels
+    λ scope levels. judged_at c.args.times scope c.args.place.now _ c.args.last.now levels
     (Word c.args.at Peripheral c.args.word)
-    c.go_on_replying.result c.in-InReply.is (c.go_on_replying.ensures.judged scope levels by)
+    c.go_on_replying.result c.in-InReply.is (c.go_on_replying.ensures.judged scope levels)
 
 pub returns-in-Asked-clause-belongs : goal.returns-in-Asked-clause-belongs
 returns-in-Asked-clause-belongs c =

@@ -12,7 +12,7 @@ returns c scope =
       tells = tells first two c.first_bytes_tell_the_length.ensures scope;
       open_front = open_front first c.need_leaves_a_command_open.ensures
           c.need_leaves_another_command_open.ensures scope;
-      one_reply = one_as (one_reply c.block_has_one_reply.ensures) c.reply_has_no_fault.ensures;
+      one_reply = one_as c.reply_has_no_fault.ensures (one_reply c.block_has_one_reply.ensures);
       no_fault = none_as c.reply_has_no_fault.ensures;
       counted = c.reply_has_its_length.ensures.allowed;
     }

@@ -1,6 +1,6 @@
 use Rattle.std.proofs.Common.{◌≡◌}
 use Rattle.std.specs.List.{list_any}
-use Rattle.mdb_bus.specs.WideMoney.{is_refusal}
+use Rattle.mdb_bus.specs.ExtendedCounts.{is_refusal}
 use Rattle.mdb_bus.proofs.options.has_refusal.Given as goal
 
 abbrev pub invariant-loop-message : goal.invariant-loop-message

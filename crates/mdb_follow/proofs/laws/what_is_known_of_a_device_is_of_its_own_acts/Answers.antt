@@ -1,7 +1,7 @@
 use Rattle.std.proofs.Common.{◌≡◌, List}
 use Rattle.mdb_bus.specs.declared.act.Act.{Act}
 use Rattle.mdb_machine.specs.Pair.{own_acts}
-use Rattle.mdb_follow.specs.Devices.{spec_of}
+use Rattle.mdb_follow.specs.ReportedDevices.{reported_of}
 use Rattle.mdb_follow.specs.Report.{unvalued_of}
 use Rattle.mdb_follow.proofs.OwnKnown.{any_device}
 use Rattle.mdb_follow.proofs.laws.what_is_known_of_a_device_is_of_its_own_acts.Goals as goal
@@ -9,7 +9,7 @@ use Rattle.mdb_follow.proofs.laws.what_is_known_of_a_device_is_of_its_own_acts.G
 pub returns-clause-known : goal.returns-clause-known
 returns-clause-known c begins =
     any_device (λ device. (acts other : List Act) → own_acts device acts ≡ own_acts device other
-    → (spec_of device).known begins acts ≡ (spec_of device).known begins other)
+    → (reported_of device).known begins acts ≡ (reported_of device).known begins other)
     (c.the_changers_facts_are_of_its_own_acts.ensures.known begins)
     (c.the_validators_facts_are_of_its_own_acts.ensures.known begins)
     (c.a_readers_facts_are_of_its_own_acts.ensures.known begins)

@@ -1,5 +1,5 @@
 use Rattle.std.proofs.Common.{◌≡◌, ◌++◌}
-use Rattle.mdb_msgs.specs.Reader.{last_level}
+use Rattle.mdb_msgs.specs.ExtendedLevels.{last_level}
 use Rattle.mdb_msgs.proofs.setup_data.last_level.Given as goal
 
 -- what the messages so far say

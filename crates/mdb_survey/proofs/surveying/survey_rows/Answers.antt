@@ -8,7 +8,8 @@ use Rattle.mdb_verdict.specs.declared.fault.RunFault.{RunFault}
 use Rattle.mdb_verdict.specs.Ending.{HasEnded, IsStop}
 use Rattle.mdb_verdict.specs.Telling.{IsOfOutput}
 use Rattle.mdb_verdict.proofs.Tellings.{handed_on, reads_all, reads_fault, reads_output}
-use Rattle.mdb_words.specs.Row.{IsRefusal, IsRow}
+use Rattle.mdb_words.specs.Row.{IsRow}
+use Rattle.mdb_words.specs.Refusals.{IsRefusal}
 use Rattle.mdb_writing.specs.Output.{Output, begun, output}
 use Rattle.mdb_survey.specs.Survey.{survey_lines_in}
 use Rattle.mdb_survey.specs.inner.SurveySteps.{HasSurveyed, PutsSurveying}

@@ -3,7 +3,7 @@ use Rattle.std.proofs.KnownBytes.{Appends-trans}
 use Rattle.std.specs.Prelude.{OnOk}
 use Rattle.std.specs.Io.KnownBytes.{Appends}
 use Rattle.mdb_bus.specs.declared.scope.Scope.{Scope}
-use Rattle.mdb_bus.specs.Scopes.{joined}
+use Rattle.mdb_bus.specs.JoinedScopes.{joined}
 use Rattle.mdb_stretches.specs.Told.{setups_of}
 use Rattle.mdb_text.specs.Text.{report_lines}
 use Rattle.mdb_text.proofs.Texts.{on_ok}

@@ -2,7 +2,7 @@ use Rattle.std.proofs.Common.{ap, subst, sym, get_or}
 use Rattle.std.proofs.lemmas.List.{append-nil}
 use Rattle.std.specs.Io.KnownBytes.{Appends}
 use Rattle.mdb_follow.specs.declared.report.TheConstants.Report.{DEVICES}
-use Rattle.mdb_follow.specs.Devices.{device_place}
+use Rattle.mdb_follow.specs.ReportedDevices.{device_place}
 use Rattle.mdb_text.specs.Text.{count_text}
 use Rattle.std.proofs.KnownBytes.{Appends-trans}
 use Rattle.mdb_text.proofs.Texts.{all_parts, on_ok, one_part_more}

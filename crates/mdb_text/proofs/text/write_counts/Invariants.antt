@@ -1,7 +1,7 @@
 use Rattle.std.proofs.Common.{◌++◌, get_or, take}
 use Rattle.std.specs.Io.KnownBytes.{Appends}
 use Rattle.std.specs.List.{flat_map}
-use Rattle.mdb_follow.specs.Devices.{device_place}
+use Rattle.mdb_follow.specs.ReportedDevices.{device_place}
 use Rattle.mdb_text.specs.Text.{count_text}
 use Rattle.mdb_text.proofs.text.write_counts.Given as goal
 

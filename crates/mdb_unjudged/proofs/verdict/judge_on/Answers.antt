@@ -2,13 +2,14 @@ use Rattle.std.proofs.Common.{ap, subst, sym, ◌∙◌, ◌≡◌, Ok, Option, 
 use Rattle.std.specs.Prelude.{IsErrAnd}
 use Rattle.mdb_bus.specs.declared.scope.Scope.{Scope}
 use Rattle.mdb_follow.specs.Follower.{scope_of}
-use Rattle.mdb_follow.specs.Offences.{HasOffence}
+use Rattle.mdb_follow.specs.FirstOffences.{HasOffence}
 use Rattle.mdb_text.specs.declared.outcome.Outcome.TheVariants.{No}
 use Rattle.mdb_verdict.specs.declared.fault.RunFault.{RunFault}
 use Rattle.mdb_verdict.specs.Ending.{HasEnded}
 use Rattle.mdb_verdict.specs.Verdict.{IsAnswer}
 use Rattle.mdb_verdict.proofs.Verdicts as verdicts
-use Rattle.mdb_words.specs.Row.{IsRefusal, IsRow}
+use Rattle.mdb_words.specs.Row.{IsRow}
+use Rattle.mdb_words.specs.Refusals.{IsRefusal}
 use Rattle.mdb_unjudged.specs.declared.judging.Met.{Met}
 use Rattle.mdb_unjudged.specs.inner.Steps.{HasFollowed, MeetsAmong}
 use Rattle.mdb_unjudged.specs.Verdict.{IsJudgedNo}

@@ -1,9 +1,10 @@
 use Rattle.std.proofs.Common.{subst, ◌∙◌, Ok, Option, Result}
 use Rattle.mdb_follow.specs.Follower.{scope_of}
 use Rattle.mdb_follow.specs.declared.offence.Offence.{Offence}
-use Rattle.mdb_follow.specs.Offences.{HasOffence}
+use Rattle.mdb_follow.specs.FirstOffences.{HasOffence}
 use Rattle.mdb_verdict.specs.declared.fault.RunFault.{RunFault}
-use Rattle.mdb_words.specs.Row.{IsRefusal, IsRow}
+use Rattle.mdb_words.specs.Row.{IsRow}
+use Rattle.mdb_words.specs.Refusals.{IsRefusal}
 use Rattle.mdb_text.specs.declared.outcome.Outcome.TheVariants.{No}
 use Rattle.mdb_verdict.specs.Verdict.{IsAnswer}
 use Rattle.mdb_verdict.specs.Ending.{HasEnded, HasFollowedRows}

@@ -10,4 +10,7 @@ returns-then-eq-clause-judged c =
     let front =
     repeats c.args.last_reply.now.reply 0 c.args.word (length c.args.last_reply.now.bytes)
     c.word.ensures.count (omega (arith, c.word.ensures.some)) here in
-    λ scope levels command by. (refl, front, (search rules, search rules))
+    λ scope levels command. record {
+      judged = λ covers. (refl, front, (search rules, search rules));
+      timely = search rules;
+    }

@@ -12,7 +12,10 @@ returns-then-from-as_slice-clause-judged c =
     let front = repeats c.args.last_reply.now.reply c.args.said c.args.word
     (length c.args.last_reply.now.bytes)
     c.word.ensures.count more here in
-    λ scope levels command by. (refl, front, (search rules, search rules))
+    λ scope levels command. record {
+      judged = λ covers. (refl, front, (search rules, search rules));
+      timely = search rules;
+    }
 
 pub returns-else-from-as_slice-clause-judged : goal.returns-else-from-as_slice-clause-judged
 returns-else-from-as_slice-clause-judged c =
@@ -22,4 +25,7 @@ returns-else-from-as_slice-clause-judged c =
     omega (arith, ap length c.as_slice.ensures.bytes) in
     let whole = repeated (reply_words c.args.last_reply.now.reply) c.args.said c.args.word
     (length c.args.last_reply.now.bytes) c.word.ensures.count most here in
-    λ scope levels command by. (whole, (search rules, search rules))
+    λ scope levels command. record {
+      judged = λ covers. (whole, (search rules, search rules));
+      timely = search rules;
+    }

@@ -1,5 +1,5 @@
 use Rattle.std.proofs.Common.{ap}
-use Rattle.mdb_cashless.specs.ByProfile.{by_extended}
+use Rattle.mdb_cashless.specs.ByProfileFacts.{by_extended}
 use Rattle.mdb_cashless.proofs.ByProfile.{is_extended}
 use Rattle.mdb_cashless.proofs.by_profile.ReaderByProfilePair.learn.Goals as goal
 

@@ -1,5 +1,3 @@
-use Rattle.std.proofs.Common.{ap, ◌≡◌, ◌↔◌}
-use Rattle.mdb_cashless.specs.declared.by_profile.state.StateByProfile.TheVariants.{Base, Extended}
 use Rattle.mdb_cashless.proofs.ByProfile.{alone_base, alone_extended}
 use Rattle.mdb_cashless.proofs.by_profile.ReaderByProfilePair.power_on.Goals as goal
 

@@ -2,7 +2,7 @@ use Rattle.std.proofs.Common.{List, ◌+◌, ◌*◌, ◌^◌, ◌∷◌, ◌++�
 use Rattle.mdb_words.specs.declared.event.Event.{Event}
 use Rattle.mdb_bus.specs.Bus.{ended_act}
 use Rattle.mdb_bus.specs.Scopes.{profile_of}
-use Rattle.mdb_bus.specs.Untimely.{untimely_of}
+use Rattle.mdb_bus.specs.ExtendedTimes.{untimely_of}
 use Rattle.mdb_explained_runs.specs.declared.mark.Mark.{Mark}
 use Rattle.mdb_explained_runs.specs.ReplayFaults.{IsReplayFault}
 use Rattle.mdb_explained_runs.specs.Replays.{StandsFor, scope_of}

@@ -4,5 +4,5 @@ use Rattle.mdb_msgs.proofs.ListReading.{Going}
 use Rattle.mdb_msgs.proofs.reply.bill.read_messages.Given as goal
 
 abbrev pub invariant-loop-byte : goal.invariant-loop-byte
-invariant-loop-byte l = Going bill_msg_bytes (IsBillMsg l.reading) l.bytes l.messages.items
+invariant-loop-byte l = Going bill_msg_bytes (IsBillMsg l.is_extended) l.bytes l.messages.items
     (drop l.byte-index l.bytes)

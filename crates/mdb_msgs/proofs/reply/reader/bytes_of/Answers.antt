@@ -1,6 +1,7 @@
 use Rattle.std.proofs.Common.{◌+◌, ◌<◌, arith, get_or, length, length-append, ap}
 use Rattle.mdb_msgs.specs.declared.reply.reader.ReaderMsg.TheVariants.{JustReset}
-use Rattle.mdb_msgs.specs.Reader.{foot_bytes, head_bytes, text_of, reader_msg_bytes}
+use Rattle.mdb_msgs.specs.Reader.{head_bytes, text_of, reader_msg_bytes}
+use Rattle.mdb_msgs.specs.ReaderBytes.{foot_bytes}
 use Rattle.mdb_msgs.proofs.ReaderWriting.{no_room}
 use Rattle.mdb_msgs.proofs.reply.reader.bytes_of.Goals as goal
 

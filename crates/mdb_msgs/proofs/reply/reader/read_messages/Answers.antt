@@ -1,11 +1,16 @@
-use Rattle.std.proofs.Common.{◌||◌, [], ap, ap₂, refl, subst, sym, ◌∙◌}
+use Rattle.std.proofs.Common.{◌||◌, Bool, [], ap, ap₂, refl, subst, sym, ◌∙◌}
 use Rattle.std.proofs.lemmas.Result.{err_from_is_err_and}
-use Rattle.mdb_msgs.specs.Reader.{has_long, has_options, own_reading, AreReaderMsgs}
+use Rattle.mdb_msgs.specs.declared.reading.Ids.{Ids}
+use Rattle.mdb_msgs.specs.declared.reading.Reading.{Reading}
+use Rattle.mdb_msgs.specs.Reader.{has_long, ids_of, wider, AreReaderMsgs}
 use Rattle.mdb_msgs.specs.ReaderBytes.{no_messages}
 use Rattle.mdb_msgs.specs.inner.ReaderSteps.{with_message}
 use Rattle.mdb_msgs.proofs.ReaderBytes.{are_messages, read_own}
-use Rattle.mdb_msgs.proofs.ReaderReading.{all_read, any_more, nothing_taken, stops_next, takes_next}
+use Rattle.mdb_msgs.proofs.ReaderReading.{all_read, any_more, ids_more, nothing_taken, stops_next, takes_next}
 use Rattle.mdb_msgs.proofs.reply.reader.read_messages.Goals as goal
+
+abbrev reading_with : Bool → Ids → Reading
+reading_with is_long ids = record { is_long = is_long; ids = ids }
 
 pub loop-first-init : goal.loop-first-init
 loop-first-init c = (no_messages, nothing_taken c.args.reading c.args.bytes.now, refl, refl)
@@ -21,12 +26,12 @@ loop-first-preserved c = (
   with_message c.loop-first.invariant.0 c.in_ok-message.message c.in_ok-message.field-0-1.now,
   takes_next _ _ _ _ _ _ _ _ _ c.requires c.loop-first.invariant.1 c.in-Some.ensures.cases.0
       c.in_ok-message.ensures.bytes c.in_ok-message.ensures.text,
-  ap (λ b. c.loop-first.has_long || b) c.has_long-has_long.ensures
+  ap (λ b. c.loop-first.is_long || b) c.has_long-is_long.ensures
       ∙ any_more has_long c.loop-first.invariant.0 c.in_ok-message.message
       c.in_ok-message.field-0-1.now _
       c.loop-first.invariant.2,
-  ap (λ b. c.loop-first.has_options || b) c.has_options-has_options.ensures
-      ∙ any_more has_options c.loop-first.invariant.0 c.in_ok-message.message
+  c.widened-ids.ensures
+      ∙ ids_more c.loop-first.invariant.0 c.in_ok-message.message
       c.in_ok-message.field-0-1.now _ c.loop-first.invariant.3,
 )
 
@@ -35,7 +40,7 @@ invariant_of-result c =
     let taken = c.loop-first.invariant in
     let all = all_read _ _ _ _ taken.1 c.in_default.ensures.cases in
     are_messages _ taken.0 _ all.1 (c.list_of.ensures ∙ all.0)
-    (c.own_reading.ensures ∙ ap₂ own_reading taken.2 taken.3)
+    (ap₂ reading_with taken.2 taken.3)
 
 pub returns-clause-fields : goal.returns-clause-fields
 returns-clause-fields c = (invariant_of-result c).is_list
@@ -45,7 +50,7 @@ returns-clause-reading c =
     let taken = c.loop-first.invariant in
     let all = all_read _ _ _ _ taken.1 c.in_default.ensures.cases in
     let same = read_own _ taken.0 _ all.1 (c.list_of.ensures ∙ all.0)
-    (c.own_reading.ensures ∙ ap₂ own_reading taken.2 taken.3) in
+    (ap₂ reading_with taken.2 taken.3) in
     subst (λ list. AreReaderMsgs c.args.reading list []) (sym same) all.2
 
 pub returns-clause-bytes : goal.returns-clause-bytes

@@ -1,6 +1,7 @@
 use Rattle.std.proofs.Common.{◌∙◌, sym, subst, IfErr, IfOk, List, ℕ, ◌≡◌, length}
 use Rattle.mdb_records.specs.Fields.{fields_of}
-use Rattle.mdb_words.specs.Row.{IsRefusal, IsRow}
+use Rattle.mdb_words.specs.Row.{IsRow}
+use Rattle.mdb_words.specs.Refusals.{IsRefusal}
 use Rattle.mdb_verdict.proofs.Fields.{three_fields}
 use Rattle.mdb_verdict.proofs.row.EventFromRecord.of.Goals as goal
 

@@ -1,7 +1,7 @@
 use Rattle.std.proofs.Common.{◌≡◌, length, length-append, ap, arith}
 use Rattle.std.proofs.lemmas.Fmt.{length-decimal-le}
 use Rattle.std.specs.Fmt.{decimal}
-use Rattle.mdb_words.specs.Digits.{hex_word}
+use Rattle.mdb_words.specs.RowsWritten.{hex_word}
 use Rattle.mdb_words.proofs.Numerals.{length_start}
 use Rattle.mdb_words.proofs.Rows.{break_written, word_written}
 use Rattle.mdb_words.proofs.event.Event.row_text.Goals as goal

@@ -1,0 +1,55 @@
+-- By the base profile nothing counts of what the extended one alone says.
+use Rattle.std.proofs.Common.{refl, ap, ◌∙◌, ◌≡◌, List, Option, None}
+use Rattle.mdb_words.specs.declared.event.Event.{Event}
+use Rattle.mdb_msgs.specs.declared.command.Command.{Command}
+use Rattle.mdb_msgs.specs.declared.command.Device.{Device}
+use Rattle.mdb_msgs.specs.Readings.{base}
+use Rattle.mdb_bus.specs.declared.fault.LinkFault.{LinkFault}
+use Rattle.mdb_bus.specs.declared.fault.Rule.{Rule}
+use Rattle.mdb_bus.specs.declared.format.Format.TheVariants.{As}
+use Rattle.mdb_bus.specs.declared.levels.Levels.{Levels}
+use Rattle.mdb_bus.specs.declared.scope.Beginning.{Beginning}
+use Rattle.mdb_bus.specs.declared.scope.Beginning.TheVariants.{PowerOn, Joined}
+use Rattle.mdb_bus.specs.declared.scope.Profile.TheVariants.{Base, Extended}
+use Rattle.mdb_bus.specs.declared.scope.Scope.{Scope}
+use Rattle.mdb_bus.specs.ActLists.{Piece, Position, position_of}
+use Rattle.mdb_bus.specs.ExtendedFormats.{untold_format}
+use Rattle.mdb_bus.specs.ExtendedHaste.{counted_in, haste_by, haste_of, is_in_haste}
+use Rattle.mdb_bus.specs.ExtendedMoney.{all_known, first_known}
+use Rattle.mdb_bus.specs.ExtendedTimes.{counted_for, times_of, untimely_of}
+use Rattle.mdb_bus.specs.Formats.{format_by, format_for}
+use Rattle.mdb_bus.specs.LinkFaults.{asked_device, blame_of, fault_of}
+use Rattle.mdb_bus.specs.Scopes.{profile_of}
+use Rattle.mdb_bus.proofs.PlainMoney.{counts_plainly}
+
+pub one_format : (begins : Beginning) (levels : Levels) (command : Command)
+    → profile_of begins ≡ Base → format_for begins levels command ≡ As base
+one_format begins levels command is =
+    ap (λ profile. format_by profile (untold_format begins) levels command) is
+
+pub no_haste : (scope : Scope) (pieces : List Piece) (row : Event) (fault : LinkFault)
+    → profile_of scope.begins ≡ Base → counted_in (haste_of scope pieces) row fault ≡ fault
+no_haste scope pieces row fault is =
+    ap (λ profile. counted_in (haste_by profile (is_in_haste scope pieces)) row fault) is
+
+pub no_times : (scope : Scope) (pieces : List Piece) → profile_of scope.begins ≡ Base
+    → times_of scope pieces ≡ None
+no_times scope pieces is = ap (λ profile. counted_for profile (untimely_of scope pieces)) is
+
+options_known : (begins : Beginning) → profile_of begins ≡ Base → first_known begins ≡ all_known
+options_known (PowerOn profile) is = refl
+options_known (Joined setups Base) is = refl
+options_known (Joined setups Extended) is = absurd cc
+
+abbrev made : Position → Option Device → Event → Rule → LinkFault
+made position asked row broken =
+    record { rule = broken; blame = blame_of position asked row broken }
+
+pub first_counts : (scope : Scope) (pieces : List Piece) (row : Event) (first : Rule)
+    → profile_of scope.begins ≡ Base
+    → fault_of scope pieces row first
+    ≡ made (position_of scope pieces) (asked_device pieces) row first
+first_counts scope pieces row first is =
+    no_haste scope pieces row _ is
+    ∙ ap (made (position_of scope pieces) (asked_device pieces) row)
+    (counts_plainly scope pieces first (position_of scope pieces) (options_known scope.begins is))

@@ -1,0 +1,11 @@
+use Rattle.std.proofs.Common.{◌≡◌}
+use Rattle.mdb_bus.specs.ExtendedCounts.{may_restart}
+use Rattle.mdb_bus.proofs.counts.may_restart.Given as goal
+
+abbrev pub invariant-loop-message : goal.invariant-loop-message
+invariant-loop-message l =
+    record {
+      next : (goal.iterator-loop-message).can_next l.message-iterator;
+      finite : (goal.iterator-loop-message).is_finite l.message-iterator;
+      same : may_restart l.list.messages ≡ may_restart l.message-iterator;
+    }

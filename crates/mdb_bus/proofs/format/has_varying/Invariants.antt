@@ -1,0 +1,12 @@
+use Rattle.std.proofs.Common.{◌≡◌}
+use Rattle.std.specs.List.{list_any}
+use Rattle.mdb_bus.specs.inner.Reading.{varies}
+use Rattle.mdb_bus.proofs.format.has_varying.Given as goal
+
+abbrev pub invariant-loop-message : goal.invariant-loop-message
+invariant-loop-message l =
+    record {
+      next : (goal.iterator-loop-message).can_next l.message-iterator;
+      finite : (goal.iterator-loop-message).is_finite l.message-iterator;
+      same : list_any varies l.list.messages ≡ list_any varies l.message-iterator;
+    }

@@ -1,0 +1,6 @@
+use Rattle.std.proofs.Common.{◌≡◌, take}
+use Rattle.mdb_msgs.specs.Reader.{own_ids}
+use Rattle.mdb_msgs.proofs.reply.reader.own_ids.Given as goal
+
+abbrev pub invariant-loop-message : goal.invariant-loop-message
+invariant-loop-message l = l.ids ≡ own_ids (take l.message-index l.messages)
