@@ -170,20 +170,22 @@ def no_such_mark(row: int) -> NoAnswer:
 
 
 class Marks:
-    """The marks in front of the rows, in their order: `ROW,L,-` and `ROW,R,-`, and `ROW,C,-` with `--extended`.
+    """The marks in front of the rows, in their order: `ROW,L,-`, `ROW,R,-` and `ROW,C,-`. (Without `--extended`
+    no row takes a `C`.)
 
     They are read before the first row, and then taken off one by one as their rows are read.
     """
 
-    def __init__(self, extended: bool):
-        self.letters = (b"L", b"R", b"C") if extended else (b"L", b"R")
+    LETTERS = b"L", b"R", b"C"
+
+    def __init__(self):
         self.marks: list[tuple[int, str]] = []
         self.taken = 0
         #: The row of the next mark that isn't taken off; 0 where there is none.
         self.next_row = 0
 
     def is_mark(self, fields: list[bytes]) -> bool:
-        return len(fields) == 3 and fields[1] in self.letters
+        return len(fields) == 3 and fields[1] in self.LETTERS
 
     def read(self, fields: list[bytes], record: int):
         """Takes a mark that stands before the first row."""
@@ -1754,7 +1756,7 @@ def replay(text: bytes, without: set[str], extended: bool = False) -> tuple[int,
 
     `without` has the words of the devices that are left out.
     """
-    return _answer(text, without, extended, Marks(extended))
+    return _answer(text, without, extended, Marks())
 
 
 def check(
