@@ -1,7 +1,8 @@
 #!/usr/bin/env python3
-"""What `check` writes to standard error of a no by which nobody did wrong.
+"""What `check` writes to standard error of a no by which perhaps nobody did wrong.
 
-Either the no isn't judged, since the rows don't show a reader's feature level, or its rule is Profile. Written from
+Either the no isn't judged, since the rows don't show a reader's feature level; or the row is out of the base profile's
+times alone, and in those of the extended one; or its rule is Profile. Written from
 docs/bench/recorded-while-it-ran.md (*Feature levels*) and docs/bench/rows-and-command-line.md (*Standard error*), apart from the
 program and the page. Scripts of tests/ compare both with it.
 
@@ -12,7 +13,14 @@ import pathlib
 import re
 import sys
 
+import second_replay
+from second_program import values_of
+
 READERS = {2: "cashless", 12: "cashless-2"}
+# The rules of time, and the time at which the row is tried again, from the row before it.
+MOVED = {"Early": 200_000, "Late": 996, "Spacing": 996, "Break": 200_000}
+# The times of the extended profile.
+REST, SHORT_BREAK = 996, 95_000
 
 
 def rows_of(data):
@@ -88,6 +96,47 @@ def line_of(reader):
             f"add --extended (or leave it out: --without {reader})\n")
 
 
+def link_before(data, words, row):
+    """The bus before a row of a no, as the second reader has it, and the row."""
+    left_out, setups = set(values_of(words, "--without")), values_of(words, "--setup")
+    told = second_replay.read_setups(setups if "--joined" in words else None, left_out, False)
+    link = second_replay.Link(left_out, False, told)
+    for number, fields in enumerate(second_replay.records(data), 1):
+        event = second_replay.read_row(fields, number)
+        if number == row:
+            return link, event
+        link.take(*event)
+
+
+def spared(data, words, row, rule):
+    """The microseconds of a row whose time alone is wrong, where the times of the extended profile have it; else None."""
+    if rule not in MOVED or "--extended" in words:
+        return None
+    link, (time, line, value) = link_before(data, words, row)
+    gap, length = time - link.since, value
+    if gap < (0 if link.is_after_break else REST) or rule == "Break" and length < SHORT_BREAK:
+        return None
+    try:
+        link.take(link.since + MOVED[rule], line, max(length, 100_000) if line == b"B" else value)
+    except second_replay.Broken:
+        return None
+    return length if rule == "Break" else gap
+
+
+def spared_line(row, rule, blame, micros):
+    """The line of the program on such a row: what is too long is rounded up, and what is too short down."""
+    tenths = -(-micros // 100) if rule in ("Late", "Spacing") else micros // 100
+    sender = {"controller": "the controller", "other": "a device"}.get(blame, blame)
+    did, since = {
+        "Early": ("sent a command", " after the row before it"),
+        "Late": ("answered", " after the reply" if blame == "controller" else " after the command"),
+        "Spacing": ("sent a word", " after the word before it"),
+        "Break": ("sent a break of", ""),
+    }[rule]
+    return (f"mdbcheck: row {row}: {sender} {did} {tenths // 10}.{tenths % 10} ms{since}; "
+            "--extended counts that and goes on\n")
+
+
 def beyond(words, row, blame):
     """The line of the program on a row that isn't followed."""
     if "--extended" not in words and blame == "bill":
@@ -114,6 +163,9 @@ def aside(data, words, report):
     reader = unjudged(data, words, row, rule, blame)
     if reader:
         return line_of(reader)
+    micros = spared(data, words, row, rule)
+    if micros is not None:
+        return spared_line(row, rule, blame, micros)
     return beyond(words, row, blame) if rule == "Profile" else ""
 
 

@@ -1,25 +1,28 @@
 -- What a follower stands for that heeds the feature levels, row by row.
 use Rattle.std.proofs.Common.{arith, add-one, refl, ap, sym, subst, ◌∙◌, ◌≡◌, ◌+◌, ◌<◌, ◌≤◌, ℕ, List, [], ◌∷◌, ◌++◌, Option, Some, None, length, length-append, append_assoc, take, drop, get_or}
 use Rattle.std.proofs.Math.Seq.{split_at}
-use Rattle.std.proofs.lemmas.List.{take_all, take_more}
-use Rattle.std.specs.Prelude.{IfSome, IsSomeAnd}
+use Rattle.std.proofs.lemmas.List.{take_all, take_more, get_or_at, take_at}
+use Rattle.std.specs.Prelude.{IfSome, IsSomeAnd, Bool, true, false}
 use Rattle.std.specs.Option.{IfNone, option_or}
 use Rattle.mdb_words.specs.declared.event.Event.{Event}
 use Rattle.mdb_bus.specs.declared.act.Act.{Act}
 use Rattle.mdb_bus.specs.declared.levels.Levels.{Levels}
 use Rattle.mdb_bus.specs.declared.scope.Scope.{Scope}
-use Rattle.mdb_bus.specs.ActLists.{IsActList, Piece, acts_of}
+use Rattle.mdb_bus.specs.ActLists.{IsActList, Piece, acts_of, last_of}
 use Rattle.mdb_bus.specs.Pieces.{with_act}
+use Rattle.mdb_bus.specs.declared.fault.Blame.{Blame}
+use Rattle.mdb_bus.specs.declared.fault.Rule.{Rule}
 use Rattle.mdb_follow.specs.declared.offence.Offence.{Offence}
 use Rattle.mdb_follow.specs.EndedActs.{IsEndedAct}
-use Rattle.mdb_follow.specs.Feeding.{HasRefused, HasTakenRows}
+use Rattle.mdb_follow.specs.Feeding as feeding
+use Rattle.mdb_follow.specs.Feeding.{HasTakenRows}
 use Rattle.mdb_follow.specs.Follower as follow
 use Rattle.mdb_follow.specs.Offences.{IsOffence}
-use Rattle.mdb_verdict.specs.Ending.{HasTakenOrStopped}
 use Rattle.mdb_unjudged.specs.declared.judging.Judging.{Judging}
 use Rattle.mdb_unjudged.specs.declared.judging.Met.{Met}
 use Rattle.mdb_unjudged.specs.Unjudged.{begins_block, is_joined, known_before, last_begun, reported, reported_if, unjudged}
-use Rattle.mdb_unjudged.specs.inner.Steps.{HasFollowed, IsMet, MeetsAmong}
+use Rattle.mdb_unjudged.specs.inner.Steps.{HasFollowed, HasRefused, MeetsAmong, RefusesAmong, SomeRefused}
+use Rattle.mdb_follow.specs.FirstOffences.{HasOffence}
 
 -- a transcript has one act list
 abbrev pub OneActList : Type 0
@@ -78,93 +81,125 @@ taken_more one old new scope readers rows row act on taken same_scope ends joine
         counted = omega (arith, taken.counted, on.follows.counted, length-append rows (row ∷ []));
       };
       joined = joined ∙ on.joined;
-      reported = λ pieces list.
-          learnt ∙ ap (reported_if act) (on.reported it.before it.shorter)
+      reported = λ is pieces list.
+          learnt ∙ ap (reported_if act) (on.reported (sym joined ∙ is) it.before it.shorter)
           ∙ reported_more (known_before scope readers) act (acts_of it.before)
           ∙ ap (reported (known_before scope readers)) (sym it.acts)
           ∙ ap (λ ps. reported (known_before scope readers) (acts_of ps))
           (one scope (rows ++ row ∷ []) (it.newest ∷ it.earlier) pieces it.act_list list);
-      begun = begun ∙ ap (option_or (begins_block row)) on.begun ∙ last_more rows row;
+      begun = λ is. begun ∙ ap (option_or (begins_block row)) (on.begun (sym joined ∙ is))
+          ∙ last_more rows row;
     }
 
-some_one : (one other : Offence) → Some one ≡ Some other → one ≡ other
-some_one one other same = cc same
+-- what isn't joined is judged, whatever is known
+judged_as : (joined : Bool) (levels other : Levels) (begun last : Option ℕ) (broken : Rule)
+    (blamed : Blame) → (joined ≡ true → levels ≡ other) → (joined ≡ true → begun ≡ last)
+    → unjudged joined levels broken blamed begun ≡ unjudged joined other broken blamed last
+judged_as false levels other begun last broken blamed same_levels same_begun = refl
+judged_as true levels other begun last broken blamed same_levels same_begun =
+    ap (λ l. unjudged true l broken blamed begun) (same_levels refl)
+    ∙ ap (unjudged true other broken blamed) (same_begun refl)
 
--- a row is met that can't be
-pub met_by : (old new : Judging) (scope : Scope) (readers : Levels) (rows : List Event) (row :
-    Event) (met : Met)
-    → HasFollowed scope readers old rows
-    → IsSomeAnd (follow.offence_of new.follower) (HasRefused old.follower new.follower row)
-    → follow.scope_of new.follower ≡ follow.scope_of old.follower
-    → follow.offence_of new.follower ≡ Some met.offence
-    → met.unjudged ≡ unjudged new.joined new.reported met.offence.rule met.offence.blame new.begun
-    → new.joined ≡ old.joined → new.reported ≡ old.reported
-    → new.begun ≡ option_or (begins_block row) old.begun
-    → IsMet scope readers rows row met
-met_by old new scope readers rows row met on refused same_scope noted is joined kept begun =
-    let has : HasRefused old.follower new.follower row met.offence =
-    subst (λ o. IsSomeAnd o (HasRefused old.follower new.follower row)) noted refused in
-    let accepted : follow.HasAccepted new.follower rows = has.accepted rows on.follows.stands in
-    let in_scope : follow.scope_of new.follower ≡ scope = same_scope ∙ on.follows.in_scope in
+-- a row was refused, after rows that were accepted
+refused_as : (old new : Judging) (scope : Scope) (readers : Levels) (rows : List Event)
+    (row : Event) (offence : Offence) → follow.scope_of new.follower ≡ scope
+    → IsOffence scope rows row offence → follow.offence_of new.follower ≡ Some offence
+    → follow.HasAccepted new.follower rows → new.joined ≡ is_joined scope.begins
+    → (new.joined ≡ true → (pieces : List Piece) → IsActList scope pieces rows
+    → new.reported ≡ reported (known_before scope readers) (acts_of pieces))
+    → (new.joined ≡ true → new.begun ≡ last_begun (rows ++ row ∷ []))
+    → HasRefused scope readers new rows row offence
+refused_as old new scope readers rows row offence in_scope is noted accepted joined levels begun =
     let list : IsActList scope accepted.pieces rows =
     subst (λ s. IsActList s accepted.pieces rows) in_scope accepted.act_list in
-    let levels : new.reported ≡ reported (known_before scope readers) (acts_of accepted.pieces) =
-    kept ∙ on.reported accepted.pieces list in
-    let last : new.begun ≡ last_begun (rows ++ row ∷ []) =
-    begun ∙ ap (option_or (begins_block row)) on.begun ∙ last_more rows row in
     record {
-      is = subst (λ s. IsOffence s rows row met.offence) on.follows.in_scope
-          (has.offence rows on.follows.stands);
+      is = is;
       judged = record {
         pieces = accepted.pieces;
         act_list = list;
-        is = is
-            ∙ ap (λ j. unjudged j new.reported met.offence.rule met.offence.blame new.begun)
-            (joined ∙ on.joined)
-            ∙ ap (λ r. unjudged (is_joined scope.begins) r met.offence.rule met.offence.blame
-            new.begun) levels
-            ∙ ap (unjudged (is_joined scope.begins) (reported (known_before scope readers)
-            (acts_of accepted.pieces)) met.offence.rule met.offence.blame) last;
+        is = judged_as new.joined new.reported _ new.begun _ offence.rule offence.blame
+            (λ j. levels j accepted.pieces list) begun
+            ∙ ap (λ j. unjudged j (reported (known_before scope readers)
+            (acts_of accepted.pieces)) offence.rule offence.blame
+            (last_begun (rows ++ row ∷ []))) joined;
       };
+      noted = noted;
+      accepted = accepted;
+      counted = accepted.rows;
     }
+
+some_of : {T : Type 0} (o : Option T) (P : T → Type 0) → IsSomeAnd o P
+    → (x : T) × (o ≡ Some x) × P x
+some_of (Some x) P has = (x, refl, has)
+some_of None P has = absurd has
+
+-- the next row was refused
+pub refused_by : (old new : Judging) (scope : Scope) (readers : Levels) (rows : List Event)
+    (row : Event) → HasFollowed scope readers old rows
+    → IsSomeAnd (follow.offence_of new.follower)
+    (feeding.HasRefused old.follower new.follower row)
+    → follow.scope_of new.follower ≡ follow.scope_of old.follower
+    → new.joined ≡ old.joined → new.reported ≡ old.reported
+    → new.begun ≡ option_or (begins_block row) old.begun
+    → SomeRefused scope readers new rows row
+refused_by old new scope readers rows row on refused same_scope joined kept begun =
+    let some = some_of (follow.offence_of new.follower)
+    (feeding.HasRefused old.follower new.follower row) refused in
+    let offence : Offence = some.0 in
+    let has : feeding.HasRefused old.follower new.follower row offence = some.2 in (
+      offence,
+      refused_as old new scope readers rows row offence (same_scope ∙ on.follows.in_scope)
+          (subst (λ s. IsOffence s rows row offence) on.follows.in_scope
+          (has.offence rows on.follows.stands)) has.noted
+          (has.accepted rows on.follows.stands) (joined ∙ on.joined)
+          (λ is pieces list. kept ∙ on.reported (sym joined ∙ is) pieces list)
+          (λ is. begun ∙ ap (option_or (begins_block row)) (on.begun (sym joined ∙ is))
+          ∙ last_more rows row),
+    )
 
 -- it has followed so many rows
 pub record HasFed (old : Judging) (rows : List Event) (count : ℕ) (new : Judging) : Type 0 where
   pub counted : follow.rows_of new.follower ≡ follow.rows_of old.follower + count
   pub same_scope : follow.scope_of new.follower ≡ follow.scope_of old.follower
+  pub same_last : new.last ≡ old.last
   pub followed : (scope : Scope) (readers : Levels) (before : List Event)
       → HasFollowed scope readers old before
       → HasFollowed scope readers new (before ++ rows)
 
--- the next of the rows is met
-pub fed_to : (old mid : Judging) (rows : List Event) (i : ℕ) (row : Event) (met : Met)
+-- the next of the rows is refused
+pub fed_to : (old mid new : Judging) (rows : List Event) (i : ℕ) (row : Event)
     → i < length rows → HasFed old (take i rows) i mid
     → ((scope : Scope) (readers : Levels) (before : List Event)
     → HasFollowed scope readers mid before
-    → IsMet scope readers before (get_or rows i row) met)
+    → SomeRefused scope readers new before (get_or rows i row))
     → (scope : Scope) (readers : Levels) (before : List Event)
     → HasFollowed scope readers old before
-    → MeetsAmong scope readers before rows met
-fed_to old mid rows i row met within has meets scope readers before on = record {
-  front = take i rows;
-  row = get_or rows i row;
-  rest = drop (i + 1) rows;
-  parts = rw add-one (split_at rows i row within);
-  is = meets scope readers (before ++ take i rows) (has.followed scope readers before on);
-}
+    → RefusesAmong scope readers new before rows
+fed_to old mid new rows i row within has refuses scope readers before on =
+    let some = refuses scope readers (before ++ take i rows) (has.followed scope readers before on)
+    in record {
+      offence = some.0;
+      front = take i rows;
+      row = get_or rows i row;
+      rest = drop (i + 1) rows;
+      parts = rw add-one (split_at rows i row within);
+      is = some.1;
+    }
 
 -- one row more was followed
 pub fed_more : (old mid new : Judging) (rows : List Event) (i : ℕ) (row : Event)
     → i < length rows → HasFed old (take i rows) i mid
     → follow.rows_of new.follower ≡ follow.rows_of mid.follower + 1
     → follow.scope_of new.follower ≡ follow.scope_of mid.follower
+    → new.last ≡ mid.last
     → ((scope : Scope) (readers : Levels) (before : List Event)
     → HasFollowed scope readers mid before
     → HasFollowed scope readers new (before ++ get_or rows i row ∷ []))
     → HasFed old (take (i + 1) rows) (i + 1) new
-fed_more old mid new rows i row within has more same follows = record {
+fed_more old mid new rows i row within has more same same_last follows = record {
   counted = omega (arith, more, has.counted);
   same_scope = same ∙ has.same_scope;
+  same_last = same_last ∙ has.same_last;
   followed = λ scope readers before on. subst (HasFollowed scope readers new)
       (append_assoc before (take i rows) (get_or rows i row ∷ [])
       ∙ ap (λ all. before ++ all) (sym (take_more rows i row within)))
@@ -179,20 +214,108 @@ fed_all old new rows i low has scope readers before on =
     subst (λ all. HasFollowed scope readers new (before ++ all)) (take_all i rows low)
     (has.followed scope readers before on)
 
--- the rows were taken, or one of them was met
-pub taken_or_met : (old new : Judging) (readers : Levels) (earlier rows : List Event)
-    (stop : Option Met)
-    → IfNone stop ((scope : Scope) (readers : Levels) (before : List Event)
-    → HasFollowed scope readers old before → HasFollowed scope readers new (before ++ rows))
-    → IfSome stop (λ met. (scope : Scope) (readers : Levels) (before : List Event)
-    → HasFollowed scope readers old before → MeetsAmong scope readers before rows met)
+-- The rows of a recording that isn't joined are followed together: all were taken,
+pub together : (old new : Judging) (rows : List Event) → new.joined ≡ old.joined
+    → old.joined ≡ false → HasTakenRows old.follower new.follower rows
     → follow.scope_of new.follower ≡ follow.scope_of old.follower
-    → HasFollowed (follow.scope_of old.follower) readers old earlier
-    → HasTakenOrStopped (HasFollowed (follow.scope_of new.follower) readers new)
-    (MeetsAmong (follow.scope_of new.follower) readers) earlier rows stop
-taken_or_met old new readers earlier rows None taken meets same on =
-    subst (λ s. HasFollowed s readers new (earlier ++ rows)) (sym same)
-    (taken (follow.scope_of old.follower) readers earlier on)
-taken_or_met old new readers earlier rows (Some met) taken meets same on =
-    subst (λ s. MeetsAmong s readers earlier rows met) (sym same)
-    (meets (follow.scope_of old.follower) readers earlier on)
+    → (scope : Scope) (readers : Levels) (before : List Event)
+    → HasFollowed scope readers old before → HasFollowed scope readers new (before ++ rows)
+together old new rows same not taken same_scope scope readers before on = record {
+  follows = record {
+    in_scope = same_scope ∙ on.follows.in_scope;
+    stands = taken.stands before on.follows.stands;
+    counted = omega (arith, taken.counted, on.follows.counted, length-append before rows);
+  };
+  joined = same ∙ on.joined;
+  reported = λ is. absurd (let clash : false ≡ true = sym not ∙ sym same ∙ is in cc clash);
+  begun = λ is. absurd (let clash : false ≡ true = sym not ∙ sym same ∙ is in cc clash);
+}
+
+-- or one was refused
+pub refused_together : (old new : Judging) (rows : List Event) (offence : Offence)
+    → new.joined ≡ old.joined → old.joined ≡ false
+    → follow.scope_of new.follower ≡ follow.scope_of old.follower
+    → follow.offence_of new.follower ≡ Some offence
+    → offence.row ≡ follow.rows_of new.follower + 1
+    → ((before : List Event) → follow.StandsFor old.follower before
+    → HasOffence (follow.scope_of old.follower) before rows offence)
+    → ((before : List Event) → follow.StandsFor old.follower before
+    → follow.HasAccepted new.follower (take (follow.rows_of new.follower) (before ++ rows)))
+    → (scope : Scope) (readers : Levels) (before : List Event)
+    → HasFollowed scope readers old before → RefusesAmong scope readers new before rows
+refused_together old new rows offence same not same_scope noted numbered has accepts scope readers
+    before on =
+    let met : HasOffence scope before rows offence =
+    subst (λ s. HasOffence s before rows offence) on.follows.in_scope
+    (has before on.follows.stands) in
+    let front : List Event = before ++ met.front in
+    let whole : before ++ rows ≡ front ++ met.row ∷ met.rest =
+    ap (λ l. before ++ l) met.parts ∙ sym (append_assoc before met.front (met.row ∷ met.rest)) in
+    let count : length front ≡ follow.rows_of new.follower =
+    omega (arith, numbered, met.is.number) in
+    record {
+      offence = offence;
+      front = met.front;
+      row = met.row;
+      rest = met.rest;
+      parts = met.parts;
+      is = refused_as old new scope readers front met.row offence
+          (same_scope ∙ on.follows.in_scope) met.is noted
+          (subst (follow.HasAccepted new.follower)
+          (ap (take (follow.rows_of new.follower)) whole
+          ∙ take_at front (met.row ∷ met.rest) (follow.rows_of new.follower) count)
+          (accepts before on.follows.stands)) (same ∙ on.joined)
+          (λ is. absurd (let clash : false ≡ true = sym not ∙ sym same ∙ is in cc clash))
+          (λ is. absurd (let clash : false ≡ true = sym not ∙ sym same ∙ is in cc clash));
+    }
+
+-- the row before the one at an index
+last_push : (events : List Event) (event : Event) → last_of (events ++ event ∷ []) ≡ Some event
+last_push [] event = refl
+last_push (first ∷ []) event = refl
+last_push (first ∷ second ∷ events) event = last_push (second ∷ events) event
+
+pub last_at : (earlier rows : List Event) (i : ℕ) (d : Event) → i < length rows
+    → last_of (earlier ++ take (i + 1) rows) ≡ Some (get_or rows i d)
+last_at earlier rows i d within =
+    ap (λ l. last_of (earlier ++ l)) (take_more rows i d within)
+    ∙ ap last_of (sym (append_assoc earlier (take i rows) (get_or rows i d ∷ [])))
+    ∙ last_push (earlier ++ take i rows) (get_or rows i d)
+
+-- so many of the rows were taken
+pub taken_among : (judging : Judging) (scope : Scope) (readers : Levels)
+    (earlier rows : List Event) (had : ℕ) → had ≡ length earlier
+    → (among : RefusesAmong scope readers judging earlier rows)
+    → follow.rows_of judging.follower ≡ had + length among.front
+taken_among judging scope readers earlier rows had is among =
+    omega (arith, among.is.counted, is, length-append earlier among.front)
+
+pub front_within : (judging : Judging) (scope : Scope) (readers : Levels)
+    (earlier rows : List Event) (among : RefusesAmong scope readers judging earlier rows)
+    → length among.front < length rows
+front_within judging scope readers earlier rows among =
+    omega (arith, ap length among.parts, length-append among.front (among.row ∷ among.rest))
+
+-- so what was met is what was met there
+pub met_there : (judging : Judging) (scope : Scope) (readers : Levels)
+    (earlier rows : List Event) (index : ℕ) (met : Met)
+    (among : RefusesAmong scope readers judging earlier rows) → index ≡ length among.front
+    → follow.offence_of judging.follower ≡ Some met.offence
+    → met.unjudged ≡ unjudged judging.joined judging.reported met.offence.rule met.offence.blame
+    judging.begun
+    → ((other : Event) → met.row ≡ get_or rows index other)
+    → met.last ≡ last_of (earlier ++ take index rows)
+    → MeetsAmong scope readers judging earlier rows met
+met_there judging scope readers earlier rows index met among at noted is row last =
+    let same : Some among.offence ≡ Some met.offence = sym among.is.noted ∙ noted in
+    let one : among.offence ≡ met.offence = cc same in
+    record {
+      refuses = among;
+      offence = sym one;
+      unjudged = is;
+      row = row among.row ∙ ap (λ l. get_or l index among.row) among.parts
+          ∙ get_or_at among.front among.row among.rest among.row index (sym at);
+      last = last ∙ ap (λ l. last_of (earlier ++ take index l)) among.parts
+          ∙ ap (λ l. last_of (earlier ++ l))
+          (take_at among.front (among.row ∷ among.rest) index (sym at));
+    }

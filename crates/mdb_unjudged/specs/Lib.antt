@@ -1,3 +1,4 @@
+pub mod Spared
 pub mod Unjudged
 pub mod Verdict
 pub mod inner

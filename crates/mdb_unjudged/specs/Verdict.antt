@@ -1,4 +1,4 @@
--- What a verdict says of a no that isn't judged.
+-- What a verdict says of a no that isn't judged, and of one that rests on times alone.
 use Rattle.std.specs.Prelude.{◌≡◌, ℕ, List, Option, None, Result, Ok, Err, ⊤}
 use Rattle.mdb_msgs.specs.declared.command.ReaderUnit.{ReaderUnit}
 use Rattle.mdb_bus.specs.declared.levels.Levels.{Levels}
@@ -8,22 +8,27 @@ use Rattle.mdb_text.specs.declared.outcome.Outcome.{Outcome}
 use Rattle.mdb_text.specs.declared.outcome.Outcome.TheVariants.{Yes, No}
 use Rattle.mdb_verdict.specs.declared.fault.RunFault.{RunFault}
 use Rattle.mdb_verdict.specs.Verdict.{IsImpossible}
+use Rattle.mdb_unjudged.specs.Spared.{IsSpared}
 use Rattle.mdb_unjudged.specs.Unjudged.{IsJudged}
 
--- The no on the records of a text, and the reader if it isn't judged.
+-- The no on the records of a text, the reader if it isn't judged, and how long its row takes if the
+-- extended profile's times spare it.
 pub record IsJudgedNo (scope : Scope) (readers : Levels) (limit : ℕ)
     (records : List (List (List ℕ))) (offence : Offence) (reader : Option ReaderUnit)
-    : Type 0 where
+    (spared : Option ℕ) : Type 0 where
   pub no : IsImpossible scope limit records offence
   pub judged : IsJudged scope readers no.rows no.row offence reader
+  pub timed : IsSpared scope no.rows no.row offence.rule spared
 
--- the same of any answer: only a no may be one that isn't judged
+-- the same of any answer: only a no may be one that isn't judged, or that is spared
 abbrev pub IsJudgedAnswer : Scope → Levels → ℕ → List (List (List ℕ)) → Result Outcome RunFault
-    → Option ReaderUnit → Type 0
-IsJudgedAnswer scope readers limit records (Ok (No offence)) reader =
-    IsJudgedNo scope readers limit records offence reader
-IsJudgedAnswer scope readers limit records (Ok (Yes report)) reader = reader ≡ None
-IsJudgedAnswer scope readers limit records (Err fault) reader = reader ≡ None
+    → Option ReaderUnit → Option ℕ → Type 0
+IsJudgedAnswer scope readers limit records (Ok (No offence)) reader spared =
+    IsJudgedNo scope readers limit records offence reader spared
+IsJudgedAnswer scope readers limit records (Ok (Yes report)) reader spared =
+    (reader ≡ None) × (spared ≡ None)
+IsJudgedAnswer scope readers limit records (Err fault) reader spared =
+    (reader ≡ None) × (spared ≡ None)
 
 -- an answer is a no
 abbrev pub IsNo : Result Outcome RunFault → Type 0

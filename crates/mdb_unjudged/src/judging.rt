@@ -1,13 +1,15 @@
 //! Following rows, and what they show of the feature levels.
 
-ghost use Rattle.std.specs.Prelude.{◌≡◌, ◌<◌, ◌≤◌, ◌+◌, List, [], ◌∷◌, ◌++◌, IfSome, IfNone, IsSome, Some, length};
+ghost use Rattle.std.specs.Prelude.{◌≡◌, ◌<◌, ◌≤◌, ◌+◌, List, [], ◌∷◌, ◌++◌, IsSome, Some, get_or, length, take};
+ghost use Rattle.std.specs.Bool.{OnFalse, OnTrue};
 ghost use Rattle.mdb_words.specs.declared.event.Event.{Event};
 ghost use Rattle.mdb_bus.specs.declared.levels.Levels.{Levels};
 ghost use Rattle.mdb_bus.specs.declared.scope.Scope.{Scope};
+ghost use Rattle.mdb_bus.specs.ActLists.{last_of};
 ghost use Rattle.mdb_follow.specs.declared.follower.TheConstants.{ROWS_MAX};
 ghost use Rattle.mdb_follow.specs.Follower.{offence_of, rows_of, scope_of};
 ghost use Rattle.mdb_unjudged.specs.Unjudged as spec;
-ghost use Rattle.mdb_unjudged.specs.inner.Steps.{HasFollowed, IsMet, MeetsAmong};
+ghost use Rattle.mdb_unjudged.specs.inner.Steps.{HasFollowed, HasTaken, MeetsAmong, RefusesAmong, SomeRefused};
 
 use super::reported::{known_before, reported_if};
 use super::unjudged::unjudged;
@@ -20,11 +22,15 @@ use mdb_words::{Event, Line};
 /// The first impossible row, and whether that it is impossible is judged.
 #[derive(Clone, Copy, PartialEq, Eq, Debug)]
 pub(crate) struct Met {
-    /// The row, the rule and the blame.
+    /// Its number, the rule and the blame.
     pub(crate) offence: Offence,
     /// The reader whose feature level isn't known, where the no rests on that. `None` where the no
     /// is judged.
     pub(crate) unjudged: Option<ReaderUnit>,
+    /// The row.
+    pub(crate) row: Event,
+    /// The row before it, if there is one.
+    pub(crate) last: Option<Event>,
 }
 
 /// A follower, and what its rows show of the feature levels at which the readers and the controller
@@ -40,12 +46,14 @@ pub(crate) struct Judging {
     pub(crate) reported: Levels,
     /// The byte with which the last block of the controller begins.
     pub(crate) begun: Option<u8>,
+    /// The last row. It is kept once for all rows that are taken together.
+    pub(crate) last: Option<Event>,
 }
 
 impl Judging {
     /// Before the first row of a recording that is taken so.
     pub(crate) fn scoped(scope: &Scope, readers: Levels) -> Judging
-        ensures followed { HasFollowed scope.now readers result [] }
+        ensures taken { HasTaken scope.now readers result [] }
         ensures scope { scope_of result.follower ≡ scope.now }
     {
         links::transcripts_have_one_act_list();
@@ -54,63 +62,75 @@ impl Judging {
             joined: is_joined(&scope.begins),
             reported: known_before(scope, readers),
             begun: None,
+            last: None,
         }
     }
 
-    /// Takes rows, up to the first that is impossible.
+    /// Takes rows, and answers whether each can be.
     #[inline(never)]
-    fn feed_all(&mut self, rows: &[Event]) -> Option<Met>
+    fn feed_all(&mut self, rows: &[Event]) -> bool
         requires room { rows_of self.old.follower + length rows.now ≤ ROWS_MAX }
-        ensures taken { IfNone result ((scope : Scope) (readers : Levels)
-            (before : List Event)
+        ensures taken { OnTrue result ((scope : Scope) (readers : Levels) (before : List Event)
             → HasFollowed scope readers self.old before
             → HasFollowed scope readers self.new (before ++ rows.now)) }
-        ensures met { IfSome result (λ met. (scope : Scope) (readers : Levels)
-            (before : List Event)
-            → HasFollowed scope readers self.old before
-            → MeetsAmong scope readers before rows.now met) }
+        ensures refused { OnFalse result ((scope : Scope) (readers : Levels)
+            (before : List Event) → HasFollowed scope readers self.old before
+            → RefusesAmong scope readers self.new before rows.now) }
         ensures scope { scope_of self.new.follower ≡ scope_of self.old.follower }
+        ensures last { self.new.last ≡ self.old.last }
     {
+        if !self.joined {
+            return match self.follower.feed_all(rows) {
+                Ok(()) => true,
+                Err(_) => false,
+            };
+        }
         for event in rows {
-            if let Some(met) = self.take(*event) {
-                return Some(met);
+            if !self.take(*event) {
+                return false;
             }
         }
-        None
+        true
     }
 
-    /// Takes the next row, or tells why it can't be.
+    /// Takes the next row, and answers whether it can be.
     #[inline(always)]
-    fn take(&mut self, event: Event) -> Option<Met>
+    fn take(&mut self, event: Event) -> bool
         requires room { rows_of self.old.follower < ROWS_MAX }
-        ensures taken { IfNone result ((scope : Scope) (readers : Levels)
+        ensures taken { OnTrue result ((scope : Scope) (readers : Levels)
             (rows : List Event)
             → HasFollowed scope readers self.old rows
             → HasFollowed scope readers self.new (rows ++ event ∷ [])) }
-        ensures met { IfSome result (λ met. (scope : Scope) (readers : Levels)
-            (rows : List Event)
-            → HasFollowed scope readers self.old rows → IsMet scope readers rows event met) }
+        ensures refused { OnFalse result ((scope : Scope) (readers : Levels) (rows : List Event)
+            → HasFollowed scope readers self.old rows
+            → SomeRefused scope readers self.new rows event) }
         ensures scope { scope_of self.new.follower ≡ scope_of self.old.follower }
-        ensures counted { IfNone result (rows_of self.new.follower ≡ rows_of self.old.follower +
+        ensures counted { OnTrue result (rows_of self.new.follower ≡ rows_of self.old.follower +
             1) }
+        ensures last { self.new.last ≡ self.old.last }
+        ensures joined { self.new.joined ≡ self.old.joined }
     {
         links::transcripts_have_one_act_list();
         self.begun = begins_block(&event).or(self.begun);
         match self.follower.feed_ending(event) {
             Some(ended) => {
                 self.reported = reported_if(ended, self.follower.act(), self.reported);
-                None
+                true
             }
-            None => Some(self.met()),
+            None => false,
         }
     }
 
-    /// The offence that was met, and whether it is judged.
-    fn met(&self) -> Met
-        requires { IsSome (offence_of self.now.follower) }
+    /// What was met at the row at an index of these rows.
+    fn met(&self, rows: &[Event], index: usize) -> Met
+        requires met { IsSome (offence_of self.now.follower) }
+        requires within { index < length rows.now }
         ensures offence { offence_of self.now.follower ≡ Some result.offence }
         ensures unjudged { result.unjudged ≡ spec.unjudged self.now.joined self.now.reported
             result.offence.rule result.offence.blame self.now.begun }
+        ensures row { (other : Event) → result.row ≡ get_or rows.now index other }
+        ensures last { (earlier : List Event) → self.now.last ≡ last_of earlier
+            → result.last ≡ last_of (earlier ++ take index rows.now) }
     {
         let Some(offence) = self.follower.offence() else {
             unreachable!()
@@ -118,7 +138,22 @@ impl Judging {
         Met {
             offence,
             unjudged: unjudged(self.joined, self.reported, offence, self.begun),
+            row: rows[index],
+            last: row_before(self.last, rows, index),
         }
+    }
+}
+
+/// The row before the one at an index of these rows, which come after the last.
+fn row_before(last: Option<Event>, rows: &[Event], index: usize) -> Option<Event>
+    requires { index ≤ length rows.now }
+    ensures { (earlier : List Event) → last ≡ last_of earlier
+        → result ≡ last_of (earlier ++ take index rows.now) }
+{
+    if index == 0 {
+        last
+    } else {
+        Some(rows[index - 1])
     }
 }
 
@@ -135,20 +170,26 @@ impl TakeRows<Levels> for Judging {
 
     ghost kept = { λ judging. scope_of judging.follower };
 
-    ghost has = { λ judging readers after. HasFollowed (scope_of judging.follower) readers
-        judging };
+    ghost has = { λ judging readers after. HasTaken (scope_of judging.follower) readers judging };
 
-    ghost stops = { λ judging readers after. MeetsAmong (scope_of judging.follower) readers };
+    ghost stops = { λ judging readers after. MeetsAmong (scope_of judging.follower) readers
+        judging };
 
     fn rows_taken(&self) -> u64 {
         self.follower.rows()
     }
 
     fn take_all(&mut self, _readers: &mut Levels, rows: &[Event]) -> Option<Met> {
-        self.feed_all(rows)
+        let before = self.follower.rows();
+        if self.feed_all(rows) {
+            self.last = row_before(self.last, rows, rows.len());
+            return None;
+        }
+        let index = (self.follower.rows() - before) as usize;
+        Some(self.met(rows, index))
     }
 
-    ghost counts = { λ judging readers after rows has. has.follows.counted };
+    ghost counts = { λ judging readers after rows has. has.is.follows.counted };
 }
 
 /// Whether a recording begins while the machine was running, and is followed by the base profile.

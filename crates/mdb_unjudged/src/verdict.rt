@@ -9,17 +9,18 @@ ghost use Rattle.mdb_verdict.specs.Verdict.{HasCause, HasMet, IsAnswer, IsNoYes,
 ghost use Rattle.mdb_unjudged.specs.Verdict.{IsJudgedAnswer, IsNo};
 
 use super::judging::Judging;
-use mdb_bus::{Beginning, Levels, Scope};
+use super::spared::spared;
+use mdb_bus::{Levels, Scope};
 use mdb_follow::laws;
 use mdb_msgs::ReaderUnit;
 use mdb_records::Records;
 use mdb_text::{Form, Outcome};
-use mdb_verdict::{Batch, RunFault, answer_in, check_records, outcome_of, read_rows};
+use mdb_verdict::{Batch, RunFault, answer_in, outcome_of, read_rows};
 use mdb_writing::write_text;
 use std::alloc::Global;
 use std::io::{Read, Write};
 
-/// An answer, and the reader of a no that isn't judged.
+/// An answer, and what may be said beside its no.
 #[derive(PartialEq, Eq, Debug, Drop)]
 pub struct Judged {
     /// The verdict, or why there is none.
@@ -27,11 +28,17 @@ pub struct Judged {
     /// With a no that isn't judged, the reader whose feature level the rows don't show. Otherwise
     /// `None`.
     pub unjudged: Option<ReaderUnit>,
+    /// With a no by the base profile's times that the extended profile's spare, how many
+    /// microseconds the row takes: a break that is too short lasts so long, and any other row
+    /// starts so long after the row before it. Otherwise `None`. Machines aren't asked, and replies
+    /// are read as by the base profile. So the extended profile may refuse the row all the same.
+    pub spared: Option<u64>,
 }
 
-/// Does what [`check_records`] does, and also returns the reader of a no that isn't judged. The
-/// levels of the readers are those that are known from elsewhere, as `told`: Z2 of a config message
-/// of an earlier recording.
+/// Does what [`check_records`](mdb_verdict::check_records) does. Also returns the reader of a no
+/// that isn't judged, and the time of a row that the extended profile's times spare. The levels of
+/// the readers are those that are known from elsewhere, as `told`: Z2 of a config message of an
+/// earlier recording.
 pub fn judge_records<R: Read + Drop, W: Write>(
     alloc: Global,
     form: Form,
@@ -46,19 +53,14 @@ pub fn judge_records<R: Read + Drop, W: Write>(
         → Answers (IsAnswer scope.now rows_max all) (answer_text form scope.now) RunFault.Write
         (W.contents writer.old) (W.contents writer.new) result.answer }
     ensures judged { (all : List (List (List ℕ))) → ToCome R.remaining records.old all
-        → IsJudgedAnswer scope.now readers rows_max all result.answer result.unjudged }
+        → IsJudgedAnswer scope.now readers rows_max all result.answer result.unjudged
+        result.spared }
     ensures no_other { IsNo result.answer ⊎ (result.unjudged ≡ None) }
     ensures whole { IsOverLimit R.remaining records.old → IsNoYes result.answer }
     ensures heard { IfErr result.answer (HasCause (fault_of records.new)) }
     ensures leaves { Leaves W.contents (answer_text form scope.now) RunFault.Write writer.old
         writer.new result.answer }
 {
-    if let Beginning::PowerOn(_) = scope.begins {
-        return Judged {
-            answer: check_records(alloc, form, scope, records, writer, rows_max),
-            unjudged: None,
-        };
-    }
     let judged = judge_on(scope, readers, records, rows_max);
     let outcome = match judged.answer {
         Ok(outcome) => outcome,
@@ -71,6 +73,7 @@ pub fn judge_records<R: Read + Drop, W: Write>(
         Ok(()) => Judged {
             answer: Ok(outcome),
             unjudged: judged.unjudged,
+            spared: judged.spared,
         },
         Err(failed) => Judged::without(RunFault::from(failed)),
     }
@@ -88,7 +91,8 @@ fn judge_on<R: Read + Drop>(
     ensures answer { (all : List (List (List ℕ))) → ToCome R.remaining records.old all
         → IsAnswer scope.now rows_max all result.answer }
     ensures judged { (all : List (List (List ℕ))) → ToCome R.remaining records.old all
-        → IsJudgedAnswer scope.now readers rows_max all result.answer result.unjudged }
+        → IsJudgedAnswer scope.now readers rows_max all result.answer result.unjudged
+        result.spared }
     ensures no_other { IsNo result.answer ⊎ (result.unjudged ≡ None) }
     ensures whole { IsOverLimit R.remaining records.old → IsNoYes result.answer }
     ensures heard { IfErr result.answer (HasMet (fault_of records.new)) }
@@ -108,10 +112,12 @@ fn judge_on<R: Read + Drop>(
         Ok(None) => Judged {
             answer: Ok(outcome_of(&judging.follower)),
             unjudged: None,
+            spared: None,
         },
         Ok(Some(met)) => Judged {
             answer: Ok(Outcome::No(met.offence)),
             unjudged: met.unjudged,
+            spared: spared(scope, &met, judging.follower),
         },
         Err(fault) => Judged::without(fault),
     }
@@ -122,10 +128,12 @@ impl Judged {
     fn without(fault: RunFault) -> Judged
         ensures answer { result.answer ≡ Err fault }
         ensures unjudged { result.unjudged ≡ None }
+        ensures spared { result.spared ≡ None }
     {
         Judged {
             answer: Err(fault),
             unjudged: None,
+            spared: None,
         }
     }
 }

@@ -16,19 +16,20 @@ use Rattle.mdbcheck_run.specs.Program.{status_of}
 
 -- what an answer of `check` tells aside
 pub aside_of_check : (scope : Scope) (readers : Levels) (text : Option (List ℕ)) (status : ℕ)
-    (answer : Result Outcome RunFault) (reader : Option ReaderUnit) → status ≡ status_of answer
+    (answer : Result Outcome RunFault) (reader : Option ReaderUnit) (spared : Option ℕ)
+    → status ≡ status_of answer
     → IfSome text (λ bytes. IsJudgedAnswer scope readers ROWS_MAX
-    (records default_config (strip_bom bytes)) answer reader)
-    → IsAsideOfCheck scope readers text status (aside_of scope.begins answer reader)
-aside_of_check scope readers text status (Ok (Yes report)) reader is judged = record {
+    (records default_config (strip_bom bytes)) answer reader spared)
+    → IsAsideOfCheck scope readers text status (aside_of scope.begins answer reader spared)
+aside_of_check scope readers text status (Ok (Yes report)) reader spared is judged = record {
   possible = λ e. refl;
   impossible = λ e. absurd (omega (arith, is, e));
 }
-aside_of_check scope readers text status (Ok (No offence)) reader is judged = record {
+aside_of_check scope readers text status (Ok (No offence)) reader spared is judged = record {
   possible = λ e. absurd (omega (arith, is, e));
-  impossible = λ e. IfSome_then text judged (λ bytes has. (offence, reader, has, refl));
+  impossible = λ e. IfSome_then text judged (λ bytes has. (offence, reader, spared, has, refl));
 }
-aside_of_check scope readers text status (Err fault) reader is judged = record {
+aside_of_check scope readers text status (Err fault) reader spared is judged = record {
   possible = λ e. absurd (omega (arith, is, e));
   impossible = λ e. absurd (omega (arith, is, e));
 }

@@ -1,6 +1,6 @@
 -- What standard error is told where there is an answer.
-use Rattle.std.specs.Prelude.{◌≡◌, ◌++◌, ℕ, List, codes, Option, Some, None, IfSome}
-use Rattle.std.specs.Prelude.{Bool, true, false, if◌then◌else◌, Result, Ok, Err}
+use Rattle.std.specs.Prelude.{◌≡◌, ◌++◌, ◌+◌, ◌/◌, ◌%◌, ◌==◌, ℕ, List, codes, Option, Some, None}
+use Rattle.std.specs.Prelude.{Bool, true, false, if◌then◌else◌, IfSome, Result, Ok, Err}
 use Rattle.std.specs.Fmt.{decimal}
 use Rattle.csv.specs.Reading.{default_config, records, strip_bom}
 use Rattle.mdb_msgs.specs.declared.command.Device.TheVariants.{Reader}
@@ -78,11 +78,54 @@ abbrev pub is_beyond : Rule → Bool
 is_beyond rules.Profile = true
 is_beyond broken = false
 
--- the line on a no: on the reader for which it isn't judged, else on a row that isn't followed; any
--- other no has none
-abbrev pub aside_line : Beginning → Offence → Option ReaderUnit → Option (List ℕ)
-aside_line begins offence (Some unit) = Some (unjudged_line unit)
-aside_line begins offence None =
+-- who sent a row
+abbrev pub sender_text : Blame → List ℕ
+sender_text blames.Controller = codes "the controller"
+sender_text blames.Other = codes "a device"
+sender_text sender = blame_word sender
+
+-- what a row out of its time did: before its time and after it (RET counts as a command)
+abbrev pub did_text : Rule → List ℕ
+did_text rules.Early = codes " sent a command "
+did_text rules.Late = codes " answered "
+did_text rules.Spacing = codes " sent a word "
+did_text broken = codes " sent a break of "
+
+abbrev pub since_text : Rule → Blame → List ℕ
+since_text rules.Early sender = codes " after the row before it"
+since_text rules.Late blames.Controller = codes " after the reply"
+since_text rules.Late sender = codes " after the command"
+since_text rules.Spacing sender = codes " after the word before it"
+since_text broken sender = codes ""
+
+-- tenths of a millisecond: what is too long is rounded up, and what is too short down
+abbrev pub tenths : Rule → ℕ → ℕ
+tenths rules.Late micros = micros / 100 + (if micros % 100 == 0 then 0 else 1)
+tenths rules.Spacing micros = micros / 100 + (if micros % 100 == 0 then 0 else 1)
+tenths broken micros = micros / 100
+
+-- tenths of a millisecond as a time
+abbrev pub time_text : ℕ → List ℕ
+time_text time = decimal (time / 10) ++ codes "." ++ decimal (time % 10) ++ codes " ms"
+
+-- what a row out of its time did, and how long it took
+abbrev pub deed_text : Rule → Blame → ℕ → List ℕ
+deed_text broken sender time =
+    sender_text sender ++ did_text broken ++ time_text time ++ since_text broken sender
+
+-- the line on a row whose time, so many microseconds, the extended profile's times spare
+abbrev pub spared_line : Offence → ℕ → List ℕ
+spared_line offence micros =
+    line (codes "mdbcheck: row " ++ decimal offence.row ++ codes ": "
+    ++ deed_text offence.rule offence.blame (tenths offence.rule micros)
+    ++ codes "; --extended counts that and goes on")
+
+-- the line on a no: on the reader for which it isn't judged, else on a row whose time is spared,
+-- else on a row that isn't followed; any other no has none
+abbrev pub aside_line : Beginning → Offence → Option ReaderUnit → Option ℕ → Option (List ℕ)
+aside_line begins offence (Some unit) spared = Some (unjudged_line unit)
+aside_line begins offence None (Some micros) = Some (spared_line offence micros)
+aside_line begins offence None None =
     if is_beyond offence.rule then Some (beyond_line begins offence) else None
 
 -- a writer was told nothing, or this line, or a front of it
@@ -96,15 +139,17 @@ abbrev pub HasToldAside : {E : Type 0} → (E → Option (List ℕ)) → E → E
 HasToldAside contents old new IsAside = (aside : Option (List ℕ))
     × HasHeard contents old new aside × IsAside aside
 
--- The line on an answer of `check` to a text, with this status: on a no that isn't judged, or at a
--- row that isn't followed, and on no other answer.
+-- The line on an answer of `check` to a text, with this status: on a no that isn't judged, at a row
+-- whose time the extended profile's times spare, or at a row that isn't followed, and on no other
+-- answer.
 pub record IsAsideOfCheck (scope : Scope) (readers : Levels) (text : Option (List ℕ)) (status : ℕ)
     (aside : Option (List ℕ)) : Type 0 where
   pub possible : status ≡ 0 → aside ≡ None
   pub impossible : status ≡ 1 → IfSome text (λ bytes. (offence : Offence)
-      × (reader : Option ReaderUnit)
+      × (reader : Option ReaderUnit) × (spared : Option ℕ)
       × IsJudgedNo scope readers ROWS_MAX (records default_config (strip_bom bytes)) offence reader
-      × (aside ≡ aside_line scope.begins offence reader))
+      spared
+      × (aside ≡ aside_line scope.begins offence reader spared))
 
 -- The same of a task. The others have none.
 abbrev pub IsAside : Task → Option (List ℕ) → ℕ → Option (List ℕ) → Type 0
@@ -113,7 +158,8 @@ IsAside (Check scope readers form) text status aside =
 IsAside task text status aside = aside ≡ None
 
 -- The rest serves private functions: the line on an answer of `check`.
-abbrev pub aside_of : Beginning → Result Outcome RunFault → Option ReaderUnit → Option (List ℕ)
-aside_of begins (Ok (No offence)) reader = aside_line begins offence reader
-aside_of begins (Ok (Yes report)) reader = None
-aside_of begins (Err fault) reader = None
+abbrev pub aside_of : Beginning → Result Outcome RunFault → Option ReaderUnit → Option ℕ
+    → Option (List ℕ)
+aside_of begins (Ok (No offence)) reader spared = aside_line begins offence reader spared
+aside_of begins (Ok (Yes report)) reader spared = None
+aside_of begins (Err fault) reader spared = None

@@ -279,7 +279,8 @@ EXIT STATUS
                      rule of the link. With manual: the text is written.
     1                No: a row breaks a rule. If the rule is Profile, nobody
                      did wrong. Nor did anybody if a line on standard error
-                     says that the no isn't judged (check --joined).
+                     says that the no isn't judged (check --joined), and
+                     perhaps if it says that --extended goes on.
     2                There is no verdict. A line on standard error says why: a
                      row isn't a row, a mark stands where none may, the input
                      is too long, input or output failed, memory was refused,
@@ -312,6 +313,10 @@ DIAGNOSTICS
     row 107: cashless goes beyond feature level 1: add --extended
                      With the rule Profile, check says what it doesn't follow,
                      and which words to type.
+    row 89: cashless answered 6.9 ms after the command; --extended counts ..
+                     The row breaks a time that --extended doesn't keep, and
+                     nothing else is wrong with it on the bus. With --extended
+                     check goes on.
     row 7: BadValue: wanted TIME,LINE,VALUE, found \"1200,M,8\"
                      The row isn't a row. The word after its number says why:
                      FieldCount (not three fields, as with semicolons or

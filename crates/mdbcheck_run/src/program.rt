@@ -76,10 +76,15 @@ const NO_VERDICT: u8 = 2;
 /// - 1: it has none, and the report on `out` shows why.
 ///
 /// With status 0 and 1 nothing is written to `err`, with one exception: `Check` writes one line if
-/// nobody did wrong by its no. Either the no isn't judged because the rows don't show the feature
-/// level of a reader, and the line names the reader. Or the rule is `Profile`, and the line has the
-/// row, what isn't followed, and which words to type. If `err` refuses the line, the status is the
-/// same.
+/// perhaps nobody did wrong by its no. If `err` refuses the line, the status is the same. The line
+/// stands there in three cases:
+///
+/// - The no isn't judged because the rows don't show the feature level of a reader. The line names
+///   the reader.
+/// - The rule is `Early`, `Late`, `Spacing` or `Break` of the base profile, the row is in the times
+///   of the extended profile, and nothing else is wrong with it as far as the link goes. The line
+///   has the row, who sent it and how long it took.
+/// - The rule is `Profile`. The line has the row, what isn't followed, and which words to type.
 ///
 /// With status 2 there is no such answer: the task met a fault. One line on `err` shows why. If
 /// `err` refuses the line, the status is the same.

@@ -1,36 +1,64 @@
 -- What a follower stands for that heeds the feature levels. This file serves private functions and
 -- proofs: no public clause cites it.
-use Rattle.std.specs.Prelude.{◌≡◌, List, ◌∷◌, ◌++◌}
+use Rattle.std.specs.Prelude.{◌≡◌, List, ◌∷◌, ◌++◌, length, true, Some}
 use Rattle.mdb_words.specs.declared.event.Event.{Event}
 use Rattle.mdb_bus.specs.declared.levels.Levels.{Levels}
 use Rattle.mdb_bus.specs.declared.scope.Scope.{Scope}
-use Rattle.mdb_bus.specs.ActLists.{IsActList, Piece, acts_of}
+use Rattle.mdb_bus.specs.ActLists.{IsActList, Piece, acts_of, last_of}
+use Rattle.mdb_follow.specs.declared.offence.Offence.{Offence}
+use Rattle.mdb_follow.specs.Follower.{HasAccepted, offence_of, rows_of}
 use Rattle.mdb_follow.specs.Offences.{IsOffence}
 use Rattle.mdb_verdict.specs.Ending.{HasFollowedRows}
 use Rattle.mdb_unjudged.specs.declared.judging.Judging.{Judging}
 use Rattle.mdb_unjudged.specs.declared.judging.Met.{Met}
-use Rattle.mdb_unjudged.specs.Unjudged.{IsJudged, is_joined, known_before, last_begun, reported}
+use Rattle.mdb_unjudged.specs.Unjudged.{IsJudged, is_joined, known_before, last_begun, reported, unjudged}
 
--- the rows of a recording that is taken so were followed
+-- The rows of a recording that is taken so were followed. Of one that isn't joined the levels don't
+-- count.
 pub record HasFollowed (scope : Scope) (readers : Levels) (judging : Judging)
     (rows : List Event) : Type 0 where
   pub follows : HasFollowedRows scope judging.follower rows
   pub joined : judging.joined ≡ is_joined scope.begins
-  pub reported : (pieces : List Piece) → IsActList scope pieces rows
+  pub reported : judging.joined ≡ true → (pieces : List Piece) → IsActList scope pieces rows
       → judging.reported ≡ reported (known_before scope readers) (acts_of pieces)
-  pub begun : judging.begun ≡ last_begun rows
+  pub begun : judging.joined ≡ true → judging.begun ≡ last_begun rows
 
--- a row after these can't be, and whether that is judged
-pub record IsMet (scope : Scope) (readers : Levels) (rows : List Event) (row : Event)
-    (met : Met) : Type 0 where
-  pub is : IsOffence scope rows row met.offence
-  pub judged : IsJudged scope readers rows row met.offence met.unjudged
+-- and the last of them was kept
+pub record HasTaken (scope : Scope) (readers : Levels) (judging : Judging)
+    (rows : List Event) : Type 0 where
+  pub is : HasFollowed scope readers judging rows
+  pub last : judging.last ≡ last_of rows
+
+-- A row after these was refused.
+pub record HasRefused (scope : Scope) (readers : Levels) (judging : Judging) (rows : List Event)
+    (row : Event) (offence : Offence) : Type 0 where
+  pub is : IsOffence scope rows row offence
+  pub judged : IsJudged scope readers rows row offence (unjudged judging.joined judging.reported
+      offence.rule offence.blame judging.begun)
+  pub noted : offence_of judging.follower ≡ Some offence
+  pub accepted : HasAccepted judging.follower rows
+  pub counted : rows_of judging.follower ≡ length rows
+
+abbrev pub SomeRefused : Scope → Levels → Judging → List Event → Event → Type 0
+SomeRefused scope readers judging rows row =
+    (offence : Offence) × HasRefused scope readers judging rows row offence
 
 -- the first of some rows, after earlier ones
-pub record MeetsAmong (scope : Scope) (readers : Levels) (earlier rows : List Event)
-    (met : Met) : Type 0 where
+pub record RefusesAmong (scope : Scope) (readers : Levels) (judging : Judging)
+    (earlier rows : List Event) : Type 0 where
+  pub offence : Offence
   pub front : List Event
   pub row : Event
   pub rest : List Event
   pub parts : rows ≡ front ++ row ∷ rest
-  pub is : IsMet scope readers (earlier ++ front) row met
+  pub is : HasRefused scope readers judging (earlier ++ front) row offence
+
+-- what was met at that row
+pub record MeetsAmong (scope : Scope) (readers : Levels) (judging : Judging)
+    (earlier rows : List Event) (met : Met) : Type 0 where
+  pub refuses : RefusesAmong scope readers judging earlier rows
+  pub offence : met.offence ≡ refuses.offence
+  pub unjudged : met.unjudged ≡ unjudged judging.joined judging.reported met.offence.rule
+      met.offence.blame judging.begun
+  pub row : met.row ≡ refuses.row
+  pub last : met.last ≡ last_of (earlier ++ refuses.front)

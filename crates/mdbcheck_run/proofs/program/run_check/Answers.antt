@@ -20,11 +20,11 @@ returns-clause-says g c =
 pub returns-clause-silent : goal.returns-clause-silent
 returns-clause-silent g c below =
     let aside = aside_of c.args.scope.now.begins c.judge_records-judged.result.answer
-    c.judge_records-judged.result.unjudged in (
+    c.judge_records-judged.result.unjudged c.judge_records-judged.result.spared in (
       aside,
       subst (λ e. HasHeard g.E.Write.contents c.args.err.now e aside)
           (sym (c.finish_check.ensures.silent below)) c.tell_aside.ensures,
-      aside_of_check c.args.scope.now c.args.readers _ _ _ _ c.finish_check.ensures.status
+      aside_of_check c.args.scope.now c.args.readers _ _ _ _ _ c.finish_check.ensures.status
           (IfSome_then _ c.input_of-records.ensures.records
           (λ text to_come. c.judge_records-judged.ensures.judged _ to_come)),
     )

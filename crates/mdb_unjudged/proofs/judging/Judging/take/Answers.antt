@@ -3,7 +3,7 @@ use Rattle.std.specs.Option.{option_or}
 use Rattle.mdb_bus.specs.Bus.{ended_act}
 use Rattle.mdb_follow.specs.Follower as follow
 use Rattle.mdb_unjudged.specs.Unjudged.{reported_if}
-use Rattle.mdb_unjudged.proofs.Following.{met_by, taken_more}
+use Rattle.mdb_unjudged.proofs.Following.{refused_by, taken_more}
 use Rattle.mdb_unjudged.proofs.judging.Judging.take.Goals as goal
 
 pub returns-in-Some-clause-taken : goal.returns-in-Some-clause-taken
@@ -17,10 +17,9 @@ returns-in-Some-clause-taken c scope readers rows on =
     (c.or-self.ensures
     ∙ ap (λ begun. option_or begun c.args.self.now.begun) c.begins_block.ensures)
 
-pub returns-in-None-clause-met : goal.returns-in-None-clause-met
-returns-in-None-clause-met c scope readers rows on =
-    met_by c.args.self.now _ scope readers rows c.args.event c.met.result on
-    c.in-None.ensures.refused c.feed_ending.ensures.scope c.met.ensures.offence
-    c.met.ensures.unjudged refl refl
+pub returns-in-None-clause-refused : goal.returns-in-None-clause-refused
+returns-in-None-clause-refused c scope readers rows on =
+    refused_by c.args.self.now _ scope readers rows c.args.event on
+    c.in-None.ensures.refused c.feed_ending.ensures.scope refl refl
     (c.or-self.ensures
     ∙ ap (λ begun. option_or begun c.args.self.now.begun) c.begins_block.ensures)

@@ -1,7 +1,67 @@
-use Rattle.mdb_unjudged.proofs.Following.{taken_or_met}
+use Rattle.std.proofs.Common.{arith, ap, refl, subst, sym, ◌∙◌, ◌-◌, ◌++◌, length}
+use Rattle.std.proofs.lemmas.List.{take_all}
+use Rattle.std.specs.Prelude.{IsSome}
+use Rattle.mdb_bus.specs.ActLists.{last_of}
+use Rattle.mdb_follow.specs.Follower.{rows_of, scope_of}
+use Rattle.mdb_unjudged.specs.inner.Steps.{HasFollowed, MeetsAmong}
+use Rattle.mdb_unjudged.proofs.Following.{front_within, met_there, taken_among}
 use Rattle.mdb_unjudged.proofs.judging.JudgingTakeRowsLevels.take_all.Goals as goal
 
+pub returns-then-feed_all-clause-taken : goal.returns-then-feed_all-clause-taken
+returns-then-feed_all-clause-taken c before earlier has =
+    let rows = c.args.rows.now in
+    let on : HasFollowed (scope_of c.feed_all.new.self.follower) before c.feed_all.new.self
+    (earlier ++ rows) =
+    subst (λ s. HasFollowed s before c.feed_all.new.self (earlier ++ rows))
+    (sym c.feed_all.ensures.scope)
+    (c.if-feed_all.ensures.taken (scope_of c.args.self.now.follower) before earlier has.is) in
+    record {
+      is = record {
+        follows = on.follows;
+        joined = on.joined;
+        reported = on.reported;
+        begun = on.begun;
+      };
+      last = c.row_before-self.ensures earlier (c.feed_all.ensures.last ∙ has.last)
+          ∙ ap (λ l. last_of (earlier ++ l)) (take_all (length rows) rows (omega arith));
+    }
+
+pub overflow_sub-index : goal.overflow_sub-index
+overflow_sub-index c =
+    let had = c.requires.begun in
+    let scope = scope_of c.args.self.now.follower in
+    let among = c.if-feed_all.ensures.refused scope had.0 had.1 had.2.is in
+    let taken = taken_among c.feed_all.new.self scope had.0 had.1 c.args.rows.now
+    (rows_of c.args.self.now.follower) had.2.is.follows.counted among in
+    omega (arith, taken, c.rows.ensures, c.rows-before.ensures)
+
+pub met-requires-clause-met : goal.met-requires-clause-met
+met-requires-clause-met c =
+    let had = c.requires.begun in
+    let among = c.if-feed_all.ensures.refused (scope_of c.args.self.now.follower) had.0 had.1
+    had.2.is in
+    subst IsSome (sym among.is.noted) refl
+
+pub met-requires-clause-within : goal.met-requires-clause-within
+met-requires-clause-within c =
+    let had = c.requires.begun in
+    let scope = scope_of c.args.self.now.follower in
+    let among = c.if-feed_all.ensures.refused scope had.0 had.1 had.2.is in
+    let taken = taken_among c.feed_all.new.self scope had.0 had.1 c.args.rows.now
+    (rows_of c.args.self.now.follower) had.2.is.follows.counted among in
+    let within = front_within c.feed_all.new.self scope had.0 had.1 c.args.rows.now among in
+    omega (arith, taken, within, c.rows.ensures, c.rows-before.ensures)
+
 pub returns-clause-taken : goal.returns-clause-taken
-returns-clause-taken c readers earlier has =
-    taken_or_met c.args.self.now c.feed_all.new.self readers earlier c.args.rows.now
-    c.feed_all.result c.feed_all.ensures.taken c.feed_all.ensures.met c.feed_all.ensures.scope has
+returns-clause-taken c before earlier has =
+    let scope = scope_of c.args.self.now.follower in
+    let among = c.if-feed_all.ensures.refused scope before earlier has.is in
+    let taken = taken_among c.feed_all.new.self scope before earlier c.args.rows.now
+    (rows_of c.args.self.now.follower) has.is.follows.counted among in
+    subst (λ s. MeetsAmong s before c.feed_all.new.self earlier c.args.rows.now c.met.result)
+    (sym c.feed_all.ensures.scope)
+    (met_there c.feed_all.new.self scope before earlier c.args.rows.now
+    (c.rows.result - c.rows-before.result) c.met.result among
+    (omega (arith, taken, c.rows.ensures, c.rows-before.ensures)) c.met.ensures.offence
+    c.met.ensures.unjudged c.met.ensures.row
+    (c.met.ensures.last earlier (c.feed_all.ensures.last ∙ has.last)))

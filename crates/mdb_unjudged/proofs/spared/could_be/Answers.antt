@@ -1,0 +1,12 @@
+use Rattle.std.proofs.Common.{[], ◌∷◌, subst, sym}
+use Rattle.std.specs.Prelude.{◌↔◌, IsTrue}
+use Rattle.mdb_unjudged.specs.Spared.{CouldBe}
+use Rattle.mdb_unjudged.proofs.spared.could_be.Goals as goal
+use Rattle.mdb_bus.specs.Pieces.{HasActList}
+
+pub returns-in-Early : goal.returns-in-Early
+returns-in-Early c rows pieces whole in_scope last on_bus =
+    subst (λ r. IsTrue c.takes.result ↔ CouldBe c.args.scope.now rows c.args.met.now.row r)
+    (sym c.in-Early.is)
+    (subst (λ s. IsTrue c.takes.result ↔ HasActList s (c.args.met.now.row ∷ []))
+    c.scoped.ensures.scope (c.takes.ensures [] c.scoped.ensures.stands))
