@@ -24,6 +24,12 @@ def cut(data, reading):
     return in_lists(second.read_messages(bytes(data), LENGTHS[reading]))
 
 
+def kept_open(data):
+    """The messages of an answer whose readings say the same of what counts: it is kept in the first one, whatever the levels
+    are. None of any other."""
+    return in_lists(second.open_reading([second.read_messages(data, lengths) for lengths in second.READINGS.values()]))
+
+
 def may_answer(command, messages):
     """Whether messages may answer a command to a reader by the base profile."""
     first = command[0] - 0x50 * (command[0] >= 0x60)
@@ -69,4 +75,6 @@ class Formats:
         """The messages of an answer; None where it can't be read."""
         if not self.is_extended:
             return cut(data, BASE)
-        return in_lists(second.read_reply(bytes(data), self.told.get(reader), self.own.get(reader), self.is_joined))
+        return kept_open(bytes(data)) or in_lists(
+            second.read_reply(bytes(data), self.told.get(reader), self.own.get(reader), self.is_joined)
+        )
