@@ -435,9 +435,11 @@ def open_reading(readings: list[Reading]) -> Reading:
 
 
 def what_counts(messages: list[bytes]) -> tuple:
-    """What two readings of an open reply have to say the same of."""
+    """What two readings of an open reply have to say the same of: some of their messages, whether one is 0B, and
+    whether the reply may have the mark `R`."""
     counting = [m for m in messages if m[0] in (0x00, 0x01, 0x05, 0x06)]
-    return counting, any(m[0] == _OUT_OF_SEQUENCE for m in messages)
+    first = next((m[0] for m in messages if m[0] == _RESET or m[0] in _SESSION_MESSAGES), None)
+    return counting, any(m[0] == _OUT_OF_SEQUENCE for m in messages), first == _RESET
 
 
 #: The messages of a session and a sale.
