@@ -1,33 +1,18 @@
+// @ts-check
 // The clock. All times of the page go through `when`: of the clock, if it is known when the recording began, else of
 // the rows. Lengths of time go through `seconds`.
+import {by, fieldBy, openWays} from "./elements.js";
+import {madeFiles} from "./import/made.js";
+import {state} from "./run/now.js";
+import {fraction, padded, rowTime} from "./times.js";
+
 const DAY = 86400e6;
 // What the clock shows: `zero` is where it stands at TIME 0, in microseconds since midnight or, if the date is known
 // (`hasDate`), since 1970. `first` is the day of the first row. Null if no clock is known.
-let clock = null;
+/** @type {{zero: number, hasDate: boolean, first: number} | null} */
+export let clock = null;
 // The TIME whose clock the field has: 0, or that of the first row where the export has times of day.
 let clockAt = 0;
-
-const padded = (n, digits) => String(n).padStart(digits, "0");
-
-// A part of a second to so many digits, cut and not rounded: a search for what is shown finds it.
-function fraction(micros, digits) {
-  const part = micros - Math.floor(micros / 1e6) * 1e6;
-  return digits ? "." + padded(Math.floor(part), 6).slice(0, digits) : "";
-}
-
-// A length of time: from a tenth of a second on in seconds, from a minute on with minutes, from an hour on with hours.
-function seconds(micros) {
-  if (micros < 1e5) return `${(micros / 1000).toFixed(3)} ms`;
-  return micros < 60e6 ? `${(micros / 1e6).toFixed(3)} s` : rowTime(Math.round(micros / 1000) * 1000, 3);
-}
-
-// A TIME of the rows, as the recorder counts it.
-function rowTime(micros, digits) {
-  const whole = Math.floor(micros / 1e6), part = fraction(micros, digits);
-  if (whole < 60) return `${whole}${part} s`;
-  const hours = Math.floor(whole / 3600), minutes = Math.floor(whole / 60) % 60, end = padded(whole % 60, 2) + part;
-  return hours ? `${hours}:${padded(minutes, 2)}:${end}` : `${minutes}:${end}`;
-}
 
 const dateWords = (day) => new Date(day * 86400000).toISOString().slice(0, 10);
 
@@ -41,7 +26,8 @@ function clockTimeOf(civil, digits) {
 }
 
 // A time of the recording, in words.
-function when(at, digits = 3) {
+/** @type {(at: number, digits?: number) => string} */
+export function when(at, digits = 3) {
   if (!clock) return rowTime(at, digits);
   const civil = clock.zero + Math.floor(at), day = Math.floor(civil / DAY);
   return (day === clock.first ? "" : dayWords(day)) + clockTimeOf(civil, digits);
@@ -49,7 +35,8 @@ function when(at, digits = 3) {
 
 // The same for a table of a spreadsheet: with the date if it is known, and with its microseconds. Empty without a
 // clock.
-function clockField(at) {
+/** @type {(at: number) => string} */
+export function clockField(at) {
   if (!clock || Number.isNaN(at)) return "";
   const civil = clock.zero + at;
   return `${clock.hasDate ? dateWords(Math.floor(civil / DAY)) + " " : ""}${clockTimeOf(civil, 6)}`;
@@ -67,9 +54,9 @@ function readBegan(written) {
 }
 
 // Takes the clock as the field has it.
-function setClock() {
-  const written = by("began").value, read = readBegan(written), isWrong = Boolean(written.trim() && !read);
-  by("began").setAttribute("aria-invalid", isWrong);
+export function setClock() {
+  const written = fieldBy("began").value, read = readBegan(written), isWrong = Boolean(written.trim() && !read);
+  by("began").setAttribute("aria-invalid", String(isWrong));
   by("began-fault").textContent =
       isWrong ? "Write a date and a time, 2026-11-28 14:30, or the time alone, 14:30:05." : "";
   clock = read ? {zero: read.civil - clockAt, hasDate: read.hasDate, first: 0} : null;
@@ -78,12 +65,13 @@ function setClock() {
 }
 
 // The day of the first row is the clock's first day.
-function startClock({list, listed}) {
+/** @type {(it: Answer) => void} */
+export function startClock({list, listed}) {
   if (clock) clock.first = Math.floor((clock.zero + (listed ? list.start(0) : 0)) / DAY);
 }
 
 // Says beside the field what it is the time of, and when row 1 is then.
-function tellClock() {
+export function tellClock() {
   const isRow = clockAt > 0,
         what = isRow ? "This is the time of row 1, as the export has it. Correct it if that clock was wrong." :
                        "This is the time at which the recorder counted 0.";
@@ -91,49 +79,44 @@ function tellClock() {
   by("began-told").textContent = what + first;
 }
 
-// Takes the clock that was written, and shows all times anew.
-function takeClock() {
-  setClock();
-  if (!state || isWorking) return;
-  showAgain(state);
-  announce(clock ? "All times are of the clock now." : "All times are those of the rows now.");
-}
-
-function openClock() {
-  by("ways").open = true;
+export function openClock() {
+  openWays();
   by("began").focus();
   by("began").scrollIntoView({block: "center"});
 }
 
 // Another recording began at another time.
-function forgetClock() {
+export function forgetClock() {
   clockAt = 0;
-  by("began").value = "";
+  fieldBy("began").value = "";
   setClock();
 }
 
 // Fills the field from rows that were made of times of day, once.
-async function fillClock(rows) {
+/** @type {(rows: File) => Promise<void>} */
+export async function fillClock(rows) {
   const source = madeFiles.get(rows);
   if (!source?.hasClocks || source.isClockTold) return;
   const [, time] = /^(\d+),/.exec(await rows.slice(0, 64).text()) ?? [];
   if (time === undefined) return;
   source.isClockTold = true;
   clockAt = Number(time);
-  by("began").value = clockTimeOf(clockAt, clockAt % 1000 ? 6 : 3);
+  fieldBy("began").value = clockTimeOf(clockAt, clockAt % 1000 ? 6 : 3);
   setClock();
 }
 
 // When the recording began, for the record; null where that isn't known.
-function beganWords() {
+/** @type {() => string | null} */
+export function beganWords() {
   if (!clock) return null;
   const what = clockAt ? "row 1, as the export has it" : "where its rows count 0, as given on this page";
-  return `${by("began").value.trim()} (${what})`;
+  return `${fieldBy("began").value.trim()} (${what})`;
 }
 
 // The lengths of TIME in which the clock shows what is written, a time that begins so, on each day that has it; null
 // where it isn't written as the clock shows times.
-function clockTimes(text, {list, listed}) {
+/** @type {(text: string, it: Answer) => {low: number, high: number}[] | null} */
+export function clockTimes(text, {list, listed}) {
   const found = /^(?:(\d{4}-\d\d-\d\d) +|day (\d+),? +)?(\d{1,2}):(\d\d)(?::(\d\d)(?:\.(\d{1,6}))?)?$/.exec(text);
   if (!clock || !found || !listed) return null;
   const [, date, number, hours, minutes, whole, part = ""] = found, times = [];

@@ -1,45 +1,41 @@
-// What is shown of an answer, and the page's own events.
-function takeActs(it) {
-  Object.assign(it, asRead(it));
-  noteSetups(it.list, it.way.given, it.hole, it.found);
-  takeUnjudged(it);
-}
+// @ts-check
+// Puts the parts of the page together, and takes its own events.
+import {start} from "./checker/checker.js";
+import {forgetClock} from "./clock.js";
+import {by, h} from "./elements.js";
+import {examplesSection, take} from "./files/files.js";
+import {checkPart} from "./files/part.js";
+import {readSetups} from "./files/setup.js";
+import {closeImport, takeQuotesOff} from "./import/panel.js";
+import {drawActs, jumpToRow} from "./list/acts.js";
+import {connect, jumpToPart} from "./list/jumps.js";
+import {drawStatement, jumpToEntry} from "./list/statement.js";
+import {drawLine, jumpToTime} from "./list/timeline.js";
+import {asked} from "./run/asked.js";
+import {endChecker, isWorking, nextRun, surveying} from "./run/now.js";
+import {run} from "./run/runs.js";
+import {trouble} from "./run/trouble.js";
+import {showSetupFault, showWay} from "./run/way.js";
+import {working} from "./run/work.js";
+import {takeClock} from "./show.js";
+import {drawFaults, jumpToNumber} from "./survey/faults.js";
+import {drawStretches} from "./survey/stretches.js";
+import {stopSurvey, survey} from "./survey/survey.js";
 
-function show(it) {
-  if (!it.list) takeActs(it);
-  startClock(it);
-  const parts = [];
-  showVerdict(asAtFirst(it));
-  if (it.lines.length) parts.push(faultSection(it));
-  if (it.answer === ANSWERS.YES) parts.push(moneySection(it), devicesSection(it));
-  if (it.before && it.row > 1) parts.push(beforeSection(it));
-  if (it.listed) parts.push(timeSection(it), tellSection(it), actsSection(it));
-  parts.push(recordSection(it));
-  by("told").replaceChildren(contents(parts), ...parts, jumpBar());
-  by("main").classList.add("shown");
-}
-
-// Shows the answer anew, with all times of the clock that is known now.
-function showAgain(it) {
-  const place = it.listed ? actsPlace(it) : null, {hits, from} = it;
-  show(it);
-  if (it.survey) addSurvey(it);
-  by("figures").textContent = figures(it);
-  showSum(it);
-  queueMicrotask(() => {
-    if (!place || !hits) return;
-    putActsPlace(it, place);
-    drawActs(it);
-  });
-}
-
-function figures(it) {
-  const s = (ms) => (ms / 1000).toFixed(2) + " s";
-  return `${number(it.size)} bytes, read in ${s(it.ms.read)}, checked in ${s(it.ms.check)}${
-      it.survey ? `, surveyed in ${s(it.survey.ms)}, listed anew in ${s(it.ms.relist)}` :
-                  ""}${it.before ? `, the rows before row ${number(it.row)} in ${s(it.ms.before)}` : ""}${
-      it.ms.closer ? `, what leaves money open in ${s(it.ms.closer)}` : ""}, acts listed in ${
-      s(it.ms.list)}, shown after ${s(it.ms.all)}; ${number(Math.round(it.memory / 1048576))} MB of memory.`;
+// Stops what works: a run, or a survey.
+function stop() {
+  if (!isWorking) return;
+  nextRun();
+  endChecker();
+  if (surveying) {
+    stopSurvey();
+    return;
+  }
+  closeImport();
+  working(false);
+  trouble(
+      "You stopped the check. There is no verdict.", true,
+      h("button", {type: "button", onclick: () => run()}, "Check it after all"));
 }
 
 // Emptied, since choosing the same file again is no change else.
@@ -76,6 +72,11 @@ function droppable(element, zone, then) {
   });
 }
 
+Object.assign(asked, {run, survey, takeQuotesOff});
+connect(
+    {row: jumpToRow, entry: jumpToEntry, at: jumpToTime, part: jumpToPart, fault: jumpToNumber},
+    [drawActs, drawStatement, drawFaults, drawStretches, drawLine]);
+by("told").replaceChildren(examplesSection());
 chosen(by("file"), take);
 chosen(by("setup-file"), ([given]) => readSetups(given));
 droppable(by("drop-setup"), by("drop-setup"), ([given]) => readSetups(given));
@@ -84,9 +85,8 @@ by("again").addEventListener("click", () => run());
 by("stop").addEventListener("click", stop);
 by("ways").addEventListener("change", showWay);
 by("began").addEventListener("change", takeClock);
+by("part-go").addEventListener("click", checkPart);
 by("setups").addEventListener("input", () => showSetupFault(null));
 forgetClock();
 showWay();
-start().then((made) => {
-  module = made;
-}, (fault) => trouble(fault.message, false));
+start().catch((fault) => trouble(fault.message, false));

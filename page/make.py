@@ -1,10 +1,10 @@
 #!/usr/bin/env python3
 """make.py MODULE.wasm PAGE.html: puts the page's sources and the module into one file.
 
-The texts of the rules are those of docs/bench/rules.md. Scripts and styles are named by their checksums
-in the page's Content-Security-Policy, so that the browser runs nothing else. Comments and indents of
-the scripts stay out. The same input gives the same bytes, where zlib is the same: another one may pack
-the module otherwise.
+esbuild makes one script of main.js and all that it imports. What no file of this folder has, scripts
+import as "built": the module, the scripts of both workers, the rules' texts (those of docs/bench/rules.md)
+and the examples. Scripts and styles are named by their checksums in the page's Content-Security-Policy, so
+that the browser runs nothing else. The same input gives the same bytes, where zlib and esbuild are the same.
 """
 
 import base64
@@ -12,17 +12,13 @@ import hashlib
 import json
 import pathlib
 import re
+import subprocess
 import sys
+import tempfile
 import zlib
 
 HERE = pathlib.Path(__file__).resolve().parent
 RULES = "Order Speaker Mode Early Late Spacing Length Sum Break Answer Message Same Profile Changer Bill Cashless".split()
-# The page's scripts, in the order in which they stand in the page. What a script runs at once, needs the ones before it.
-SCRIPTS = ("layout messages words news elements texts clock report options runs import-panel late open-money open-list story rises replayed rowstory linkstory unjudged card fault why money timeline statement acts survey gaps faults stretches jumps files evidence setup main").split()
-# Those of the worker.
-WORKERS = "sha256 layout messages worker relist".split()
-# Those of the worker that imports an export.
-IMPORT_SCRIPTS = ["sha256", *(f"import-{name}" for name in "text rows levels saleae edges sigrok vcd messages formats known worker".split())]
 # Recordings of examples/ that the page has for those who want to try it, each with what it is.
 EXAMPLES = {
     "coin-told-twice": "A coin that was reported twice: was it one or two?",
@@ -94,31 +90,16 @@ def examples():
     return [{"name": f"{name}.csv", "words": words, "text": texts[name]} for name, words in EXAMPLES.items()]
 
 
-def script(name):
-    """The text of a script of this folder without its indents, and without the lines that are comments."""
-    # (clang-format breaks a template inside of its expressions alone, so no text loses a blank)
-    lines = (HERE / f"{name}.js").read_text().splitlines()
-    bare = [line.strip() for line in lines]
-    return "\n".join(line for line in bare if line and not line.startswith("//")) + "\n"
-
-
-def in_script(text):
-    """A JSON text that may stand inside a script of a page."""
-    return json.dumps(text, ensure_ascii=False).replace("</", "<\\/").replace("<!--", "<\\!--")
-
-
-def want_names_once():
-    """Ends the making where two scripts declare one name: the browser would run none of them."""
-    parts = [(HERE / f"{name}.js").read_text() for name in SCRIPTS]
-    names = re.findall(r"^(?:const|let|class|(?:async )?function) (\w+)", "\n".join(parts), flags=re.M)
-    twice = sorted({name for name in names if names.count(name) > 1})
-    if twice:
-        sys.exit(f"the page's scripts declare twice: {', '.join(twice)}")
-
-
-def import_text():
-    """The text of the worker that imports."""
-    return "\n".join(['"use strict";', *map(script, IMPORT_SCRIPTS)])
+def bundled(entry, built=""):
+    """A script with all that it imports, on few lines. It is flat: what it declares is global, as tests want it."""
+    with tempfile.TemporaryDirectory() as folder:
+        path = pathlib.Path(folder) / "built.js"
+        path.write_text(built)
+        words = ["--bundle", "--format=esm", "--minify-whitespace", "--charset=utf8", '--banner:js="use strict";']
+        ran = subprocess.run(["esbuild", *words, f"--alias:built={path}", entry], cwd=HERE, stdout=subprocess.PIPE)
+    if ran.returncode:
+        sys.exit(f"{entry}: esbuild makes no script of it")
+    return ran.stdout.decode()
 
 
 def deflated(module):
@@ -135,22 +116,20 @@ def main():
     module, page = map(pathlib.Path, sys.argv[1:])
     wasm = module.read_bytes()
     style = (HERE / "page.css").read_text()
-    worker = "\n".join(map(script, WORKERS))
-    parts = [*map(script, SCRIPTS)]
-    want_names_once()
-    constants = [
-        '"use strict";',
-        f"const RULES = {in_script(rule_texts())};",
-        f"const EXAMPLES = {in_script(examples())};",
-        f"const WORKER = {in_script(worker)};",
-        f"const IMPORTER = {in_script(import_text())};",
-        f'const MODULE = "{base64.b64encode(deflated(wasm)).decode()}";',
-    ]
-    whole = "\n".join(["", *constants, *parts])
+    built = {
+        "RULES": rule_texts(),
+        "EXAMPLES": examples(),
+        "WORKER": bundled("checker/worker.js"),
+        "IMPORTER": bundled("import/worker.js"),
+        "MODULE": base64.b64encode(deflated(wasm)).decode(),
+    }
+    script = bundled("main.js", "".join(f"export const {name} = {json.dumps(value)};\n" for name, value in built.items()))
+    if re.search("</script|<!--", script, re.I):
+        sys.exit("the page's scripts have what ends a script in a page")
     policy = "; ".join(
         [
             "default-src 'none'",
-            f"script-src {digest(whole)} 'wasm-unsafe-eval'",
+            f"script-src {digest(script)} 'wasm-unsafe-eval'",
             f"style-src {digest(style)}",
             "worker-src blob:",
             "base-uri 'none'",
@@ -159,7 +138,7 @@ def main():
     )
     made = f"mdbcheck {version()}. The module has {len(wasm):,} bytes, SHA-256 {hashlib.sha256(wasm).hexdigest()}."
     text = (HERE / "page.html").read_text()
-    for mark, value in (("POLICY", policy), ("STYLE", style), ("MADE", made), ("SCRIPT", whole)):
+    for mark, value in (("POLICY", policy), ("STYLE", style), ("MADE", made), ("SCRIPT", script)):
         if text.count(f"@{mark}@") != 1:
             sys.exit(f"page.html: @{mark}@ doesn't stand there once")
         text = text.replace(f"@{mark}@", value)

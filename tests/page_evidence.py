@@ -28,7 +28,7 @@ sys.dont_write_bytecode = True
 
 from browser import Browser  # noqa: E402
 from firefox import Firefox  # noqa: E402
-from programs import PAGE  # noqa: E402
+from programs import MDBCHECK, PAGE, Runs  # noqa: E402
 
 TOP = pathlib.Path(__file__).resolve().parent.parent
 EXAMPLES = TOP / "examples"
@@ -110,7 +110,7 @@ class Page:
     def __init__(self, browser, work):
         self.browser, self.work = browser, work
         self.browser.open(PAGE.as_uri())
-        found = re.search(r'const MODULE = "([A-Za-z0-9+/=]*)";', PAGE.read_text())
+        found = re.search(r'\bMODULE ?= ?"([A-Za-z0-9+/=]*)"', PAGE.read_text())
         self.module = hashlib.sha256(zlib.decompress(base64.b64decode(found[1]), -15)).hexdigest()
 
     def value(self, code):
@@ -149,7 +149,7 @@ def try_sums(page):
     """The checksum of bytes in pieces of any size."""
     dice = random.Random(1)
     sizes = [*range(0, 260), 1000, 4095, 4096, 65_537, 1_000_003]
-    source = (TOP / "page" / "sha256.js").read_text()
+    source = (TOP / "page" / "checker" / "sha256.js").read_text()
     jobs = []
     for size in sizes:
         cuts = sorted(dice.randrange(size + 1) for _ in range(dice.choice((0, 0, 1, 2, 9))))
@@ -159,7 +159,7 @@ def try_sums(page):
       for (let i = 0, it = 1; i < all.length; i++) { it = it * 75 %% 65537; all[i] = it; }
       return JSON.stringify(%s.map(([size, ...cuts]) => { const sum = new Sha256(); let from = 0;
         for (const to of [...cuts, size]) { sum.add(all.subarray(from, to)); from = to; }
-        return sum.hex(); })); })()""" % (source.replace('"use strict";', ""), json.dumps(jobs))))
+        return sum.hex(); })); })()""" % (source.replace("export ", ""), json.dumps(jobs))))
     data, it = bytearray(), 1
     for _ in range(1_000_003):
         it = it * 75 % 65537
@@ -215,9 +215,7 @@ def try_reports(page):
         try:
             name, _ = compare_report(page, path, came)
             want(name == f"{path.stem}-report.html", name)
-            # The page goes on by itself with the extended profile.
-            wide = path.with_suffix(".check-extended")
-            want(came["text"] == (wide if wide.exists() else path.with_suffix(".check")).read_text(), "the text of the program")
+            want(came["text"] == Runs(MDBCHECK).run(path.read_bytes(), "check", "--extended")[1], "the text of the program")
         except Wrong as wrong:
             raise Wrong(f"the report of {path.name}: {wrong}") from None
         count += 1

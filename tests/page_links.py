@@ -7,7 +7,6 @@ import pathlib
 import subprocess
 import time
 
-from page_profiles import shown_for
 from programs import MDBCHECK, Runs
 
 TOP = pathlib.Path(__file__).resolve().parent.parent
@@ -393,9 +392,9 @@ def try_rows(page, want):
     want(told == "" and here == "45–46", f"row 45: {told}, {here}")
     # (A long recording, played: ten acts in the middle aren't listed.)
     page.browser.value("""(() => {
-      const bytes = new Uint8Array(state.acts), ten = 10 * bytes.length / state.listed, rest = bytes.slice(0, bytes.length - ten);
-      rest.set(bytes.subarray(2 * ten), ten);
-      const list = new Acts(rest.buffer, state.listed - 10);
+      const {index, ...acts} = state.acts, rest = Array.from(new Uint32Array(index));
+      rest.splice(10, 10);
+      const list = new Acts({...acts, index: Uint32Array.from(rest).buffer}, state.listed - 10);
       list.setups = state.list.setups;
       Object.assign(state, {list, hole: 10, all: state.listed, listed: state.listed - 10, quiet: undefined});
       listAll(state, true);
@@ -559,19 +558,19 @@ def try_examples_offered(page, want, address):
         page.browser.value(f"document.querySelector('[data-example={json.dumps(name)}]').click(); 1")
         page.wait(before)
         text = page.browser.value("by('text').textContent")
-        want(text == (TOP / "examples" / name).with_suffix(".check").read_text(), f"the example {name}: {text}")
+        want(text == Runs(MDBCHECK).run((TOP / "examples" / name).read_bytes(), "check", "--extended")[1], f"the example {name}: {text}")
     print(f"{len(names)} examples can be tried while nothing is chosen")
 
 
 def verdict_of(path):
     """What the table has of a file, from what the program prints."""
-    words, (status, out, err) = shown_for(Runs(MDBCHECK).run, path.read_bytes(), [])
+    status, out, err = Runs(MDBCHECK).run(path.read_bytes(), "check", "--extended")
     if status == 2:
         row = err.split("row ")[1].split(":")[0]
         return ["no verdict", f"{int(row):,}", "", ""]
     told = dict(line.split(" ", 1) for line in out.splitlines())
     if status == 0:
-        return ["yes: with the extended profile" if words else "yes", "", "", ""]
+        return ["yes", "", "", ""]
     row, rule = f"{int(told['row']):,}", told["rule"]
     return ["not followed", row, rule, "nobody"] if rule == "Profile" else ["no", row, rule, SENDERS[told["blame"]]]
 
@@ -583,7 +582,7 @@ def try_several(page, want):
     late = page.work / "late.csv"
     late.write_bytes(b"".join((TOP / "examples" / "coin-told-twice.csv").read_bytes().splitlines(True)[1:]))
     paths = [*sorted((TOP / "examples").glob("*.csv")), bad, late]
-    page.options([])
+    page.options(["--extended"])
     page.browser.choose("#file", *paths)
     for _ in range(2000):
         if page.browser.value("document.getElementById('files')?.dataset.done"):
@@ -602,7 +601,7 @@ def try_several(page, want):
     page.browser.value(f"document.querySelectorAll('#files tbody button')[{index}].click(); 1")
     page.wait(before)
     text = page.browser.value("by('text').textContent")
-    want(text == paths[index].with_suffix(".check").read_text(), f"opened: {text}")
+    want(text == Runs(MDBCHECK).run(paths[index].read_bytes(), "check", "--extended")[1], f"opened: {text}")
     want(page.browser.value("document.querySelector('#files [aria-current]').textContent").startswith("sale-never-approved"), "the opened file isn't marked")
     page.browser.choose("#file", *paths)
     page.browser.value("by('files-stop').click(); 1")

@@ -7,6 +7,7 @@ import re
 import time
 
 from browser import Browser
+from programs import PAGE
 
 TOP = pathlib.Path(__file__).resolve().parent.parent
 SIZES = ((1280, 800), (390, 844))
@@ -52,7 +53,7 @@ def places(page):
 
 def try_first_screen(page):
     """Before a file is chosen the page says what it is for. After that one line stands above the answer."""
-    page.browser.open((TOP / "out" / "mdbcheck.html").as_uri())
+    page.browser.open(PAGE.as_uri())
     for wide, high in SIZES:
         resize(page, wide, high)
         came = places(page)
@@ -62,7 +63,7 @@ def try_first_screen(page):
     for example in ("coin-told-twice", "sale-never-approved", "sale-by-card", "coins-beside-a-level-3-reader", "a-days-recording"):
         for wide, high in SIZES:
             resize(page, wide, high)
-            page.give(TOP / "examples" / f"{example}.csv")
+            page.take(TOP / "examples" / f"{example}.csv")
             page.browser.value("scrollTo(0, 0); 1")
             came, where = places(page), f"{example}, {wide} pixels"
             want(came["chosen"] == f"{example}.csv" and came["name"] and came["button"] == "Choose another", f"{where}: {came}")
@@ -113,7 +114,7 @@ def try_colours(page):
                 page.browser.ask("Emulation.setEmulatedMedia", features=[{"name": "prefers-color-scheme", "value": scheme}])
             elif scheme == "dark":
                 continue
-            page.give(TOP / "examples" / "four-devices-on-a-bus.csv")
+            page.take(TOP / "examples" / "four-devices-on-a-bus.csv")
             time.sleep(0.3)
             lines, behind = json.loads(page.browser.value(ACTS)), json.loads(page.browser.value(BEHIND))
             colours = {}
@@ -135,7 +136,7 @@ def try_printed(page):
     if not isinstance(page.browser, Browser):
         return
     resize(page, 794, 1123)
-    page.give(TOP / "examples" / "four-devices-on-a-bus.csv")
+    page.take(TOP / "examples" / "four-devices-on-a-bus.csv")
     page.browser.ask("Emulation.setEmulatedMedia", media="print", features=[{"name": "prefers-color-scheme", "value": "dark"}])
     came = places(page)
     want(came["title"][3] <= came["card"][1], f"printed: the title is over the card: {came['title']}, {came['card']}")

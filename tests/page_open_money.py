@@ -34,6 +34,7 @@ READ = """(() => {
     rows: [...it.querySelectorAll("#open > li")].map((one) => [...one.querySelectorAll("[data-row]")].map((a) => [Number(a.dataset.row), Number(a.dataset.last)])),
     entries: openMoneyOf(state).map(({until, ...one}) => ({...one, device: DEVICES[one.device],
       amounts: one.amounts.map((part) => ({...part, device: DEVICES[part.device]}))})),
+    table: by("statement-rows")?.textContent ?? "",
     total: text(document.querySelectorAll("#stretch-total tr[data-account='paid-out'] td")),
   });
 })()"""
@@ -211,6 +212,9 @@ def scenes():
     yield Scene("the stacker is full", Bus().validator().told([0x36], 0x80, 200).told([0x36], 0x80, 200), AMBER,
                 [("trouble", "", "a full stacker", "2 times")])
     yield Scene("a malfunction", card().told([0x12], 0x0A, 0xC0), AMBER, [("trouble", "", "malfunction (0A C0: refund error")])
+    yield from scenes_of_sales()
+    yield from scenes_of_payouts()
+    yield from scenes_of_restarts()
     choice = Bus().changer(3).coin(5).coin(4, 8).ask(0x0F, 2, 0x0F)
     choice.word("S", 0x100)
     choice = choice.told([0x0B], 0x53, 7)
@@ -237,6 +241,71 @@ def scenes():
                 ("No money was reported",), options=("--joined",))
     yield Scene("an approval without a known value", cut, AMBER, [("approved", "value not known", "an amount of unknown value")],
                 ("no known value",), options=("--joined",))
+
+
+def scenes_of_sales():
+    """Requests without an answer, denied and cancelled ones, and sales that the reader doesn't take."""
+    card = lambda: Bus().changer().reader()
+    asked = lambda: card().told([0x12], 3, 3, 0xE8).ack(0x13, 0, 0, 150, 0, 7)
+    never, silent = ("No money was reported", "makers"), asked().polls(3, device=0x12)
+    for _ in range(60):
+        silent.ask(0x12, after=250_000)
+    yield Scene("a request without an answer", silent.reader(), AMBER,
+                [("request", "1.50", "item 7", "before a RESET", "silent for 15.")], ("card company", "power and the plug"), never)
+    yield Scene("a request that is told twice", card().told([0x12], 3, 3, 0xE8).ask(0x13, 0, 0, 150, 0, 7).ack(0x13, 0, 0, 150, 0, 7)
+                .told([0x12], 5, 0, 150).ack(0x13, 2, 0, 7).over(), GREEN, [])
+    yield Scene("a request that is denied", asked().told([0x12], 6).over(), GREEN, [],
+                ("Card reader 1 denied 1.50 for item 7 at", "No money moved"), never)
+    yield Scene("a request that is denied, and an end that comes too early", asked().told([0x12], 6, 7), RED, [],
+                ("Card reader 1 ended the session", "hadn't ended the session that began"))
+    yield Scene("a request that is cancelled", asked().ack(0x13, 1).told([0x12], 6).over(), GREEN, [],
+                ("cancelled its request of 1.50 for item 7",), never)
+    untaken = card().approved().ask(0x13, 2, 0, 7).ask(0x13, 2, 0, 7).reader()
+    yield Scene("a sale that is never taken, and another one", untaken.approved(item=8).ack(0x13, 2, 0, 8).over(), AMBER,
+                [("untaken", "1.50", "item 7", "2 times", "never took it", "before a RESET")], ("This is the reason", "card company", "controller 3.00"), ("makers", "controller 4.50"))
+    yield Scene("a sale that is taken at the second time", card().approved().ask(0x13, 2, 0, 7).ack(0x13, 2, 0, 7).over(), GREEN, [])
+    yield Scene("an approval without an amount", card().told([0x12], 3, 3, 0xE8).ack(0x13, 0, 0xFF, 0xFF, 0, 7).told([0x12], 5, 0xFF, 0xFF)
+                .ack(0x13, 2, 0, 7).over(), GREEN, [], ("amount not told",), ("655.35", "earlier recording"))
+
+
+    negative = card().told([0x12], 3, 3, 0xE8).ack(0x13, 6, 0, 25, 0, 1).told([0x12], 5, 0, 25)
+    yield Scene("a negative vend, and a sale", negative.approved(item=8).ack(0x13, 2, 0, 8).over(), AMBER, [], surveyed=[])
+    yield Scene("a negative vend, and no outcome", negative.told([0x12], 0x0B), AMBER, [], surveyed=[])
+
+
+def scenes_of_payouts():
+    """Payouts that the changer took and perhaps didn't make, and those of devices that aren't followed."""
+    tubes = lambda bus, ones: bus.told([0x0A], 0, 0, 20, 18, 15, 12, ones, 8)
+    paid = lambda: tubes(Bus().changer().coin(5), 10).ack(0x0D, 0x14).told([0x0B], 2)
+    yield Scene("a jam after a payout", paid().told([0x0B], 7), AMBER,
+                [("payout", "1.00", "reported trouble"), ("trouble", "", "tube jam")], ("Ask the customer whether the coins came",))
+    yield Scene("a jam long after a payout", paid().polls(2, 6_000_000).told([0x0B], 7), AMBER, [("trouble", "", "tube jam")])
+    yield Scene("the coins are still in the tube", tubes(paid().polls(3), 10), AMBER,
+                [("payout", "1.00", "TUBE STATUS", "still in the tube")], ("Ask the customer whether the coins came",))
+    yield Scene("the tube has a coin less", tubes(paid().polls(3), 9), GREEN, [])
+    yield Scene("the tube is looked at too early", tubes(paid(), 10), GREEN, [])
+    yield Scene("a hopper pays", Bus().changer().coin(4).ack(0x5D, 0, 0, 3), AMBER, [("order", "", "hopper (58H)", "isn't followed")],
+                ("Ask the customer",), ("for certain",))
+    yield Scene("a hopper is polled", Bus().changer().coin(4).polls(3, device=0x5B), GREEN, [])
+    bill = lambda: Bus().changer().validator().told([0x33], 0x91).ack(0x35, 1).told([0x33], 0x81)
+    yield Scene("a recycler pays", bill().ack(0x37, 6, 0, 0, 1).ack(0x37, 6, 0, 0, 1), AMBER, [("order", "", "2 orders", "recycler")],
+                ("Ask the customer",), options=("--extended",))
+
+
+def scenes_of_restarts():
+    """Cash before a restart, and bills whose end is told after it."""
+    cash = lambda: Bus().changer().coin(4)
+    escrow = lambda: Bus().validator().told([0x33], 0x91)
+    yield Scene("the controller restarts after a coin", cash().polls(9).changer(), AMBER,
+                [("restart", "1.00", "sent RESET", "the bus doesn't show")], ("credit may be lost",))
+    yield Scene("a restart long after a coin", cash().polls(2, 31_000_000).changer(), GREEN, [])
+    yield Scene("a restart after the change", cash().ack(0x0D, 0x14).told([0x0B], 2).polls(9).changer(), GREEN, [])
+    yield Scene("a jam after the order", escrow().ack(0x35, 1).told([0x33], 5), AMBER,
+                [("escrow", "10.00", "took the order to stack it"), ("trouble", "", "a jam (05)")], never=("gave no order",))
+    late = escrow().ack(0x35, 1).off().validator().told([0x33], 0x81)
+    yield Scene("stacked, as is told after the break", late, AMBER, [], ("After the break it was reported as stacked",), ("undefined",))
+    yield Scene("in escrow at the break", escrow().off().validator(), AMBER, [("escrow", "10.00", "break")],
+                ("gave no order", "a bill of 10.00 in escrow"), never=("undefined",))
 
 
 def compare(page, name, data, options, without, setups=None):
@@ -269,7 +338,7 @@ def try_scene(page, scene):
 
 def compare_card(scene, came, entries):
     """What the card shows is what happened."""
-    whole = " ".join([came["lead"], *came["open"], *came["story"], *came["next"]])
+    whole = " ".join([came["lead"], *came["open"], *came["story"], *came["next"], came["table"]])
     want(came["colour"] == scene.colour, f"{scene.name}: the colour is {came['colour']}, the card says {whole}")
     want([it["kind"] for it in came["entries"]] == [kind for kind, *_ in entries], f"{scene.name}: the card lists {came['open']}")
     for text, (_, money, *phrases) in zip(came["open"], entries):

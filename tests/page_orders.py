@@ -30,7 +30,7 @@ sys.dont_write_bytecode = True
 
 from browser import Browser  # noqa: E402
 from firefox import Firefox  # noqa: E402
-from page_profiles import base_of, shown_for  # noqa: E402
+from page_profiles import shown_words  # noqa: E402
 from programs import MDBCHECK as PROGRAM, PAGE  # noqa: E402
 
 TOP = pathlib.Path(__file__).resolve().parent.parent
@@ -61,7 +61,7 @@ NOTE = """(() => {
   const all = ["changer", "bill", "cashless", "cashless-2"];
   window.fieldsNow = () => {
     const joined = by("joined").checked, words = joined ? ["--joined"] : [];
-    if (by("extended").checked) words.push("--extended");
+    if (!by("letter").checked) words.push("--extended");
     for (const it of all) {
       const value = (field) => by(field + "-" + it)?.value.trim() ?? "", level = value("level");
       const told = [value("setup"), level && "level " + level, value("config"), value("options")].filter(Boolean);
@@ -263,14 +263,8 @@ class Orders:
         self.compare_answer(came, words, word)
         return word
 
-    def shown_words(self, words):
-        """The words with which the page shows the answer: with the extended profile where that gets further."""
-        if self.value("Boolean(state.isPlain)"):
-            return base_of(words)
-        return shown_for(lambda _, command, *more: self.program(self.name, list(more), command), None, words)[0]
-
     def compare_answer(self, came, given, word):
-        words = self.shown_words(given)
+        words = shown_words(given)
         status, text, err = self.program(self.name, words)
         want(shlex.split(came["command"]) == ["mdbcheck", "check", *words, "<", "FILE"], f"the command is {came['command']!r}, wanted {words}")
         want(came["isWay"], f"the card names other settings than {words}: {came['verdict']!r}")
@@ -281,7 +275,7 @@ class Orders:
             want(came["text"] == text, f"{words}: the text is {came['text']!r}, wanted {text!r}")
             want(("no" if word.startswith("not ") else word) == text.split()[1], f"the card is {came['card']}")
         if came["survey"] is not None:
-            text = self.program(self.name, base_of(words), "survey")[1]
+            text = self.program(self.name, words, "survey")[1]
             want(came["survey"] == text and came["shown"] == text, f"{words}: the survey is {came['survey']!r}, wanted {text!r}")
 
 
@@ -290,7 +284,7 @@ def button(words):
     return "[...document.querySelectorAll('#main button')].find((it) => it.textContent.startsWith(%s))" % json.dumps(words)
 
 
-STEPS = ("choose", "choose", "drop", "drop", "tick", "tick", "bytes", "again", "again", "stop", "late", "leave", "profile", "level", "level", "earlier", "row",
+STEPS = ("choose", "choose", "drop", "drop", "tick", "tick", "bytes", "again", "again", "stop", "late", "leave", "level", "level", "earlier", "row",
          "survey", "survey")
 
 
@@ -302,7 +296,7 @@ def take_step(page, dice):
         (page.choose if kind == "choose" else page.drop)(name)
         return f"{kind} {name}"
     if kind == "tick":
-        box = dice.choice(["joined", "joined", "extended", *("without-" + it for it in DEVICES)])
+        box = dice.choice(["joined", "joined", "letter", *("without-" + it for it in DEVICES)])
         page.click(f"by('{box}')")
         return box
     if kind == "bytes":
@@ -318,7 +312,7 @@ def take_step(page, dice):
     elif kind == "survey":
         page.click("by('survey-go')")
     else:
-        page.press({"again": "by('again')", "late": button("Check as"), "leave": button("Leave out"), "profile": "by('other-profile')",
+        page.press({"again": "by('again')", "late": button("Check as"), "leave": button("Leave out"),
                     "level": button(f"Level {dice.choice([1, 2, 3])}")}[kind])
     return kind
 
@@ -424,10 +418,9 @@ def try_started_before(page):
 def try_focus(page):
     """After each button of the card, and after a check that was stopped and begun again, the card has the focus and is in sight."""
     page.fresh()
+    page.click("by('letter')")
     for name, words in (("level 3.csv", "Leave out card reader"), ("begins late.csv", "Check as already")):
         page.choose(name)
-        page.settled()
-        page.press(button("Show the answer without it"))
         page.settled()
         page.value(f"(() => {{ scrollTo(0, 100000); ({button(words)}).focus(); return 1; }})()")
         page.press(button(words))
@@ -470,6 +463,7 @@ def try_focus(page):
 
 # More than the page reads before an import is begun (1 MiB), and then a row that can't come after the last of them.
 POLLS = [row for at in range(20_000, 800_020_000, 20_000) for row in (f"{at},M,108", f"{at + 1200},M,008")]
+POLLS.insert(2, "23200,S,100")
 IMPORTED = [*POLLS, "800001200,S,100", "800030000,M,000"]
 
 
@@ -591,7 +585,7 @@ def try_missing_rows(page):
     want(seek(0) != "" and seek(1.5) != "" and seek(4) == "", "row 0")
     # A long list, played: as if the acts from number 5 on came after others.
     played = page.value("(() => { state.hole = 5; return [state.list.last(4), state.list.first(5)]; })()")
-    page.value("(() => { const w = state.list.words; for (let i = 5; i < state.list.count; i++) { w[i * 20] += 1000; w[i * 20 + 2] += 1000; } return 1; })()")
+    page.value("(() => { const it = state.list; for (const name of ['first', 'last']) { const of = it[name].bind(it); it[name] = (i) => of(i) + (i < 5 ? 0 : 1000); } return 1; })()")
     want("isn't listed: of so long a recording" in seek(500), page.read()["rowTold"])
     want(seek(played[0]) == "" and seek(played[1] + 1000) == "", "the rows about the hole")
 

@@ -1,9 +1,9 @@
-"""By which profile the page shows an answer, for tests/page: docs/bench/page.md, *Profiles*.
+"""By which profile the page shows an answer, for tests/page: docs/bench/page.md, *Settings*.
 
-Where the check by the base profile ends at `Profile`, or isn't judged, and that by the extended one gets further, the page
-shows the latter by itself, with a way to the other answer and back. What each of them is, the program says (`Runs`,
-programs.py). The bytes that the extended profile has alone are told in words. Where it needs a reader's level or options,
-the card says so, and offers levels: whether they would help, the program says too, where it is told them (`missing`).
+Each recording is checked by the extended profile, and by the base one where *To the letter of feature level 1* is ticked.
+What each of them says, the program says (`Runs`, programs.py). The bytes that the extended profile has alone are told in
+words. Where it needs a reader's level or options, the card says so, and offers levels: whether they would help, the program
+says too, where it is told them (`missing`).
 """
 
 import json
@@ -15,16 +15,15 @@ from cases import told_in
 from page_open_money import Bus
 
 TOP = pathlib.Path(__file__).resolve().parent.parent
-HEAD = "With the extended profile: card readers of levels 2 and 3, recyclers"
-NEITHER = "The extended profile (card readers of levels 2 and 3, recyclers) doesn't follow it either."
-# By which profile the answer is, how the card names it, and what was asked of the worker. The saved report has it too.
+# By which profile the answer is, how the page names it, and what was asked of the worker. The saved report has it too.
 PROFILE = """JSON.stringify({
-  isWide: isExtended(state.way), note: by("profile")?.textContent ?? null, button: by("other-profile")?.textContent ?? null,
-  isFirst: by("verdict").firstElementChild.id === "profile", text: by("text")?.textContent ?? null, command: by("command").textContent,
+  isWide: isExtended(state.way), text: by("text")?.textContent ?? null, command: by("command").textContent,
   story: [...document.querySelectorAll("#story li")].map((it) => it.textContent), leave: by("leave-out")?.textContent ?? null,
+  next: [...document.querySelectorAll("#next li")].map((it) => it.textContent),
   way: by("way").textContent, card: by("verdict").textContent, isStale: !by("stale").hidden, asked: checker.number,
-  report: new DOMParser().parseFromString(reportPage(state), "text/html").getElementById("profile")?.textContent.trim() ?? null,
+  report: new DOMParser().parseFromString(reportPage(state), "text/html").getElementById("verdict").textContent,
 })"""
+LETTER = "to the letter of feature level 1"
 
 
 def ended(answer):
@@ -37,9 +36,9 @@ def ended(answer):
     return int(found[1]) if status == 2 and found else 0, False
 
 
-def base_of(words):
-    """The words without what is for the extended profile alone."""
-    drop = {value for value, _, field, _ in told_in(words) if field != "setup"} | {"--extended"}
+def shown_words(words):
+    """The words by which the page checks. What is for the extended profile alone doesn't count with the base one."""
+    drop = set() if "--extended" in words else {value for value, _, field, _ in told_in(words) if field != "setup"}
     return [it for it, after in zip(words, [*words[1:], ""]) if it not in drop and not (it == "--setup" and after in drop)]
 
 
@@ -47,22 +46,6 @@ def wide_of(words):
     """The words for the extended profile, in the page's order."""
     front = ["--joined"] * ("--joined" in words) + ["--extended"]
     return front + [it for it in words if it not in front]
-
-
-def shown_for(run, data, words):
-    """The words with which the page shows the answer to a recording that is given with some, and that answer. `run` is
-    that of the program."""
-    if "--extended" in words:
-        return words, run(data, "check", *words)
-    base, wide = base_of(words), wide_of(words)
-    told = run(data, "check", *base)
-    (row, is_end), is_unjudged = ended(told), "not judged: " in told[2]
-    if not is_end and not is_unjudged:
-        return base, told
-    later = run(data, "check", *wide)
-    end, is_late_end = ended(later)
-    is_further = later[0] == 0 or end > row or (is_unjudged or end == row) and not is_late_end
-    return (wide, later) if is_further else (base, told)
 
 
 READERS = {"cashless": 0x10, "cashless-2": 0x60}
@@ -123,25 +106,21 @@ def press(page, code):
 
 
 def try_wide(page, want, name, base, wide):
-    """The answer by the extended profile, the other one, and back."""
+    """The answer by the extended profile, the other one by the setting, and back."""
     page.take(TOP / "examples" / f"{name}.csv", [])
     came = read(page)
-    row = re.search(r"^row (\d+)$", base, re.M)[1]
-    want(came["text"] == wide and came["isWide"] and came["isFirst"], f"{name}: by itself it shows {came['text']!r}")
-    want(came["note"].startswith(HEAD) and f"Without it the checker stops following at row {int(row):,}." in came["note"], f"{name}: {came['note']!r}")
-    want(came["button"] == "Show the answer without it" and (came["report"] or "").startswith(HEAD), f"{name}: {came['button']}, {came['report']}")
-    want(came["command"] == "mdbcheck check --extended < FILE" and "by the extended profile" in came["card"], f"{name}: {came['command']}")
-    want("by the extended profile" in came["way"] and not came["isStale"], f"{name}: the settings say {came['way']!r}")
-    for text, is_wide in ((base, False), (wide, True), (base, False)):
-        came = press(page, "by('other-profile').focus(); by('other-profile').click()")
+    want(came["text"] == wide and came["isWide"] and "profile" not in came["card"], f"{name}: by itself it shows {came['card']!r}")
+    want(came["command"] == "mdbcheck check --extended < FILE", f"{name}: {came['command']}")
+    want(came["way"] == "from power-on, all devices" and not came["isStale"], f"{name}: the settings say {came['way']!r}")
+    want(all(LETTER not in it for it in (came["card"], came["report"])), f"{name}: {came['card']!r}")
+    for text, is_wide in ((base, False), (wide, True)):
+        came = press(page, "by('letter').click(); by('again').click()")
         want(came["text"] == text and came["isWide"] == is_wide, f"{name}: the other answer is {came['text']!r}")
-        want(page.browser.value("document.activeElement.id") == "verdict", f"{name}: the focus")
-        want(came["note"].startswith(HEAD if is_wide else "Without the extended profile"), f"{name}: {came['note']!r}")
-        want(is_wide or "If it is about this device, see the answer with the extended profile." in came["card"], f"{name}: {came['card']!r}")
-    want(not any(NEITHER in it for it in came["story"]), f"{name}: {came['story']}")
-    page.take(TOP / "examples" / f"{name}.csv", ["--extended"])
-    came = read(page)
-    want(came["text"] == wide and came["note"].strip() == HEAD and came["button"] is None, f"{name} with the switch: {came['note']!r}")
+        want(came["command"] == f"mdbcheck check {'--extended ' * is_wide}< FILE", f"{name}: {came['command']}")
+        want(all((LETTER in it) != is_wide for it in (came["card"], came["report"])), f"{name}: {came['card']!r}")
+        want(("to the letter of level 1" in came["way"]) != is_wide, f"{name}: the settings say {came['way']!r}")
+        is_end = "rule Profile" in text
+        want(any("untick “To the letter" in it for it in came["next"]) == is_end and not is_wide or is_wide, f"{name}: {came['next']}")
 
 
 def try_survey(page, want, name, run):
@@ -153,21 +132,22 @@ def try_survey(page, want, name, run):
     page.take(path, [])
     came = read(page)
     want(came["isWide"] and came["text"].startswith("verdict no"), f"{name}, with a no: {came['text']!r}")
-    for words, note in ((["--extended"], HEAD), ([], "Without the extended profile")):
+    for words in (["--extended"], []):
         came = press(page, "by('survey-go').click()")
         told = json.loads(page.browser.value("JSON.stringify([state.survey.whole, by('survey-command').textContent])"))
         want(told == [run(path.read_bytes(), "survey", *words)[1], " ".join(["mdbcheck survey", *words, "< FILE"])], f"{name}: the survey is {told}")
-        want(came["isWide"] == bool(words) and came["note"].startswith(note), f"{name}: the survey stands with {came['note']!r}")
-        press(page, "by('other-profile').click()")
+        want(came["isWide"] == bool(words), f"{name}: the survey is by another profile than {words}")
+        press(page, "by('letter').click(); by('again').click()")
 
 
-def try_neither(page, want):
-    """Where the extended profile gets no further, the answer by the base profile says so, and how to leave the device out."""
-    name = "bills-beside-alternative-payout"
-    page.take(TOP / "examples" / f"{name}.csv", [])
+def try_neither(page, want, run):
+    """What neither profile follows, and how to leave the device out."""
+    path = TOP / "examples" / "bills-beside-alternative-payout.csv"
+    page.take(path, [])
     came = read(page)
-    want(came["text"] == (TOP / "examples" / f"{name}.check").read_text() and not came["isWide"] and came["note"] is None, f"{name}: {came['note']!r}")
-    want(any(NEITHER in it for it in came["story"]) and came["leave"].startswith("Leave out the coin changer"), f"{name}: {came['story']}")
+    want(came["text"] == run(path.read_bytes(), "check", "--extended")[1] and came["isWide"], f"{path.stem}: {came['text']!r}")
+    want("Not followed: " in came["card"] and came["leave"].startswith("Leave out the coin changer"), f"{path.stem}: {came['card']}")
+    want("If it is about this device, switch the feature off and record again." in came["next"], f"{path.stem}: {came['next']}")
 
 
 def try_options(page, want):
@@ -179,7 +159,7 @@ def try_options(page, want):
 
 
 def try_once(page, want):
-    """Where nothing is followed no further, the worker is asked once, and once more for what is open."""
+    """The worker is asked once, and once more for what is open."""
     page.take(TOP / "examples" / "sale-by-card.csv", [])
     first = read(page)["asked"]
     want(first <= 2, f"the worker was asked {first} times")
@@ -249,13 +229,11 @@ def try_running(page, want, run):
     page.take(plain, ["--joined"])
     came, (base, wide) = read(page), (run(plain, "check", "--joined", *it) for it in ([], ["--extended"]))
     want(came["isWide"] and came["text"] == wide[1] and wide[0] == 0, f"a card's number of FF: {came['text']!r}")
-    row = re.search(r"^row (\d+)$", base[1], re.M)[1]
-    want(came["note"].startswith(HEAD) and f"Without it the checker doesn't judge row {row}." in came["note"], f"its note: {came['note']!r}")
-    came = press(page, "by('other-profile').click()")
-    want(came["text"] == base[1] and not came["isWide"] and seen()["word"].startswith("Not judged: "), f"without it: {came['card']!r}")
-    for words, is_wide in ((["--joined"], False), (["--joined", "--extended"], True)):
+    came = press(page, "by('letter').click(); by('again').click()")
+    want(came["text"] == base[1] and not came["isWide"] and seen()["word"].startswith("Not judged: "), f"to the letter: {came['card']!r}")
+    for words in (["--joined"], ["--joined", "--extended"]):
         for level in (1, 2, 3):
-            page.take(late, words)
+            page.give(late, words)
             came = seen()
             want(came["word"] == "Not judged: the reader's level isn't in this recording" and came["levels"] == ["Level 1", "Level 2", "Level 3"], f"{words}: {came}")
             want(came["title"].startswith("not judged"), came["title"])
@@ -263,8 +241,7 @@ def try_running(page, want, run):
             told = run(late, "check", "--joined", "--extended", "--setup", f"cashless level {level}")
             want(came["text"] == told[1] and came["isWide"], f"level {level}: {came['text']!r}, and not {told}")
             want(came["command"] == f"mdbcheck check --joined --extended --setup 'cashless level {level}' < FILE", came["command"])
-            want((told[0] == 0) == (level > 1) and f"Given for card reader 1: level {level}." in came["card"], f"level {level}: {came['card']!r}")
-    page.options([])
+            want(f"Given for card reader 1: level {level}." in came["card"], f"level {level}: {came['card']!r}")
     page.take(late, [])
     came = seen()
     want(came["late"] is None or "Profile" not in came["late"], f"as of power-on: {came['late']!r}")
@@ -296,9 +273,9 @@ def try_profiles(page, want, run):
     for path in examples:
         try_wide(page, want, path.stem, path.with_suffix(".check").read_text(), path.read_text())
     try_survey(page, want, examples[0].stem, run)
-    try_neither(page, want)
+    try_neither(page, want, run)
     try_options(page, want)
     try_once(page, want)
     try_words(page, want)
     try_running(page, want, run)
-    print(f"profiles: {len(examples)} recordings by the extended profile, the other answer and back; one that it doesn't follow either")
+    print(f"profiles: {len(examples)} recordings by the extended profile, to the letter of level 1 and back; one that neither follows")

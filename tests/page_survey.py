@@ -296,6 +296,9 @@ def compare(page, data, words, name):
     """Surveys a recording, and compares; answers what the program found. None where there is no no."""
     shown = page.give(data if isinstance(data, pathlib.Path) else data, words, name)
     data = data.read_bytes() if isinstance(data, pathlib.Path) else data
+    if shown["lead"] == "This proves nothing, and blames nobody.":
+        want(not page.has_button(), "a recording of one line is surveyed")
+        return None
     is_no = shown["card"] in ("card no", "card limit")
     want(page.has_button() == is_no, f"the button: {shown['card']}")
     if not is_no:

@@ -17,7 +17,8 @@ import sys
 
 from reader_formats import Formats
 
-KINDS = ('approved', 'failed', 'escrow', 'lever', 'payout', 'choice', 'trouble')
+KINDS = ('approved', 'failed', 'request', 'untaken', 'escrow', 'restart', 'lever', 'payout', 'choice', 'order',
+         'trouble')
 READERS = {'cashless': 0, 'cashless-2': 0x50}
 CHANGER_TROUBLE = {0x03, 0x04, 0x06, 0x07, 0x08, 0x09, 0x0C, 0x0D}
 BILL_TROUBLE = {0x01, 0x02, 0x04, 0x05, 0x07, 0x08, 0x0C}
@@ -102,6 +103,8 @@ class Reading:
         self.values.data.update(setups or {})
         self.troubles = {}
         self.choices = []
+        self.orders = {}
+        self.lost = set()
         self.entries = []
 
     def time(self, act):
@@ -119,7 +122,8 @@ class Reading:
             'cameRows': None if by is None else [by[0], by[1]],
             'count': more.get('count', 1), 'item': more.get('item'),
             'code': more.get('code'), 'answer': more.get('answer'),
-            'last': self.time(acts[-1])})
+            'silent': None, 'last': self.time(acts[-1])})
+        return self.entries[-1]
 
     # One part: what is open in it.
 
@@ -128,8 +132,13 @@ class Reading:
         self.approval = {d: None for d in READERS}
         self.item = {d: None for d in READERS}
         self.unknown = {d: True for d in READERS}
-        self.bill = None
-        self.paid = []
+        self.request = {d: None for d in READERS}
+        self.untaken = {d: None for d in READERS}
+        self.has_sold = {d: False for d in READERS}
+        self.silence = {d: None for d in READERS}
+        self.bill = self.old_bill = self.cash = None
+        self.payouts, self.tubes, self.touched = [], None, []
+        self.is_over = False
         self.coins, self.bills = Sum('changer'), Sum('bill')
         self.presses, self.press = [], None
         self.refused = self.taken = self.waiting = None
@@ -143,23 +152,50 @@ class Reading:
             elif what in ('ack', 'nak', 'reply'):
                 if device == 'changer':
                     self.answered(act)
+                    if what == 'ack' and i and acts[i - 1][2] == 'ask' and acts[i - 1][4][0] == 0x0B:
+                        self.is_over = True
+                if device in READERS:
+                    self.unsilence(device, self.time(act))
                 if what == 'reply':
                     self.replied(act, acts[i - 1] if i else None, acknowledged(acts, i))
         self.ended(acts, word, fault)
 
     def broke(self, act):
         for device in READERS:
-            self.unapprove(device, 'break', act)
+            self.unsell(device, 'break', act)
+            self.silence_ends(device)
+            self.has_sold[device] = False
             self.item[device] = None
             self.unknown[device] = False
         self.unescrow('break', act)
         self.unpaid('break', act)
+        self.restarted('break', act)
+        self.forget_tubes()
+        self.payouts = []
         self.taken = None
+
+    def silence_ends(self, device):
+        if self.silence[device]:
+            self.unsilence(device, self.silence[device]['last'])
+
+    def unsilence(self, device, time):
+        s, self.silence[device] = self.silence[device], None
+        if s and s['request'] and s['request']['silent'] is None and time - s['from'] >= 2_000_000:
+            s['request']['silent'] = time - s['from']
+            if s['request']['entry']:
+                s['request']['entry']['silent'] = time - s['from']
+
+    def forget_tubes(self):
+        self.tubes, self.touched = None, []
+        for payout in self.payouts:
+            payout['tubes'] = None
 
     def ended(self, acts, word, fault):
         for device in READERS:
-            self.unapprove(device, word, fault)
+            self.unsell(device, word, fault)
+            self.silence_ends(device)
         self.unescrow(word, fault)
+        self.put_old_bill()
         self.unpaid(word, fault)
         self.taken = None
         latest = max((self.time(a) for a in acts), default=0)
@@ -176,24 +212,42 @@ class Reading:
         elif device == 'bill':
             if data[0] == 0x30:
                 self.unescrow('reset', act)
+                self.restarted('reset', act)
+            if data[0] == 0x35 and self.bill and nxt and nxt[2:4] == ('ack', 'bill'):
+                self.bill['order'] = 'stack' if data[1] & 1 else 'return'
         else:
-            self.asked_reader(device, act)
+            self.asked_reader(device, act, nxt)
+            if not self.silence[device]:
+                self.silence[device] = {'from': self.time(act), 'request': self.request[device]}
+            self.silence[device]['last'] = self.time(act)
 
-    def asked_reader(self, device, act):
+    def asked_reader(self, device, act, nxt):
         self.formats.ask(device, act[4][:-1])
         data = [act[4][0] - READERS[device]] + act[4][1:]
         if data[0] == 0x10:
-            self.unapprove(device, 'reset', act)
+            self.unsell(device, 'reset', act)
+            self.has_sold[device] = False
             self.item[device] = None
             self.unknown[device] = False
         if data[0] != 0x13:
             return
         if data[1] == 0:
+            self.lost.discard(device)
+        if device in self.lost:
+            return
+        if data[1] == 0:
             self.unapprove(device, 'request', act)
+            self.unsuccess(device, 'request', act)
+            self.requested(device, act, data)
+            self.has_sold[device] = False
             self.item[device] = data[4] * 256 + data[5]
-        elif data[1] == 2:
+        elif data[1] in (1, 2, 3):
+            self.request[device] = None
+        if data[1] == 2:
+            self.success(device, act, data, nxt)
             self.approval[device] = None
         elif data[1] == 3:
+            self.unsuccess(device, 'failed', act)
             if (a := self.approval[device]):
                 self.put('failed', device, [a['act'], act], a['sums'], item=a['item'])
             elif self.unknown[device]:
@@ -202,11 +256,42 @@ class Reading:
                 self.put('failed', device, [act], [(amount, self.values.decimals(device))])
             self.approval[device] = None
         elif data[1] == 4:
-            self.unapprove(device, 'complete', act)
+            self.unsell(device, 'complete', act)
         elif data[1] == 5:
             self.out(act)
         if data[1] in (0, 2, 3, 4):
             self.unknown[device] = False
+
+    def price(self, device, number):
+        amount = Sum(device)
+        amount.add(None if number == 0xFFFF else self.values.one(device, number))
+        return [(amount, self.values.decimals(device))]
+
+    def requested(self, device, act, data):
+        r = self.request[device]
+        if r and r['data'] == data:
+            r['acts'].append(act)
+            return
+        self.unrequest(device, 'request', act)
+        self.request[device] = {'acts': [act], 'data': data, 'silent': None, 'entry': None,
+                                'item': data[4] * 256 + data[5],
+                                'sums': self.price(device, data[2] * 256 + data[3])}
+
+    def success(self, device, act, data, nxt):
+        u = self.untaken[device]
+        if u and u['data'] != data:
+            self.unsuccess(device, 'sold', act)
+        if nxt and nxt[2] in ('ack', 'reply') and nxt[3] == device:
+            self.untaken[device], self.has_sold[device] = None, True
+            return
+        if self.has_sold[device]:
+            return
+        if not self.untaken[device]:
+            a = self.approval[device]
+            self.untaken[device] = {'acts': [], 'data': data, 'item': data[2] * 256 + data[3],
+                                    'sums': a['sums'] if a else self.price(device, 0xFFFF)}
+        self.untaken[device]['acts'].append(act)
+        self.untaken[device]['nak'] = nxt if nxt and nxt[2:4] == ('nak', device) else None
 
     def asked_changer(self, act, nxt):
         data = act[4]
@@ -215,16 +300,23 @@ class Reading:
                 self.taken['first'] = self.time(act)
             elif self.time(act) - self.taken['first'] > 2_000_000:
                 t, self.taken = self.taken, None
-                self.put('payout', 'changer', [t['act']], t['sums'], 'silent', act,
-                         code=t['act'][4][1], answer='taken')
+                self.doubt(t, 'silent', act)
         if data[0] == 0x08:
             self.unpaid('reset', act)
+            self.restarted('reset', act)
+            self.forget_tubes()
         if data[0] != 0x0D:
             return
         self.out(act)
         if self.refused and self.refused['acts'][0][4][1] != data[1]:
             self.unpaid('dispense', act)
         self.dispensed(act, nxt)
+
+    def doubt(self, payout, word, by):
+        if not payout['listed']:
+            self.put('payout', 'changer', [payout['act']], payout['sums'], word, by,
+                     code=payout['act'][4][1], answer='taken')
+        payout['listed'] = True
 
     def dispensed(self, act, nxt):
         byte = act[4][1]
@@ -234,7 +326,10 @@ class Reading:
         sums = [(amount, self.values.decimals('changer'))]
         if nxt and nxt[2] == 'ack' and nxt[3] == 'changer':
             self.refused = None
-            self.waiting = {'act': act, 'sums': sums, 'first': None, 'own': nxt}
+            self.waiting = {'act': act, 'sums': sums, 'first': None, 'own': nxt, 'listed': False,
+                            'type': byte & 15, 'tubes': self.tubes, 'touched': byte & 15 in self.touched}
+            self.payouts.append(self.waiting)
+            self.is_over = False
             return
         if not self.refused:
             self.refused = {'acts': [], 'sums': sums}
@@ -263,23 +358,47 @@ class Reading:
             self.values.data[device] = data
         if ask[0] == 0x36 and data[0] & 0x80:
             self.trouble('bill', 0x36, act)
+        if ask[0] == 0x0A and device == 'changer':
+            self.tube_status(data[2:], act)
         if ask[0] == 0x0B:
+            self.is_over = all(m[0] != 2 for m in messages('changer', data))
             for m in messages('changer', data):
                 self.changer_said(m, act, heard)
         if ask[0] == 0x33:
             for m in messages('bill', data):
                 self.bill_said(m[0], act, heard)
 
+    def tube_status(self, counts, act):
+        """Numbers of coins in the tubes: of each payout since the last ones that is over."""
+        for payout in self.payouts:
+            before, kind = payout['tubes'], payout['type']
+            if before is None or not self.is_over:
+                continue
+            payout['tubes'] = None
+            was, now = (c[kind] if kind < len(c) else 0 for c in (before, counts))
+            if was and now >= was and not payout['touched']:
+                self.doubt(payout, 'tubes', act)
+        self.tubes, self.touched = counts, []
+
+    def touch(self, kind):
+        self.touched.append(kind)
+        for payout in self.payouts:
+            payout['touched'] |= payout['type'] == kind
+
     def reader_said(self, device, m, act, heard):
         came = {0: 'restarted', 3: 'begun', 6: 'denied', 7: 'ended'}.get(m[0])
-        if came:
+        if m[0] == 5 and device in self.lost:
+            return
+        if m[0] in (5, 6):
+            self.request[device] = None
+        if came == 'denied':
             self.unapprove(device, came, act)
+        elif came:
+            self.unsell(device, came, act)
         if came or m[0] == 5:
             self.unknown[device] = False
         if m[0] == 5 and heard and not self.approval[device]:
-            amount = Sum(device)
-            amount.add(self.values.one(device, m[1] * 256 + m[2]))
-            sums = [(amount, self.values.decimals(device))]
+            sums = self.price(device, m[1] * 256 + m[2])
             self.approval[device] = {'act': act, 'sums': sums, 'item': self.item[device]}
         if m[0] == 0x0A:
             self.trouble(device, m[1], act)
@@ -288,12 +407,21 @@ class Reading:
         first = m[0]
         if first in CHANGER_TROUBLE:
             self.trouble('changer', first, act)
+            for payout in self.payouts:
+                if self.time(act) - self.time(payout['act']) <= 5_000_000:
+                    self.doubt(payout, 'trouble', act)
         if first == 0x0B and heard:
             self.unpaid('restarted', act)
+        if first == 0x0B:
+            self.restarted('restarted', act)
+            self.forget_tubes()
         if first == 0x01:
             self.lever(act)
+        if 0x50 <= first <= 0x5F or first >= 0x80:
+            self.touch(first & 15)
         if 0x40 <= first <= 0x5F and heard:
             self.coins.add(self.values.one('changer', first & 15))
+            self.paid_in('changer', first & 15, act)
             self.press = None
         if first >= 0x80 and (first >> 4) & 7:
             self.out(act)
@@ -303,20 +431,25 @@ class Reading:
             self.trouble('bill', byte, act)
         if byte == 0x06:
             self.unescrow('restarted', act)
+            self.restarted('restarted', act)
         if not 0x80 <= byte <= 0xBF:
             return
         kind, group = byte & 15, byte >> 4
+        if self.old_bill and self.old_bill['kind'] == kind and group != 9:
+            self.old_bill = None
+        self.put_old_bill()
         if self.bill and self.bill['kind'] != kind:
             self.unescrow('bill', act)
         if group == 9 and not self.bill:
             amount = Sum('bill')
             amount.add(self.values.one('bill', kind))
-            self.bill = {'kind': kind, 'act': act,
+            self.bill = {'kind': kind, 'act': act, 'order': None,
                          'sums': [(amount, self.values.decimals('bill'))]}
         elif group != 9:
             self.bill = None
         if group in (8, 11) and heard:
             self.bills.add(self.values.one('bill', kind))
+            self.paid_in('bill', kind, act)
             self.press = None
         if group == 10:
             self.out(act)
@@ -328,10 +461,63 @@ class Reading:
         if a:
             self.put('approved', device, [a['act']], a['sums'], word, by, item=a['item'])
 
+    def unrequest(self, device, word, by):
+        r, self.request[device] = self.request[device], None
+        if r:
+            acts = [r['acts'][0]] + r['acts'][1:][-1:]
+            r['entry'] = self.put('request', device, acts, r['sums'], word, by, count=len(r['acts']),
+                                  item=r['item'])
+            if r['entry']:
+                r['entry']['silent'] = r['silent']
+
+    def unsuccess(self, device, word, by):
+        u, self.untaken[device] = self.untaken[device], None
+        if u:
+            acts = [u['acts'][0]] + u['acts'][1:][-1:]
+            if u['nak']:
+                acts.append(u['nak'])
+            self.put('untaken', device, acts, u['sums'], word, by, count=len(u['acts']),
+                     item=u['item'], answer='refused' if u['nak'] else 'none')
+
+    def unsell(self, device, word, by):
+        self.unapprove(device, word, by)
+        self.unrequest(device, word, by)
+        self.unsuccess(device, word, by)
+
     def unescrow(self, word, by):
         b, self.bill = self.bill, None
+        if not b:
+            return
+        b['end'] = (word, by)
+        if word in ('break', 'reset', 'restarted'):
+            self.old_bill = b
+        else:
+            self.put_bill(b)
+
+    def put_bill(self, b):
+        word, by = b['end']
+        self.put('escrow', 'bill', [b['act']], b['sums'], word, by, answer=b['order'])
+
+    def put_old_bill(self):
+        b, self.old_bill = self.old_bill, None
         if b:
-            self.put('escrow', 'bill', [b['act']], b['sums'], word, by)
+            self.put_bill(b)
+
+    def paid_in(self, device, kind, act):
+        if not self.cash or self.time(act) - self.time(self.cash['acts'][-1]) > 30_000_000:
+            self.cash = {'acts': [], 'device': device, 'sums': {}}
+        self.cash['acts'].append(act)
+        amount, _ = self.cash['sums'].get(device) or (Sum(device), None)
+        amount.add(self.values.one(device, kind))
+        self.cash['sums'][device] = amount, self.values.decimals(device)
+
+    def restarted(self, word, by):
+        c, self.cash = self.cash, None
+        if c and self.time(by) - self.time(c['acts'][-1]) <= 30_000_000:
+            acts = c['acts']
+            ends = [acts[0]] + ([acts[-1]] if acts[-1] is not acts[0] else [])
+            sums = [c['sums'][d] for d in ('changer', 'bill') if d in c['sums']]
+            self.put('restart', c['device'], ends, sums, word, by, count=len(acts))
 
     def unpaid(self, word, by):
         r, self.refused = self.refused, None
@@ -364,6 +550,7 @@ class Reading:
             if self.time(act) - self.time(press['acts'][-1]) > 30_000_000:
                 self.unpressed(press, 'time', None)
         self.presses, self.press = [], None
+        self.cash = None
         self.coins, self.bills = Sum('changer'), Sum('bill')
 
     def unpressed(self, press, word, by):
@@ -378,6 +565,9 @@ class Reading:
         if self.choices:
             ends = self.choices[:1] + self.choices[1:][-1:]
             self.put('choice', 'changer', ends, [], count=len(self.choices))
+        for (device, code), acts in self.orders.items():
+            ends = acts[:1] + acts[1:][-1:]
+            self.put('order', device, ends, [], count=len(acts), code=code)
         for (device, code), acts in self.troubles.items():
             ends = [acts[0]] + ([acts[-1]] if acts[-1] is not acts[0] else [])
             self.put('trouble', device, ends, [], count=len(acts), code=code)
@@ -404,6 +594,29 @@ def is_choice(rows, row):
             and int(word, 16) in (2, 3, 4))
 
 
+def unfollowed_sale(rows, row):
+    """The reader to which the row says a command of a sale that isn't followed."""
+    if row < 2:
+        return set()
+    (_, line, word), (_, before, first) = rows[row - 1], rows[row - 2]
+    if line != 'M' or before != 'M' or not 6 <= int(word, 16) <= 0xFF:
+        return set()
+    return {0x113: {'cashless'}, 0x163: {'cashless-2'}}.get(int(first, 16), set())
+
+
+def orders_of(rows, acts):
+    """The first rows of orders to pay out that aren't followed, each with the device and the code."""
+    foreign = {row for act in acts if act[2] == 'foreign' for row in range(act[0], act[1] + 1)}
+    hoppers = {0x15D: 0x58, 0x15E: 0x58, 0x175: 0x70, 0x176: 0x70}
+    for row in sorted(foreign):
+        _, line, word = rows[row - 1]
+        word = int(word, 16) if line == 'M' else 0
+        if word in hoppers:
+            yield row, '', hoppers[word]
+        if word == 0x137 and row + 1 in foreign and rows[row][1] == 'M' and int(rows[row][2], 16) in (6, 7):
+            yield row, 'bill', 0x37
+
+
 def given(setups):
     """The data of --setup, without the sum, and of a reader without the message's first byte."""
     return {device: list(data[1 if device in READERS else 0:-1]) for device, data in setups.items()}
@@ -425,10 +638,14 @@ def entries(rows, shown, setups=None, is_extended=False):
     """The entries of a recording, from its rows, the lines of `show`, and set-up data."""
     lines = [line.split(',') for line in rows.decode().splitlines() if line]
     reading = Reading([int(line[0]) for line in lines], given(setups or {}), is_extended)
+    for row, device, code in orders_of(lines, acts_of(shown)):
+        reading.orders.setdefault((device, code), []).append((row, row))
     for acts, word, fault in parts_of(acts_of(shown)):
         reading.part(acts, word, fault)
         if fault and fault[3:] == ('controller', 'Profile') and is_choice(lines, fault[0]):
             reading.choices.append(fault)
+        if fault and fault[3:] == ('controller', 'Profile'):
+            reading.lost |= unfollowed_sale(lines, fault[0])
     return reading.list()
 
 

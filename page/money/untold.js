@@ -1,0 +1,27 @@
+// @ts-check
+// Approvals and prices whose amount isn't told (FFFF). The module counts them as 65535.
+import {ASK, DEVICES, two} from "../checker/acts.js";
+import {readerMessages} from "../checker/messages.js";
+import {ACCOUNTS} from "../checker/report.js";
+
+const NOT_TOLD = 0xFFFF, APPROVED = 5, OF_READERS = /^(approved|sold)/;
+
+function isUntold(acts, i) {
+  if (acts.kind(i) === ASK) return two(acts.bytes(i), 2) === NOT_TOLD;
+  return readerMessages(acts.bytes(i), acts.reading(i)).some((m) => m[0] === APPROVED && two(m, 1) === NOT_TOLD);
+}
+
+// Takes note of the entries whose amount isn't told.
+/** @type {(acts: Acts, found: Found) => void} */
+export function noteUntold(acts, {money}) {
+  for (const m of money) {
+    if (m.kind !== "approved" && m.kind !== "request") continue;
+    const i = acts.actFrom(m.first);
+    m.isUntold = i >= 0 && isUntold(acts, i);
+  }
+}
+
+// Whether an account has such approvals.
+/** @type {(it: Answer, name: string) => boolean} */
+export const hasUntold = ({found}, name) => OF_READERS.test(name) &&
+    found.money.some((m) => m.kind === "approved" && m.isUntold && DEVICES[m.device] === ACCOUNTS[name].device);
