@@ -168,10 +168,11 @@ class Walk:
             elif 0x40 <= byte < 0x60:
                 self.pay(act, "coins in", worth(setup, byte & 15), setup, "device", self.acknowledged())
 
-    def add(self, act, name, units, by, heard):
+    def add(self, act, name, units, by, heard, counted=()):
+        """Adds an amount for the side that tells it, and where it is heard for the other one; for none that counted it."""
         sums = self.sums.setdefault((name, act.device), {"device": [0, 0, 0], "controller": [0, 0, 0]})
         for side, it in sums.items():
-            if side == by or heard:
+            if (side == by or heard) and side not in counted:
                 it[0] += units or 0
                 it[1] += units is not None
                 it[2] += units is None
@@ -198,7 +199,10 @@ class Walk:
         line["parts"].append(part)
         line["outcome"] = self.outcome(line["parts"])
         if part == "sold":
-            line["name"], line["sums"] = "sold", self.add(act, "sold", self.approved.get(act.device), "controller", heard)
+            # (The same sale again is no other sale.)
+            counted = line.setdefault("counted", set())
+            line["name"], line["sums"] = "sold", self.add(act, "sold", self.approved.get(act.device), "controller", heard, counted)
+            counted |= {"controller"} | ({"device"} if heard else set())
 
     def goes_on(self, line, part, item, price):
         parts = line["parts"]
