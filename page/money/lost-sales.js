@@ -12,11 +12,11 @@ export const lostSales = ({survey}) =>
 
 // The same with the row of the VEND REQUEST that ends each.
 function spansOf(it) {
-  const requests = it.found.money.filter(({kind}) => kind === "request");
-  return it.lostSpans ??= lostSales(it).map(({row, device}) => {
-    const next = requests.find((m) => m.device === device && m.first > row);
+  it.lostSpans ??= lostSales(it).map(({row, device}) => {
+    const next = it.found.money.find((m) => m.kind === "request" && m.device === device && m.first > row);
     return {row, device, to: next?.first ?? Infinity};
   });
+  return it.lostSpans;
 }
 
 // Whether an entry of money is of such a sale.

@@ -135,7 +135,7 @@ function accountArticle(r, name, a, d, isCut) {
 // An account with amounts that aren't on the bus.
 const untoldArticle = (name) =>
     h("article", {class: "account", id: "account-" + name}, h("h3", {}, ACCOUNTS[name].title),
-      h("p", {}, h("strong", {}, "Amount not told: "),
+      h("p", {"data-untold": name}, h("strong", {}, "Amount not told: "),
         "the reader approved FFFF, and takes the price from a list of its own. The text below counts FFFF as 65535."));
 
 // What the ranges mean.
