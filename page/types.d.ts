@@ -310,12 +310,13 @@ interface OpenEntry {
   silent?: number | null;
 }
 
-/** An order to pay out of a device that isn't followed: its first and last row (rows.js). */
+/** An order to pay out of a device that isn't followed: its first and last row, and a recycler's bytes (rows.js). */
 interface Order {
   row: number;
   end: number;
   time: number;
   code: number;
+  bytes: number[];
 }
 
 /** A row of the file near the one that cannot be (link-story.js). */

@@ -288,7 +288,7 @@ def scenes_of_payouts():
                 ("Ask the customer",), ("for certain",))
     yield Scene("a hopper is polled", Bus().changer().coin(4).polls(3, device=0x5B), GREEN, [])
     bill = lambda: Bus().changer().validator().told([0x33], 0x91).ack(0x35, 1).told([0x33], 0x81)
-    yield Scene("a recycler pays", bill().ack(0x37, 6, 0, 0, 1).ack(0x37, 6, 0, 0, 1), AMBER, [("order", "", "2 orders", "recycler")],
+    yield Scene("a recycler pays", bill().ack(0x37, 6, 0, 0, 1).ack(0x37, 7, 0, 2), AMBER, [("order", "15.00", "2 orders to pay out 15.00", "recycler")],
                 ("Ask the customer",), options=("--extended",))
 
 

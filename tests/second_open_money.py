@@ -104,6 +104,8 @@ class Reading:
         self.troubles = {}
         self.choices = []
         self.orders = {}
+        self.ordered = {}
+        self.recycled = Sum('bill'), None
         self.lost = set()
         self.entries = []
 
@@ -149,6 +151,9 @@ class Reading:
                 self.broke(act)
             elif what == 'ask':
                 self.asked(act, nxt)
+            elif what == 'foreign':
+                for row in range(act[0], act[1] + 1):
+                    self.ordered_in(row)
             elif what in ('ack', 'nak', 'reply'):
                 if device == 'changer':
                     self.answered(act)
@@ -159,6 +164,21 @@ class Reading:
                 if what == 'reply':
                     self.replied(act, acts[i - 1] if i else None, acknowledged(acts, i))
         self.ended(acts, word, fault)
+
+    def ordered_in(self, row):
+        """Adds what a recycler's order that begins in this row asks for."""
+        if row not in self.ordered:
+            return
+        amount, words = self.recycled[0], self.ordered[row]
+        setup, what, rest = self.values.data.get('bill'), words[0], words[1:]
+        if what == 6 and len(rest) >= 3:
+            bill = self.values.one('bill', rest[0] & 0x0F)
+            amount.add(None if bill is None else bill * (rest[1] * 256 + rest[2]))
+        elif what == 7 and len(rest) >= 2 and setup is not None:
+            amount.add((rest[0] * 256 + rest[1]) * (setup[3] * 256 + setup[4]))
+        else:
+            amount.add(None)
+        self.recycled = amount, self.values.decimals('bill')
 
     def broke(self, act):
         for device in READERS:
@@ -567,7 +587,7 @@ class Reading:
             self.put('choice', 'changer', ends, [], count=len(self.choices))
         for (device, code), acts in self.orders.items():
             ends = acts[:1] + acts[1:][-1:]
-            self.put('order', device, ends, [], count=len(acts), code=code)
+            self.put('order', device, ends, [self.recycled] if code == 0x37 else [], count=len(acts), code=code)
         for (device, code), acts in self.troubles.items():
             ends = [acts[0]] + ([acts[-1]] if acts[-1] is not acts[0] else [])
             self.put('trouble', device, ends, [], count=len(acts), code=code)
@@ -617,6 +637,16 @@ def orders_of(rows, acts):
             yield row, 'bill', 0x37
 
 
+def ordered_of(rows, row):
+    """What a recycler's order that begins in a row asks for: its second word, and up to three of the controller's after it."""
+    words = []
+    for _, line, word in rows[row:row + 4]:
+        if line != 'M' or int(word, 16) > 0xFF:
+            break
+        words.append(int(word, 16))
+    return words
+
+
 def given(setups):
     """The data of --setup, without the sum, and of a reader without the message's first byte."""
     return {device: list(data[1 if device in READERS else 0:-1]) for device, data in setups.items()}
@@ -640,6 +670,8 @@ def entries(rows, shown, setups=None, is_extended=False):
     reading = Reading([int(line[0]) for line in lines], given(setups or {}), is_extended)
     for row, device, code in orders_of(lines, acts_of(shown)):
         reading.orders.setdefault((device, code), []).append((row, row))
+        if code == 0x37:
+            reading.ordered[row] = ordered_of(lines, row)
     for acts, word, fault in parts_of(acts_of(shown)):
         reading.part(acts, word, fault)
         if fault and fault[3:] == ('controller', 'Profile') and is_choice(lines, fault[0]):

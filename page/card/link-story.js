@@ -1,12 +1,12 @@
 // @ts-check
 // The story of a row that breaks a rule of the link, or at which the checker stops following: from the rows of the file
 // about it, since no act is read from there on.
-import {ASK, DEVICE_NAMES, DEVICES, REPLY} from "../checker/acts.js";
+import {ASK, DEVICE_NAMES, DEVICES, REPLY, two} from "../checker/acts.js";
 import {ANSWERS} from "../checker/answers.js";
 import {ENABLE_OPTIONS, OPTIONS_END, readerMessages} from "../checker/messages.js";
 import {commandName, optionWords} from "../list/words.js";
 import {isExtended} from "../run/options.js";
-import {capital, counted, hex, shown, the} from "../texts.js";
+import {capital, counted, hex, money, shown, the} from "../texts.js";
 import {seconds} from "../times.js";
 
 import {actRows, fact, inRows, likely, nextStep, rowsAt, SHORT_NAMES} from "./sentences.js";
@@ -368,10 +368,23 @@ export function unfollowed(it) {
   const who = isCommand ? `the controller sends ${name} ` : `${name} sends `;
   return {
     what: enabled ? `the controller enables ${enabled} on ${name}` : `${who}${what}`,
-    facts: [fact(
-        `${capital(who)}${what}`, ...inRows(rows),
-        `. The checker doesn't follow this ${isCommand ? "command" : "message"}.`)]
+    facts: [
+      fact(
+          `${capital(who)}${what}`, ...inRows(rows),
+          `. The checker doesn't follow this ${isCommand ? "command" : "message"}.`),
+      ...isCommand ? negativeFacts(it, d) : []
+    ]
   };
+}
+
+// What a NEGATIVE VEND REQUEST asks for.
+function negativeFacts(it, d) {
+  const [a, b, ...rest] = bytesOf(wholeBlock(rowsNear(it), it.row)), setup = it.list.setupAt(d, it.list.count - 1);
+  if (!isToReader(a) || (a & 7) !== 3 || b !== NEGATIVE_VEND || rest.length < 2) return [];
+  const amount = setup && two(rest, 0) !== 0xFFFF ? money(two(rest, 0) * setup.scale, setup.decimals) : "an amount";
+  return [fact(
+      `By that it asks to put ${amount} onto the card, as for a returned bottle (negative vend). `,
+      "Whether the reader approves, the list after a survey shows.")];
 }
 
 // A command that isn't followed: its bytes so far, and what it belongs to.
@@ -385,6 +398,7 @@ function commandNamed(bytes) {
   return `the command ${bytes.map(hex).join(" ")}${kind}`;
 }
 
+const NEGATIVE_VEND = 6;
 const isToReader = (a) => a >> 3 === 2 || a >> 3 === 12;
 
 // The options that a command enables, in words. Any other command enables none.

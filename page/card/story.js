@@ -10,7 +10,7 @@ import {isDiffering, isOpen, isZero} from "../money/ranges.js";
 import {lateStory} from "../money/remarks.js";
 import {lossStory} from "../money/replayed.js";
 import {COUNT_NEXT, entryWords, isOf, openStory, SALE_NEXT} from "../money/rises.js";
-import {hasUntold} from "../money/untold.js";
+import {hasUntold, untoldItems} from "../money/untold.js";
 import {capital, counted, listed, money, small, the} from "../texts.js";
 import {seconds} from "../times.js";
 
@@ -44,8 +44,7 @@ function yesStory(it) {
     if (isDiffering(a)) told.push(...differingStory(it, name, a, d));
     if (isOpen(a)) told.push(...openStory(it, name, a, d));
   }
-  told.push(
-      ...breakStory(it), ...silenceStory(it), ...lateStory(it), ...valuelessStory(it), ...refusedStory(it));
+  told.push(...breakStory(it), ...silenceStory(it), ...lateStory(it), ...valuelessStory(it), ...refusedStory(it));
   return told;
 }
 
@@ -183,6 +182,12 @@ const SUM_WORDS = {
   "paid-out": "paid out"
 };
 
+// The first items of sales whose amount isn't told.
+function itemsOf(it) {
+  const items = untoldItems(it);
+  return items.length ? ` (${items.slice(0, 3).join(", ")}${items.length > 3 ? " .." : ""})` : "";
+}
+
 /** @type {(it: Answer) => string} */
 export function agreedWords(it) {
   const {report: {accounts, decimals}} = it;
@@ -191,8 +196,9 @@ export function agreedWords(it) {
         untold = moved.filter(([name]) => hasUntold(it, name));
   const sums = moved.filter((one) => !untold.includes(one))
                    .map(([name, a]) => `${amount(name, a)} ${SUM_WORDS[name] ?? small(ACCOUNTS[name].title)}`);
-  const told =
-      untold.length ? `${capital(listed(untold.map(([name]) => small(ACCOUNTS[name].title))))}: amount not told.` : "";
+  const told = untold.length ?
+      `${capital(listed(untold.map(([name]) => small(ACCOUNTS[name].title))))}: amount not told${itemsOf(it)}.` :
+      "";
   if (sums.length) return `The controller and the devices agree for certain: ${listed(sums)}. ${told}`.trim();
   if (told) return told;
   return refusalsOf(it).length ? "No money moved." : "No money was reported.";

@@ -99,12 +99,23 @@ const PAYERS = {
   "175": 0x70,
   "176": 0x70
 };
-const RECYCLER_ORDER = /^M,00[67]$/;
+const RECYCLER_ORDER = /^M,00[67]$/, ORDER_WORDS = 4;
 
 // The payer to whom the command at a place goes (that of its line, M); 0 if it is another one.
 function payerAt(text, line) {
   if (text[line + 1] !== 44 || text[line + 2] !== 49) return 0;
   return PAYERS[String.fromCharCode(text[line + 2], text[line + 3], text[line + 4]).toUpperCase()] ?? 0;
+}
+
+// The bytes of a command from a row on, at most so many.
+function bytesFrom(text, from, most) {
+  const found = [];
+  for (let place = from; found.length < most; place = rowAfter(text, place)) {
+    const [, byte] = /^M,0([0-9A-F]{2})$/i.exec(saidAt(text, place)) ?? [];
+    if (!byte) break;
+    found.push(parseInt(byte, 16));
+  }
+  return found;
 }
 
 // The rows that order such a device to pay out. (Long recordings have millions of rows: each byte is looked at once.)
@@ -120,7 +131,8 @@ export function ordersIn(text) {
     if (text[i] !== 77 || text[i + 3] < 51 || text[i + 3] > 55) continue;
     const code = payerAt(text, i), isRecycler = code === PAYERS["137"];
     if (!code || isRecycler && !RECYCLER_ORDER.test(saidAt(text, rowAfter(text, i)))) continue;
-    found.push({row, end: isRecycler ? row + 1 : row, time: timeAt(text, from), code});
+    const bytes = isRecycler ? bytesFrom(text, rowAfter(text, i), ORDER_WORDS) : [];
+    found.push({row, end: isRecycler ? row + 1 : row, time: timeAt(text, from), code, bytes});
   }
   return found;
 }

@@ -156,8 +156,8 @@ const OPEN_SENTENCES = {
       ["Paid-out isn't known from ", openRows(e.rows), " on: the controller lets the changer choose the coins ",
        "(0F 02 to 0F 04), which isn't followed. What was paid in is known."],
   order: (e) =>
-      [`${counted(e.count, "order")} to pay out went to ${payerWords(e)}`, inRows(openRows(e.rows), ...restRows(e)),
-       ". That device isn't followed: what it paid is in no sum."],
+      [`${counted(e.count, "order")} to pay out${orderedWords(e)} went to ${payerWords(e)}`,
+       inRows(openRows(e.rows), ...restRows(e)), ". That device isn't followed: what it paid is in no sum."],
   trouble: (e) =>
       [`${capital(theDevice(e.device))} reported ${troubleWords(e)}`, inRows(openRows(e.rows)),
        ...e.count === 1 ? ["."] : [`,${timesWords(e)}, the last at ${when(e.last)}`, inRows(...restRows(e)), "."]]
@@ -177,6 +177,10 @@ const RESTART_WORDS = {
   restarted: "a device reported a reset",
   break: "a break came"
 };
+
+/** @type {(e: OpenEntry) => string} */
+const orderedWords = ({amounts: [amount]}) =>
+    amount ? ` ${moneyOf(amount).replace("value not known", "an unknown amount")}` : "";
 
 /** @type {(e: OpenEntry) => string} */
 const payerWords = ({code}) => code === RECYCLER ? "the recycler (37 06, 37 07)" : `a hopper (${hex(code)}H)`;
@@ -308,7 +312,7 @@ const OPEN_HEADS = {
   payout: (amount, {answer, came}) =>
       `Payout ${{taken: DOUBT_HEADS[came], refused: "refused"}[answer] ?? "not answered"}: ${amount}`,
   choice: () => "Coins paid out aren't known",
-  order: (amount, entry) => `Orders to pay out aren't followed: ${payerWords(entry)}`,
+  order: (amount, entry) => `Orders to pay out aren't followed: ${payerWords(entry)}${amount && `, ${amount}`}`,
   trouble: (amount, entry) => `${capital(theDevice(entry.device))} reported ${troubleWords(entry)}`,
 };
 

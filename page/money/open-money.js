@@ -13,7 +13,7 @@ const LEVER_WAIT = 30e6, CASH_WAIT = 30e6, PAYOUT_WAIT = 2e6, JAM_WAIT = 5e6, SI
 const NOT_TOLD = 0xFFFF;
 const READERS = [3, 4];
 export const STACKER = 0x36, RECYCLER = 0x37;
-const TUBE_STATUS = 0x0A, PAYOUT_BUSY = 2;
+const TUBE_STATUS = 0x0A, PAYOUT_BUSY = 2, BILLS_ORDERED = 6;
 const VEND = {
   REQUEST: 0,
   CANCEL: 1,
@@ -529,11 +529,21 @@ function isForeign(acts, row) {
   return i >= 0 && acts.kind(i) === FOREIGN && acts.last(i) >= row;
 }
 
+// What a recycler is ordered to pay: so many bills of a type, or a value.
+function orderedOf(acts, {row, bytes: [order, ...rest]}) {
+  const setup = acts.setupAt(2, actAfterRow(acts, row) - 1), isBills = order === BILLS_ORDERED;
+  if (!setup || rest.length < (isBills ? 3 : 2)) return amountOf(2, setup, null);
+  return amountOf(2, setup, isBills ? worth(setup, rest[0] & 15) * two(rest, 1) : two(rest, 0) * setup.scale);
+}
+
 // The payouts by devices that aren't followed, an entry for each of these.
 function orderEntries(acts, orders) {
   const found = orders.filter(({row, end}) => isForeign(acts, row) && isForeign(acts, end));
-  return [...new Set(found.map(({code}) => code))].map(
-      (code) => rowsEntry("order", code === RECYCLER ? 2 : 0, found.filter((it) => it.code === code), code));
+  return [...new Set(found.map(({code}) => code))].map((code) => {
+    const all = found.filter((it) => it.code === code), isRecycler = code === RECYCLER;
+    const amounts = isRecycler ? [all.map((it) => orderedOf(acts, it)).reduce(moreOf)] : [];
+    return {...rowsEntry("order", isRecycler ? 2 : 0, all, code), amounts};
+  });
 }
 
 // The first act that begins after a row; the number of all acts if there is none.
@@ -579,7 +589,7 @@ export function openMoney(acts, {hole = -1, cuts = [], choices = [], orders = []
   }
   entries.push(...walk.troubles.values());
   if (choices.length) entries.push(rowsEntry("choice", 1, choices));
-  entries.push(...orderEntries(acts, orders));
+  entries.push(...orderEntries(acts, orders).filter(({amounts}) => !isNothing(amounts)));
   return entries.map(openEntry).sort(
       (a, b) => a.rows[0][0] - b.rows[0][0] || place(a) - place(b) || (a.code ?? -1) - (b.code ?? -1));
 }

@@ -21,6 +21,17 @@ export function noteUntold(acts, {money}) {
   }
 }
 
+// The items of the sales with such approvals.
+/** @type {(it: Answer) => string[]} */
+export function untoldItems({found: {money}}) {
+  const isUntold = [], items = new Set();
+  for (const {kind, device, type, isUntold: is} of money) {
+    if (kind === "approved") isUntold[device] = is;
+    if (kind === "sold" && isUntold[device]) items.add(String(type));
+  }
+  return [...items];
+}
+
 // Whether an account has such approvals.
 /** @type {(it: Answer, name: string) => boolean} */
 export const hasUntold = ({found}, name) => OF_READERS.test(name) &&
