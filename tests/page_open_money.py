@@ -215,6 +215,7 @@ def scenes():
     yield from scenes_of_sales()
     yield from scenes_of_payouts()
     yield from scenes_of_restarts()
+    yield from complaints()
     choice = Bus().changer(3).coin(5).coin(4, 8).ask(0x0F, 2, 0x0F)
     choice.word("S", 0x100)
     choice = choice.told([0x0B], 0x53, 7)
@@ -265,11 +266,10 @@ def scenes_of_sales():
                 [("untaken", "1.50", "item 7", "2 times", "never took it", "before a RESET")], ("This is the reason", "card company", "controller 3.00"), ("makers", "controller 4.50"))
     yield Scene("a sale that is taken at the second time", card().approved().ask(0x13, 2, 0, 7).ack(0x13, 2, 0, 7).over(), GREEN, [])
     yield Scene("an approval without an amount", card().told([0x12], 3, 3, 0xE8).ack(0x13, 0, 0xFF, 0xFF, 0, 7).told([0x12], 5, 0xFF, 0xFF)
-                .ack(0x13, 2, 0, 7).over(), GREEN, [], ("amount not told",), ("655.35", "earlier recording"))
-
-
+                .ack(0x13, 2, 0, 7).over(), GREEN, [], ("amount not told (item 7)",), ("655.35", "earlier recording"))
     negative = card().told([0x12], 3, 3, 0xE8).ack(0x13, 6, 0, 25, 0, 1).told([0x12], 5, 0, 25)
-    yield Scene("a negative vend, and a sale", negative.approved(item=8).ack(0x13, 2, 0, 8).over(), AMBER, [], surveyed=[])
+    yield Scene("a negative vend, and a sale", negative.approved(item=8).ack(0x13, 2, 0, 8).over(), AMBER, [],
+                ("asks to put 0.25 onto the card",), surveyed=[])
     yield Scene("a negative vend, and no outcome", negative.told([0x12], 0x0B), AMBER, [], surveyed=[])
 
 
@@ -290,6 +290,40 @@ def scenes_of_payouts():
     bill = lambda: Bus().changer().validator().told([0x33], 0x91).ack(0x35, 1).told([0x33], 0x81)
     yield Scene("a recycler pays", bill().ack(0x37, 6, 0, 0, 1).ack(0x37, 7, 0, 2), AMBER, [("order", "15.00", "2 orders to pay out 15.00", "recycler")],
                 ("Ask the customer",), options=("--extended",))
+
+
+def complaints():
+    """What customers complained of, each with what had happened."""
+    card, extended = lambda: Bus().changer().reader(), ("--extended",)
+    bill = lambda: Bus().validator().told([0x33], 0x91)
+    yield Scene("he pressed the lever, and got one coin of two", Bus().changer().coin(5).told([0x0B], 1).ack(0x0D, 0x14).told([0x0B], 2)
+                .polls(3).nak(0x0D, 0x23).polls(9), AMBER, [("payout", "1.00", "refused it (NAK")], ("differ for certain", "This is the reason"))
+    yield Scene("the card was denied, and he paid in coins", card().told([0x12], 3, 3, 0xE8).ack(0x13, 0, 0, 150, 0, 7).told([0x12], 6).over()
+                .coin(4).coin(3).ack(0x13, 5, 0, 150, 0, 7), GREEN, [], ("Card reader 1 denied 1.50 for item 7 at",), ("No money",))
+    yield Scene("the reader refuses to book the sale", card().approved().nak(0x13, 2, 0, 7).nak(0x13, 2, 0, 7).over(), AMBER,
+                [("untaken", "1.50", "item 7", "2 times", "refused it (NAK)", "before SESSION COMPLETE")], ("This is the reason",), options=extended)
+    yield Scene("power goes off while a sale is booked", card().approved().ask(0x13, 2, 0, 7).off().reader(), AMBER,
+                [("untaken", "1.50", "item 7", "never took it", "a break")], ("This is the reason", "reason of the break"))
+    yield Scene("power dips while a bill goes back", bill().ack(0x35, 0).off().validator().told([0x33], 0xA1), AMBER, [],
+                ("reported as returned",), ("and no end",), options=extended)
+    jam = Bus().changer().coin(5).ack(0x0D, 0x14).told([0x0B], 2).polls(3).ack(0x0D, 0x13).told([0x0B], 2).told([0x0B], 7)
+    yield Scene("a jam after two payouts", jam, AMBER, [("payout", "1.00", "reported trouble"), ("payout", "0.50", "reported trouble"),
+                                                        ("trouble", "", "tube jam")])
+    yield Scene("change from the recycler, as a value", Bus().changer().validator().told([0x33], 0x91).ack(0x35, 1).told([0x33], 0x81)
+                .ack(0x37, 7, 0, 1), AMBER, [("order", "5.00", "1 order to pay out 5.00", "recycler")], options=extended)
+    yield Scene("change from the second hopper", Bus().changer().coin(4).ack(0x75, 0, 0, 3).ack(0x76, 4), AMBER,
+                [("order", "", "2 orders to pay out went", "hopper (70H)")])
+    second = Bus().reader().reader(0x60).told([0x62], 3, 3, 0xE8).ack(0x63, 0, 0, 100, 0, 5).approved().ack(0x13, 2, 0, 7).over()
+    for _ in range(60):
+        second.ask(0x62, after=250_000)
+    yield Scene("the second reader dies after the request", second, AMBER,
+                [("request", "1.00", "card reader 2", "item 5", "up to the end of the recording", "silent for 1")], ("plug of card reader 2",))
+    for name, gap, colour, found in (("28 s", 14, AMBER, [("restart", "1.00", "sent RESET")]), ("32 s", 16, GREEN, [])):
+        yield Scene(f"a RESET {name} after a coin", Bus().changer().coin(4).polls(2, gap * 1_000_000).changer(), colour, found)
+    price = card().approved().ack(0x13, 2, 0, 7).over().told([0x12], 3, 3, 0xE8).ack(0x13, 0, 0xFF, 0xFF, 0, 8).told([0x12], 5, 0xFF, 0xFF)
+    yield Scene("one sale with its amount, and one without", price.ack(0x13, 2, 0, 8).over(), GREEN, [], ("amount not told (item 8)",), ("655.35",))
+    yield Scene("the reader ends the session before the sale", card().approved().told([0x12], 7).polls(3), AMBER,
+                [("approved", "1.50", "item 7", "the end of the session")], ("card company",), options=extended)
 
 
 def scenes_of_restarts():
