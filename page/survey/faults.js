@@ -231,6 +231,7 @@ function asAnswer(whole, fault) {
   return {
     answer: ANSWERS.NO,
     survey: whole.survey,
+    spoken: whole.spoken,
     row,
     report: {rule, blame},
     unjudged: unjudgedFault(whole, fault),
