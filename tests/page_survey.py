@@ -156,6 +156,10 @@ def notes_of(report):
             n = counts[kind][device]
             if n:
                 found.append(f"{n} {one}{'' if n == 1 else 's'} of {SENDERS[device]}{after}")
+    untimely = report.get("untimely", [])
+    late = [f"{n} row{'' if n == '1' else 's'} of {SENDERS[it]}" for it, n in zip(untimely[::2], untimely[1::2]) if n != "0"]
+    if late:
+        found.append(f"out of time: {listed(late)}")
     for kind, words in (("without", "left out"), ("setup", "set-up known of")):
         if kind in report:
             found.append(f"{words}: {listed([SENDERS[it] for it in report[kind]])}")
