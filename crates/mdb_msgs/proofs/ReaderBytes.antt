@@ -210,7 +210,7 @@ unfolding messages_in with_front with_text
 steps r fuel [] h = absurd (omega arith)
 steps r fuel (first ∷ further) h = refl
 
-head_counts : (m : ReaderMsg) → 0 < length (head_bytes m)
+pub head_counts : (m : ReaderMsg) → 0 < length (head_bytes m)
 head_counts JustReset = omega arith
 head_counts (Config level code scale decimals response options) = omega arith
 head_counts (Display time) = omega arith
