@@ -1,3 +1,4 @@
+-- Messages are taken one after the other, until none is left or none stands there.
 use Rattle.std.proofs.Common.{◌||◌, Bool, [], ap, ap₂, refl, subst, sym, ◌∙◌}
 use Rattle.std.proofs.lemmas.Result.{err_from_is_err_and}
 use Rattle.mdb_msgs.specs.declared.reading.Ids.{Ids}
@@ -28,8 +29,7 @@ loop-first-preserved c = (
       c.in_ok-message.ensures.bytes c.in_ok-message.ensures.text,
   ap (λ b. c.loop-first.is_long || b) c.has_long-is_long.ensures
       ∙ any_more c.loop-first.invariant.0 c.in_ok-message.message
-      c.in_ok-message.field-0-1.now has_long _
-      c.loop-first.invariant.2,
+      c.in_ok-message.field-0-1.now has_long _ c.loop-first.invariant.2,
   c.widened-ids.ensures
       ∙ ids_more c.loop-first.invariant.0 c.in_ok-message.message
       c.in_ok-message.field-0-1.now _ c.loop-first.invariant.3,
