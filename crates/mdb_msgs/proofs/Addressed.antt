@@ -3,16 +3,12 @@ use Rattle.std.proofs.Common.{ap, refl, ◌∙◌, ◌≡◌, ℕ, List, slice_i
 use Rattle.mdb_blocks.specs.Block.{block_of}
 use Rattle.mdb_msgs.specs.declared.command.Command.{Command}
 use Rattle.mdb_msgs.specs.declared.command.Command.TheVariants.{Changer, Bill, Reader}
-use Rattle.mdb_msgs.specs.declared.command.BillCommand.{BillCommand}
 use Rattle.mdb_msgs.specs.declared.command.BillCommand.TheVariants as bill
-use Rattle.mdb_msgs.specs.declared.command.ChangerCommand.{ChangerCommand}
 use Rattle.mdb_msgs.specs.declared.command.ChangerCommand.TheVariants as changer
-use Rattle.mdb_msgs.specs.declared.command.Device.TheVariants as device
-use Rattle.mdb_msgs.specs.declared.command.ReaderCommand.{ReaderCommand}
 use Rattle.mdb_msgs.specs.declared.command.ReaderCommand.TheVariants as reader
 use Rattle.mdb_msgs.specs.declared.command.ReaderUnit.TheVariants.{First, Second}
 use Rattle.mdb_msgs.specs.declared.device_set.DeviceSet.{DeviceSet}
-use Rattle.mdb_msgs.specs.Commands.{Spells, bill_bytes, changer_bytes, command_bytes, device_of, reader_bytes}
+use Rattle.mdb_msgs.specs.Commands.{Spells, command_bytes, device_of}
 use Rattle.mdb_msgs.specs.DeviceSets.{has}
 use Rattle.mdb_msgs.specs.Needs.{is_to_one_of}
 

@@ -1,5 +1,5 @@
 -- That the bytes of a command's block are bytes.
-use Rattle.std.proofs.Common.{arith, sym, subst, ◌<◌, ◌≤◌, ◌%◌, ◌/◌, ℕ, List, [], ◌∷◌, ◌++◌, sum, All}
+use Rattle.std.proofs.Common.{arith, ◌≤◌, ◌%◌, ℕ, List, [], ◌∷◌, ◌++◌, sum, All}
 use Rattle.std.specs.List.{AllByRecursion}
 use Rattle.std.proofs.lemmas.List.Elements.{recursion_from_All, All-from_recursion, All-append}
 use Rattle.mdb_blocks.specs.Block.{block_of}
@@ -12,8 +12,7 @@ use Rattle.mdb_msgs.specs.declared.command.BillCommand.TheVariants as bill
 use Rattle.mdb_msgs.specs.declared.command.ReaderUnit.TheVariants.{First, Second}
 use Rattle.mdb_msgs.specs.declared.command.ReaderCommand.{ReaderCommand}
 use Rattle.mdb_msgs.specs.declared.command.ReaderCommand.TheVariants as reader
-use Rattle.mdb_msgs.specs.Commands.{HasBillFields, HasChangerFields, HasFields, HasReaderFields, IsByte, IsNumber, Spells, bill_bytes, changer_bytes, command_bytes, reader_bytes}
-use Rattle.mdb_msgs.specs.TwoBytes.{two_bytes}
+use Rattle.mdb_msgs.specs.Commands.{HasBillFields, HasChangerFields, HasFields, HasReaderFields, IsByte, Spells, bill_bytes, changer_bytes, command_bytes, reader_bytes}
 
 -- the bytes of a command are bytes
 changer_low : (command : ChangerCommand) → HasChangerFields command

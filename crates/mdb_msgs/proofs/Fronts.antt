@@ -3,14 +3,13 @@ use Rattle.std.proofs.Common.{◌≡◌, ◌≢◌, ◌<◌, ◌+◌, ◌-◌, �
 use Rattle.std.proofs.lemmas.Grind.{common_steps}
 use Rattle.std.proofs.lemmas.List.{length-replicate}
 use Rattle.std.proofs.lemmas.List.Elements.{All-append, All-replicate}
-use Rattle.mdb_blocks.specs.Block.{block_of}
 use Rattle.mdb_msgs.specs.declared.command.Command.{Command}
 use Rattle.mdb_msgs.specs.declared.command.Device.{Device}
-use Rattle.mdb_msgs.specs.declared.command.Device.TheVariants.{Changer, Bill, Reader}
+use Rattle.mdb_msgs.specs.declared.command.Device.TheVariants.{Changer}
 use Rattle.mdb_msgs.specs.declared.need.Need.{Need}
-use Rattle.mdb_msgs.specs.declared.need.Need.TheVariants.{More, Exactly, Foreign, Outside}
+use Rattle.mdb_msgs.specs.declared.need.Need.TheVariants.{More, Exactly}
 use Rattle.mdb_msgs.specs.Commands.{IsByte, Spells}
-use Rattle.mdb_msgs.specs.Needs.{bill_need, changer_need, device_at, need, need_for, needed, reader_need}
+use Rattle.mdb_msgs.specs.Needs.{device_at, need, need_for, needed}
 use Rattle.mdb_msgs.specs.OpenBlocks.{IsOpen, IsShort, IsTold}
 use Rattle.mdb_msgs.proofs.Contents.{spelled}
 use Rattle.mdb_msgs.proofs.Prefixes.{first_bytes}

@@ -13,7 +13,6 @@ use Rattle.mdb_msgs.specs.declared.reply.setup.BillSetup.{BillSetup}
 use Rattle.mdb_msgs.specs.declared.reply.setup.ChangerSetup.{ChangerSetup}
 use Rattle.mdb_msgs.specs.declared.reply.setup.Stacker.{Stacker}
 use Rattle.mdb_msgs.specs.declared.reply.setup.TubeStatus.{TubeStatus}
-use Rattle.mdb_msgs.specs.Answers.{IsDataLength}
 use Rattle.mdb_msgs.specs.Readings.{is_extended}
 use Rattle.mdb_msgs.specs.Replies.{form_of_reply, reply_bytes, HasFields, HasMessages, IsIn, tells_of_sales, IsReplyTo, NoReply, IsNoReplyTo, IsReadFault}
 use Rattle.mdb_msgs.specs.ReplyFaults.{SpellsReply}

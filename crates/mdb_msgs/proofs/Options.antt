@@ -6,14 +6,11 @@ use Rattle.std.proofs.lemmas.List.Elements.{All-from_recursion}
 use Rattle.mdb_blocks.specs.Block.{block_of}
 use Rattle.mdb_msgs.specs.declared.command.Command.{Command}
 use Rattle.mdb_msgs.specs.declared.command.Command.TheVariants.{Changer, Bill, Reader}
-use Rattle.mdb_msgs.specs.declared.command.BillCommand.{BillCommand}
 use Rattle.mdb_msgs.specs.declared.command.BillCommand.TheVariants as bill
-use Rattle.mdb_msgs.specs.declared.command.ChangerCommand.{ChangerCommand}
 use Rattle.mdb_msgs.specs.declared.command.ChangerCommand.TheVariants as changer
-use Rattle.mdb_msgs.specs.declared.command.ReaderCommand.{ReaderCommand}
 use Rattle.mdb_msgs.specs.declared.command.ReaderCommand.TheVariants as reader
 use Rattle.mdb_msgs.specs.declared.command.ReaderUnit.TheVariants.{First, Second}
-use Rattle.mdb_msgs.specs.Commands.{IsByte, Spells, bill_bytes, changer_bytes, command_bytes, is_enable_options, reader_bytes}
+use Rattle.mdb_msgs.specs.Commands.{IsByte, Spells, command_bytes, is_enable_options}
 use Rattle.mdb_msgs.specs.Needs.{begins_options}
 use Rattle.mdb_msgs.specs.OpenBlocks.{IsOpen}
 use Rattle.mdb_msgs.proofs.Fronts.{open_is_a_front}

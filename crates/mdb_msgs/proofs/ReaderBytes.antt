@@ -7,7 +7,7 @@ use Rattle.mdb_msgs.specs.TwoBytes.{two_bytes, four_bytes}
 use Rattle.mdb_msgs.specs.declared.reading.Ids.{Ids}
 use Rattle.mdb_msgs.specs.declared.reading.Reading.{Reading}
 use Rattle.mdb_msgs.specs.declared.reply.reader.ReaderMsg.{ReaderMsg}
-use Rattle.mdb_msgs.specs.declared.reply.reader.ReaderMsg.TheVariants.{JustReset, Config, Display, BeginSession, BeginSessionLong, CancelRequest, VendApproved, VendDenied, EndSession, Cancelled, PeripheralId, PeripheralIdWithOptions, Malfunction, OutOfSequence, OutOfSequenceIn, TimeAsked}
+use Rattle.mdb_msgs.specs.declared.reply.reader.ReaderMsg.TheVariants.{JustReset, Config, Display, BeginSession, BeginSessionLong, VendApproved, PeripheralId, PeripheralIdWithOptions, OutOfSequence, OutOfSequenceIn}
 use Rattle.mdb_msgs.specs.Reader.{ReaderMessages, head_bytes, is_display, is_id, reading_of, text_of, reader_msg_bytes, reader_list_bytes, AreReaderMsgs, IsReaderList, IsReaderMsg, IsTextOf}
 use Rattle.mdb_msgs.specs.Readings.{allows, takes_options}
 use Rattle.mdb_msgs.specs.Lists.{Stand}

@@ -21,7 +21,6 @@ use Rattle.mdb_msgs.specs.Reader.{ReaderMessages, head_bytes, reader_list_bytes,
 use Rattle.mdb_msgs.specs.Readings.{allows, takes_options}
 use Rattle.mdb_msgs.specs.ReaderBytes.{no_messages}
 use Rattle.mdb_msgs.specs.inner.ReaderSteps.{with_message}
-use Rattle.mdb_msgs.specs.TwoBytes.{two_bytes, four_bytes}
 use Rattle.mdb_msgs.proofs.ReaderBytes.{four, head_counts, pair_bytes, text_with_options}
 use Rattle.mdb_msgs.proofs.Readings.{long_bytes, short_bytes}
 use Rattle.mdb_msgs.proofs.ReaderReading.{Taken, nothing_taken, takes_next, stops_next, all_read}

@@ -1,5 +1,5 @@
 -- Data bytes are a reply to a command, or have a fault.
-use Rattle.std.proofs.Common.{◌≡◌, ◌≢◌, ℕ, suc, ◌+◌, ◌-◌, ◌*◌, ◌<◌, ◌≤◌, ◌⊎◌, inl, inr, Bool, true, false, Option, Some, None, List, [], ◌∷◌, ◌++◌, length, slice_index, All, refl, sym, ap, subst, ◌∙◌, arith, if◌then◌else◌}
+use Rattle.std.proofs.Common.{◌≡◌, ◌≢◌, ℕ, ◌+◌, ◌-◌, ◌*◌, ◌<◌, ◌≤◌, ◌⊎◌, inl, inr, Bool, true, false, Option, Some, None, List, [], ◌∷◌, length, slice_index, All, refl, sym, ap, ◌∙◌, arith, if◌then◌else◌}
 use Rattle.std.proofs.lemmas.Bool.{cases_eq, cases_lt}
 use Rattle.mdb_blocks.specs.Block.{IsContent}
 use Rattle.mdb_msgs.specs.declared.answer.DataForm.{DataForm}
@@ -15,11 +15,9 @@ use Rattle.mdb_msgs.specs.declared.reply.setup.ChangerSetup.{ChangerSetup}
 use Rattle.mdb_msgs.specs.declared.reply.setup.Stacker.{Stacker}
 use Rattle.mdb_msgs.specs.declared.reply.setup.TubeStatus.{TubeStatus}
 use Rattle.mdb_msgs.specs.Answers.{form_of, lengths_of, may_tell_of_sales, IsDataLength}
-use Rattle.mdb_msgs.specs.Bill.{bill_msg_bytes, IsBillMsg, NoBillMsg}
-use Rattle.mdb_msgs.specs.Changer.{changer_msg_bytes, IsChangerMsg, NoChangerMsg}
 use Rattle.mdb_msgs.specs.Commands.{IsByte}
 use Rattle.mdb_msgs.specs.Readings.{is_extended}
-use Rattle.mdb_msgs.specs.Replies.{form_of_reply, reply_bytes, tells_of_sales, HasFields, HasMessages, IsIn, IsReplyTo, MayTell, IsReadFault, NoReply}
+use Rattle.mdb_msgs.specs.Replies.{form_of_reply, reply_bytes, tells_of_sales, HasFields, HasMessages, IsIn, IsReplyTo, IsReadFault, NoReply}
 use Rattle.mdb_msgs.specs.Setup.{changer_setup_bytes, tube_status_bytes, bill_setup_bytes, stacker_bytes, IsStacker}
 use Rattle.mdb_msgs.specs.TwoBytes.{two_bytes}
 use Rattle.mdb_msgs.proofs.ReaderBytes.{pair_bytes}

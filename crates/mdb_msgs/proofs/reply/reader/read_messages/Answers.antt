@@ -3,7 +3,7 @@ use Rattle.std.proofs.Common.{◌||◌, Bool, [], ap, ap₂, refl, subst, sym, �
 use Rattle.std.proofs.lemmas.Result.{err_from_is_err_and}
 use Rattle.mdb_msgs.specs.declared.reading.Ids.{Ids}
 use Rattle.mdb_msgs.specs.declared.reading.Reading.{Reading}
-use Rattle.mdb_msgs.specs.Reader.{has_long, ids_of, wider, AreReaderMsgs}
+use Rattle.mdb_msgs.specs.Reader.{has_long, AreReaderMsgs}
 use Rattle.mdb_msgs.specs.ReaderBytes.{no_messages}
 use Rattle.mdb_msgs.specs.inner.ReaderSteps.{with_message}
 use Rattle.mdb_msgs.proofs.ReaderBytes.{are_messages, read_own}
