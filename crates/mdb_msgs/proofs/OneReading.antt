@@ -75,7 +75,7 @@ module _ {M : Type 0} {f : M → List ℕ} {Is : M → Type 0} {No : List ℕ �
       way.alike k.1 a b (subst (λ x. No x a) one.1 h.4) k.4
 
 -- the changer's message that begins with these two bytes, if one does
-changer_front : ℕ → ℕ → ChangerMsg
+unfoldable pub changer_front : ℕ → ℕ → ChangerMsg
 changer_front b c =
     if nat_lt b 27 then (if nat_eq b 11 then changer.Reset else changer.Status b)
     else (if nat_lt b 64 then changer.Slugs (b - 32)
@@ -130,7 +130,7 @@ changer_way = record {
 }
 
 -- the validator's message that is this byte, if one is
-bill_find : List ℕ → BillMsg
+unfoldable pub bill_find : List ℕ → BillMsg
 bill_find [] = bill.Reset
 bill_find (b ∷ x) =
     if nat_lt b 64 then (if nat_eq b 6 then bill.Reset else bill.Status b)

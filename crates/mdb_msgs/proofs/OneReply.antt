@@ -225,37 +225,22 @@ module _ (r : Reading) where
         absurd (reply_has_no_fault other a to in_too
         (subst (λ x. IsReadFault r command x a) same fault))
 
-    module _ {block : List ℕ} (content : List ℕ) (e : block ≡ block_of content) where
-      -- what reading a block found is the only thing that it spells
-      pub only_reply : (result : Result Reply MsgFault) → IfOk result (IsIn r command)
-          → IfOk result (λ found. SpellsReply command found block)
-          → IfErr result (IsReadFault r command content) → (other : Reply)
-          → SpellsReply command other block → IsIn r command other → result ≡ Ok other
-      only_reply (Ok found) in_it is fault other h in_too =
-          ap Ok (one_reply block found other in_it in_too is h)
-      only_reply (Err a) in_it is fault other h in_too =
-          let same = one_content content (reply_bytes other) (sym e ∙ h.bytes) in
-          absurd (reply_has_no_fault other a h.answers in_too
-          (subst (λ x. IsReadFault r command x a) same fault))
+    -- and with the only fault that they have
+    pub only_fault : (content : List ℕ) (result : Result Reply MsgFault)
+        → IfOk result (IsReplyTo command) → IfOk result (IsIn r command)
+        → IfOk result (λ found. content ≡ reply_bytes found)
+        → IfErr result (IsReadFault r command content) → (b : MsgFault)
+        → IsReadFault r command content b → result ≡ Err b
+    only_fault content (Ok found) is in_it spelled fault b h = absurd (reply_has_no_fault found b
+        is in_it (subst (λ x. IsReadFault r command x b) spelled h))
+    only_fault content (Err a) is in_it spelled fault b h =
+        ap Err (one_read_fault content a b fault h)
 
-      -- the fault in reading a block is that of its content, which is one
-      pub read_fault : (result : Result Reply MsgFault)
-          → IfErr result (IsReadFault r command content)
-          → IfErr result (λ fault. (other : List ℕ) → block ≡ block_of other
-          → IsReadFault r command other fault)
-      read_fault (Ok found) fault = fault
-      read_fault (Err a) fault = λ other d.
-          subst (λ x. IsReadFault r command x a) (one_content content other (sym e ∙ d)) fault
-
-      -- and the only one
-      pub only_read_fault : (result : Result Reply MsgFault) → IfOk result (IsIn r command)
-          → IfOk result (λ found. SpellsReply command found block)
-          → IfErr result (IsReadFault r command content) → (other : List ℕ) (b : MsgFault)
-          → block ≡ block_of other → IsReadFault r command other b → result ≡ Err b
-      only_read_fault (Ok found) in_it is fault other b d h =
-          let same = one_content other (reply_bytes found) (sym d ∙ is.bytes) in
-          absurd (reply_has_no_fault found b is.answers in_it
-          (subst (λ x. IsReadFault r command x b) same h))
-      only_read_fault (Err a) in_it is fault other b d h =
-          ap Err (one_read_fault content a b fault
-          (subst (λ x. IsReadFault r command x b) (one_content other content (sym d ∙ e)) h))
+    -- the fault in reading a block is that of its content, which is one
+    pub read_fault : (block content : List ℕ) → block ≡ block_of content
+        → (result : Result Reply MsgFault) → IfErr result (IsReadFault r command content)
+        → IfErr result (λ fault. (other : List ℕ) → block ≡ block_of other
+        → IsReadFault r command other fault)
+    read_fault block content e (Ok found) fault = fault
+    read_fault block content e (Err a) fault = λ other d.
+        subst (λ x. IsReadFault r command x a) (one_content content other (sym e ∙ d)) fault

@@ -21,53 +21,55 @@ use Rattle.mdb_msgs.specs.SetupData.{IsSetup, IsSetupOf, config_in, known_with, 
 use Rattle.mdb_msgs.specs.inner.SetupAsked.{setup_of}
 use Rattle.mdb_msgs.proofs.OneReply.{one_content, one_reply, reply_has_no_fault}
 
-module _ (P : Command → Type 0)
-    (alike : (unit : ReaderUnit) (level columns rows display : ℕ)
-    → P (command.Reader unit (reader.SetupConfig level columns rows display))
-    → P (setup_of (Reader unit))) where
-  -- what a reader is told with the command is irrelevant
-  setup_so : (device : Device) (asked : Command) → IsSetup device asked → P asked
-      → P (setup_of device)
-  setup_so Changer asked is p = subst P is p
-  setup_so Bill asked is p = subst P is p
-  setup_so (Reader unit) asked (level, columns, rows, display, is) p =
-      alike unit level columns rows display (subst P is p)
+-- what a reader is told with the command is irrelevant
+module _ (unit : ReaderUnit) (level columns rows display : ℕ) where
+  abbrev Config : Command
+  Config = command.Reader unit (reader.SetupConfig level columns rows display)
 
-module _ (extended : Bool) (device : Device) (bytes : List ℕ) (before : Setups) where
-  module _ {after : Setups} (is : IsSetupOf extended device bytes before after) where
-    spells_so : SpellsReply (setup_of device) is.answer bytes
-    spells_so = setup_so (λ c. SpellsReply c is.answer bytes)
-        (λ unit level columns rows display so. record {
-          answers = record {
-            form = so.answers.form;
-            count = so.answers.count;
-            fields = so.answers.fields;
-          };
-          bytes = so.bytes;
-        }) device is.asked is.asks is.spells
+  fault_so : (bytes : List ℕ) (fault : MsgFault) → IsReadFault early Config bytes fault
+      → IsReadFault early (setup_of (Reader unit)) bytes fault
+  fault_so bytes Answer (inl none) = inl none
+  fault_so bytes Answer (inr kept) = let extended = kept.4 in absurd (cc extended)
+  fault_so bytes Length bad = bad
+  fault_so bytes fault bad = bad
 
-    reads_so : IsToldAs extended (setup_of device) is.answer
-    reads_so = setup_so (λ c. IsToldAs extended c is.answer) (so extended) device is.asked is.asks
-        is.reading
-      where
-        fault_so : (unit : ReaderUnit) (level columns rows display : ℕ) (fault : MsgFault)
-            → IsReadFault early (command.Reader unit
-            (reader.SetupConfig level columns rows display)) (reply_bytes is.answer) fault
-            → IsReadFault early (setup_of (Reader unit)) (reply_bytes is.answer) fault
-        fault_so unit level columns rows display Answer (inl none) = inl none
-        fault_so unit level columns rows display Answer (inr kept) =
-            let extended = kept.4 in absurd (cc extended)
-        fault_so unit level columns rows display Length bad = bad
-        fault_so unit level columns rows display fault bad = bad
+  told_so : (extended : Bool) (answer : Reply) → IsToldAs extended Config answer
+      → IsToldAs extended (setup_of (Reader unit)) answer
+  told_so false answer reads = reads
+  told_so true answer (inl reads) = inl reads
+  told_so true answer (inr reads) =
+      inr (reads.0, reads.1, fault_so (reply_bytes answer) reads.1 reads.2)
 
-        so : (extended : Bool) (unit : ReaderUnit) (level columns rows display : ℕ)
-            → IsToldAs extended (command.Reader unit
-            (reader.SetupConfig level columns rows display)) is.answer
-            → IsToldAs extended (setup_of (Reader unit)) is.answer
-        so false unit level columns rows display reads = reads
-        so true unit level columns rows display (inl reads) = inl reads
-        so true unit level columns rows display (inr reads) =
-            inr (reads.0, reads.1, fault_so unit level columns rows display reads.1 reads.2)
+  answers_so : (answer : Reply) (bytes : List ℕ) → SpellsReply Config answer bytes
+      → SpellsReply (setup_of (Reader unit)) answer bytes
+  answers_so answer bytes so = record {
+    answers = record {
+      form = so.answers.form;
+      count = so.answers.count;
+      fields = so.answers.fields;
+    };
+    bytes = so.bytes;
+  }
+
+setup_so : (P : Command → Type 0) (device : Device) (asked : Command) → IsSetup device asked
+    → ((unit : ReaderUnit) (level columns rows display : ℕ) → P (Config unit level columns rows
+    display) → P (setup_of (Reader unit))) → P asked → P (setup_of device)
+setup_so P Changer asked is alike p = subst P is p
+setup_so P Bill asked is alike p = subst P is p
+setup_so P (Reader unit) asked (level, columns, rows, display, is) alike p =
+    alike unit level columns rows display (subst P is p)
+
+module _ (extended : Bool) (device : Device) (bytes : List ℕ) (before : Setups) {after : Setups}
+    (is : IsSetupOf extended device bytes before after) where
+  spells_so : SpellsReply (setup_of device) is.answer bytes
+  spells_so = setup_so (λ c. SpellsReply c is.answer bytes) device is.asked is.asks
+      (λ unit level columns rows display. answers_so unit level columns rows display is.answer
+      bytes) is.spells
+
+  reads_so : IsToldAs extended (setup_of device) is.answer
+  reads_so = setup_so (λ c. IsToldAs extended c is.answer) device is.asked is.asks
+      (λ unit level columns rows display. told_so unit level columns rows display extended
+      is.answer) is.reading
 
 -- a told answer is one reply
 module _ (asked : Command) (block : List ℕ) (one other : Reply) (spells : SpellsReply asked one block)

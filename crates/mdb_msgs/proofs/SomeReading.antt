@@ -2,6 +2,7 @@
 use Rattle.std.proofs.Common.{◌≡◌, ◌≢◌, ℕ, zero, suc, ◌+◌, ◌-◌, ◌*◌, ◌/◌, ◌%◌, ◌<◌, ◌≤◌, ◌⊎◌, inl, inr, Bool, true, false, List, [], ◌∷◌, ◌++◌, length, take, drop, All, refl, sym, ap, ◌∙◌, arith, append_assoc, append-nil, length-append, subst}
 use Rattle.std.specs.List.{flat_map, AllByRecursion}
 use Rattle.std.proofs.lemmas.Bool.{cases_Bool, cases_eq, cases_lt}
+use Rattle.std.proofs.lemmas.Bool.Decides.{nat_tests}
 use Rattle.std.proofs.lemmas.List.{length-take-le, take-append-drop}
 use Rattle.std.proofs.lemmas.List.Elements.{All-drop}
 use Rattle.mdb_msgs.specs.declared.fault.MsgFault.{MsgFault}
@@ -21,6 +22,7 @@ use Rattle.mdb_msgs.specs.Reader.{ReaderMessages, head_bytes, reader_list_bytes,
 use Rattle.mdb_msgs.specs.Readings.{allows, takes_options}
 use Rattle.mdb_msgs.specs.ReaderBytes.{no_messages}
 use Rattle.mdb_msgs.specs.inner.ReaderSteps.{with_message}
+use Rattle.mdb_msgs.proofs.OneReading.{bill_find, changer_front}
 use Rattle.mdb_msgs.proofs.ReaderBytes.{four, head_counts, pair_bytes, text_with_options}
 use Rattle.mdb_msgs.proofs.Readings.{long_bytes, short_bytes}
 use Rattle.mdb_msgs.proofs.ReaderReading.{Taken, nothing_taken, takes_next, stops_next, all_read}
@@ -107,112 +109,87 @@ module _ {M : Type 0} (f : M → List ℕ) (Is : M → Type 0) where
           shorter = omega (arith, length-append head rest);
         })
 
--- on which side of a limit a number is
-abbrev Side : ℕ → ℕ → Type 0
-Side n limit = (n < limit) ⊎ (limit ≤ n)
+-- whether something holds, as whether a number is within limits
+abbrev OrNot : Type 0 → Type 0
+OrNot P = P ⊎ (P → ⊥)
 
-module _ (first : ℕ) (further : List ℕ) (low : All IsByte (first ∷ further)) where
-  -- the changer's messages
-  abbrev InChanger : List ℕ → Type 0
-  InChanger = Found changer_msg_bytes IsChangerMsg NoChangerMsg
+abbrev Within : ℕ → ℕ → ℕ → Type 0
+Within n low high = (low ≤ n) × (n < high)
 
-  -- a message of one byte
-  changer_one : (m : ChangerMsg) → IsChangerMsg m → first ∷ [] ≡ changer_msg_bytes m
-      → InChanger (first ∷ further)
-  changer_one m = found changer_msg_bytes IsChangerMsg NoChangerMsg m (first ∷ []) further
-      (omega arith)
+within : (n low high : ℕ) → OrNot (Within n low high)
+within n low high = by (cases_lt n low) (cases_lt n high)
+  where
+    by : (n < low) ⊎ (low ≤ n) → (n < high) ⊎ (high ≤ n) → OrNot (Within n low high)
+    by (inl less) other = inr (λ is. omega (arith, is))
+    by (inr least) (inl less) = inl (least, less)
+    by (inr least) (inr most) = inr (λ is. omega (arith, is))
 
-  -- a message of two
-  changer_pair : 64 ≤ first → (further : List ℕ) → InChanger (first ∷ further)
-  changer_pair least [] = inr (inl (inr (least, refl)))
-  changer_pair least (second ∷ rest) =
-      by (cases_lt first 80) (cases_lt first 96) (cases_lt first 112) (cases_lt first 128)
-    where
-      two : (m : ChangerMsg) → IsChangerMsg m → first ∷ second ∷ [] ≡ changer_msg_bytes m
-          → InChanger (first ∷ second ∷ rest)
-      two m = found changer_msg_bytes IsChangerMsg NoChangerMsg m (first ∷ second ∷ []) rest
-          (omega arith)
+-- the changer's messages of one byte, and of two
+changer_one : (first : ℕ) → first < 64 → (Within first 27 32 → ⊥)
+    → IsChangerMsg (changer_front first 0)
+    × (first ∷ [] ≡ changer_msg_bytes (changer_front first 0))
+unfolding changer_front
+changer_one first low other = grind (arith, nat_tests)
 
-      by : Side first 80 → Side first 96 → Side first 112 → Side first 128
-          → InChanger (first ∷ second ∷ rest)
-      by (inl a) b c d = two (changer.CashBox (first - 64) second) (omega arith) (grind arith)
-      by (inr a) (inl b) c d = two (changer.Tube (first - 80) second) (omega arith) (grind arith)
-      by (inr a) (inr b) (inl c) d = inr (inl (inl (b, c)))
-      by (inr a) (inr b) (inr c) (inl d) =
-          two (changer.Rejected (first - 112) second) (omega arith) (grind arith)
-      by (inr a) (inr b) (inr c) (inr d) =
-          let small : first < 256 = low 0 0 (omega arith) in
-          two (changer.ManualDispense ((first - 128) / 16) ((first - 128) % 16) second)
-          (omega arith, omega arith) (grind arith)
+changer_two : (first second : ℕ) → first < 256 → 64 ≤ first
+    → (Within first 96 112 → ⊥) → IsChangerMsg (changer_front first second)
+    × (first ∷ second ∷ [] ≡ changer_msg_bytes (changer_front first second))
+unfolding changer_front
+changer_two first second low least other = grind (arith, nat_tests)
 
-  changer_step : InChanger (first ∷ further)
-  changer_step = by (cases_lt first 27) (cases_eq first 11) (cases_lt first 32) (cases_lt first 64)
-    where
-      by : Side first 27 → (first ≡ 11) ⊎ (first ≢ 11) → Side first 32 → Side first 64
-          → InChanger (first ∷ further)
-      by (inl a) (inl reset) b c = changer_one changer.Reset tt (ap (λ b. b ∷ []) reset)
-      by (inl a) (inr other) b c = changer_one (changer.Status first) (a, other) refl
-      by (inr a) other (inl b) c = inr (inr (a, b))
-      by (inr a) other (inr b) (inl c) =
-          changer_one (changer.Slugs (first - 32)) (omega arith) (grind arith)
-      by (inr a) other (inr b) (inr c) = changer_pair c further
+changer_step : (first : ℕ) (further : List ℕ) → All IsByte (first ∷ further)
+    → Found changer_msg_bytes IsChangerMsg NoChangerMsg (first ∷ further)
+changer_step first further low = by further (cases_lt first 64) (within first 27 32)
+    (within first 96 112)
+  where
+    put : (head rest : List ℕ) (m : ChangerMsg) → 0 < length head
+        → IsChangerMsg m × (head ≡ changer_msg_bytes m)
+        → Found changer_msg_bytes IsChangerMsg NoChangerMsg (head ++ rest)
+    put head rest m some is =
+        found changer_msg_bytes IsChangerMsg NoChangerMsg m head rest some is.0 is.1
 
-  module _ (r : Bool) where
-    -- the validator's messages
-    abbrev InBill : Type 0
-    InBill = Found bill_msg_bytes (IsBillMsg r) (NoBillMsg r) (first ∷ further)
+    by : (further : List ℕ) → (first < 64) ⊎ (64 ≤ first)
+        → OrNot (Within first 27 32) → OrNot (Within first 96 112)
+        → Found changer_msg_bytes IsChangerMsg NoChangerMsg (first ∷ further)
+    by further (inl one) (inl file) other = inr (inr file)
+    by further (inl one) (inr is) other =
+        put (first ∷ []) further (changer_front first 0) (omega arith) (changer_one first one is)
+    by [] (inr two) file other = inr (inl (inr (two, refl)))
+    by (second ∷ rest) (inr two) file (inl none) = inr (inl (inl none))
+    by (second ∷ rest) (inr two) file (inr is) =
+        put (first ∷ second ∷ []) rest (changer_front first second) (omega arith)
+        (changer_two first second (low 0 0 (omega arith)) two is)
 
-    -- a message is its byte
-    bill_one : (m : BillMsg) → IsBillMsg r m → first ∷ [] ≡ bill_msg_bytes m → InBill
-    bill_one m = found bill_msg_bytes (IsBillMsg r) (NoBillMsg r) m (first ∷ []) further (omega arith)
+-- the validator's
+bill_one : (r : Bool) (first : ℕ) → (Within first 27 32 → ⊥) → (Within first 96 128 → ⊥)
+    → (IsOfRecycler first → r ≡ true)
+    → IsBillMsg r (bill_find (first ∷ [])) × (first ∷ [] ≡ bill_msg_bytes (bill_find (first ∷ [])))
+unfolding bill_find
+bill_one r first status other recycled = grind (arith, nat_tests)
 
-    bill_status : (first < 27) ⊎ ((32 ≤ first) × (first < 64)) → InBill
-    bill_status small =
-        elim (cases_eq first 6) [
-          | inl reset ↦ bill_one bill.Reset tt (ap (λ b. b ∷ []) reset)
-          | inr other ↦ bill_one (bill.Status first) (other, small) refl
-        ]
+bill_step : (r : Bool) (first : ℕ) (further : List ℕ) → All IsByte (first ∷ further)
+    → Found bill_msg_bytes (IsBillMsg r) (NoBillMsg r) (first ∷ further)
+bill_step r first further low = by (within first 27 32) (within first 96 128) (cases_Bool r)
+    (within first 176 192) (cases_lt first 208)
+  where
+    put : (IsOfRecycler first → r ≡ true) → (Within first 27 32 → ⊥) → (Within first 96 128 → ⊥)
+        → Found bill_msg_bytes (IsBillMsg r) (NoBillMsg r) (first ∷ further)
+    put recycled status other =
+        let is = bill_one r first status other recycled in
+        found bill_msg_bytes (IsBillMsg r) (NoBillMsg r) (bill_find (first ∷ [])) (first ∷ [])
+        further (omega arith) is.0 is.1
 
-    -- a byte of the recycler is a message, or the base profile leaves it out
-    of_recycler : (m : BillMsg) → IsOfRecycler first → (r ≡ true → IsBillMsg r m)
-        → first ∷ [] ≡ bill_msg_bytes m → InBill
-    of_recycler m is right spelled =
-        elim (cases_Bool r) [
-          | inl extended ↦ bill_one m (right extended) spelled
-          | inr base ↦ inr (inr (inr (is, base)))
-        ]
-
-    bill_step : InBill
-    bill_step = low_half (cases_lt first 27) (cases_lt first 32) (cases_lt first 64)
-        (cases_lt first 96) (cases_lt first 128)
-      where
-        high_half : 128 ≤ first → Side first 144 → Side first 160 → Side first 176
-            → Side first 192 → Side first 208 → InBill
-        high_half least (inl a) b c d e =
-            bill_one (bill.Stacked (first - 128)) (omega arith) (grind arith)
-        high_half least (inr a) (inl b) c d e =
-            bill_one (bill.Escrow (first - 144)) (omega arith) (grind arith)
-        high_half least (inr a) (inr b) (inl c) d e =
-            bill_one (bill.Returned (first - 160)) (omega arith) (grind arith)
-        high_half least (inr a) (inr b) (inr c) (inl d) e =
-            of_recycler (bill.Recycled (first - 176)) (inl (c, d)) (λ is. (omega arith, is))
-            (grind arith)
-        high_half least (inr a) (inr b) (inr c) (inr d) (inl e) =
-            bill_one (bill.Rejected (first - 192)) (omega arith) (grind arith)
-        high_half least (inr a) (inr b) (inr c) (inr d) (inr e) =
-            of_recycler (bill.RecyclerStatus first) (inr e) (λ is. (e, is)) refl
-
-        low_half : Side first 27 → Side first 32 → Side first 64 → Side first 96 → Side first 128
-            → InBill
-        low_half (inl a) b c d e = bill_status (inl a)
-        low_half (inr a) (inl b) c d e = inr (inr (inl (a, b)))
-        low_half (inr a) (inr b) (inl c) d e = bill_status (inr (b, c))
-        low_half (inr a) (inr b) (inr c) (inl d) e =
-            bill_one (bill.Attempts (first - 64)) (omega arith) (grind arith)
-        low_half (inr a) (inr b) (inr c) (inr d) (inl e) = inr (inl (d, e))
-        low_half (inr a) (inr b) (inr c) (inr d) (inr e) =
-            high_half e (cases_lt first 144) (cases_lt first 160) (cases_lt first 176)
-            (cases_lt first 192) (cases_lt first 208)
+    by : OrNot (Within first 27 32) → OrNot (Within first 96 128) → (r ≡ true) ⊎ (r ≡ false)
+        → OrNot (Within first 176 192) → (first < 208) ⊎ (208 ≤ first)
+        → Found bill_msg_bytes (IsBillMsg r) (NoBillMsg r) (first ∷ further)
+    by (inl none) other extended recycled high = inr (inr (inl none))
+    by (inr status) (inl none) extended recycled high = inr (inl none)
+    by (inr status) (inr other) (inl extended) recycled high = put (λ is. extended) status other
+    by (inr status) (inr other) (inr base) (inl recycled) high =
+        inr (inr (inr (inl recycled, base)))
+    by (inr status) (inr other) (inr base) recycled (inr high) = inr (inr (inr (inr high, base)))
+    by (inr status) (inr other) (inr base) (inr recycled) (inl low) =
+        put (λ is. absurd (elim is [ inl one ↦ recycled one | inr high ↦ omega arith ])) status other
 
 pub changer_reads : (bytes : List ℕ) → All IsByte bytes → Reads changer_msg_bytes IsChangerMsg bytes
     ⊎ Stops changer_msg_bytes IsChangerMsg NoChangerMsg bytes
@@ -223,7 +200,7 @@ pub bill_reads : (r : Bool) (bytes : List ℕ) → All IsByte bytes
     → Reads bill_msg_bytes (IsBillMsg r) bytes
     ⊎ Stops bill_msg_bytes (IsBillMsg r) (NoBillMsg r) bytes
 bill_reads r bytes = reads bill_msg_bytes (IsBillMsg r) (NoBillMsg r)
-    (λ first further low. bill_step first further low r) (length bytes) bytes (omega arith)
+    (bill_step r) (length bytes) bytes (omega arith)
 
 module _ (r : Reading) where
   -- a reader's message stands at the front of bytes
