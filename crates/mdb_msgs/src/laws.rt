@@ -78,6 +78,7 @@ pub fn block_has_one_reply()
 {}
 
 /// The command allows the number of data bytes of its reply, and that number is 1 to 35.
+#[tactic(auto, using(crate::proofs::SomeReply::one_to_35))]
 pub fn reply_has_its_length()
     ensures allowed { ReplyHasItsLength }
     ensures fits { DataFitsABlock }
