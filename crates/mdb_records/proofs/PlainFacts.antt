@@ -1,7 +1,7 @@
 -- How csv's machine reads a line with no quote.
 use Rattle.std.proofs.Common.{◌≡◌, ◌≤◌, ◌<◌, ◌+◌, ◌-◌, ℕ, zero, suc, Bool, true, false, List, []}
 use Rattle.std.proofs.Common.{◌∷◌, ◌++◌, take, drop, get_or, length, length-drop, length-take, Some}
-use Rattle.std.proofs.Common.{refl, sym, ap, arith, ◌∙◌, append_assoc}
+use Rattle.std.proofs.Common.{refl, ap, arith, ◌∙◌, append_assoc}
 use Rattle.std.specs.Prelude.{All, ◌==◌, ◌||◌}
 use Rattle.std.proofs.lemmas.List.{drop_more, get_or-drop, take_more}
 use Rattle.std.proofs.lemmas.List.Elements.{All-append, All-cons, All-head, All-nil, All-tail}

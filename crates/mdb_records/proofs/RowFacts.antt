@@ -1,7 +1,7 @@
 -- The records that are still to come, one after the other.
 use Rattle.std.proofs.Common.{◌≡◌, ◌≤◌, ◌<◌, ◌+◌, ◌⊎◌, inl, inr, ℕ, zero, suc, List, [], ◌∷◌, ◌++◌}
 use Rattle.std.proofs.Common.{length, Option, Some, None, true, false, refl, ap, subst, arith, ◌∙◌}
-use Rattle.csv.specs.Machine.{Read, ends_at_end, field_after, fields_after, is_end, next_record}
+use Rattle.csv.specs.Machine.{Read, ends_at_end, is_end, next_record}
 use Rattle.csv.specs.Machine.{step}
 use Rattle.csv.specs.Reading.{AreRecords, Reached, default_config, records, records_from}
 use Rattle.csv.specs.Reading.{records_next}
