@@ -104,8 +104,8 @@ module _ (first : ℕ) (rest : List ℕ) (low : AllByRecursion IsByte (first ∷
       → need_for device first (slice_get (first ∷ rest) 1) ≡ Exactly (length (first ∷ rest) + 1)
       → (command : Command) × Spells command (block_of (first ∷ rest))
   by_device (Some device.Changer) at told =
-      let found = changer_spelled (first ∷ rest) low told in
-      (Changer (changer_at (first ∷ rest)), record { fields = found.0; bytes = ap block_of found.1 })
+      let it = changer_spelled (first ∷ rest) low told in
+      (Changer (changer_at (first ∷ rest)), record { fields = it.0; bytes = ap block_of it.1 })
   by_device (Some device.Bill) at told =
       let found = bill_spelled (first ∷ rest) low told in
       (Bill (bill_at (first ∷ rest)), record { fields = found.0; bytes = ap block_of found.1 })
@@ -126,4 +126,5 @@ pub spelled : (content : List ℕ) → All IsByte content
     → (command : Command) × Spells command (block_of content)
 spelled [] bytes told = cc
 spelled (first ∷ rest) bytes told =
-    by_device first rest (recursion_from_All IsByte (first ∷ rest) bytes) (device_at first) refl told
+    by_device first rest (recursion_from_All IsByte (first ∷ rest) bytes) (device_at first) refl
+    told

@@ -229,7 +229,8 @@ module _ (r : Reading) where
       sym (front_found a text x h) ∙ ap (front_message r) e ∙ front_found b words y k in
       let back = append_cancel_left (head_bytes a) (text ++ x) (words ++ y)
       (e ∙ ap (λ m. head_bytes m ++ (words ++ y)) (sym same)) in
-      let parts = same_text a text words x y h (subst (λ m. IsTextOf r m words y) (sym same) k) back in
+      let also = subst (λ m. IsTextOf r m words y) (sym same) k in
+      let parts = same_text a text words x y h also back in
       (same, parts.0, parts.1)
 
 -- a list with the text for which it was chosen, where it may be blank

@@ -72,8 +72,8 @@ module _ (extended : Bool) (device : Device) (bytes : List ℕ) (before : Setups
       is.answer) is.reading
 
 -- a told answer is one reply
-module _ (asked : Command) (block : List ℕ) (one other : Reply) (spells : SpellsReply asked one block)
-    (too : SpellsReply asked other block) where
+module _ (asked : Command) (block : List ℕ) (one other : Reply)
+    (spells : SpellsReply asked one block) (too : SpellsReply asked other block) where
   -- a block that is read as of level 1 has no fault in that
   no_fault : (fault : MsgFault) → IsIn early asked one
       → IsReadFault early asked (reply_bytes other) fault → ⊥

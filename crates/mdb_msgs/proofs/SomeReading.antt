@@ -80,7 +80,8 @@ module _ {M : Type 0} (f : M → List ℕ) (Is : M → Type 0) where
     goes_on front (inr (inl stops)) = inr (inl (in_front front Message stops))
     goes_on front (inr (inr stops)) = inr (inr (in_front front Profile stops))
 
-    reads : ((first : ℕ) (further : List ℕ) → All IsByte (first ∷ further) → Found (first ∷ further))
+    reads : ((first : ℕ) (further : List ℕ) → All IsByte (first ∷ further)
+        → Found (first ∷ further))
         → (fuel : ℕ) (bytes : List ℕ) → length bytes ≤ fuel → All IsByte bytes
         → Reads bytes ⊎ Stops bytes
     reads step fuel [] short low = inl (record { list = []; messages = tt; spelled = refl })
@@ -186,7 +187,8 @@ bill_step r first further low = by (within first 27 32) (within first 96 128) (c
         inr (inr (inr (inl recycled, base)))
     by (inr status) (inr other) (inr base) recycled (inr high) = inr (inr (inr (inr high, base)))
     by (inr status) (inr other) (inr base) (inr recycled) (inl low) =
-        put (λ is. absurd (elim is [ inl one ↦ recycled one | inr high ↦ omega arith ])) status other
+        put (λ is. absurd (elim is [ inl one ↦ recycled one | inr high ↦ omega arith ])) status
+        other
 
 pub changer_reads : (bytes : List ℕ) → All IsByte bytes → Reads changer_msg_bytes IsChangerMsg bytes
     ⊎ Stops changer_msg_bytes IsChangerMsg NoChangerMsg bytes

@@ -87,7 +87,8 @@ record-bytes cfg s fields field (c ∷ xs) p e h =
     elim (chosen (is_end (step cfg s c).1) _ _ p e) [
       | inl q ↦ bytes-at-end (step cfg s c).1 fields field q.0
           (subst (λ (r : Read). AreBytes r.0) (sym q.1) h)
-      | inr q ↦ bytes-before (step cfg s c).1 c fields field (record-bytes cfg (step cfg s c).0 _ _ xs p q.1 h)
+      | inr q ↦ bytes-before (step cfg s c).1 c fields field
+          (record-bytes cfg (step cfg s c).0 _ _ xs p q.1 h)
     ]
 
 -- a byte that joins the field at hand
@@ -151,7 +152,8 @@ marked-some s fields field (c ∷ before) after p plain e h =
         rw q.0 (ap (λ (r : Read). Some (r.0, r.1, before ++ after)) q.1),
       )
       | inr q ↦
-          let more = marked-some (step default_config s c).0 _ _ before after p (step-steps s c plain).0 q.1 h in
+          let next = (step default_config s c).0 in
+          let more = marked-some next _ _ before after p (step-steps s c plain).0 q.1 h in
           (more.0, more.1, rw q.0 more.2)
     ]
 
