@@ -1,3 +1,4 @@
+-- The steps of a device that keeps messages, as the code finds them.
 use Rattle.std.proofs.Common.{◌≡◌, ◌∙◌, ◌↔◌, ◌&&◌, ◌==◌, not, ℕ, Bool, true, false, List, [], ◌∷◌, Option, None, Some, refl, ap, sym, subst, length, map, arith, if◌then◌else◌}
 use Rattle.std.specs.Bool.{OnFalse}
 use Rattle.std.proofs.lemmas.Bool.{eqb-true}
@@ -52,137 +53,114 @@ telling conduct facts poll_is was_is holds_is last_is held_is summary found only
     only_news poll_is (rw (held_is, last_is, holds_is, was_is) refl) refl summary found only
 
 -- a reply that tells nothing that it could
-pub untold : {Own Setup Asked M State : Type 0} {conduct : Conduct Own Setup Asked M State}
+module _ {Own Setup Asked M State : Type 0} {conduct : Conduct Own Setup Asked M State}
     {facts : Facts Setup Asked M} {poll polls was holds reset early : Bool} {parts : List (Part M)}
-    {last held_now kept : List M} {choice : Choice} {before : State}
-    → poll ≡ polls → was ≡ conduct.holds before → holds ≡ holds_read choice was
-    → last ≡ facts.past.last_kept → held_now ≡ held holds last → IsSummary kept reset early parts
-    → ((parts : List (Part M)) (other : List M) → IsSummary kept reset early parts
-    → HasNews poll choice facts.past.reset_owed held_now parts other → ⊥)
-    → IsOnlyStep (ReplyStep conduct facts polls parts choice before) None
-untold {Own} {Setup} {Asked} {M} {State} {conduct} {facts} {poll} {polls} {was} {holds} {reset}
-    {early} {parts} {last} poll_is was_is holds_is last_is held_is summary none after gains step =
-    none parts step.news summary (rw (poll_is, held_is, last_is, holds_is, was_is) step.has_news)
+    {last held_now kept : List M} {choice : Choice} {before : State} where
+  pub untold : poll ≡ polls → was ≡ conduct.holds before → holds ≡ holds_read choice was
+      → last ≡ facts.past.last_kept → held_now ≡ held holds last
+      → IsSummary kept reset early parts
+      → ((parts : List (Part M)) (other : List M) → IsSummary kept reset early parts
+      → HasNews poll choice facts.past.reset_owed held_now parts other → ⊥)
+      → IsOnlyStep (ReplyStep conduct facts polls parts choice before) None
+  untold poll_is was_is holds_is last_is held_is summary none after gains step =
+      none parts step.news summary (rw (poll_is, held_is, last_is, holds_is, was_is) step.has_news)
 
--- a reply that tells these news, and no others
-pub told : {Own Setup Asked M State : Type 0} {conduct : Conduct Own Setup Asked M State}
-    {facts : Facts Setup Asked M} {poll : Bool} {parts : List (Part M)} {choice : Choice}
-    {before holding after : State} {news : List M} {gains : Gains}
-    → HasNewsOnly poll choice facts.past.reset_owed
-    (held (holds_read choice (conduct.holds before)) facts.past.last_kept) parts news
-    → holding ≡ holding_of conduct parts choice before
-    → IsOnly (conduct.TellsNews facts choice news holding) (Some after)
-    → gains ≡ device_gains (worth conduct facts news)
-    → IsOnlyStep (ReplyStep conduct facts poll parts choice before) (Some (after, gains))
-told {Own} {Setup} {Asked} {M} {State} {conduct} {facts} {poll} {parts} {choice} {before} {holding}
-    {after} {news} {gains} telling holding_is tells gains_are = (
-      record {
-        news = news;
-        has_news = telling.has_news;
-        tells_news = subst (λ h. conduct.TellsNews facts choice news h after) holding_is tells.0;
-        gained = gains_are;
-      },
-      λ other more step.
-          let same : step.news ≡ news = telling.only step.news step.has_news in (
-            tells.1 other (subst (λ h. conduct.TellsNews facts choice news h other) (sym holding_is)
-                (subst (λ ns.
-                conduct.TellsNews facts choice ns (holding_of conduct parts choice before) other)
-                same step.tells_news)),
-            step.gained ∙ (ap (λ ns. device_gains (worth conduct facts ns)) same ∙ sym gains_are),
-          ),
-    )
-
--- a reply whose new messages can't be
-pub impossible : {Own Setup Asked M State : Type 0} {conduct : Conduct Own Setup Asked M State}
+module _ {Own Setup Asked M State : Type 0} {conduct : Conduct Own Setup Asked M State}
     {facts : Facts Setup Asked M} {poll : Bool} {parts : List (Part M)} {choice : Choice}
     {before holding : State} {news : List M}
-    → HasNewsOnly poll choice facts.past.reset_owed
-    (held (holds_read choice (conduct.holds before)) facts.past.last_kept) parts news
-    → holding ≡ holding_of conduct parts choice before
-    → IsOnly (conduct.TellsNews facts choice news holding) None
-    → IsOnlyStep (ReplyStep conduct facts poll parts choice before) None
-impossible {Own} {Setup} {Asked} {M} {State} {conduct} {facts} {poll} {parts} {choice} {before}
-    {holding} {news} telling holding_is none after gains step =
-    none after (subst (λ h. conduct.TellsNews facts choice news h after) (sym holding_is)
-    (subst
-    (λ ns. conduct.TellsNews facts choice ns (holding_of conduct parts choice before) after)
-    (telling.only step.news step.has_news) step.tells_news))
+    (telling : HasNewsOnly poll choice facts.past.reset_owed
+    (held (holds_read choice (conduct.holds before)) facts.past.last_kept) parts news)
+    (holding_is : holding ≡ holding_of conduct parts choice before) where
+  -- its step tells these news
+  tells_them : (after : State) {gains : Gains}
+      → ReplyStep conduct facts poll parts choice before after gains
+      → conduct.TellsNews facts choice news holding after
+  tells_them after step =
+      subst (λ h. conduct.TellsNews facts choice news h after) (sym holding_is)
+      (subst
+      (λ ns. conduct.TellsNews facts choice ns (holding_of conduct parts choice before) after)
+      (telling.only step.news step.has_news) step.tells_news)
+
+  -- a reply that tells these news, and no others
+  pub told : {after : State} {gains : Gains}
+      → IsOnly (conduct.TellsNews facts choice news holding) (Some after)
+      → gains ≡ device_gains (worth conduct facts news)
+      → IsOnlyStep (ReplyStep conduct facts poll parts choice before) (Some (after, gains))
+  told {after} tells gains_are = (
+    record {
+      news = news;
+      has_news = telling.has_news;
+      tells_news = subst (λ h. conduct.TellsNews facts choice news h after) holding_is tells.0;
+      gained = gains_are;
+    },
+    λ other more step. (
+      tells.1 other (tells_them other step),
+      step.gained ∙ ap (λ ns. device_gains (worth conduct facts ns))
+          (telling.only step.news step.has_news) ∙ sym gains_are,
+    ),
+  )
+
+  -- a reply whose new messages can't be
+  pub impossible : IsOnly (conduct.TellsNews facts choice news holding) None
+      → IsOnlyStep (ReplyStep conduct facts poll parts choice before) None
+  impossible none after gains step = none after (tells_them after step)
 
 -- the controller's ACK is one step
-pub acknowledged : {Own Setup Asked M State : Type 0} {conduct : Conduct Own Setup Asked M State}
+module _ {Own Setup Asked M State : Type 0} {conduct : Conduct Own Setup Asked M State}
     {facts : Facts Setup Asked M} {polls poll reset was acked : Bool} {parts : List (Part M)}
-    {kept : List M} {choice : Choice} {before released after : State} {gains : Gains}
-    → poll ≡ polls → reset ≡ has_reset parts → kept ≡ kept_of parts → was ≡ conduct.holds before
-    → acked ≡ holds_acked choice kept was → released ≡ conduct.with_holds acked before
-    → after ≡ (if poll && reset then conduct.heard_reset released else released)
-    → gains ≡ (if poll then controller_gains (worth conduct facts kept) else no_gains)
-    → IsOnlyStep (VmcAckStep conduct facts polls parts choice before) (Some (after, gains))
-acknowledged {Own} {Setup} {Asked} {M} {State} {conduct} {facts} {polls} {poll} {reset} {was}
-    {acked} {parts} {kept} {choice} {before} {released} {after} {gains} poll_is reset_is kept_is
-    was_is acked_is released_is after_is gains_are =
-    let step : VmcAckStep conduct facts polls parts choice before after gains = record {
-      to = rw (after_is, released_is, acked_is, was_is, kept_is, reset_is, poll_is) refl;
-      gained = rw (gains_are, kept_is, poll_is) refl;
-    } in
-    (step, λ other more its. (its.to ∙ sym step.to, its.gained ∙ sym step.gained))
+    {kept : List M} {choice : Choice} {before released after : State} {gains : Gains} where
+  pub acknowledged : poll ≡ polls → reset ≡ has_reset parts → kept ≡ kept_of parts
+      → was ≡ conduct.holds before → acked ≡ holds_acked choice kept was
+      → released ≡ conduct.with_holds acked before
+      → after ≡ (if poll && reset then conduct.heard_reset released else released)
+      → gains ≡ (if poll then controller_gains (worth conduct facts kept) else no_gains)
+      → IsOnlyStep (VmcAckStep conduct facts polls parts choice before) (Some (after, gains))
+  acknowledged poll_is reset_is kept_is was_is acked_is released_is after_is gains_are =
+      let step : VmcAckStep conduct facts polls parts choice before after gains = record {
+        to = rw (after_is, released_is, acked_is, was_is, kept_is, reset_is, poll_is) refl;
+        gained = rw (gains_are, kept_is, poll_is) refl;
+      } in
+      (step, λ other more its. (its.to ∙ sym step.to, its.gained ∙ sym step.gained))
 
 -- a step by a command of the device
 pub by_own : {Own State : Type 0} {command : Option Own} {own : Own}
     (Step : Own → State → State → Gains → Type 0) (before : State) (only : Option (State × Gains))
     → command ≡ Some own
     → IsOnlyStep (Step own before) only → IsOnlyStep (ForOwn command Step before) only
-by_own {Own} {State} {command} {own} Step before only is step =
+by_own {Own} Step before only is step =
     subst (λ (c : Option Own). IsOnlyStep (ForOwn c Step before) only) (sym is) step
 
 -- the acts that no device has a step by
-pub no_part : {Own Setup Asked M State : Type 0} (tables : Tables Own Setup Asked M)
-    (conduct : Conduct Own Setup Asked M State) (facts : Facts Setup Asked M) (act : Act)
-    (choice : Choice) (before : State) (gains : Gains) → gains ≡ no_gains
-    → ((c : Command) → act ≡ acts.Ask c → ⊥) → ((c : Command) → act ≡ acts.Ack c → ⊥)
-    → ((c : Command) (r : Reply) → act ≡ acts.Reply c r → ⊥)
-    → ((c : Command) (r : Reply) → act ≡ acts.VmcAck c r → ⊥) → ((n : ℕ) → act ≡ acts.Break n → ⊥)
-    → IsOnlyStep (KeeperStep tables conduct facts act choice before) (Some (before, gains))
-no_part tables conduct facts (acts.Ask c) choice before gains is ask ack reply vmc_ack break =
-    absurd (ask c refl)
-no_part tables conduct facts (acts.Ack c) choice before gains is ask ack reply vmc_ack break =
-    absurd (ack c refl)
-no_part tables conduct facts (acts.Reply c r) choice before gains is ask ack reply vmc_ack break =
-    absurd (reply c r refl)
-no_part tables conduct facts (acts.VmcAck c r) choice before gains is ask ack reply vmc_ack break =
-    absurd (vmc_ack c r refl)
-no_part tables conduct facts (acts.Break n) choice before gains is ask ack reply vmc_ack break =
-    absurd (break n refl)
-no_part tables conduct facts act choice before gains is ask ack reply vmc_ack break =
-    ((refl, is), λ after more stays. (stays.0, stays.1 ∙ sym is))
+module _ {Own Setup Asked M State : Type 0} (tables : Tables Own Setup Asked M)
+    (conduct : Conduct Own Setup Asked M State) (facts : Facts Setup Asked M) (choice : Choice)
+    (before : State) (gains : Gains) (is : gains ≡ no_gains) where
+  pub no_part : (act : Act) → ((c : Command) → act ≡ acts.Ask c → ⊥)
+      → ((c : Command) → act ≡ acts.Ack c → ⊥)
+      → ((c : Command) (r : Reply) → act ≡ acts.Reply c r → ⊥)
+      → ((c : Command) (r : Reply) → act ≡ acts.VmcAck c r → ⊥)
+      → ((n : ℕ) → act ≡ acts.Break n → ⊥)
+      → IsOnlyStep (KeeperStep tables conduct facts act choice before) (Some (before, gains))
+  no_part (acts.Ask c) ask ack reply vmc_ack break = absurd (ask c refl)
+  no_part (acts.Ack c) ask ack reply vmc_ack break = absurd (ack c refl)
+  no_part (acts.Reply c r) ask ack reply vmc_ack break = absurd (reply c r refl)
+  no_part (acts.VmcAck c r) ask ack reply vmc_ack break = absurd (vmc_ack c r refl)
+  no_part (acts.Break n) ask ack reply vmc_ack break = absurd (break n refl)
+  no_part act ask ack reply vmc_ack break =
+      ((refl, is), λ after more stays. (stays.0, stays.1 ∙ sym is))
 
 -- an ACK of a reply without messages changes nothing
-idle_ack : {Own Setup Asked M State : Type 0} (conduct : Conduct Own Setup Asked M State)
-    (facts : Facts Setup Asked M) (poll : Bool) (parts : List (Part M)) (choice : Choice)
-    (before after : State) (gains : Gains) → parts ≡ []
-    → VmcAckStep conduct facts poll parts choice before after gains ↔ Stays before after gains
-idle_ack {Own} {Setup} {Asked} {M} {State} conduct facts poll parts choice before after gains none =
-    let to_is : acked poll parts ≡ before = ap (acked poll) none ∙ same poll in
-    let gains_are : gained poll parts ≡ no_gains = ap (gained poll) none ∙ nothing poll in (
-      λ step. (step.to ∙ to_is, step.gained ∙ gains_are),
-      λ stays. record { to = stays.0 ∙ sym to_is; gained = stays.1 ∙ sym gains_are },
-    )
-  where
-    acked : Bool → List (Part M) → State
-    acked p ps =
-        let released =
-        conduct.with_holds (holds_acked choice (kept_of ps) (conduct.holds before)) before in
-        if p && has_reset ps then conduct.heard_reset released else released
-
-    gained : Bool → List (Part M) → Gains
-    gained p ps = if p then controller_gains (worth conduct facts (kept_of ps)) else no_gains
-
-    same : (p : Bool) → acked p [] ≡ before
-    same true = conduct.same_as_set before
-    same false = conduct.same_as_set before
-
-    nothing : (p : Bool) → gained p [] ≡ no_gains
-    nothing true = refl
-    nothing false = refl
+module _ {Own Setup Asked M State : Type 0} (conduct : Conduct Own Setup Asked M State)
+    (facts : Facts Setup Asked M) (choice : Choice) (before after : State) (gains : Gains) where
+  idle_ack : (poll : Bool) → VmcAckStep conduct facts poll [] choice before after gains
+      ↔ Stays before after gains
+  idle_ack true = (
+    λ step. (step.to ∙ conduct.same_as_set before, step.gained),
+    λ stays. record { to = stays.0 ∙ sym (conduct.same_as_set before); gained = stays.1 },
+  )
+  idle_ack false = (
+    λ step. (step.to ∙ conduct.same_as_set before, step.gained),
+    λ stays. record { to = stays.0 ∙ sym (conduct.same_as_set before); gained = stays.1 },
+  )
 
 -- no messages: what the code asks
 pub idle : {T Own Setup Asked M State : Type 0} (tables : Tables Own Setup Asked M)
@@ -197,8 +175,7 @@ pub idle : {T Own Setup Asked M State : Type 0} (tables : Tables Own Setup Asked
 idle tables conduct part_of messages act command own reply false is own_is parts e = tt
 idle tables conduct part_of [] act command own reply true is own_is parts e =
     λ facts choice before after gains.
-    rw (is, own_is) (idle_ack conduct facts (tables.is_poll own) (tables.parts_of reply) choice
-    before after gains (sym parts))
+    rw (is, own_is, ← parts) (idle_ack conduct facts choice before after gains (tables.is_poll own))
 idle tables conduct part_of (m ∷ messages) act command own reply true is own_is parts e =
     let none : length (m ∷ messages) ≡ 0 = eqb-true (length (m ∷ messages)) 0 (sym e) in
     absurd (omega (arith, none))
@@ -212,19 +189,32 @@ IsUnheeded {Setup = Setup} {Asked = Asked} {M = M} {State = State} tables conduc
     → KeeperStep tables conduct facts act Plain before after gains
 
 -- a reply that tells of no restart
-plain_alone : {Own Setup Asked M State : Type 0} (conduct : Conduct Own Setup Asked M State)
-    (facts : Facts Setup Asked M) (poll : Bool) (parts : List (Part M)) (command : Command)
-    (reply : Reply) (before after : State) (gains : Gains)
-    → (MayBeRead Restart parts → ⊥) → (choice : Choice) → CanStand (acts.Reply command reply) choice
-    → ReplyStep conduct facts poll parts choice before after gains
-    → ReplyStep conduct facts poll parts Plain before after gains
-plain_alone conduct facts poll parts command reply before after gains never Plain stands step = step
-plain_alone conduct facts poll parts command reply before after gains never Lost stands step =
-    absurd stands
-plain_alone conduct facts poll parts command reply before after gains never Restart stands step =
-    absurd (never step.has_news.read)
-plain_alone conduct facts poll parts command reply before after gains never Again stands step =
-    absurd step.has_news.read
+module _ {Own Setup Asked M State : Type 0} (conduct : Conduct Own Setup Asked M State)
+    (facts : Facts Setup Asked M) (poll : Bool) (parts : List (Part M)) (before after : State)
+    (gains : Gains) where
+  plain_alone : (command : Command) (reply : Reply) → (MayBeRead Restart parts → ⊥)
+      → (choice : Choice) → CanStand (acts.Reply command reply) choice
+      → ReplyStep conduct facts poll parts choice before after gains
+      → ReplyStep conduct facts poll parts Plain before after gains
+  plain_alone command reply never Plain stands step = step
+  plain_alone command reply never Lost stands step = absurd stands
+  plain_alone command reply never Restart stands step = absurd (never step.has_news.read)
+  plain_alone command reply never Again stands step = absurd step.has_news.read
+
+  -- the controller's ACK while nothing is held
+  still_free : (choice : Choice) → conduct.holds before ≡ false
+      → VmcAckStep conduct facts poll parts choice before after gains
+      → VmcAckStep conduct facts poll parts Plain before after gains
+  still_free choice free step =
+      let released : Bool → State = λ h. conduct.with_holds h before in
+      record {
+        to =
+            step.to
+            ∙ ap (λ h. if poll && has_reset parts then conduct.heard_reset (released h)
+            else released h) (free_acked choice (kept_of parts) free
+            ∙ sym (free_acked Plain (kept_of parts) free));
+        gained = step.gained;
+      }
 
 pub unread : {T Own Setup Asked M State : Type 0} (tables : Tables Own Setup Asked M)
     (conduct : Conduct Own Setup Asked M State) (part_of : T → Part M) (messages : List T)
@@ -237,30 +227,8 @@ pub unread : {T Own Setup Asked M State : Type 0} (tables : Tables Own Setup Ask
 unread tables conduct part_of messages act command own reply before true is own_is parts never = tt
 unread tables conduct part_of messages act command own reply before false is own_is parts never =
     λ facts choice after gains.
-    rw (is, own_is) (λ stands step.
-    plain_alone conduct facts (tables.is_poll own) (tables.parts_of reply) command reply before
-    after
-    gains (λ read. never (subst (MayBeRead Restart) (sym parts) read)) choice stands step)
-
--- the controller's ACK while nothing is held
-still_free : {Own Setup Asked M State : Type 0} (conduct : Conduct Own Setup Asked M State)
-    (facts : Facts Setup Asked M) (poll : Bool) (parts : List (Part M)) (choice : Choice)
-    (before after : State) (gains : Gains) → conduct.holds before ≡ false
-    → VmcAckStep conduct facts poll parts choice before after gains
-    → VmcAckStep conduct facts poll parts Plain before after gains
-still_free {Own} {Setup} {Asked} {M} {State} conduct facts poll parts choice before after gains free
-    step =
-    let holds : holds_acked choice (kept_of parts) (conduct.holds before)
-    ≡ holds_acked Plain (kept_of parts) (conduct.holds before) =
-    free_acked choice (kept_of parts) free ∙ sym (free_acked Plain (kept_of parts) free) in
-    let released : Bool → State = λ h. conduct.with_holds h before in
-    record {
-      to =
-          step.to
-          ∙ ap (λ h. if poll && has_reset parts then conduct.heard_reset (released h)
-          else released h) holds;
-      gained = step.gained;
-    }
+    rw (is, own_is) (plain_alone conduct facts (tables.is_poll own) (tables.parts_of reply) before
+    after gains command reply (λ read. never (subst (MayBeRead Restart) (sym parts) read)) choice)
 
 pub unheard : {Own Setup Asked M State : Type 0} (tables : Tables Own Setup Asked M)
     (conduct : Conduct Own Setup Asked M State) (act : Act) (command : Command) (own : Own)
@@ -271,4 +239,4 @@ unheard tables conduct act command own reply before true is own_is free = tt
 unheard tables conduct act command own reply before false is own_is free =
     λ facts choice after gains.
     rw (is, own_is) (λ stands. still_free conduct facts (tables.is_poll own)
-    (tables.parts_of reply) choice before after gains free)
+    (tables.parts_of reply) before after gains choice free)

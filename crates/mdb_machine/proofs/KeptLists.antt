@@ -6,7 +6,7 @@ use Rattle.std.proofs.lemmas.List.Folds.{list_any-append}
 use Rattle.mdb_machine.specs.declared.kept.Part.{Part}
 use Rattle.mdb_machine.specs.declared.kept.Part.TheVariants as part
 use Rattle.mdb_machine.specs.declared.choice.Choice.{Choice}
-use Rattle.mdb_machine.specs.declared.choice.Choice.TheVariants.{Plain, Lost, Restart}
+use Rattle.mdb_machine.specs.declared.choice.Choice.TheVariants.{Lost, Restart}
 use Rattle.mdb_machine.specs.Kept.{IsNew, MayBeRead, HasNews, has_reset, holds_acked, is_reset, keeps_early, kept_by, kept_of}
 use Rattle.mdb_machine.specs.PastValues.{IsSummary}
 

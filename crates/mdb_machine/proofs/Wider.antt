@@ -1,23 +1,20 @@
 -- That a device that keeps messages may do by the extended profile what it may do by the base one:
 -- the types that are enabled by this are enabled by that too. Lists of acts stand newest first.
-use Rattle.std.proofs.Common.{◌≡◌, ◌∙◌, ℕ, Bool, true, false, not, ◌&&◌, ◌||◌, List, [], ◌∷◌, Option, Some, None, refl, ap, sym, subst, ltb, option_map, sum_by, if◌then◌else◌}
+use Rattle.std.proofs.Common.{◌≡◌, ◌∙◌, ℕ, Bool, true, false, not, ◌&&◌, ◌||◌, List, [], ◌∷◌, Option, Some, None, refl, ap, sym, subst, ltb, option_map, if◌then◌else◌}
 use Rattle.std.specs.List.{list_any}
 use Rattle.mdb_msgs.specs.declared.command.Command.{Command}
 use Rattle.mdb_msgs.specs.declared.setups.Setups.{Setups}
 use Rattle.mdb_bus.specs.declared.act.Act.{Act}
 use Rattle.mdb_bus.specs.declared.act.Act.TheVariants as acts
 use Rattle.mdb_bus.specs.declared.scope.Beginning.TheVariants.{PowerOn, Joined}
-use Rattle.mdb_bus.specs.declared.scope.Profile.{Profile}
 use Rattle.mdb_bus.specs.declared.scope.Profile.TheVariants.{Base, Extended}
 use Rattle.mdb_machine.specs.declared.choice.Choice.{Choice}
 use Rattle.mdb_machine.specs.declared.gains.Gains.{Gains}
 use Rattle.mdb_machine.specs.declared.kept.Part.{Part}
 use Rattle.mdb_machine.specs.declared.past.Effect.{Effect}
 use Rattle.mdb_machine.specs.Enabled.{disables, enabled_of, enables, known_enabled}
-use Rattle.mdb_machine.specs.Gains.{controller_gains, device_gains}
 use Rattle.mdb_machine.specs.Keeper.{Facts, KnownFacts, Tables, asked_by, effect_of, known_of, parts_by}
 use Rattle.mdb_machine.specs.KeeperSteps.{AckStep, Conduct, KeeperStep, ReplyStep, StepKnowing, VmcAckStep}
-use Rattle.mdb_machine.specs.Kept.{kept_of}
 use Rattle.mdb_machine.specs.Known.{Allows, known_by}
 use Rattle.mdb_machine.specs.Past.{AllowsPast, acts_from, effect_by, last_list, last_told, powers_on}
 use Rattle.mdb_machine.specs.shared.KeeperPlain.{as_for_own}
@@ -51,65 +48,64 @@ pub record Widens {Own Setup Asked M State : Type 0} (conduct : Conduct Own Setu
 
 -- Steps, where more types are enabled.
 
-ack_wider : {Own Setup Asked M State : Type 0} (conduct : Conduct Own Setup Asked M State)
-    → Widens conduct → (facts : Facts Setup Asked M) (more : ℕ → Bool) (poll : Bool)
-    (command : Own) (choice : Choice) (before after : State) (gains : Gains)
-    → AckStep conduct facts poll command choice before after gains
-    → AckStep conduct (enabling facts more) poll command choice before after gains
-ack_wider conduct widens facts more true command choice before after gains step = step
-ack_wider conduct widens facts more false command choice before after gains step =
-    widens.acks facts more command choice before after gains step
+module _ {Own Setup Asked M State : Type 0} (tables : Tables Own Setup Asked M)
+    (conduct : Conduct Own Setup Asked M State) (widens : Widens conduct) where
+  module _ (facts : Facts Setup Asked M) (more : ℕ → Bool) (among : AreAmong facts.enabled more)
+      (choice : Choice) (before after : State) (gains : Gains) where
+    ack_wider : (poll : Bool) (command : Own)
+        → AckStep conduct facts poll command choice before after gains
+        → AckStep conduct (enabling facts more) poll command choice before after gains
+    ack_wider true command step = step
+    ack_wider false command step = widens.acks facts more command choice before after gains step
 
-reply_wider : {Own Setup Asked M State : Type 0} (conduct : Conduct Own Setup Asked M State)
-    → Widens conduct → (facts : Facts Setup Asked M) (more : ℕ → Bool)
-    → AreAmong facts.enabled more → (poll : Bool) (parts : List (Part M)) (choice : Choice)
-    (before after : State) (gains : Gains)
-    → ReplyStep conduct facts poll parts choice before after gains
-    → ReplyStep conduct (enabling facts more) poll parts choice before after gains
-reply_wider conduct widens facts more among poll parts choice before after gains step = record {
-  news = step.news;
-  has_news = step.has_news;
-  tells_news = widens.tells_news facts more choice step.news _ after among step.tells_news;
-  gained = step.gained
-      ∙ ap (λ gain. device_gains (λ slot. sum_by (gain slot) step.news))
-      (sym (widens.gain facts more));
-}
+    reply_wider : (poll : Bool) (parts : List (Part M))
+        → ReplyStep conduct facts poll parts choice before after gains
+        → ReplyStep conduct (enabling facts more) poll parts choice before after gains
+    reply_wider poll parts step = record {
+      news = step.news;
+      has_news = step.has_news;
+      tells_news = widens.tells_news facts more choice step.news _ after among step.tells_news;
+      gained = rw (widens.gain facts more) step.gained;
+    }
 
-vmc_ack_wider : {Own Setup Asked M State : Type 0} (conduct : Conduct Own Setup Asked M State)
-    → Widens conduct → (facts : Facts Setup Asked M) (more : ℕ → Bool) (poll : Bool)
-    (parts : List (Part M)) (choice : Choice) (before after : State) (gains : Gains)
-    → VmcAckStep conduct facts poll parts choice before after gains
-    → VmcAckStep conduct (enabling facts more) poll parts choice before after gains
-vmc_ack_wider conduct widens facts more true parts choice before after gains step = record {
-  to = step.to;
-  gained = step.gained
-      ∙ ap (λ gain. controller_gains (λ slot. sum_by (gain slot) (kept_of parts)))
-      (sym (widens.gain facts more));
-}
-vmc_ack_wider conduct widens facts more false parts choice before after gains step =
-    record { to = step.to; gained = step.gained }
+    vmc_ack_wider : (poll : Bool) (parts : List (Part M))
+        → VmcAckStep conduct facts poll parts choice before after gains
+        → VmcAckStep conduct (enabling facts more) poll parts choice before after gains
+    vmc_ack_wider true parts step =
+        record { to = step.to; gained = rw (widens.gain facts more) step.gained }
+    vmc_ack_wider false parts step = record { to = step.to; gained = step.gained }
 
-step_wider : {Own Setup Asked M State : Type 0} (tables : Tables Own Setup Asked M)
-    (conduct : Conduct Own Setup Asked M State) → Widens conduct → (facts : Facts Setup Asked M)
-    (more : ℕ → Bool) → AreAmong facts.enabled more → (act : Act) (choice : Choice)
-    (before after : State) (gains : Gains)
-    → KeeperStep tables conduct facts act choice before after gains
-    → KeeperStep tables conduct (enabling facts more) act choice before after gains
-step_wider tables conduct widens facts more among (acts.Ask c) choice before after gains =
-    as_for_own (tables.own c) _ _ before after gains
-    (λ own. widens.asks facts more own before after gains)
-step_wider tables conduct widens facts more among (acts.Ack c) choice before after gains =
-    as_for_own (tables.own c) _ _ before after gains
-    (λ own. ack_wider conduct widens facts more (tables.is_poll own) own choice before after gains)
-step_wider tables conduct widens facts more among (acts.Reply c r) choice before after gains =
-    as_for_own (tables.own c) _ _ before after gains
-    (λ own. reply_wider conduct widens facts more among (tables.is_poll own) (tables.parts_of r)
-    choice before after gains)
-step_wider tables conduct widens facts more among (acts.VmcAck c r) choice before after gains =
-    as_for_own (tables.own c) _ _ before after gains
-    (λ own. vmc_ack_wider conduct widens facts more (tables.is_poll own) (tables.parts_of r) choice
-    before after gains)
-step_wider tables conduct widens facts more among _ choice before after gains = λ step. step
+    step_wider : (act : Act) → KeeperStep tables conduct facts act choice before after gains
+        → KeeperStep tables conduct (enabling facts more) act choice before after gains
+    step_wider (acts.Ask c) = as_for_own (tables.own c) _ _ before after gains
+        (λ own. widens.asks facts more own before after gains)
+    step_wider (acts.Ack c) = as_for_own (tables.own c) _ _ before after gains
+        (λ own. ack_wider (tables.is_poll own) own)
+    step_wider (acts.Reply c r) = as_for_own (tables.own c) _ _ before after gains
+        (λ own. reply_wider (tables.is_poll own) (tables.parts_of r))
+    step_wider (acts.VmcAck c r) = as_for_own (tables.own c) _ _ before after gains
+        (λ own. vmc_ack_wider (tables.is_poll own) (tables.parts_of r))
+    step_wider _ = λ step. step
+
+  -- a step of a machine, after facts that are known
+  knowing_wider : (one other : KnownFacts Setup Asked M) → one.setup ≡ other.setup
+      → one.last_asked ≡ other.last_asked → AreAmong one.enabled other.enabled
+      → one.past ≡ other.past → (act : Act) (choice : Choice) (before after : State)
+      (gains : Gains) → StepKnowing tables conduct one act choice before after gains
+      → StepKnowing tables conduct other act choice before after gains
+  knowing_wider one other setup asked among past act choice before after gains step = record {
+    facts = enabling step.facts other.enabled;
+    allowed = record {
+      setup = step.allowed.setup ∙ setup;
+      last_asked = subst (λ k. Allows k step.facts.last_asked) asked step.allowed.last_asked;
+      enabled = refl;
+      past = subst (λ k. AllowsPast k (conduct.holds before) step.facts.past) past
+          step.allowed.past;
+    };
+    step = step_wider step.facts other.enabled
+        (λ kind is. among kind (sym (ap (λ e. e kind) step.allowed.enabled) ∙ is)) choice before
+        after gains act step.step;
+  }
 
 -- The types that are enabled.
 
@@ -128,35 +124,6 @@ any_of_all p ends (act ∷ so_far) any =
     at_act false true more any = absurd cc
     at_act false false more any = more any
 
--- where no act ends them, all acts count
-all_from : (ends : Act → Bool) (so_far : List Act) → ((act : Act) → ends act ≡ false)
-    → acts_from ends so_far ≡ so_far
-all_from ends [] none = refl
-all_from ends (act ∷ so_far) none =
-    ap (λ b. act ∷ (if b then [] else acts_from ends so_far)) (none act)
-    ∙ ap (λ rest. act ∷ rest) (all_from ends so_far none)
-
-none_ends : (ends : Act → Bool) (so_far : List Act) → ((act : Act) → ends act ≡ false)
-    → list_any ends so_far ≡ false
-none_ends ends [] none = refl
-none_ends ends (act ∷ so_far) none =
-    ap (λ b. b || list_any ends so_far) (none act) ∙ none_ends ends so_far none
-
--- by the extended profile none does
-never_ends : (effect : Command → Effect) (act : Act) → disables Extended effect act ≡ false
-never_ends effect act = either (powers_on effect act)
-  where
-    either : (b : Bool) → (b && false) ≡ false
-    either true = refl
-    either false = refl
-
-enabled_wider : (effect : Command → Effect) (so_far : List Act)
-    → AreAmong (enabled_of Base effect so_far) (enabled_of Extended effect so_far)
-enabled_wider effect so_far kind is =
-    let p : Act → Bool = λ act. enables kind (effect_by effect act) in
-    ap (list_any p) (all_from (disables Extended effect) so_far (never_ends effect))
-    ∙ any_of_all p (disables Base effect) so_far is
-
 either_more : (a b c d : Bool) → (a ≡ true → b ≡ true) → (c ≡ true → d ≡ true)
     → (a || c) ≡ true → (b || d) ≡ true
 either_more true b c d one other is = ap (λ x. x || d) (one refl)
@@ -170,86 +137,79 @@ second : (a b : Bool) → (a && b) ≡ true → b ≡ true
 second true b is = is
 second false b is = absurd cc
 
-started_wider : (effect : Command → Effect) (so_far : List Act)
-    → AreAmong (known_enabled (PowerOn Base) effect so_far)
-    (known_enabled (PowerOn Extended) effect so_far)
-started_wider effect so_far kind =
-    either_more (enabled_of Base effect so_far kind) (enabled_of Extended effect so_far kind)
-    (false && ltb kind 16) (false && ltb kind 16) (enabled_wider effect so_far kind) (λ is. is)
+-- by the extended profile no act ends them, so all acts count
+module _ (effect : Command → Effect) where
+  never_ends : (act : Act) → disables Extended effect act ≡ false
+  never_ends act = either (powers_on effect act)
+    where
+      either : (b : Bool) → (b && false) ≡ false
+      either true = refl
+      either false = refl
 
-joined_wider : (setups : Setups) (effect : Command → Effect) (so_far : List Act)
-    → AreAmong (known_enabled (Joined setups Base) effect so_far)
-    (known_enabled (Joined setups Extended) effect so_far)
-joined_wider setups effect so_far kind =
-    either_more (enabled_of Base effect so_far kind) (enabled_of Extended effect so_far kind)
-    (not (list_any (disables Base effect) so_far) && ltb kind 16)
-    (not (list_any (disables Extended effect) so_far) && ltb kind 16)
-    (enabled_wider effect so_far kind)
-    (λ is. ap (λ b. not b && ltb kind 16)
-    (none_ends (disables Extended effect) so_far (never_ends effect))
-    ∙ second (not (list_any (disables Base effect) so_far)) (ltb kind 16) is)
+  all_from : (so_far : List Act) → acts_from (disables Extended effect) so_far ≡ so_far
+  all_from [] = refl
+  all_from (act ∷ so_far) = rw (never_ends act, all_from so_far) refl
+
+  none_ends : (so_far : List Act) → list_any (disables Extended effect) so_far ≡ false
+  none_ends [] = refl
+  none_ends (act ∷ so_far) = rw (never_ends act) (none_ends so_far)
+
+  enabled_wider : (so_far : List Act)
+      → AreAmong (enabled_of Base effect so_far) (enabled_of Extended effect so_far)
+  enabled_wider so_far kind is =
+      let p : Act → Bool = λ act. enables kind (effect_by effect act) in
+      ap (list_any p) (all_from so_far) ∙ any_of_all p (disables Base effect) so_far is
+
+  started_wider : (so_far : List Act) → AreAmong (known_enabled (PowerOn Base) effect so_far)
+      (known_enabled (PowerOn Extended) effect so_far)
+  started_wider so_far kind = either_more (enabled_of Base effect so_far kind) _
+      (false && ltb kind 16) (false && ltb kind 16) (enabled_wider so_far kind) (λ is. is)
+
+  joined_wider : (setups : Setups) (so_far : List Act)
+      → AreAmong (known_enabled (Joined setups Base) effect so_far)
+      (known_enabled (Joined setups Extended) effect so_far)
+  joined_wider setups so_far kind = either_more (enabled_of Base effect so_far kind) _
+      (not (list_any (disables Base effect) so_far) && ltb kind 16) _ (enabled_wider so_far kind)
+      (λ is. ap (λ b. not b && ltb kind 16) (none_ends so_far)
+      ∙ second (not (list_any (disables Base effect) so_far)) (ltb kind 16) is)
 
 -- Steps of a machine.
 
-knowing_wider : {Own Setup Asked M State : Type 0} (tables : Tables Own Setup Asked M)
-    (conduct : Conduct Own Setup Asked M State) → Widens conduct
-    → (one other : KnownFacts Setup Asked M) → one.setup ≡ other.setup
-    → one.last_asked ≡ other.last_asked → AreAmong one.enabled other.enabled
-    → one.past ≡ other.past → (act : Act) (choice : Choice) (before after : State) (gains : Gains)
-    → StepKnowing tables conduct one act choice before after gains
-    → StepKnowing tables conduct other act choice before after gains
-knowing_wider tables conduct widens one other setup asked among past act choice before after gains
-    step = record {
-      facts = enabling step.facts other.enabled;
-      allowed = record {
-        setup = step.allowed.setup ∙ setup;
-        last_asked = subst (λ k. Allows k step.facts.last_asked) asked step.allowed.last_asked;
-        enabled = refl;
-        past = subst (λ k. AllowsPast k (conduct.holds before) step.facts.past) past
-            step.allowed.past;
-      };
-      step = step_wider tables conduct widens step.facts other.enabled
-          (λ kind is. among kind (sym (ap (λ e. e kind) step.allowed.enabled) ∙ is)) act choice
-          before after gains step.step;
-    }
+same_started : {X : Type 0} (none : X) (told : Option X)
+    → known_by (PowerOn Base) none told ≡ known_by (PowerOn Extended) none told
+same_started none None = refl
+same_started none (Some x) = refl
 
-same_started : {X : Type 0} (one other : Profile) (none : X) (told : Option X)
-    → known_by (PowerOn one) none told ≡ known_by (PowerOn other) none told
-same_started one other none None = refl
-same_started one other none (Some x) = refl
+same_joined : {X : Type 0} (setups : Setups) (none : X) (told : Option X)
+    → known_by (Joined setups Base) none told ≡ known_by (Joined setups Extended) none told
+same_joined setups none None = refl
+same_joined setups none (Some x) = refl
 
-same_joined : {X : Type 0} (setups : Setups) (one other : Profile) (none : X) (told : Option X)
-    → known_by (Joined setups one) none told ≡ known_by (Joined setups other) none told
-same_joined setups one other none None = refl
-same_joined setups one other none (Some x) = refl
+module _ {Own Setup Asked M State : Type 0} (tables : Tables Own Setup Asked M)
+    (conduct : Conduct Own Setup Asked M State) (widens : Widens conduct) where
+  pub steps_from_power_on : (so_far : List Act) (act : Act) (choice : Choice)
+      (before after : State) (gains : Gains)
+      → StepKnowing tables conduct (known_of tables (PowerOn Base) so_far) act choice before after
+      gains
+      → StepKnowing tables conduct (known_of tables (PowerOn Extended) so_far) act choice before
+      after gains
+  steps_from_power_on so_far =
+      knowing_wider tables conduct widens (known_of tables (PowerOn Base) so_far)
+      (known_of tables (PowerOn Extended) so_far) refl
+      (same_started None (option_map (λ (a : Asked). Some a) (last_told (asked_by tables) so_far)))
+      (started_wider (effect_of tables) so_far)
+      (same_known_past refl (same_started [] (last_list (parts_by tables) so_far)))
 
-pub steps_from_power_on : {Own Setup Asked M State : Type 0} (tables : Tables Own Setup Asked M)
-    (conduct : Conduct Own Setup Asked M State) → Widens conduct → (so_far : List Act) (act : Act)
-    (choice : Choice) (before after : State) (gains : Gains)
-    → StepKnowing tables conduct (known_of tables (PowerOn Base) so_far) act choice before after
-    gains
-    → StepKnowing tables conduct (known_of tables (PowerOn Extended) so_far) act choice before after
-    gains
-steps_from_power_on {Asked = Asked} tables conduct widens so_far =
-    knowing_wider tables conduct widens (known_of tables (PowerOn Base) so_far)
-    (known_of tables (PowerOn Extended) so_far) refl
-    (same_started Base Extended None
-    (option_map (λ (a : Asked). Some a) (last_told (asked_by tables) so_far)))
-    (started_wider (effect_of tables) so_far)
-    (same_known_past refl (same_started Base Extended [] (last_list (parts_by tables) so_far)))
-
-pub steps_in_mid_session : {Own Setup Asked M State : Type 0} (tables : Tables Own Setup Asked M)
-    (conduct : Conduct Own Setup Asked M State) → Widens conduct → (setups : Setups)
-    (so_far : List Act) (act : Act) (choice : Choice) (before after : State) (gains : Gains)
-    → StepKnowing tables conduct (known_of tables (Joined setups Base) so_far) act choice before
-    after gains
-    → StepKnowing tables conduct (known_of tables (Joined setups Extended) so_far) act choice before
-    after gains
-steps_in_mid_session {Asked = Asked} tables conduct widens setups so_far =
-    knowing_wider tables conduct widens (known_of tables (Joined setups Base) so_far)
-    (known_of tables (Joined setups Extended) so_far) refl
-    (same_joined setups Base Extended None
-    (option_map (λ (a : Asked). Some a) (last_told (asked_by tables) so_far)))
-    (joined_wider setups (effect_of tables) so_far)
-    (same_known_past refl (same_joined setups Base Extended []
-    (last_list (parts_by tables) so_far)))
+  pub steps_in_mid_session : (setups : Setups) (so_far : List Act) (act : Act) (choice : Choice)
+      (before after : State) (gains : Gains)
+      → StepKnowing tables conduct (known_of tables (Joined setups Base) so_far) act choice before
+      after gains
+      → StepKnowing tables conduct (known_of tables (Joined setups Extended) so_far) act choice
+      before after gains
+  steps_in_mid_session setups so_far =
+      knowing_wider tables conduct widens (known_of tables (Joined setups Base) so_far)
+      (known_of tables (Joined setups Extended) so_far) refl
+      (same_joined setups None
+      (option_map (λ (a : Asked). Some a) (last_told (asked_by tables) so_far)))
+      (joined_wider (effect_of tables) setups so_far)
+      (same_known_past refl (same_joined setups [] (last_list (parts_by tables) so_far)))

@@ -3,48 +3,23 @@ use Rattle.std.proofs.Common.{ap, refl, ◌∙◌, ◌≡◌, ℕ, List, slice_i
 use Rattle.mdb_blocks.specs.Block.{block_of}
 use Rattle.mdb_msgs.specs.declared.command.Command.{Command}
 use Rattle.mdb_msgs.specs.declared.command.Command.TheVariants.{Changer, Bill, Reader}
-use Rattle.mdb_msgs.specs.declared.command.BillCommand.{BillCommand}
 use Rattle.mdb_msgs.specs.declared.command.BillCommand.TheVariants as bill
-use Rattle.mdb_msgs.specs.declared.command.ChangerCommand.{ChangerCommand}
 use Rattle.mdb_msgs.specs.declared.command.ChangerCommand.TheVariants as changer
-use Rattle.mdb_msgs.specs.declared.command.Device.TheVariants as device
-use Rattle.mdb_msgs.specs.declared.command.ReaderCommand.{ReaderCommand}
 use Rattle.mdb_msgs.specs.declared.command.ReaderCommand.TheVariants as reader
 use Rattle.mdb_msgs.specs.declared.command.ReaderUnit.TheVariants.{First, Second}
 use Rattle.mdb_msgs.specs.declared.device_set.DeviceSet.{DeviceSet}
-use Rattle.mdb_msgs.specs.Commands.{Spells, bill_bytes, changer_bytes, command_bytes, device_of, reader_bytes}
+use Rattle.mdb_msgs.specs.Commands.{Spells, command_bytes, device_of}
 use Rattle.mdb_msgs.specs.DeviceSets.{has}
 use Rattle.mdb_msgs.specs.Needs.{is_to_one_of}
-
-changers : (set : DeviceSet) (command : ChangerCommand)
-    → is_to_one_of set (slice_index (block_of (changer_bytes command)) 0) ≡ has set device.Changer
-changers set changer.Reset = refl
-changers set command = refl
-
-bills : (set : DeviceSet) (command : BillCommand)
-    → is_to_one_of set (slice_index (block_of (bill_bytes command)) 0) ≡ has set device.Bill
-bills set bill.Reset = refl
-bills set command = refl
-
-firsts : (set : DeviceSet) (command : ReaderCommand)
-    → is_to_one_of set (slice_index (block_of (reader_bytes 0x10 command)) 0)
-    ≡ has set (device.Reader First)
-firsts set reader.Reset = refl
-firsts set command = refl
-
-seconds : (set : DeviceSet) (command : ReaderCommand)
-    → is_to_one_of set (slice_index (block_of (reader_bytes 0x60 command)) 0)
-    ≡ has set (device.Reader Second)
-seconds set reader.Reset = refl
-seconds set command = refl
 
 its_own : (set : DeviceSet) (command : Command)
     → is_to_one_of set (slice_index (block_of (command_bytes command)) 0)
     ≡ has set (device_of command)
-its_own set (Changer command) = changers set command
-its_own set (Bill command) = bills set command
-its_own set (Reader First command) = firsts set command
-its_own set (Reader Second command) = seconds set command
+its_own set (Changer changer.Reset) = refl
+its_own set (Bill bill.Reset) = refl
+its_own set (Reader First reader.Reset) = refl
+its_own set (Reader Second reader.Reset) = refl
+its_own set command = refl
 
 pub first_tells : (block : List ℕ) (command : Command) → Spells command block → (set : DeviceSet)
     → is_to_one_of set (slice_index block 0) ≡ has set (device_of command)

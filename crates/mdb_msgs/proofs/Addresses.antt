@@ -1,17 +1,15 @@
 -- Which device a block is for, told from its first byte.
-use Rattle.std.proofs.Common.{◌≡◌, ℕ, ◌+◌, ◌-◌, ◌/◌, ◌%◌, ◌<◌, ◌≤◌, Bool, true, false, if◌then◌else◌, List, [], ◌∷◌, length, slice_get, slice_index, sum, Option, Some, None, arith, ap, refl, sym, subst, ◌∙◌, length-append}
+use Rattle.std.proofs.Common.{◌≡◌, ℕ, ◌+◌, ◌-◌, ◌/◌, ◌%◌, ◌<◌, ◌≤◌, List, [], ◌∷◌, length, slice_get, slice_index, sum, Option, Some, arith, ap, sym, ◌∙◌, length-append}
 use Rattle.std.proofs.lemmas.Bool.Decides.{nat_tests}
-use Rattle.std.proofs.lemmas.Option.{same_Some}
 use Rattle.mdb_blocks.specs.Block.{block_of}
 use Rattle.mdb_msgs.specs.declared.command.Device.{Device}
 use Rattle.mdb_msgs.specs.declared.command.Device.TheVariants.{Changer, Bill, Reader}
 use Rattle.mdb_msgs.specs.declared.command.ReaderUnit.{ReaderUnit}
 use Rattle.mdb_msgs.specs.declared.command.ReaderUnit.TheVariants.{First, Second}
 use Rattle.mdb_msgs.specs.declared.fault.MsgFault.{MsgFault}
-use Rattle.mdb_msgs.specs.declared.need.Need.{Need}
 use Rattle.mdb_msgs.specs.CommandFaults.{IsCommandFault, IsRefused}
 use Rattle.mdb_msgs.specs.Commands.{reader_address}
-use Rattle.mdb_msgs.specs.Needs.{device_at, is_for, need, need_for, needed, reader_need}
+use Rattle.mdb_msgs.specs.Needs.{device_at, need, need_for, reader_need}
 
 pub at_first : (first : ℕ) → 0x10 ≤ first → first ≤ 0x17 → device_at first ≡ Some (Reader First)
 at_first first least most = let address : first / 8 ≡ 2 = omega arith in rw address
@@ -29,31 +27,10 @@ address_of (Reader unit) = reader_address unit
 abbrev HasAddress : ℕ → Device → Type 0
 HasAddress first device = first ≡ address_of device + first % 8
 
-by_tests : (first : ℕ) (device : Device) (changer one bill other : Bool)
-    → is_for 0x08 first ≡ changer → is_for 0x10 first ≡ one → is_for 0x30 first ≡ bill
-    → is_for 0x60 first ≡ other
-    → (if changer then Some Changer else if one then Some (Reader First) else if bill then Some Bill
-    else if other then Some (Reader Second) else None) ≡ Some device
-    → HasAddress first device
-by_tests first device true one bill other a b c d at =
-    let is : first ≡ 0x08 + first % 8 = grind (arith, nat_tests) in
-    subst (HasAddress first) (same_Some Changer device at) is
-by_tests first device false true bill other a b c d at =
-    let is : first ≡ 0x10 + first % 8 = grind (arith, nat_tests) in
-    subst (HasAddress first) (same_Some (Reader First) device at) is
-by_tests first device false false true other a b c d at =
-    let is : first ≡ 0x30 + first % 8 = grind (arith, nat_tests) in
-    subst (HasAddress first) (same_Some Bill device at) is
-by_tests first device false false false true a b c d at =
-    let is : first ≡ 0x60 + first % 8 = grind (arith, nat_tests) in
-    subst (HasAddress first) (same_Some (Reader Second) device at) is
-by_tests first device false false false false a b c d at = cc
-
 at_address : (first : ℕ) (device : Device) → device_at first ≡ Some device
     → HasAddress first device
-at_address first device =
-    by_tests first device (is_for 0x08 first) (is_for 0x10 first) (is_for 0x30 first)
-    (is_for 0x60 first) refl refl refl refl
+at_address first (Reader First) at = grind (arith, nat_tests)
+at_address first device at = grind (arith, nat_tests)
 
 -- a first byte for a reader has its address, and one for any device is a byte
 pub of_reader : (first : ℕ) (unit : ReaderUnit) → device_at first ≡ Some (Reader unit)
@@ -61,10 +38,8 @@ pub of_reader : (first : ℕ) (unit : ReaderUnit) → device_at first ≡ Some (
 of_reader first unit = at_address first (Reader unit)
 
 pub low : (first : ℕ) (device : Device) → device_at first ≡ Some device → first < 256
-low first Changer at = let is = at_address first Changer at in omega (arith, is)
-low first Bill at = let is = at_address first Bill at in omega (arith, is)
-low first (Reader First) at = let is = at_address first (Reader First) at in omega (arith, is)
-low first (Reader Second) at = let is = at_address first (Reader Second) at in omega (arith, is)
+low first (Reader First) at = omega (arith, at_address first (Reader First) at)
+low first device at = omega (arith, at_address first device at)
 
 pub need_at : (first : ℕ) (second : Option ℕ) {device : Option Device} → device_at first ≡ device
     → need first second ≡ need_for device first second
@@ -89,9 +64,7 @@ pub refused_by_reader : (unit : ReaderUnit) (content : List ℕ) (fault : MsgFau
     → IsCommandFault (block_of content) fault
 refused_by_reader unit [] fault some least most refused = absurd (omega arith)
 refused_by_reader unit (first ∷ rest) fault some least most refused =
-    let P : Need → Type 0 = λ needs. IsRefused needs (length (first ∷ rest) + 1) fault in
-    let Q : ℕ → Type 0 = λ count. IsRefused (needed (block_of (first ∷ rest))) count fault in
-    let long : length (first ∷ rest) + 1 ≡ length (block_of (first ∷ rest)) =
-    sym (length-append (first ∷ rest) ((sum (first ∷ rest) % 256) ∷ [])) in
-    subst Q long
-    (subst P (need_of_reader unit first (slice_get (block_of (first ∷ rest)) 1) least most) refused)
+    rw (
+      length-append (first ∷ rest) ((sum (first ∷ rest) % 256) ∷ []),
+      ← need_of_reader unit first (slice_get (block_of (first ∷ rest)) 1) least most,
+    ) refused

@@ -1,7 +1,8 @@
 -- Bytes that are as long as they need to be are those of a command.
-use Rattle.std.proofs.Common.{◌≡◌, ◌<◌, ◌+◌, ◌*◌, ◌%◌, ℕ, List, [], ◌∷◌, length, arith, refl, ap, ◌∙◌, All, slice_index, slice_get, drop, if◌then◌else◌, ◌==◌, Option, Some, None}
+use Rattle.std.proofs.Common.{◌≡◌, ◌+◌, ◌*◌, ◌%◌, ℕ, List, [], ◌∷◌, length, arith, refl, ap, ◌∙◌, All, slice_index, slice_get, drop, if◌then◌else◌, ◌==◌, Option, Some, None}
+use Rattle.std.specs.List.{AllByRecursion}
 use Rattle.std.proofs.lemmas.Grind.{common_steps}
-use Rattle.std.proofs.lemmas.List.Elements.{All-drop}
+use Rattle.std.proofs.lemmas.List.Elements.{All-from_recursion, recursion_from_All}
 use Rattle.mdb_blocks.specs.Block.{block_of}
 use Rattle.mdb_msgs.specs.declared.command.Command.{Command}
 use Rattle.mdb_msgs.specs.declared.command.Command.TheVariants.{Changer, Bill, Reader}
@@ -13,7 +14,6 @@ use Rattle.mdb_msgs.specs.declared.command.ReaderCommand.{ReaderCommand}
 use Rattle.mdb_msgs.specs.declared.command.ReaderCommand.TheVariants as reader
 use Rattle.mdb_msgs.specs.declared.command.Device.{Device}
 use Rattle.mdb_msgs.specs.declared.command.Device.TheVariants as device
-use Rattle.mdb_msgs.specs.declared.command.ReaderUnit.{ReaderUnit}
 use Rattle.mdb_msgs.specs.declared.need.Need.TheVariants.{Exactly}
 use Rattle.mdb_msgs.specs.Commands.{IsByte, HasBillFields, HasChangerFields, HasReaderFields, Spells, bill_bytes, changer_bytes, reader_address, reader_bytes}
 use Rattle.mdb_msgs.specs.Needs.{bill_need, changer_need, device_at, need_for, needed, reader_need}
@@ -35,25 +35,12 @@ changer_at content =
     else if slice_index content 1 == 0x00 then changer.Identification
     else changer.Features (drop 2 content)
 
-changer_spelled : (content : List ℕ) → All IsByte content
+changer_spelled : (content : List ℕ) → AllByRecursion IsByte content
     → changer_need (slice_index content 0) (slice_get content 1) ≡ Exactly (length content + 1)
     → HasChangerFields (changer_at content) × (content ≡ changer_bytes (changer_at content))
-changer_spelled [] bytes told = grind (arith, common_steps)
-changer_spelled (a ∷ []) bytes told = grind (arith, common_steps)
-changer_spelled (a ∷ b ∷ []) bytes told = let second : b < 256 = bytes 1 0 (omega arith) in
-    grind (arith, common_steps)
-changer_spelled (a ∷ b ∷ c ∷ []) bytes told = grind (arith, common_steps)
-changer_spelled (a ∷ b ∷ c ∷ d ∷ []) bytes told = grind (arith, common_steps)
-changer_spelled (a ∷ b ∷ c ∷ d ∷ e ∷ []) bytes told =
-    let second : b < 256 = bytes 1 0 (omega arith) in
-    let third : c < 256 = bytes 2 0 (omega arith) in
-    let fourth : d < 256 = bytes 3 0 (omega arith) in
-    let fifth : e < 256 = bytes 4 0 (omega arith) in
-    grind (arith, common_steps)
-changer_spelled (a ∷ b ∷ c ∷ d ∷ e ∷ f ∷ []) bytes told =
-    let features : All IsByte (c ∷ d ∷ e ∷ f ∷ []) = All-drop IsByte 2 (a ∷ b ∷ c ∷ d ∷ e ∷ f ∷ [])
-    bytes in grind (arith, common_steps)
-changer_spelled (a ∷ b ∷ c ∷ d ∷ e ∷ f ∷ g ∷ rest) bytes told = grind (arith, common_steps)
+changer_spelled (a ∷ b ∷ c ∷ d ∷ e ∷ f ∷ []) low told =
+    grind (arith, common_steps, All-from_recursion IsByte (c ∷ d ∷ e ∷ f ∷ []) low.1.1)
+changer_spelled content low told = grind (arith, common_steps)
 
 abbrev pub bill_at : List ℕ → BillCommand
 bill_at content =
@@ -69,26 +56,14 @@ bill_at content =
     else if slice_index content 1 == 0x01 then bill.Features (drop 2 content)
     else bill.IdentificationWithOptions
 
-bill_spelled : (content : List ℕ) → All IsByte content
+bill_spelled : (content : List ℕ) → AllByRecursion IsByte content
     → bill_need (slice_index content 0) (slice_get content 1) ≡ Exactly (length content + 1)
     → HasBillFields (bill_at content) × (content ≡ bill_bytes (bill_at content))
-bill_spelled [] bytes told = grind (arith, common_steps)
-bill_spelled (a ∷ []) bytes told = grind (arith, common_steps)
-bill_spelled (a ∷ b ∷ []) bytes told = let second : b < 256 = bytes 1 0 (omega arith) in
-    grind (arith, common_steps)
-bill_spelled (a ∷ b ∷ c ∷ []) bytes told = let levels : All IsByte (b ∷ c ∷ []) =
-    All-drop IsByte 1 (a ∷ b ∷ c ∷ []) bytes in grind (arith, common_steps)
-bill_spelled (a ∷ b ∷ c ∷ d ∷ []) bytes told = grind (arith, common_steps)
-bill_spelled (a ∷ b ∷ c ∷ d ∷ e ∷ []) bytes told =
-    let second : b < 256 = bytes 1 0 (omega arith) in
-    let third : c < 256 = bytes 2 0 (omega arith) in
-    let fourth : d < 256 = bytes 3 0 (omega arith) in
-    let fifth : e < 256 = bytes 4 0 (omega arith) in
-    grind (arith, common_steps)
-bill_spelled (a ∷ b ∷ c ∷ d ∷ e ∷ f ∷ []) bytes told =
-    let features : All IsByte (c ∷ d ∷ e ∷ f ∷ []) = All-drop IsByte 2 (a ∷ b ∷ c ∷ d ∷ e ∷ f ∷ [])
-    bytes in grind (arith, common_steps)
-bill_spelled (a ∷ b ∷ c ∷ d ∷ e ∷ f ∷ g ∷ rest) bytes told = grind (arith, common_steps)
+bill_spelled (a ∷ b ∷ c ∷ []) low told =
+    grind (arith, common_steps, All-from_recursion IsByte (b ∷ c ∷ []) low.1)
+bill_spelled (a ∷ b ∷ c ∷ d ∷ e ∷ f ∷ []) low told =
+    grind (arith, common_steps, All-from_recursion IsByte (c ∷ d ∷ e ∷ f ∷ []) low.1.1)
+bill_spelled content low told = grind (arith, common_steps)
 
 -- by the lower three bits of the first byte, and the bytes after it
 abbrev pub reader_at : ℕ → List ℕ → ReaderCommand
@@ -113,63 +88,43 @@ reader_at command fields =
     else if slice_index fields 0 == 0x00 then reader.RequestId (drop 1 fields)
     else reader.EnableOptions (drop 1 fields)
 
-reader_spelled : (address command : ℕ) (fields : List ℕ) → All IsByte fields
+reader_spelled : (address command : ℕ) (fields : List ℕ) → AllByRecursion IsByte fields
     → reader_need command (slice_get fields 0) ≡ Exactly (length fields + 2)
     → HasReaderFields (reader_at command fields)
     × ((address + command) ∷ fields ≡ reader_bytes address (reader_at command fields))
-reader_spelled address command [] bytes told = grind (arith, common_steps)
-reader_spelled address command (a ∷ []) bytes told = grind (arith, common_steps)
-reader_spelled address command (a ∷ b ∷ []) bytes told = grind (arith, common_steps)
-reader_spelled address command (a ∷ b ∷ c ∷ []) bytes told =
-    let second : b < 256 = bytes 1 0 (omega arith) in
-    let third : c < 256 = bytes 2 0 (omega arith) in
-    grind (arith, common_steps)
-reader_spelled address command (a ∷ b ∷ c ∷ d ∷ []) bytes told = grind (arith, common_steps)
-reader_spelled address command (a ∷ b ∷ c ∷ d ∷ e ∷ []) bytes told =
-    let second : b < 256 = bytes 1 0 (omega arith) in
-    let third : c < 256 = bytes 2 0 (omega arith) in
-    let fourth : d < 256 = bytes 3 0 (omega arith) in
-    let fifth : e < 256 = bytes 4 0 (omega arith) in
-    let options : All IsByte (b ∷ c ∷ d ∷ e ∷ []) = All-drop IsByte 1 (a ∷ b ∷ c ∷ d ∷ e ∷ []) bytes
-    in grind (arith, common_steps)
-reader_spelled address command (a ∷ b ∷ c ∷ d ∷ e ∷ f ∷ rest) bytes told =
-    let identity : All IsByte (b ∷ c ∷ d ∷ e ∷ f ∷ rest) =
-    All-drop IsByte 1 (a ∷ b ∷ c ∷ d ∷ e ∷ f ∷ rest) bytes in grind (arith, common_steps)
+reader_spelled address command (a ∷ b ∷ c ∷ d ∷ e ∷ []) low told =
+    grind (arith, common_steps, All-from_recursion IsByte (b ∷ c ∷ d ∷ e ∷ []) low.1)
+reader_spelled address command (a ∷ b ∷ c ∷ d ∷ e ∷ f ∷ rest) low told =
+    grind (arith, common_steps, All-from_recursion IsByte (b ∷ c ∷ d ∷ e ∷ f ∷ rest) low.1)
+reader_spelled address command fields low told = grind (arith, common_steps)
 
--- the command to a reader
-to_reader : (unit : ReaderUnit) (first : ℕ) (rest : List ℕ)
-    → first ≡ reader_address unit + first % 8 → All IsByte (first ∷ rest)
-    → reader_need (first % 8) (slice_get (first ∷ rest) 1) ≡ Exactly (length (first ∷ rest) + 1)
-    → (command : Command) × Spells command (block_of (first ∷ rest))
-to_reader unit first rest address bytes told =
-    let found = reader_spelled (reader_address unit) (first % 8) rest
-    (All-drop IsByte 1 (first ∷ rest) bytes) (told ∙ ap Exactly (omega arith)) in (
-      Reader unit (reader_at (first % 8) rest),
-      record {
-        fields = found.0;
-        bytes = ap (λ byte. block_of (byte ∷ rest)) address
-            ∙ ap block_of found.1;
-      },
-    )
-
--- for which device they are
-by_device : (first : ℕ) (rest : List ℕ) (device : Option Device) → device_at first ≡ device
-    → All IsByte (first ∷ rest)
-    → need_for device first (slice_get (first ∷ rest) 1) ≡ Exactly (length (first ∷ rest) + 1)
-    → (command : Command) × Spells command (block_of (first ∷ rest))
-by_device first rest (Some device.Changer) at bytes told =
-    let found = changer_spelled (first ∷ rest) bytes told in
-    (Changer (changer_at (first ∷ rest)), record { fields = found.0; bytes = ap block_of found.1 })
-by_device first rest (Some device.Bill) at bytes told =
-    let found = bill_spelled (first ∷ rest) bytes told in
-    (Bill (bill_at (first ∷ rest)), record { fields = found.0; bytes = ap block_of found.1 })
-by_device first rest (Some (device.Reader unit)) at bytes told =
-    to_reader unit first rest (of_reader first unit at) bytes told
-by_device first rest None at bytes told = cc
+module _ (first : ℕ) (rest : List ℕ) (low : AllByRecursion IsByte (first ∷ rest)) where
+  -- for which device they are
+  by_device : (device : Option Device) → device_at first ≡ device
+      → need_for device first (slice_get (first ∷ rest) 1) ≡ Exactly (length (first ∷ rest) + 1)
+      → (command : Command) × Spells command (block_of (first ∷ rest))
+  by_device (Some device.Changer) at told =
+      let it = changer_spelled (first ∷ rest) low told in
+      (Changer (changer_at (first ∷ rest)), record { fields = it.0; bytes = ap block_of it.1 })
+  by_device (Some device.Bill) at told =
+      let found = bill_spelled (first ∷ rest) low told in
+      (Bill (bill_at (first ∷ rest)), record { fields = found.0; bytes = ap block_of found.1 })
+  by_device (Some (device.Reader unit)) at told =
+      let found = reader_spelled (reader_address unit) (first % 8) rest low.1
+      (told ∙ ap Exactly (omega arith)) in (
+        Reader unit (reader_at (first % 8) rest),
+        record {
+          fields = found.0;
+          bytes = ap (λ byte. block_of (byte ∷ rest)) (of_reader first unit at)
+              ∙ ap block_of found.1;
+        },
+      )
+  by_device None at told = cc
 
 pub spelled : (content : List ℕ) → All IsByte content
     → needed content ≡ Exactly (length content + 1)
     → (command : Command) × Spells command (block_of content)
 spelled [] bytes told = cc
 spelled (first ∷ rest) bytes told =
-    by_device first rest (device_at first) refl bytes told
+    by_device first rest (recursion_from_All IsByte (first ∷ rest) bytes) (device_at first) refl
+    told

@@ -1,10 +1,10 @@
 -- The table of what first bytes tell: each entry is what the first byte alone tells.
-use Rattle.std.proofs.Common.{◌≡◌, ◌≢◌, ℕ, zero, suc, ◌+◌, ◌<◌, Bool, true, ◌&&◌, nat_eq, get_or, refl, ap, sym, Option, Some, None, inl, inr, arith}
+use Rattle.std.proofs.Common.{◌≡◌, ◌≢◌, ℕ, zero, suc, ◌+◌, ◌<◌, Bool, true, ◌&&◌, nat_eq, get_or, refl, ap, Option, Some, None, inl, inr, arith}
 use Rattle.std.proofs.lemmas.Bool.{cases_eq}
 use Rattle.std.proofs.lemmas.Bool.Decides.{nat_tests}
 use Rattle.std.proofs.lemmas.Grind.{common_steps}
 use Rattle.mdb_msgs.specs.declared.command.Device.{Device}
-use Rattle.mdb_msgs.specs.declared.command.Device.TheVariants.{Changer, Bill, Reader}
+use Rattle.mdb_msgs.specs.declared.command.Device.TheVariants.{Changer}
 use Rattle.mdb_msgs.specs.declared.need.Need.{Need}
 use Rattle.mdb_msgs.specs.declared.need.Need.TheVariants.{More, Exactly, Foreign, Outside}
 use Rattle.mdb_msgs.specs.declared.first_needs.TheConstants.{FIRST}
@@ -19,22 +19,11 @@ code (Exactly n) = n + 3
 
 same_code : (one other : Need) → code one ≡ code other → one ≡ other
 unfolding code
+same_code (Exactly n) (Exactly m) h = let same : n ≡ m = omega arith in ap Exactly same
 same_code More More h = refl
 same_code Foreign Foreign h = refl
 same_code Outside Outside h = refl
-same_code (Exactly n) (Exactly m) h = let same : n ≡ m = omega arith in ap Exactly same
-same_code More Foreign h = absurd (omega arith)
-same_code More Outside h = absurd (omega arith)
-same_code More (Exactly m) h = absurd (omega arith)
-same_code Foreign More h = absurd (omega arith)
-same_code Foreign Outside h = absurd (omega arith)
-same_code Foreign (Exactly m) h = absurd (omega arith)
-same_code Outside More h = absurd (omega arith)
-same_code Outside Foreign h = absurd (omega arith)
-same_code Outside (Exactly m) h = absurd (omega arith)
-same_code (Exactly n) More h = absurd (omega arith)
-same_code (Exactly n) Foreign h = absurd (omega arith)
-same_code (Exactly n) Outside h = absurd (omega arith)
+same_code one other h = absurd (omega arith)
 
 -- two functions agree below n
 agree_below : (ℕ → Need) → (ℕ → Need) → ℕ → Bool
@@ -64,9 +53,7 @@ first_at i c is byte =
 by_device : (device : Option Device) (first : ℕ) (second : Option ℕ) (told : Need)
     → told ≡ need_for device first None → told ≢ More → need_for device first second ≡ told
 by_device (Some Changer) first second told is other = grind (arith, common_steps)
-by_device (Some Bill) first second told is other = grind (arith, common_steps)
-by_device (Some (Reader unit)) first second told is other = grind (arith, common_steps)
-by_device None first second told is other = sym is
+by_device device first second told is other = grind (arith, common_steps)
 
 pub stays : (first : ℕ) (second : Option ℕ) (told : Need) → told ≡ need first None → told ≢ More
     → need first second ≡ told

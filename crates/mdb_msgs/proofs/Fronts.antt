@@ -3,14 +3,13 @@ use Rattle.std.proofs.Common.{◌≡◌, ◌≢◌, ◌<◌, ◌+◌, ◌-◌, �
 use Rattle.std.proofs.lemmas.Grind.{common_steps}
 use Rattle.std.proofs.lemmas.List.{length-replicate}
 use Rattle.std.proofs.lemmas.List.Elements.{All-append, All-replicate}
-use Rattle.mdb_blocks.specs.Block.{block_of}
 use Rattle.mdb_msgs.specs.declared.command.Command.{Command}
 use Rattle.mdb_msgs.specs.declared.command.Device.{Device}
-use Rattle.mdb_msgs.specs.declared.command.Device.TheVariants.{Changer, Bill, Reader}
+use Rattle.mdb_msgs.specs.declared.command.Device.TheVariants.{Changer}
 use Rattle.mdb_msgs.specs.declared.need.Need.{Need}
-use Rattle.mdb_msgs.specs.declared.need.Need.TheVariants.{More, Exactly, Foreign, Outside}
+use Rattle.mdb_msgs.specs.declared.need.Need.TheVariants.{More, Exactly}
 use Rattle.mdb_msgs.specs.Commands.{IsByte, Spells}
-use Rattle.mdb_msgs.specs.Needs.{bill_need, changer_need, device_at, need, need_for, needed, reader_need}
+use Rattle.mdb_msgs.specs.Needs.{device_at, need, need_for, needed}
 use Rattle.mdb_msgs.specs.OpenBlocks.{IsOpen, IsShort, IsTold}
 use Rattle.mdb_msgs.proofs.Contents.{spelled}
 use Rattle.mdb_msgs.proofs.Prefixes.{first_bytes}
@@ -34,53 +33,22 @@ record Widens (told : Option ℕ → Need) : Type 0 where
   by_second : told None ≡ More → (told (Some 0) ≡ Exactly (count_of (told (Some 0))))
       × (2 < count_of (told (Some 0)))
 
-changer_first : (first second n : ℕ) → changer_need first None ≡ Exactly n
-    → changer_need first (Some second) ≡ Exactly n
-changer_first first second n told = grind (arith, common_steps)
+first_tells : (first : ℕ) (device : Option Device) (second n : ℕ)
+    → need_for device first None ≡ Exactly n → need_for device first (Some second) ≡ Exactly n
+first_tells first (Some Changer) second n told = grind (arith, common_steps)
+first_tells first device second n told = grind (arith, common_steps)
 
-changer_second : (first : ℕ) → changer_need first None ≡ More
-    → (changer_need first (Some 0) ≡ Exactly (count_of (changer_need first (Some 0))))
-    × (2 < count_of (changer_need first (Some 0)))
-changer_second first left = grind (arith, common_steps)
-
-bill_first : (first second n : ℕ) → bill_need first None ≡ Exactly n
-    → bill_need first (Some second) ≡ Exactly n
-bill_first first second n told = grind (arith, common_steps)
-
-bill_second : (first : ℕ) → bill_need first None ≡ More
-    → (bill_need first (Some 0) ≡ Exactly (count_of (bill_need first (Some 0))))
-    × (2 < count_of (bill_need first (Some 0)))
-bill_second first left = grind (arith, common_steps)
-
-reader_first : (command second n : ℕ) → reader_need command None ≡ Exactly n
-    → reader_need command (Some second) ≡ Exactly n
-reader_first command second n told = grind (arith, common_steps)
-
-reader_second : (command : ℕ) → reader_need command None ≡ More
-    → (reader_need command (Some 0) ≡ Exactly (count_of (reader_need command (Some 0))))
-    × (2 < count_of (reader_need command (Some 0)))
-reader_second command left = grind (arith, common_steps)
-
-by_device : (first : ℕ) (device : Option Device) → Widens (need_for device first)
-by_device first (Some Changer) = record {
-  by_first = changer_first first;
-  by_second = changer_second first;
-}
-by_device first (Some Bill) = record {
-  by_first = bill_first first;
-  by_second = bill_second first;
-}
-by_device first (Some (Reader unit)) = record {
-  by_first = reader_first (first % 8);
-  by_second = reader_second (first % 8);
-}
-by_device first None = record {
-  by_first = λ second n told. cc told;
-  by_second = λ left. cc left;
-}
+second_tells : (first : ℕ) (device : Option Device) → need_for device first None ≡ More
+    → (need_for device first (Some 0) ≡ Exactly (count_of (need_for device first (Some 0))))
+    × (2 < count_of (need_for device first (Some 0)))
+second_tells first (Some Changer) left = grind (arith, common_steps)
+second_tells first device left = grind (arith, common_steps)
 
 widens : (first : ℕ) → Widens (need first)
-widens first = by_device first (device_at first)
+widens first = record {
+  by_first = first_tells first (device_at first);
+  by_second = second_tells first (device_at first);
+}
 
 -- nor do bytes after
 told_after : (bytes more : List ℕ) (n : ℕ) → needed bytes ≡ Exactly n
@@ -94,21 +62,19 @@ told_after (first ∷ second ∷ bytes) more n told = told
 by_zeros : (bytes : List ℕ) (n : ℕ) → All IsByte bytes → needed bytes ≡ Exactly n → length bytes < n
     → Goes bytes
 by_zeros bytes n low told short =
-    let zeros : List ℕ = replicate (n - 1 - length bytes) 0 in
-    let content : List ℕ = bytes ++ zeros in
-    let count : length zeros ≡ n - 1 - length bytes = length-replicate (n - 1 - length bytes) 0 in
-    let long : n ≡ length content + 1 = omega (arith, length-append bytes zeros) in
-    let all_low : All IsByte content = All-append IsByte bytes zeros low
-    (All-replicate IsByte (n - 1 - length bytes) 0 (omega arith)) in
-    let found = spelled content all_low (told_after bytes zeros n told ∙ ap Exactly long) in
-    let last : List ℕ = (sum content % 256) ∷ [] in
-    let joined : block_of content ≡ bytes ++ (zeros ++ last) = append_assoc bytes zeros last in
+    let count = n - 1 - length bytes in
+    let zeros : List ℕ = replicate count 0 in
+    let long : n ≡ length (bytes ++ zeros) + 1 =
+    omega (arith, length-replicate {A = ℕ} count 0, length-append bytes zeros) in
+    let found = spelled (bytes ++ zeros)
+    (All-append IsByte bytes zeros low (All-replicate IsByte count 0 (omega arith)))
+    (told_after bytes zeros n told ∙ ap Exactly long) in
+    let last : List ℕ = (sum (bytes ++ zeros) % 256) ∷ [] in
     record {
       command = found.0;
       rest = zeros ++ last;
-      more = λ none. let e : length (zeros ++ last) ≡ 0 = ap length none in
-          omega (arith, length-append zeros last);
-      spells = subst (Spells found.0) joined found.1;
+      more = λ none. omega (arith, ap length none, length-append zeros last);
+      spells = subst (Spells found.0) (append_assoc bytes zeros last) found.1;
     }
 
 -- more is left open by one byte at most
@@ -117,9 +83,8 @@ by_subcommand : (bytes : List ℕ) → All IsByte bytes → needed bytes ≡ Mor
 by_subcommand [] low left one = absurd (omega arith)
 by_subcommand (first ∷ []) low left one =
     let next = (widens first).by_second left in
-    let zero_low : All IsByte (0 ∷ []) = All-replicate IsByte 1 0 (omega arith) in
-    let goes = by_zeros (first ∷ 0 ∷ []) (count_of (need first (Some 0)))
-    (All-append IsByte (first ∷ []) (0 ∷ []) low zero_low) next.0 next.1 in
+    let goes = by_zeros (first ∷ 0 ∷ []) (count_of (need first (Some 0))) (All-append IsByte
+    (first ∷ []) (0 ∷ []) low (All-replicate IsByte 1 0 (omega arith))) next.0 next.1 in
     record {
       command = goes.command;
       rest = 0 ∷ goes.rest;
@@ -132,8 +97,7 @@ by_need : (bytes : List ℕ) → All IsByte bytes → (told : Need) → needed b
     → IsShort told (length bytes) → Goes bytes
 by_need bytes low (Exactly n) told short = by_zeros bytes n low told short
 by_need bytes low More told short = by_subcommand bytes low told short
-by_need bytes low Foreign told short = absurd short
-by_need bytes low Outside told short = absurd short
+by_need bytes low need told short = absurd short
 
 -- open bytes are the front of a command's block
 pub open_is_a_front : (bytes : List ℕ) → All IsByte bytes → IsOpen bytes
@@ -145,9 +109,7 @@ open_is_a_front bytes low open_bytes =
 short_of : (told : Need) (count whole : ℕ) → count < whole → IsTold told count whole
     → IsShort told count
 short_of (Exactly n) count whole less told = omega (arith, told)
-short_of More count whole less told = told
-short_of Foreign count whole less told = told
-short_of Outside count whole less told = told
+short_of need count whole less told = told
 
 some_long : (rest : List ℕ) → rest ≢ [] → 0 < length rest
 some_long [] more = absurd (more refl)

@@ -1,5 +1,5 @@
 -- A block has one command or one fault.
-use Rattle.std.proofs.Common.{◌≡◌, ℕ, ◌+◌, ◌*◌, ◌/◌, ◌%◌, List, length, slice_index, drop, if◌then◌else◌, Result, Ok, Err, IfOk, IfErr, arith, refl, ap, sym, subst, ◌∙◌}
+use Rattle.std.proofs.Common.{◌≡◌, ℕ, ◌%◌, List, length, slice_index, drop, if◌then◌else◌, Result, Ok, Err, IfOk, IfErr, arith, refl, ap, sym, subst, ◌∙◌}
 use Rattle.mdb_blocks.specs.Block.{block_of}
 use Rattle.mdb_msgs.specs.declared.command.Command.{Command}
 use Rattle.mdb_msgs.specs.declared.command.Command.TheVariants.{Changer, Bill, Reader}
@@ -10,7 +10,7 @@ use Rattle.mdb_msgs.specs.declared.command.ReaderUnit.TheVariants.{First, Second
 use Rattle.mdb_msgs.specs.declared.fault.MsgFault.{MsgFault}
 use Rattle.mdb_msgs.specs.declared.fault.MsgFault.TheVariants.{Length, Profile}
 use Rattle.mdb_msgs.specs.declared.need.Need.{Need}
-use Rattle.mdb_msgs.specs.declared.need.Need.TheVariants.{More, Exactly, Foreign, Outside}
+use Rattle.mdb_msgs.specs.declared.need.Need.TheVariants.{Exactly, Foreign, Outside}
 use Rattle.mdb_msgs.specs.CommandFaults.{IsCommandFault, IsRefused}
 use Rattle.mdb_msgs.specs.Commands.{Spells, command_bytes}
 use Rattle.mdb_msgs.specs.Needs.{is_for, needed}
@@ -27,43 +27,13 @@ command_at content =
     else if is_for 0x30 (slice_index content 0) then Bill (bill_at content)
     else Reader Second (reader_at (slice_index content 0 % 8) (drop 1 content))
 
-number : ℕ → ℕ
-number n = 256 * (n / 256) + n % 256
-
-whole_number : (n : ℕ) → number n ≡ n
-unfolding number
-whole_number n = omega arith
-
--- a command with two numbers
-with_numbers : (made : ℕ → ℕ → Command) (m n : ℕ) → made (number m) (number n) ≡ made m n
-with_numbers made m n = ap (λ k. made k (number n)) (whole_number m) ∙ ap (made m) (whole_number n)
-
 command_found : (command : Command) → command_at (command_bytes command) ≡ command
-unfolding command_at number
-command_found (Changer (changer.CoinType enable manual)) =
-    with_numbers (λ m n. Changer (changer.CoinType m n)) enable manual
-command_found (Changer command) = refl
-command_found (Bill (bill.BillType enable escrow)) = with_numbers (λ m n. Bill (bill.BillType m n))
-    enable escrow
-command_found (Bill command) = refl
-command_found (Reader First (reader.SetupPrices maximum minimum)) =
-    with_numbers (λ m n. Reader First (reader.SetupPrices m n)) maximum minimum
-command_found (Reader First (reader.VendRequest price item)) =
-    with_numbers (λ m n. Reader First (reader.VendRequest m n)) price item
-command_found (Reader First (reader.VendSuccess item)) =
-    ap (λ n. Reader First (reader.VendSuccess n)) (whole_number item)
-command_found (Reader First (reader.CashSale price item)) =
-    with_numbers (λ m n. Reader First (reader.CashSale m n)) price item
-command_found (Reader First command) = refl
-command_found (Reader Second (reader.SetupPrices maximum minimum)) =
-    with_numbers (λ m n. Reader Second (reader.SetupPrices m n)) maximum minimum
-command_found (Reader Second (reader.VendRequest price item)) =
-    with_numbers (λ m n. Reader Second (reader.VendRequest m n)) price item
-command_found (Reader Second (reader.VendSuccess item)) =
-    ap (λ n. Reader Second (reader.VendSuccess n)) (whole_number item)
-command_found (Reader Second (reader.CashSale price item)) =
-    with_numbers (λ m n. Reader Second (reader.CashSale m n)) price item
-command_found (Reader Second command) = refl
+unfolding command_at
+command_found (Changer changer.Reset) = refl
+command_found (Bill bill.Reset) = refl
+command_found (Reader First reader.Reset) = refl
+command_found (Reader Second reader.Reset) = refl
+command_found command = grind arith
 
 pub one_command : (block : List ℕ) (one other : Command) → Spells one block → Spells other block
     → one ≡ other
@@ -75,15 +45,9 @@ one_command block one other h k =
 one_refusal : (need : Need) (count : ℕ) (a b : MsgFault) → IsRefused need count a
     → IsRefused need count b → a ≡ b
 one_refusal (Exactly n) count Length Length h k = refl
-one_refusal (Exactly n) count Length b h k = absurd k
-one_refusal (Exactly n) count a b h k = absurd h
 one_refusal Foreign count Profile Profile h k = refl
-one_refusal Foreign count Profile b h k = absurd k
-one_refusal Foreign count a b h k = absurd h
 one_refusal Outside count Profile Profile h k = refl
-one_refusal Outside count Profile b h k = absurd k
-one_refusal Outside count a b h k = absurd h
-one_refusal More count a b h k = absurd h
+one_refusal need count a b h k = absurd (search)
 
 -- a block that is as long as it needs to be is not refused
 not_refused : (count : ℕ) (fault : MsgFault) → IsRefused (Exactly count) count fault → ⊥
@@ -93,28 +57,27 @@ not_refused count _ h = h
 command_has_no_fault : (block : List ℕ) (command : Command) (fault : MsgFault)
     → Spells command block → IsCommandFault block fault → ⊥
 command_has_no_fault block command fault h refused =
-    let P : Need → Type 0 = λ need. IsRefused need (length block) fault in
-    not_refused (length block) fault (subst P (whole block command h) refused)
+    not_refused (length block) fault (rw (whole block command h) at refused)
 
--- what reading a block found is the only thing that it spells
-pub only_command : (block content : List ℕ) (result : Result Command MsgFault)
-    → block ≡ block_of content → IfOk result (λ found. Spells found (block_of content))
-    → IfErr result (IsCommandFault (block_of content)) → (other : Command) → Spells other block
-    → result ≡ Ok other
-only_command block content (Ok found) e is fault other h =
-    ap Ok (one_command (block_of content) found other is (subst (Spells other) e h))
-only_command block content (Err a) e is fault other h =
-    absurd (command_has_no_fault (block_of content) other a (subst (Spells other) e h) fault)
+module _ {block : List ℕ} (content : List ℕ) (e : block ≡ block_of content) where
+  -- what reading a block found is the only thing that it spells
+  pub only_command : (result : Result Command MsgFault)
+      → IfOk result (λ found. Spells found (block_of content))
+      → IfErr result (IsCommandFault (block_of content)) → (other : Command) → Spells other block
+      → result ≡ Ok other
+  only_command (Ok found) is fault other h =
+      ap Ok (one_command (block_of content) found other is (subst (Spells other) e h))
+  only_command (Err a) is fault other h =
+      absurd (command_has_no_fault (block_of content) other a (subst (Spells other) e h) fault)
 
--- and its fault is the only one
-pub only_command_fault : (block content : List ℕ) (result : Result Command MsgFault)
-    → block ≡ block_of content → IfOk result (λ found. Spells found (block_of content))
-    → IfErr result (IsCommandFault (block_of content)) → (fault : MsgFault)
-    → IsCommandFault block fault → result ≡ Err fault
-only_command_fault block content (Ok found) e is fault b h =
-    let P : List ℕ → Type 0 = λ x. IsCommandFault x b in
-    absurd (command_has_no_fault (block_of content) found b is (subst P e h))
-only_command_fault block content (Err a) e is fault b h =
-    let P : List ℕ → Type 0 = λ x. IsCommandFault x b in
-    ap Err (one_refusal (needed (block_of content)) (length (block_of content)) a b fault
-    (subst P e h))
+  -- and its fault is the only one
+  pub only_command_fault : (result : Result Command MsgFault)
+      → IfOk result (λ found. Spells found (block_of content))
+      → IfErr result (IsCommandFault (block_of content)) → (fault : MsgFault)
+      → IsCommandFault block fault → result ≡ Err fault
+  only_command_fault (Ok found) is fault b h =
+      absurd (command_has_no_fault (block_of content) found b is
+      (subst (λ x. IsCommandFault x b) e h))
+  only_command_fault (Err a) is fault b h =
+      ap Err (one_refusal (needed (block_of content)) (length (block_of content)) a b fault
+      (subst (λ x. IsCommandFault x b) e h))

@@ -1,49 +1,27 @@
 -- The first two bytes of a command's block tell whether it is ENABLE OPTIONS.
-use Rattle.std.proofs.Common.{◌≡◌, ◌≢◌, ◌==◌, ◌||◌, ◌&&◌, ◌≤◌, ℕ, List, [], ◌∷◌, ◌++◌, length, false, All, inl, inr, arith, refl, ap, sym, ◌∙◌}
+use Rattle.std.proofs.Common.{◌≡◌, ◌≢◌, ◌==◌, ◌||◌, ◌&&◌, ◌≤◌, ◌⊎◌, ℕ, List, [], ◌∷◌, ◌++◌, length, false, All, inl, inr, arith, refl, ap, sym, ◌∙◌}
 use Rattle.std.proofs.lemmas.Bool.{cases_eq}
 use Rattle.std.proofs.lemmas.Bool.Decides.{nat_tests}
 use Rattle.std.proofs.lemmas.List.Elements.{All-from_recursion}
 use Rattle.mdb_blocks.specs.Block.{block_of}
 use Rattle.mdb_msgs.specs.declared.command.Command.{Command}
 use Rattle.mdb_msgs.specs.declared.command.Command.TheVariants.{Changer, Bill, Reader}
-use Rattle.mdb_msgs.specs.declared.command.BillCommand.{BillCommand}
 use Rattle.mdb_msgs.specs.declared.command.BillCommand.TheVariants as bill
-use Rattle.mdb_msgs.specs.declared.command.ChangerCommand.{ChangerCommand}
 use Rattle.mdb_msgs.specs.declared.command.ChangerCommand.TheVariants as changer
-use Rattle.mdb_msgs.specs.declared.command.ReaderCommand.{ReaderCommand}
 use Rattle.mdb_msgs.specs.declared.command.ReaderCommand.TheVariants as reader
 use Rattle.mdb_msgs.specs.declared.command.ReaderUnit.TheVariants.{First, Second}
-use Rattle.mdb_msgs.specs.Commands.{IsByte, Spells, bill_bytes, changer_bytes, command_bytes, is_enable_options, reader_bytes}
+use Rattle.mdb_msgs.specs.Commands.{IsByte, Spells, command_bytes, is_enable_options}
 use Rattle.mdb_msgs.specs.Needs.{begins_options}
 use Rattle.mdb_msgs.specs.OpenBlocks.{IsOpen}
 use Rattle.mdb_msgs.proofs.Fronts.{open_is_a_front}
 
-changers : (command : ChangerCommand) → begins_options (block_of (changer_bytes command)) ≡ false
-changers changer.Reset = refl
-changers command = refl
-
-bills : (command : BillCommand) → begins_options (block_of (bill_bytes command)) ≡ false
-bills bill.Reset = refl
-bills command = refl
-
-firsts : (command : ReaderCommand)
-    → begins_options (block_of (reader_bytes 0x10 command))
-    ≡ is_enable_options (Reader First command)
-firsts reader.Reset = refl
-firsts command = refl
-
-seconds : (command : ReaderCommand)
-    → begins_options (block_of (reader_bytes 0x60 command))
-    ≡ is_enable_options (Reader Second command)
-seconds reader.Reset = refl
-seconds command = refl
-
 its_own : (command : Command)
     → begins_options (block_of (command_bytes command)) ≡ is_enable_options command
-its_own (Changer command) = changers command
-its_own (Bill command) = bills command
-its_own (Reader First command) = firsts command
-its_own (Reader Second command) = seconds command
+its_own (Changer changer.Reset) = refl
+its_own (Bill bill.Reset) = refl
+its_own (Reader First reader.Reset) = refl
+its_own (Reader Second reader.Reset) = refl
+its_own command = refl
 
 pub two_tell : (prefix rest : List ℕ) (command : Command) → 2 ≤ length prefix
     → Spells command (prefix ++ rest) → begins_options prefix ≡ is_enable_options command
@@ -58,19 +36,26 @@ Another bytes =
     (command : Command) × (rest : List ℕ) × (rest ≢ []) × Spells command (bytes ++ rest)
     × (is_enable_options command ≡ false)
 
+-- so are those of a command that the first two bytes tell
+by_two : (first second : ℕ) (bytes : List ℕ) → All IsByte (first ∷ second ∷ bytes)
+    → IsOpen (first ∷ second ∷ bytes) → begins_options (first ∷ second ∷ bytes) ≡ false
+    → Another (first ∷ second ∷ bytes)
+by_two first second bytes low short other =
+    let found = open_is_a_front (first ∷ second ∷ bytes) low short in (
+      found.0,
+      found.1,
+      found.2,
+      found.3,
+      sym (two_tell (first ∷ second ∷ bytes) found.1 found.0 (omega arith) found.3) ∙ other,
+    )
+
 -- a first byte is, where the subcommand 00 leaves more open
 by_zero : (first : ℕ) → IsByte first → IsOpen (first ∷ 0 ∷ [])
     → begins_options (first ∷ 0 ∷ []) ≡ false → Another (first ∷ [])
 by_zero first low short other =
-    let found = open_is_a_front (first ∷ 0 ∷ [])
-    (All-from_recursion IsByte (first ∷ 0 ∷ []) (low, (omega arith, tt))) short in (
-      found.0,
-      0 ∷ found.1,
-      λ none. cc none,
-      found.3,
-      sym (two_tell (first ∷ 0 ∷ []) found.1 found.0 (omega arith) found.3)
-          ∙ other,
-    )
+    let found = by_two first 0 []
+    (All-from_recursion IsByte (first ∷ 0 ∷ []) (low, (omega arith, tt))) short other in
+    (found.0, 0 ∷ found.1, λ none. cc none, found.3, found.4)
 
 -- a command with another first byte is another
 by_first : (first : ℕ) (rest : List ℕ) (command : Command)
@@ -82,34 +67,20 @@ by_first first (second ∷ rest) command other more spells =
     ∙ ap (λ b. b && (second == 0x04)) other
 
 one_byte : (first : ℕ) → All IsByte (first ∷ []) → IsOpen (first ∷ []) → Another (first ∷ [])
-one_byte first low short =
-    elim (cases_eq first 0x17) [
-      | inl one ↦ rw one (by_zero 0x17 (omega arith) (omega arith) refl)
-      | inr not_one ↦
-          elim (cases_eq first 0x67) [
-            | inl two ↦ rw two (by_zero 0x67 (omega arith) (omega arith) refl)
-            | inr not_two ↦
-                let other : (first == 0x17 || first == 0x67) ≡ false = grind (arith, nat_tests) in
-                let found = open_is_a_front (first ∷ []) low short in (
-                  found.0,
-                  found.1,
-                  found.2,
-                  found.3,
-                  by_first first found.1 found.0 other found.2 found.3,
-                )
-          ]
-    ]
+one_byte first low short = by (cases_eq first 0x17) (cases_eq first 0x67)
+  where
+    by : (first ≡ 0x17) ⊎ (first ≢ 0x17) → (first ≡ 0x67) ⊎ (first ≢ 0x67) → Another (first ∷ [])
+    by (inl one) two = rw one (by_zero 0x17 (omega arith) (omega arith) refl)
+    by (inr not_one) (inl two) = rw two (by_zero 0x67 (omega arith) (omega arith) refl)
+    by (inr not_one) (inr not_two) =
+        let other : (first == 0x17 || first == 0x67) ≡ false = grind (arith, nat_tests) in
+        let found = open_is_a_front (first ∷ []) low short in
+        let another = by_first first found.1 found.0 other found.2 found.3 in
+        (found.0, found.1, found.2, found.3, another)
 
 pub open_is_anothers_front : (bytes : List ℕ) → All IsByte bytes → IsOpen bytes
     → begins_options bytes ≡ false → Another bytes
 open_is_anothers_front [] low short other = absurd short
 open_is_anothers_front (first ∷ []) low short other = one_byte first low short
 open_is_anothers_front (first ∷ second ∷ bytes) low short other =
-    let found = open_is_a_front (first ∷ second ∷ bytes) low short in (
-      found.0,
-      found.1,
-      found.2,
-      found.3,
-      sym (two_tell (first ∷ second ∷ bytes) found.1 found.0 (omega arith) found.3)
-          ∙ other,
-    )
+    by_two first second bytes low short other

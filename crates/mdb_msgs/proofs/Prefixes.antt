@@ -1,5 +1,5 @@
 -- What the first bytes of a block tell of its length.
-use Rattle.std.proofs.Common.{◌≡◌, ◌<◌, ℕ, List, [], ◌∷◌, ◌++◌, rules, length, Option, Some, None, arith, refl, subst, sym}
+use Rattle.std.proofs.Common.{◌≡◌, ◌<◌, ℕ, List, [], ◌∷◌, ◌++◌, length, Option, Some, None, arith, refl}
 use Rattle.std.proofs.lemmas.Grind.{common_steps}
 use Rattle.mdb_msgs.specs.declared.command.Command.{Command}
 use Rattle.mdb_msgs.specs.declared.command.Command.TheVariants.{Changer, Bill, Reader}
@@ -17,31 +17,21 @@ use Rattle.mdb_msgs.specs.OpenBlocks.{IsTold, TellsLength}
 pub whole : (block : List ℕ) (command : Command) → Spells command block
     → needed block ≡ Exactly (length block)
 whole block (Changer command) spelled = grind (arith, common_steps)
-whole block (Bill (bill.Security levels)) spelled = grind (arith, common_steps)
-whole block (Bill (bill.BillType enable escrow)) spelled = grind (arith, common_steps)
-whole block (Bill (bill.Features features)) spelled = grind (arith, common_steps)
-whole block (Bill command) spelled = grind (arith, common_steps)
-whole block (Reader First (reader.RequestId identity)) spelled = grind (arith, common_steps)
-whole block (Reader Second (reader.RequestId identity)) spelled = grind (arith, common_steps)
-whole block (Reader First (reader.EnableOptions options)) spelled = grind (arith, common_steps)
-whole block (Reader Second (reader.EnableOptions options)) spelled = grind (arith, common_steps)
-whole block (Reader First command) spelled = search rules
-whole block (Reader Second command) spelled = search rules
+whole block (Bill bill.Reset) spelled = grind (arith, common_steps)
+whole block (Reader First reader.Reset) spelled = grind (arith, common_steps)
+whole block (Reader Second reader.Reset) spelled = grind (arith, common_steps)
+whole block command spelled = grind (arith, common_steps)
 
 -- what two bytes tell, the first tells or leaves to the second
 first_byte : (device : Option Device) (first second n : ℕ)
     → need_for device first (Some second) ≡ Exactly n → IsTold (need_for device first None) 1 n
 first_byte (Some device.Changer) first second n told = grind (arith, common_steps)
-first_byte (Some device.Bill) first second n told = grind (arith, common_steps)
-first_byte (Some (device.Reader unit)) first second n told = grind (arith, common_steps)
-first_byte None first second n told = cc
+first_byte device first second n told = grind (arith, common_steps)
 
 -- no block has one byte
 none_alone : (device : Option Device) (first : ℕ) → need_for device first None ≡ Exactly 1 → ⊥
 none_alone (Some device.Changer) first told = grind (arith, common_steps)
-none_alone (Some device.Bill) first told = grind (arith, common_steps)
-none_alone (Some (device.Reader unit)) first told = grind (arith, common_steps)
-none_alone None first told = cc
+none_alone device first told = grind (arith, common_steps)
 
 pub first_bytes : (prefix rest : List ℕ) (command : Command) → 0 < length prefix
     → Spells command (prefix ++ rest) → TellsLength prefix (length (prefix ++ rest))
@@ -52,8 +42,4 @@ first_bytes (first ∷ []) (second ∷ rest) command some spelled =
     first_byte (device_at first) first second (length (first ∷ second ∷ rest))
     (whole (first ∷ second ∷ rest) command spelled)
 first_bytes (first ∷ second ∷ bytes) rest command some spelled =
-    let e : needed (first ∷ second ∷ (bytes ++ rest))
-    ≡ Exactly (length (first ∷ second ∷ (bytes ++ rest))) = whole (first ∷ second ∷ (bytes ++ rest))
-    command spelled in
-    subst (λ (n : _). IsTold n (length (first ∷ second ∷ bytes))
-    (length (first ∷ second ∷ (bytes ++ rest)))) (sym e) refl
+    rw (whole (first ∷ second ∷ (bytes ++ rest)) command spelled) refl

@@ -37,41 +37,30 @@ told_same TimeAsked TimeAsked h = refl
 told_same a b h = absurd (never h)
 
 is_same : (a : ReaderMsg) → eq-value.it a a ≡ true
-is_same (Config level code scale decimals response options) = grind (arith, nat_tests)
-is_same (Display time) = grind (arith, nat_tests)
-is_same (BeginSession funds) = grind (arith, nat_tests)
-is_same (BeginSessionLong funds media kind details) = grind (arith, nat_tests)
-is_same (VendApproved amount) = grind (arith, nat_tests)
-is_same (Malfunction code) = grind (arith, nat_tests)
-is_same (OutOfSequenceIn status) = grind (arith, nat_tests)
-is_same (PeripheralIdWithOptions options) = grind (arith, nat_tests)
-is_same _ = refl
+is_same JustReset = refl
+is_same m = grind (arith, nat_tests)
 
 pub same_again : (a b : ReaderMsg) → a ≡ b → eq-value.it a b ≡ true
 same_again a b e = subst (λ m. eq-value.it a m ≡ true) e (is_same a)
 
--- a list's bytes are read, and as the list
-pub never_refused : (r : Reading) (given : ReaderMessages) (bytes : List ℕ)
-    (read : Result ReaderMessages MsgFault) → r ≡ reading_of given.messages
-    → bytes ≡ reader_list_bytes given → IfErr read (ReaderStopsAt r bytes)
-    → result_ok read ≡ None → IsReaderList given → ⊥
-never_refused r given bytes (Ok list) own e err none h = absurd (cc)
-never_refused r given bytes (Err fault) own e err none h =
-    reader_no_stop r given fault (subst (λ q. AreReaderMsgs q given []) (sym own) h.stand)
-    (subst (λ b. ReaderStopsAt r b fault) e err)
+module _ (r : Reading) (given : ReaderMessages) (bytes : List ℕ) where
+  -- a list's bytes are read, and as the list
+  pub never_refused : (read : Result ReaderMessages MsgFault) → r ≡ reading_of given.messages
+      → bytes ≡ reader_list_bytes given → IfErr read (ReaderStopsAt r bytes)
+      → result_ok read ≡ None → IsReaderList given → ⊥
+  never_refused (Ok list) own e err none h = absurd (cc)
+  never_refused (Err fault) own e err none h =
+      reader_no_stop r given fault (rw own h.stand) (subst (λ b. ReaderStopsAt r b fault) e err)
 
-pub read_back : (r : Reading) (given list : ReaderMessages) (bytes : List ℕ)
-    (read : Result ReaderMessages MsgFault) → r ≡ reading_of given.messages
-    → bytes ≡ reader_list_bytes given
-    → IfOk read IsReaderList → IfOk read (λ l. AreReaderMsgs r l [])
-    → IfOk read (λ l. bytes ≡ reader_list_bytes l)
-    → result_ok read ≡ Some list → IsReaderList given → list ≡ given
-read_back r given list bytes (Ok l) own e is is_in spelled some h =
-    let same : l ≡ list = cc in
-    let given_in : AreReaderMsgs r given [] =
-    subst (λ q. AreReaderMsgs q given []) (sym own) h.stand in
-    sym same ∙ one_reader_list r l given is h is_in given_in (sym spelled ∙ e)
-read_back r given list bytes (Err fault) own e is is_in spelled some h = absurd (cc)
+  pub read_back : (list : ReaderMessages) (read : Result ReaderMessages MsgFault)
+      → r ≡ reading_of given.messages → bytes ≡ reader_list_bytes given
+      → IfOk read IsReaderList → IfOk read (λ l. AreReaderMsgs r l [])
+      → IfOk read (λ l. bytes ≡ reader_list_bytes l)
+      → result_ok read ≡ Some list → IsReaderList given → list ≡ given
+  read_back list (Ok l) own e is is_in spelled some h =
+      let same : list ≡ l = cc in
+      same ∙ one_reader_list r l given is h is_in (rw own h.stand) (sym spelled ∙ e)
+  read_back list (Err fault) own e is is_in spelled some h = absurd (cc)
 
 -- the bytes are too many with all messages, where they are with one more
 pub no_room : (id text : List ℕ) (ms : List ReaderMsg) (i : ℕ) (d : ReaderMsg) (bytes : List ℕ)
@@ -79,7 +68,4 @@ pub no_room : (id text : List ℕ) (ms : List ReaderMsg) (i : ℕ) (d : ReaderMs
     → 35 < length bytes + length (reader_msg_bytes id text (get_or ms i d))
     → 35 < length (flat_map (reader_msg_bytes id text) ms)
 no_room id text ms i d bytes below e over =
-    let fits = length-flat_map-take (reader_msg_bytes id text) ms i d below in
-    let same : length bytes ≡ length (flat_map (reader_msg_bytes id text) (take i ms)) =
-    ap length e in
-    omega arith
+    omega (arith, length-flat_map-take (reader_msg_bytes id text) ms i d below, ap length e)

@@ -1,5 +1,6 @@
 -- The readings of a reader's messages.
-use Rattle.std.proofs.Common.{◌≡◌, ℕ, ◌+◌, ◌/◌, ◌<◌, ◌==◌, ◌⊎◌, inl, inr, if◌then◌else◌, Bool, true, false, ◌||◌, List, [], ◌∷◌, ◌++◌, refl, sym, ap, subst, ◌∙◌, get_or, length, take}
+use Rattle.std.proofs.Common.{◌≡◌, ℕ, ◌+◌, ◌/◌, ◌<◌, ◌==◌, inl, inr, if◌then◌else◌, Bool, true, false, ◌||◌, List, [], ◌∷◌, ◌++◌, refl, ap, ◌∙◌, get_or, length, take}
+use Rattle.std.proofs.lemmas.Bool.{cases_Bool}
 use Rattle.std.specs.List.{list_any}
 use Rattle.std.proofs.lemmas.List.{take_more}
 use Rattle.mdb_msgs.specs.declared.reading.Ids.{Ids}
@@ -25,10 +26,10 @@ or_second false h = h
 
 -- how many bytes 03 has after its first
 pub short_bytes : (r : Reading) → r.is_long ≡ false → session_bytes r ≡ 2
-short_bytes r h = ap (λ b. if b then 9 else 2) h
+short_bytes r h = rw h
 
 pub long_bytes : (r : Reading) → r.is_long ≡ true → session_bytes r ≡ 9
-long_bytes r h = ap (λ b. if b then 9 else 2) h
+long_bytes r h = rw h
 
 -- ---- how identifications are read
 
@@ -37,81 +38,63 @@ abbrev Narrower : Ids → Ids → Type 0
 Narrower a b = (next : ℕ) → allows a next ≡ true → allows b next ≡ true
 
 first_narrower : (a b : Ids) → Narrower a (wider a b)
-first_narrower Full b next is = is
 first_narrower ByNext Full next is = refl
-first_narrower ByNext Bare next is = is
-first_narrower ByNext ByNext next is = is
+first_narrower ByNext b next is = is
+first_narrower Full b next is = is
 first_narrower Bare b next is = absurd (cc is)
 
 second_narrower : (a b : Ids) → Narrower b (wider a b)
-second_narrower Full b next is = refl
-second_narrower ByNext Full next is = is
 second_narrower ByNext Bare next is = absurd (cc is)
-second_narrower ByNext ByNext next is = is
+second_narrower ByNext b next is = is
+second_narrower Full b next is = refl
 second_narrower Bare b next is = is
 
 both_narrower : (a b c : Ids) → Narrower a c → Narrower b c → Narrower (wider a b) c
-both_narrower Full b c one other = one
 both_narrower ByNext Full c one other = other
-both_narrower ByNext Bare c one other = one
-both_narrower ByNext ByNext c one other = one
 both_narrower Bare b c one other = other
+both_narrower ByNext b c one other = one
+both_narrower Full b c one other = one
 
 -- options are allowed by what they ask for, which is the least that allows them
 asked_for : (next : ℕ) → allows (if next == 0 then ByNext else Full) next ≡ true
-asked_for next = elim (next == 0) as (λ b. (next == 0) ≡ b
-    → allows (if b then ByNext else Full) next ≡ true) [
-      | true ↦ λ e. e
-      | false ↦ λ e. refl
-    ] refl
+asked_for next = elim (cases_Bool (next == 0)) [ inl e ↦ rw e e | inr e ↦ rw e refl ]
 
 least_asked : (ids : Ids) (next : ℕ) → allows ids next ≡ true
     → Narrower (if next == 0 then ByNext else Full) ids
 least_asked Bare next is = absurd (cc is)
-least_asked ByNext next is = λ other e.
-    subst (λ b. allows (if b then ByNext else Full) other ≡ true → (other == 0) ≡ true) (sym is)
-    (λ same. same) e
+least_asked ByNext next is = λ other e. rw is at e
 least_asked Full next is = λ other e. refl
 
 -- where the one takes no options, a narrower one doesn't
 fewer : (a b : Ids) (after : List ℕ) → Narrower a b → takes_options b after ≡ false
     → takes_options a after ≡ false
-fewer a b (first ∷ second ∷ third ∷ fourth ∷ rest) narrower none = by (allows a first) refl
-  where
-    by : (is : Bool) → allows a first ≡ is → allows a first ≡ false
-    by true e = let also = narrower first e in absurd (cc (also, none))
-    by false e = e
+fewer a b (first ∷ second ∷ third ∷ fourth ∷ rest) narrower none =
+    elim (cases_Bool (allows a first)) [
+      | inl e ↦ absurd (cc (narrower first e, none))
+      | inr e ↦ e
+    ]
 fewer a b after narrower none = refl
 
 -- what messages ask for, with one more
 wider_all : (a b c : Ids) → wider a (wider b c) ≡ wider (wider a b) c
-wider_all Full b c = refl
-wider_all ByNext Full c = refl
-wider_all ByNext Bare c = refl
 wider_all ByNext ByNext Full = refl
-wider_all ByNext ByNext Bare = refl
-wider_all ByNext ByNext ByNext = refl
-wider_all Bare b c = refl
+wider_all a b c = refl
 
 wider_bare : (a : Ids) → wider a Bare ≡ a
 wider_bare Full = refl
-wider_bare ByNext = refl
-wider_bare Bare = refl
+wider_bare a = refl
 
 pub own_more : (ms : List ReaderMsg) (m : ReaderMsg)
     → own_ids (ms ++ m ∷ []) ≡ wider (own_ids ms) (ids_of m)
 own_more [] m = wider_bare (ids_of m)
-own_more (first ∷ ms) m =
-    ap (wider (ids_of first)) (own_more ms m)
+own_more (first ∷ ms) m = ap (wider (ids_of first)) (own_more ms m)
     ∙ wider_all (ids_of first) (own_ids ms) (ids_of m)
 
 pub own_next : (ms : List ReaderMsg) (i : ℕ) (ids : Ids) → i < length ms
     → ids ≡ own_ids (take i ms)
     → wider ids (ids_of (get_or ms i JustReset)) ≡ own_ids (take (i + 1) ms)
 own_next ms i ids below e =
-    ap (λ x. wider x (ids_of (get_or ms i JustReset))) e
-    ∙ sym (own_more (take i ms) (get_or ms i JustReset))
-    ∙ ap own_ids (sym (take_more ms i JustReset below))
+    rw (take_more ms i JustReset below, own_more (take i ms) (get_or ms i JustReset), e) refl
 
 -- ---- messages of a reading are of a narrower one that has them
 
@@ -121,11 +104,8 @@ Standing r id text ms tail = Stand (reader_msg_bytes id text) (IsReaderMsg r id 
 module _ (r own : Reading) (longer : own.is_long ≡ true → r.is_long ≡ true)
     (narrower : Narrower own.ids r.ids) where
   short : r.is_long ≡ false → own.is_long ≡ false
-  short e = by own.is_long longer
-    where
-      by : (b : Bool) → (b ≡ true → r.is_long ≡ true) → b ≡ false
-      by true more = sym (more refl) ∙ e
-      by false more = refl
+  short e =
+      elim (cases_Bool own.is_long) [ inl long ↦ absurd (cc (longer long, e)) | inr other ↦ other ]
 
   one_in : (m : ReaderMsg) (text rest : List ℕ) → (has_long m ≡ true → own.is_long ≡ true)
       → Narrower (ids_of m) own.ids → IsTextOf r m text rest → IsTextOf own m text rest
@@ -152,42 +132,40 @@ module _ (r own : Reading) (longer : own.is_long ≡ true → r.is_long ≡ true
         (λ next is. asked next (second_narrower (ids_of m) (own_ids ms) next is)) stand.1,
   )
 
--- a message of feature levels 2 and 3 stands in their reading alone
-one_is_long : (r : Reading) (m : ReaderMsg) (text rest : List ℕ) → has_long m ≡ true
-    → IsTextOf r m text rest → r.is_long ≡ true
-one_is_long r (BeginSessionLong funds media kind details) text rest long is = is.1
-one_is_long r (OutOfSequenceIn status) text rest long is = is.1
-one_is_long r TimeAsked text rest long is = is.1
-one_is_long r m text rest long is = absurd (cc)
+module _ (r : Reading) where
+  -- a message of feature levels 2 and 3 stands in their reading alone
+  one_is_long : (m : ReaderMsg) (text rest : List ℕ) → has_long m ≡ true
+      → IsTextOf r m text rest → r.is_long ≡ true
+  one_is_long (BeginSessionLong funds media kind details) text rest long is = is.1
+  one_is_long (OutOfSequenceIn status) text rest long is = is.1
+  one_is_long TimeAsked text rest long is = is.1
+  one_is_long m text rest long is = absurd (cc)
 
--- and what it asks for is allowed
-one_asks : (r : Reading) (m : ReaderMsg) (text rest : List ℕ) → IsTextOf r m text rest
-    → Narrower (ids_of m) r.ids
-one_asks r (PeripheralIdWithOptions options) text rest is = least_asked r.ids _ is.2
-one_asks r m text rest is = λ next no. absurd (cc no)
+  -- and what it asks for is allowed
+  one_asks : (m : ReaderMsg) (text rest : List ℕ) → IsTextOf r m text rest
+      → Narrower (ids_of m) r.ids
+  one_asks (PeripheralIdWithOptions options) text rest is = least_asked r.ids _ is.2
+  one_asks m text rest is = λ next no. absurd (cc no)
 
-long_says : (r : Reading) (id text : List ℕ) (ms : List ReaderMsg) (tail : List ℕ)
-    → Standing r id text ms tail → list_any has_long ms ≡ true → r.is_long ≡ true
-long_says r id text [] tail stand some = absurd (cc)
-long_says r id text (m ∷ ms) tail stand some = by (long_says r id text ms tail stand.1)
-    (has_long m) refl
-  where
-    by : (list_any has_long ms ≡ true → r.is_long ≡ true) → (b : Bool) → has_long m ≡ b
+  module _ (id text tail : List ℕ) where
+    long_says : (ms : List ReaderMsg) → Standing r id text ms tail → list_any has_long ms ≡ true
         → r.is_long ≡ true
-    by more true e = one_is_long r m _ _ e stand.0
-    by more false e = more (or_first (has_long m) (list_any has_long ms) some e)
+    long_says [] stand some = absurd (cc)
+    long_says (m ∷ ms) stand some =
+        elim (cases_Bool (has_long m)) [
+          | inl e ↦ one_is_long m _ _ e stand.0
+          | inr e ↦ long_says ms stand.1 (or_first (has_long m) (list_any has_long ms) some e)
+        ]
 
-ids_say : (r : Reading) (id text : List ℕ) (ms : List ReaderMsg) (tail : List ℕ)
-    → Standing r id text ms tail → Narrower (own_ids ms) r.ids
-ids_say r id text [] tail stand = λ next no. absurd (cc no)
-ids_say r id text (m ∷ ms) tail stand =
-    both_narrower (ids_of m) (own_ids ms) r.ids (one_asks r m _ _ stand.0)
-    (ids_say r id text ms tail stand.1)
+    ids_say : (ms : List ReaderMsg) → Standing r id text ms tail → Narrower (own_ids ms) r.ids
+    ids_say [] stand = λ next no. absurd (cc no)
+    ids_say (m ∷ ms) stand = both_narrower (ids_of m) (own_ids ms) r.ids
+        (one_asks m _ _ stand.0) (ids_say ms stand.1)
 
--- messages of a reading are of the one that they are kept in
-pub in_own : (r : Reading) (list : ReaderMessages) → AreReaderMsgs r list []
-    → AreReaderMsgs (reading_of list.messages) list []
-in_own r list stand =
-    all_in r (reading_of list.messages) (long_says r list.id list.text list.messages [] stand)
-    (ids_say r list.id list.text list.messages [] stand) list.id list.text list.messages []
-    (λ e. e) (λ next e. e) stand
+  -- messages of a reading are of the one that they are kept in
+  pub in_own : (list : ReaderMessages) → AreReaderMsgs r list []
+      → AreReaderMsgs (reading_of list.messages) list []
+  in_own list stand =
+      all_in r (reading_of list.messages) (long_says list.id list.text [] list.messages stand)
+      (ids_say list.id list.text [] list.messages stand) list.id list.text list.messages []
+      (λ e. e) (λ next e. e) stand

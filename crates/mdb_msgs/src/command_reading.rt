@@ -66,6 +66,7 @@ pub fn polled(content: &[u8]) -> Option<Device>
 }
 
 /// The command whose bytes these are.
+#[tactic(auto, using(crate::proofs::Addresses::refused_by_reader))]
 fn device_command(content: &[u8]) -> Result<Command, MsgFault>
     requires { 0 < length content.now }
     ensures command { IfOk result (λ command. Spells command (block_of content.now)) }

@@ -12,6 +12,7 @@ ghost use Rattle.mdb_msgs.specs.OpenBlocks.{TellsLength};
 ghost use Rattle.mdb_msgs.specs.Laws.{OpenIsAFront, OpenIsAnothersFront, FrontIsOpen, BlockHasOneReply, ReplyHasItsLength, DataFitsABlock, DataIsAReplyOrHasAFault, ReplyHasNoFault, BytesHaveOneFault, AnswerTellsOneSetup};
 
 /// A block has at most one command.
+#[tactic(auto, using(crate::proofs::OneCommand::one_command))]
 pub fn block_has_one_command()
     ensures { (block : List ℕ) (one other : Command) →
         Spells one block → Spells other block → one ≡ other }
@@ -33,6 +34,7 @@ pub fn first_bytes_tell_the_length()
 
 /// The first byte of a command's block names its device and no other. It names a device of a set
 /// exactly if that device is in the set.
+#[tactic(auto, using(crate::proofs::Addressed::first_tells))]
 pub fn first_byte_tells_the_device()
     ensures { (block : List ℕ) (command : Command) → Spells command block → (set : DeviceSet)
         → is_to_one_of set (slice_index block 0) ≡ has set (device_of command) }
@@ -46,6 +48,7 @@ pub fn first_two_bytes_tell_enable_options()
 {}
 
 /// Bytes of the length that they need are those of a command.
+#[tactic(auto, using(crate::proofs::Contents::spelled))]
 pub fn what_it_needs_is_a_command()
     ensures { (content : List ℕ) →
         All IsByte content → needed content ≡ Exactly (length content + 1) →
@@ -53,11 +56,13 @@ pub fn what_it_needs_is_a_command()
 {}
 
 /// Bytes that need more of them are the beginning of some command's block.
+#[tactic(auto, using(crate::proofs::Fronts::open_is_a_front))]
 pub fn need_leaves_a_command_open()
     ensures { OpenIsAFront }
 {}
 
 /// Such bytes that don't begin as ENABLE OPTIONS are the beginning of another command's block.
+#[tactic(auto, using(crate::proofs::Options::open_is_anothers_front))]
 pub fn need_leaves_another_command_open()
     ensures { OpenIsAnothersFront }
 {}
@@ -73,6 +78,7 @@ pub fn block_has_one_reply()
 {}
 
 /// The command allows the number of data bytes of its reply, and that number is 1 to 35.
+#[tactic(auto, using(crate::proofs::SomeReply::one_to_35))]
 pub fn reply_has_its_length()
     ensures allowed { ReplyHasItsLength }
     ensures fits { DataFitsABlock }
@@ -84,11 +90,13 @@ pub fn data_is_a_reply_or_has_a_fault()
 {}
 
 /// Data bytes that are a reply to a command have no fault.
+#[tactic(auto, using(crate::proofs::OneReply::reply_has_no_fault))]
 pub fn reply_has_no_fault()
     ensures { ReplyHasNoFault }
 {}
 
 /// For a command, data bytes have at most one fault.
+#[tactic(auto, using(crate::proofs::OneReply::one_read_fault))]
 pub fn bytes_have_one_fault()
     ensures { BytesHaveOneFault }
 {}

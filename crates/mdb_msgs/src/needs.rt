@@ -12,6 +12,7 @@ use crate::need::Need;
 /// commands of the coin changer, the bill validator and the cashless device, as far as this profile
 /// follows them).
 #[inline(always)]
+#[tactic(auto, using(crate::proofs::FirstBytes::first_at, crate::proofs::FirstBytes::stays))]
 pub fn need_of(prefix: &[u8]) -> Need
     requires { 0 < length prefix.now }
     ensures { result ≡ needed prefix.now }

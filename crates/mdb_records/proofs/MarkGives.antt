@@ -17,10 +17,9 @@ gives-cons b text given (inr m) = inr (b ∷ m.0, m.1, ap (λ r. b ∷ r) m.2, a
 marked-gives : (left : ℕ) (text : List ℕ)
     → (marked left text ≡ text) ⊎ HasMark text (marked left text)
 unfolding marked
-marked-gives zero [] = inl refl
-marked-gives (suc left) [] = inl refl
 marked-gives zero (b ∷ text) = inr ([], b ∷ text, refl, refl)
 marked-gives (suc left) (b ∷ text) = gives-cons b text (marked left text) (marked-gives left text)
+marked-gives left [] = inl refl
 
 -- either way the text is given
 pub whole : (text given : List ℕ) → (given ≡ text) ⊎ HasMark text given → Gives text given
@@ -70,17 +69,11 @@ at-bom before after rest given false high e = inr (inl (before, after, refl, e))
 pub gives-stripped : (limit : ℕ) (text : List ℕ)
     → Gives (strip_bom text) (strip_bom (marked limit text))
 unfolding strip_bom marked
-gives-stripped zero [] = inl refl
-gives-stripped (suc limit) [] = inl refl
 gives-stripped zero (a ∷ []) = inr (inl ([], a ∷ [], refl, refl))
-gives-stripped (suc zero) (a ∷ []) = inl refl
-gives-stripped (suc (suc limit)) (a ∷ []) = inl refl
 gives-stripped zero (a ∷ b ∷ []) = inr (inl ([], a ∷ b ∷ [], refl, refl))
-gives-stripped (suc zero) (a ∷ b ∷ []) = inr (inl (a ∷ [], b ∷ [], refl, rw neither refl))
-gives-stripped (suc (suc zero)) (a ∷ b ∷ []) = inl refl
-gives-stripped (suc (suc (suc limit))) (a ∷ b ∷ []) = inl refl
 gives-stripped zero (a ∷ b ∷ c ∷ rest) =
     at-bom [] (a ∷ b ∷ c ∷ rest) rest _ (is_bom a b c) (λ _. All-nil (λ b. 128 ≤ b)) refl
+gives-stripped (suc zero) (a ∷ b ∷ []) = inr (inl (a ∷ [], b ∷ [], refl, rw neither refl))
 gives-stripped (suc zero) (a ∷ b ∷ c ∷ rest) =
     at-bom (a ∷ []) (b ∷ c ∷ rest) rest _ (is_bom a b c)
     (λ e. All-cons (λ b. 128 ≤ b) a [] (bom-high a b c e).0 (All-nil (λ b. 128 ≤ b)))
@@ -91,14 +84,14 @@ gives-stripped (suc (suc zero)) (a ∷ b ∷ c ∷ rest) =
     (All-cons (λ b. 128 ≤ b) b [] (bom-high a b c e).1 (All-nil (λ b. 128 ≤ b))))
     (rw never refl)
 gives-stripped (suc (suc (suc limit))) (a ∷ b ∷ c ∷ rest) = past-bom a b c limit rest (is_bom a b c)
+gives-stripped limit text = inl refl
 
 -- no mark is put into a text within the limit
 pub marked-within : (limit : ℕ) (text : List ℕ) → length text ≤ limit → marked limit text ≡ text
 unfolding marked
-marked-within zero [] h = refl
-marked-within (suc limit) [] h = refl
 marked-within zero (b ∷ text) h = absurd (omega arith)
 marked-within (suc limit) (b ∷ text) h = ap (λ r. b ∷ r) (marked-within limit text (omega arith))
+marked-within limit [] h = refl
 
 -- the mark is put into a text that is longer than the limit
 marked-over : (limit : ℕ) (text : List ℕ) → limit < length text
@@ -122,14 +115,12 @@ over-bom a b c limit rest h false =
 pub stripped-over : (limit : ℕ) (text : List ℕ) → limit < length text
     → (before after : List ℕ) × (strip_bom (marked limit text) ≡ before ++ mark ∷ after)
 unfolding strip_bom marked
-stripped-over limit [] h = absurd (omega arith)
 stripped-over zero (a ∷ []) h = ([], a ∷ [], refl)
-stripped-over (suc limit) (a ∷ []) h = absurd (omega arith)
 stripped-over zero (a ∷ b ∷ []) h = ([], a ∷ b ∷ [], refl)
-stripped-over (suc zero) (a ∷ b ∷ []) h = (a ∷ [], b ∷ [], rw neither refl)
-stripped-over (suc (suc limit)) (a ∷ b ∷ []) h = absurd (omega arith)
 stripped-over zero (a ∷ b ∷ c ∷ rest) h = ([], a ∷ b ∷ c ∷ rest, refl)
+stripped-over (suc zero) (a ∷ b ∷ []) h = (a ∷ [], b ∷ [], rw neither refl)
 stripped-over (suc zero) (a ∷ b ∷ c ∷ rest) h = (a ∷ [], b ∷ c ∷ rest, rw neither refl)
 stripped-over (suc (suc zero)) (a ∷ b ∷ c ∷ rest) h = (a ∷ b ∷ [], c ∷ rest, rw never refl)
 stripped-over (suc (suc (suc limit))) (a ∷ b ∷ c ∷ rest) h =
     over-bom a b c limit rest (omega arith) (is_bom a b c)
+stripped-over limit text h = absurd (omega arith)

@@ -85,13 +85,10 @@ record-bytes cfg s fields field [] p e h =
     ]
 record-bytes cfg s fields field (c ∷ xs) p e h =
     elim (chosen (is_end (step cfg s c).1) _ _ p e) [
-      | inl q ↦
-          bytes-at-end (step cfg s c).1 fields field q.0
+      | inl q ↦ bytes-at-end (step cfg s c).1 fields field q.0
           (subst (λ (r : Read). AreBytes r.0) (sym q.1) h)
-      | inr q ↦
-          bytes-before (step cfg s c).1 c fields field (record-bytes cfg (step cfg s c).0
-          (fields_after (step cfg s c).1 fields field) (field_after (step cfg s c).1 c field) xs
-          p q.1 h)
+      | inr q ↦ bytes-before (step cfg s c).1 c fields field
+          (record-bytes cfg (step cfg s c).0 _ _ xs p q.1 h)
     ]
 
 -- a byte that joins the field at hand
@@ -108,8 +105,7 @@ mark-spoils : (s : State) (fields : List (List ℕ)) (field after : List ℕ) (p
     → next_record default_config s fields field (mark ∷ after) ≡ Some p → AreBytes p.0 → ⊥
 mark-spoils s fields field after p plain e h =
     let copied = sym (next-copy s fields field mark after (omega arith) plain) ∙ e in
-    let all =
-    record-bytes default_config (after_copy s) fields (field ++ mark ∷ []) after p copied h in
+    let all = record-bytes default_config _ _ _ after p copied h in
     mark-no-byte mark (omega arith) (IsBytes-append field (mark ∷ []) all.1).1
 
 -- a record that has begun is given
@@ -123,8 +119,7 @@ begun-given s fields field [] inside plain e =
 begun-given s fields field (c ∷ xs) inside plain e =
     let goes = chosen-none (is_end (step default_config s c).1) _ _ e in
     let steps = step-steps s c plain in
-    begun-given (step default_config s c).0 (fields_after (step default_config s c).1 fields field)
-    (field_after (step default_config s c).1 c field) xs (steps.1 goes.0 inside) steps.0 goes.1
+    begun-given (step default_config s c).0 _ _ xs (steps.1 goes.0 inside) steps.0 goes.1
 
 -- there is a record at the mark or before it
 pub marked-none : (s : State) (fields : List (List ℕ)) (field before after : List ℕ)
@@ -137,9 +132,7 @@ marked-none s fields field [] after plain e =
     (sym (next-copy s fields field mark after (omega arith) plain) ∙ e)
 marked-none s fields field (c ∷ before) after plain e =
     let goes = chosen-none (is_end (step default_config s c).1) _ _ e in
-    marked-none (step default_config s c).0 (fields_after (step default_config s c).1 fields field)
-    (field_after (step default_config s c).1 c field) before after (step-steps s c plain).0
-    goes.1
+    marked-none (step default_config s c).0 _ _ before after (step-steps s c plain).0 goes.1
 
 -- a record of bytes ends before the mark, so the whole text has it too
 pub marked-some : (s : State) (fields : List (List ℕ)) (field before after : List ℕ) (p : Read)
@@ -159,11 +152,8 @@ marked-some s fields field (c ∷ before) after p plain e h =
         rw q.0 (ap (λ (r : Read). Some (r.0, r.1, before ++ after)) q.1),
       )
       | inr q ↦
-          let more =
-          marked-some (step default_config s c).0
-          (fields_after (step default_config s c).1 fields field)
-          (field_after (step default_config s c).1 c field) before after p
-          (step-steps s c plain).0 q.1 h in
+          let next = (step default_config s c).0 in
+          let more = marked-some next _ _ before after p (step-steps s c plain).0 q.1 h in
           (more.0, more.1, rw q.0 more.2)
     ]
 

@@ -2,7 +2,7 @@
 use Rattle.std.proofs.Common.{arith, refl, ◌/◌, ◌%◌, ◌^◌, ◌<◌, ℕ, true, List, [], ◌∷◌, All}
 use Rattle.std.proofs.lemmas.Bool.Decides.{nat_tests}
 use Rattle.std.proofs.lemmas.List.Elements.{All-nil, All-cons, All-weaker}
-use Rattle.std.specs.Char.{IsAsciiDigit, IsAsciiHexdigit}
+use Rattle.std.specs.Char.{IsAsciiDigit}
 use Rattle.std.specs.Fmt.{decimal, digit_glyph}
 use Rattle.mdb_words.specs.declared.event.Event.{Event}
 use Rattle.mdb_words.specs.declared.event.Event.TheVariants.{Word, Break}

@@ -4,8 +4,9 @@ use Rattle.std.proofs.Common.{ap, length, take, drop, Option, Some, None, true, 
 use Rattle.std.proofs.Common.{refl, ◌∙◌}
 use Rattle.std.specs.Prelude.{All, Err, IfOk, IfSome, Ok, Result, is_none, option_map}
 use Rattle.std.proofs.lemmas.List.Elements.{All-head, All-tail}
+use Rattle.std.proofs.lemmas.Bool.{cases_Bool}
 use Rattle.std.specs.Io.KnownBytes.{Keeps}
-use Rattle.csv.specs.Machine.{ends_at_end, next_record}
+use Rattle.csv.specs.Machine.{Read, ends_at_end, next_record}
 use Rattle.csv.specs.Reading.{AreRecords, ReadRecord, Reached, Ready, default_config}
 use Rattle.csv.specs.Reading.{reader_headers, reader_state, records, strip_bom, took_first}
 use Rattle.csv.specs.Records as csv
@@ -74,63 +75,11 @@ AreBytes-parted start (end ∷ ends) bytes h = (
   AreBytes-parted (end + 1) ends bytes h,
 )
 
--- of a line whose bytes were seen
-AreBytes-line : (ends line bytes : List ℕ) → bytes ≡ line → All (λ b. b < 256) bytes
-    → AreBytes (parted 0 ends line)
-AreBytes-line ends line bytes e h = AreBytes-parted 0 ends line (rw e at (IsBytes-from_All bytes h))
-
 -- the fields of a record whose bytes were seen
 pub AreBytes-fields : (row : Row) (bytes : List ℕ) → bytes ≡ text_of row → All (λ b. b < 256) bytes
     → AreBytes (fields_of row)
 AreBytes-fields row bytes e h =
     AreBytes-cut_from 0 row.ends row.bytes (rw e at (IsBytes-from_All bytes h))
-
--- the records of the whole text are to come from a new reader
-pub new-to-come : {R : Type 0} (remaining : R → Option (List ℕ)) (value : Records R)
-    (lines : Lines R) (limit : ℕ) (known : Option (List ℕ))
-    → value.fault ≡ None → value.stage ≡ stage.Lines lines
-    → lines_given remaining lines ≡ option_map strip_bom (given_of known limit None)
-    → IfSome known (λ text. ToCome remaining value (records default_config (strip_bom text)))
-new-to-come remaining value lines limit None going first source = tt
-new-to-come remaining value lines limit (Some text) going first source = record {
-  text = strip_bom text;
-  given = strip_bom (marked limit text);
-  state = st.StartRecord;
-  going = going;
-  between = refl;
-  stands = rw first (refl, source);
-  gives = gives-stripped limit text;
-  all = are-records (strip_bom text);
-}
-
--- a new reader of a text that is longer than the limit
-pub new-over : {R : Type 0} (remaining : R → Option (List ℕ)) (value : Records R) (lines : Lines R)
-    (limit : ℕ) (known : Option (List ℕ))
-    → value.fault ≡ None → value.stage ≡ stage.Lines lines
-    → lines_given remaining lines ≡ option_map strip_bom (given_of known limit None)
-    → IfSome known (λ text. limit < length text → IsOverLimit remaining value)
-new-over remaining value lines limit None going first source = tt
-new-over remaining value lines limit (Some text) going first source = λ long.
-    let m = stripped-over limit text long in record {
-      before = m.0;
-      after = m.1;
-      state = st.StartRecord;
-      going = going;
-      between = refl;
-      stands = rw first (refl, source ∙ ap Some m.2);
-    }
-
--- a new reader of a text within the limit
-pub new-within : {R : Type 0} (remaining : R → Option (List ℕ)) (value : Records R)
-    (lines : Lines R) (limit : ℕ) (known : Option (List ℕ))
-    → value.stage ≡ stage.Lines lines
-    → lines_given remaining lines ≡ option_map strip_bom (given_of known limit None)
-    → IfSome known (λ text. length text ≤ limit → IsUncut remaining value (strip_bom text))
-new-within remaining value lines limit None first source = tt
-new-within remaining value lines limit (Some text) first source = λ fits. record {
-  state = st.StartRecord;
-  stands = rw first (refl, source ∙ ap (λ t. Some (strip_bom t)) (marked-within limit text fits));
-}
 
 -- one record that was reached is the next one
 only-record : (s : State) (given : List ℕ) (fields : List (List ℕ)) (after : State) (left : List ℕ)
@@ -138,26 +87,6 @@ only-record : (s : State) (given : List ℕ) (fields : List (List ℕ)) (after :
     → next_record default_config s [] [] given ≡ Some (fields, after, left)
 unfolding Reached
 only-record s given fields after left h = rw (h.2, ← h.3.0, ← h.3.1) h.1
-
--- what csv reads of a record is the record that comes next
-pub csv-reads : {R : Type 0} (remaining : R → Option (List ℕ)) (old new : Reader (Lines R))
-    (before : ℕ) (found : Bool) (fields : List (List ℕ))
-    → ReadRecord (lines_remaining remaining) old new found fields
-    → ReadsNext remaining (stage.Csv old before) (stage.Csv new before) found fields
-unfolding Reached
-csv-reads remaining old new before true fields read = λ state given stands.
-    let more =
-    rows-more (lines_remaining remaining) old new fields default_config (reader_state old) given
-    given []
-    stands.0 stands.2 (refl, refl) read in (
-      reader_state new,
-      more.0,
-      rw stands.1 (only-record (reader_state old) given fields (reader_state new) more.0 more.2),
-      inl (read.2 ∙ stands.0, refl, more.1),
-    )
-csv-reads remaining old new before false fields read = λ state given stands.
-    rw stands.1 (rows-end (lines_remaining remaining) old new fields default_config given stands.0
-    stands.2 read)
 
 -- a line that was taken of what is known
 line-taken : (before after : Option (List ℕ)) (given : List ℕ) (fields : List (List ℕ))
@@ -178,146 +107,6 @@ none-known : (before : Option (List ℕ)) (given : List ℕ) → before ≡ Some
 none-known None given e h = cc
 none-known (Some x) given e h = let same : x ≡ given = cc in rw same at h
 
--- what a reader of lines tells is what comes next
-line-reads : {R : Type 0} (remaining : R → Option (List ℕ)) (old new : Lines R) (found : Bool)
-    (fields : List (List ℕ))
-    → Tells (Some found) (lines_given remaining old) (lines_given remaining new) fields
-    → ReadsNext remaining (stage.Lines old) (stage.Lines new) found fields
-line-reads remaining old new true fields h = λ state given stands.
-    let taken =
-    line-taken (lines_given remaining old) (lines_given remaining new) given fields stands.1
-    h in
-    (st.StartRecord, taken.0, rw stands.0 taken.2, inr (refl, (refl, taken.1)))
-line-reads remaining old new false fields h =
-    λ state given stands. rw stands.0 (none-known (lines_given remaining old) given stands.1 h)
-
--- the records to come after one
-to-come-after : {R : Type 0} (remaining : R → Option (List ℕ)) (new : Records R) (after : State)
-    (text left : List ℕ) (rows : List (List (List ℕ)))
-    → new.fault ≡ None → ends_at_end after ≡ false → (left ≡ text) ⊎ HasMark text left
-    → AreRecords default_config after text rows
-    → StandsAfter remaining new.stage after left → ToCome remaining new rows
-to-come-after remaining new after text left rows going between gives all (inl stands) = record {
-  text = text;
-  given = left;
-  state = after;
-  going = going;
-  between = between;
-  stands = stands;
-  gives = whole text left gives;
-  all = all;
-}
-to-come-after remaining new after text left rows going between gives all (inr h) = record {
-  text = 10 ∷ text;
-  given = 10 ∷ left;
-  state = st.StartRecord;
-  going = going;
-  between = refl;
-  stands = h.1;
-  gives = whole (10 ∷ text) (10 ∷ left) (gives-cons 10 text left gives);
-  all = are-records-after_line text rows (rw h.0 at all);
-}
-
--- a read goes on along the records to come
-pub goes-on : {R : Type 0} (remaining : R → Option (List ℕ)) (old new : Records R) (found : Bool)
-    (rows : List (List (List ℕ)))
-    → ReadsNext remaining old.stage new.stage found (current_fields new) → new.fault ≡ None
-    → AreBytes (current_fields new)
-    → ToCome remaining old rows → Advances remaining new found rows
-goes-on remaining old new true rows reads going bytes h =
-    let read = reads h.state h.given h.stands in
-    let step =
-    gives-some h.state h.text h.given (current_fields new, read.0, read.1) rows h.gives
-    h.between bytes read.2 h.all in (
-      step.rest,
-      step.first,
-      to-come-after remaining new read.0 step.left read.1 step.rest going step.between step.gives
-          step.all read.3,
-    )
-goes-on remaining old new false rows reads going bytes h =
-    gives-none h.state h.text h.given rows h.gives h.between (reads h.state h.given h.stands) h.all
-
--- and so does what a reader of lines tells
-pub line-goes-on : {R : Type 0} (remaining : R → Option (List ℕ)) (old new : Records R)
-    (before after : Lines R) (found : Bool) (rows : List (List (List ℕ)))
-    → old.stage ≡ stage.Lines before → new.stage ≡ stage.Lines after → new.fault ≡ None
-    → Tells (Some found) (lines_given remaining before) (lines_given remaining after)
-    (parted 0 new.ends.items (line after))
-    → All (λ b. b < 256) (line after)
-    → ToCome remaining old rows → Advances remaining new found rows
-line-goes-on remaining old new before after found rows first last going told bytes h =
-    goes-on remaining old new found rows (rw (first, last)
-    (line-reads remaining before after found (parted 0 new.ends.items (line after)) told)) going
-    (rw last (AreBytes-line new.ends.items (line after) (line after) refl bytes)) h
-
--- the text that goes on past the limit, after a record
-over-after : {R : Type 0} (remaining : R → Option (List ℕ)) (new : Records R) (state : State)
-    (before after left : List ℕ)
-    → new.fault ≡ None → ends_at_end state ≡ false → left ≡ before ++ mark ∷ after
-    → StandsAfter remaining new.stage state left → IsOverLimit remaining new
-over-after remaining new state before after left going between e (inl stands) = record {
-  before = before;
-  after = after;
-  state = state;
-  going = going;
-  between = between;
-  stands = rw e at stands;
-}
-over-after remaining new state before after left going between e (inr h) = record {
-  before = 10 ∷ before;
-  after = after;
-  state = st.StartRecord;
-  going = going;
-  between = refl;
-  stands = rw e at h.1;
-}
-
--- a read of a text that goes on past the limit finds a record before it
-pub over-goes-on : {R : Type 0} (remaining : R → Option (List ℕ)) (old new : Records R)
-    (found : Bool)
-    → ReadsNext remaining old.stage new.stage found (current_fields new) → new.fault ≡ None
-    → AreBytes (current_fields new)
-    → IsOverLimit remaining old → (found ≡ true) × IsOverLimit remaining new
-over-goes-on remaining old new true reads going bytes h =
-    let given = h.before ++ mark ∷ h.after in
-    let plain = plain-between h.state h.between in
-    let read = reads h.state given h.stands in
-    let next : next_record default_config h.state [] [] given
-    ≡ Some (current_fields new, read.0, read.1) =
-    read.2 in
-    let left =
-    marked-some h.state [] [] h.before h.after (current_fields new, read.0, read.1) plain next
-    bytes in (
-      refl,
-      over-after remaining new read.0 left.0 h.after read.1 going
-          (between-after h.state [] [] given (current_fields new, read.0, read.1) plain next) left.1
-          read.3,
-    )
-over-goes-on remaining old new false reads going bytes h =
-    absurd (marked-none h.state [] [] h.before h.after (plain-between h.state h.between)
-    (reads h.state (h.before ++ mark ∷ h.after) h.stands))
-
--- and a reader of lines tells of a record before it
-pub line-over : {R : Type 0} (remaining : R → Option (List ℕ)) (old new : Records R)
-    (before after : Lines R) (found : Bool)
-    → old.stage ≡ stage.Lines before → new.stage ≡ stage.Lines after → new.fault ≡ None
-    → Tells (Some found) (lines_given remaining before) (lines_given remaining after)
-    (parted 0 new.ends.items (line after))
-    → All (λ b. b < 256) (line after)
-    → IsOverLimit remaining old → (found ≡ true) × IsOverLimit remaining new
-line-over remaining old new before after found first last going told bytes h =
-    over-goes-on remaining old new found (rw (first, last)
-    (line-reads remaining before after found (parted 0 new.ends.items (line after)) told)) going
-    (rw last (AreBytes-line new.ends.items (line after) (line after) refl bytes)) h
-
--- whoever reads but a reader of lines has csv's fields
-pub fields-by-csv : {R : Type 0} (value : Stage R) (ends : List ℕ) (row : Row)
-    → ((lines : Lines R) → value ≡ stage.Lines lines → ⊥)
-    → csv.fields_of row ≡ fields_at value ends row
-fields-by-csv (stage.Lines lines) ends row h = absurd (h lines refl)
-fields-by-csv (stage.Csv reader before) ends row h = refl
-fields-by-csv stage.Between ends row h = refl
-
 -- bytes that are kept are known as before
 kept-known : (before after : Option (List ℕ)) (given : List ℕ) → Keeps before after
     → before ≡ Some given → after ≡ Some given
@@ -325,47 +114,229 @@ kept-known None after given h e = cc
 kept-known (Some x) None given h e = absurd h
 kept-known (Some x) (Some y) given h e = ap Some h ∙ e
 
--- a reader of lines that took none stands where it stood
-pub lines-stand : {R : Type 0} (remaining : R → Option (List ℕ)) (old : Stage R)
-    (before after : Lines R) (state : State) (given : List ℕ)
-    → old ≡ stage.Lines before → Keeps (lines_given remaining before) (lines_given remaining after)
-    → StandsAt remaining old state given → StandsAt remaining (stage.Lines after) state given
-lines-stand remaining old before after state given first kept h =
-    let stands : StandsAt remaining (stage.Lines before) state given = rw first at h in (
-      stands.0,
-      kept-known (lines_given remaining before) (lines_given remaining after) given kept stands.1,
-    )
+module _ {R : Type 0} (remaining : R → Option (List ℕ)) where
+  module _ (value : Records R) (lines : Lines R) (limit : ℕ) where
+    -- the records of the whole text are to come from a new reader
+    pub new-to-come : (known : Option (List ℕ)) → value.fault ≡ None
+        → value.stage ≡ stage.Lines lines
+        → lines_given remaining lines ≡ option_map strip_bom (given_of known limit None)
+        → IfSome known (λ text. ToCome remaining value (records default_config (strip_bom text)))
+    new-to-come None going first source = tt
+    new-to-come (Some text) going first source = record {
+      text = strip_bom text;
+      given = strip_bom (marked limit text);
+      state = st.StartRecord;
+      going = going;
+      between = refl;
+      stands = rw first (refl, source);
+      gives = gives-stripped limit text;
+      all = are-records (strip_bom text);
+    }
 
--- where a stage stands as another did, the same records are to come
-pub same-to-come : {R : Type 0} (remaining : R → Option (List ℕ)) (old new : Records R)
-    (rows : List (List (List ℕ)))
-    → ((state : State) (given : List ℕ) → StandsAt remaining old.stage state given
-    → StandsAt remaining new.stage state given)
-    → new.fault ≡ old.fault → ToCome remaining old rows → ToCome remaining new rows
-same-to-come remaining old new rows same fault h = record {
-  text = h.text;
-  given = h.given;
-  state = h.state;
-  going = fault ∙ h.going;
-  between = h.between;
-  stands = same h.state h.given h.stands;
-  gives = h.gives;
-  all = h.all;
-}
+    -- a new reader of a text that is longer than the limit
+    pub new-over : (known : Option (List ℕ)) → value.fault ≡ None → value.stage ≡ stage.Lines lines
+        → lines_given remaining lines ≡ option_map strip_bom (given_of known limit None)
+        → IfSome known (λ text. limit < length text → IsOverLimit remaining value)
+    new-over None going first source = tt
+    new-over (Some text) going first source = λ long.
+        let m = stripped-over limit text long in record {
+          before = m.0;
+          after = m.1;
+          state = st.StartRecord;
+          going = going;
+          between = refl;
+          stands = rw first (refl, source ∙ ap Some m.2);
+        }
 
--- and the text goes on past the limit as before
-pub same-over : {R : Type 0} (remaining : R → Option (List ℕ)) (old new : Records R)
-    → ((state : State) (given : List ℕ) → StandsAt remaining old.stage state given
-    → StandsAt remaining new.stage state given)
-    → new.fault ≡ old.fault → IsOverLimit remaining old → IsOverLimit remaining new
-same-over remaining old new same fault h = record {
-  before = h.before;
-  after = h.after;
-  state = h.state;
-  going = fault ∙ h.going;
-  between = h.between;
-  stands = same h.state (h.before ++ mark ∷ h.after) h.stands;
-}
+    -- a new reader of a text within the limit
+    pub new-within : (known : Option (List ℕ)) → value.stage ≡ stage.Lines lines
+        → lines_given remaining lines ≡ option_map strip_bom (given_of known limit None)
+        → IfSome known (λ text. length text ≤ limit → IsUncut remaining value (strip_bom text))
+    new-within None first source = tt
+    new-within (Some text) first source = λ fits. record {
+      state = st.StartRecord;
+      stands = rw first
+          (refl, source ∙ ap (λ t. Some (strip_bom t)) (marked-within limit text fits));
+    }
+
+  -- what csv reads of a record is the record that comes next
+  pub csv-reads : (old new : Reader (Lines R)) (before : ℕ) (found : Bool)
+      (fields : List (List ℕ)) → ReadRecord (lines_remaining remaining) old new found fields
+      → ReadsNext remaining (stage.Csv old before) (stage.Csv new before) found fields
+  unfolding Reached
+  csv-reads old new before true fields read = λ state given stands.
+      let more = rows-more (lines_remaining remaining) old new fields default_config
+      (reader_state old) given given [] stands.0 stands.2 (refl, refl) read in (
+        reader_state new,
+        more.0,
+        rw stands.1 (only-record (reader_state old) given fields (reader_state new) more.0 more.2),
+        inl (read.2 ∙ stands.0, refl, more.1),
+      )
+  csv-reads old new before false fields read = λ state given stands.
+      rw stands.1 (rows-end (lines_remaining remaining) old new fields default_config given
+      stands.0 stands.2 read)
+
+  -- what a reader of lines tells is what comes next
+  line-reads : (old new : Lines R) (found : Bool) (fields : List (List ℕ))
+      → Tells (Some found) (lines_given remaining old) (lines_given remaining new) fields
+      → ReadsNext remaining (stage.Lines old) (stage.Lines new) found fields
+  line-reads old new true fields h = λ state given stands.
+      let taken = line-taken (lines_given remaining old) (lines_given remaining new) given fields
+      stands.1 h in
+      (st.StartRecord, taken.0, rw stands.0 taken.2, inr (refl, (refl, taken.1)))
+  line-reads old new false fields h =
+      λ state given stands. rw stands.0 (none-known (lines_given remaining old) given stands.1 h)
+
+  module _ (old new : Records R) where
+    -- the records to come after one
+    to-come-after : (after : State) (text left : List ℕ) (rows : List (List (List ℕ)))
+        → new.fault ≡ None → ends_at_end after ≡ false → (left ≡ text) ⊎ HasMark text left
+        → AreRecords default_config after text rows
+        → StandsAfter remaining new.stage after left → ToCome remaining new rows
+    to-come-after after text left rows going between gives all (inl stands) = record {
+      text = text;
+      given = left;
+      state = after;
+      going = going;
+      between = between;
+      stands = stands;
+      gives = whole text left gives;
+      all = all;
+    }
+    to-come-after after text left rows going between gives all (inr h) = record {
+      text = 10 ∷ text;
+      given = 10 ∷ left;
+      state = st.StartRecord;
+      going = going;
+      between = refl;
+      stands = h.1;
+      gives = whole (10 ∷ text) (10 ∷ left) (gives-cons 10 text left gives);
+      all = are-records-after_line text rows (rw h.0 at all);
+    }
+
+    -- a read goes on along the records to come
+    pub goes-on : (found : Bool) (rows : List (List (List ℕ)))
+        → ReadsNext remaining old.stage new.stage found (current_fields new) → new.fault ≡ None
+        → AreBytes (current_fields new) → ToCome remaining old rows
+        → Advances remaining new found rows
+    goes-on true rows reads going bytes h =
+        let read = reads h.state h.given h.stands in
+        let step = gives-some h.state h.text h.given (current_fields new, read.0, read.1) rows
+        h.gives h.between bytes read.2 h.all in (
+          step.rest,
+          step.first,
+          to-come-after read.0 step.left read.1 step.rest going step.between step.gives step.all
+              read.3,
+        )
+    goes-on false rows reads going bytes h = gives-none h.state h.text h.given rows h.gives
+        h.between (reads h.state h.given h.stands) h.all
+
+    -- the text that goes on past the limit, after a record
+    over-after : (state : State) (before after left : List ℕ) → new.fault ≡ None
+        → ends_at_end state ≡ false → left ≡ before ++ mark ∷ after
+        → StandsAfter remaining new.stage state left → IsOverLimit remaining new
+    over-after state before after left going between e (inl stands) = record {
+      before = before;
+      after = after;
+      state = state;
+      going = going;
+      between = between;
+      stands = rw e at stands;
+    }
+    over-after state before after left going between e (inr h) = record {
+      before = 10 ∷ before;
+      after = after;
+      state = st.StartRecord;
+      going = going;
+      between = refl;
+      stands = rw e at h.1;
+    }
+
+    -- a read of a text that goes on past the limit finds a record before it
+    pub over-goes-on : (found : Bool)
+        → ReadsNext remaining old.stage new.stage found (current_fields new) → new.fault ≡ None
+        → AreBytes (current_fields new) → IsOverLimit remaining old
+        → (found ≡ true) × IsOverLimit remaining new
+    over-goes-on true reads going bytes h =
+        let given = h.before ++ mark ∷ h.after in
+        let plain = plain-between h.state h.between in
+        let read = reads h.state given h.stands in
+        let found : Read = (current_fields new, read.0, read.1) in
+        let left = marked-some h.state [] [] h.before h.after found plain read.2 bytes in (
+          refl,
+          over-after read.0 left.0 h.after read.1 going
+              (between-after h.state [] [] given found plain read.2) left.1 read.3,
+        )
+    over-goes-on false reads going bytes h =
+        absurd (marked-none h.state [] [] h.before h.after (plain-between h.state h.between)
+        (reads h.state (h.before ++ mark ∷ h.after) h.stands))
+
+    -- where a reader of lines tells of the next record
+    module _ (before after : Lines R) (found : Bool) (first : old.stage ≡ stage.Lines before)
+        (last : new.stage ≡ stage.Lines after) (going : new.fault ≡ None)
+        (told : Tells (Some found) (lines_given remaining before) (lines_given remaining after)
+        (parted 0 new.ends.items (line after)))
+        (bytes : All (λ b. b < 256) (line after)) where
+      line-next : ReadsNext remaining old.stage new.stage found (current_fields new)
+      line-next = rw (first, last)
+          (line-reads before after found (parted 0 new.ends.items (line after)) told)
+
+      line-bytes : AreBytes (current_fields new)
+      line-bytes =
+          rw last (AreBytes-parted 0 new.ends.items _ (IsBytes-from_All (line after) bytes))
+
+      -- its read goes on along the records to come
+      pub line-goes-on : (rows : List (List (List ℕ))) → ToCome remaining old rows
+          → Advances remaining new found rows
+      line-goes-on rows h = goes-on found rows line-next going line-bytes h
+
+      -- and finds a record before the limit
+      pub line-over : IsOverLimit remaining old → (found ≡ true) × IsOverLimit remaining new
+      line-over h = over-goes-on found line-next going line-bytes h
+
+    -- where a stage stands as another did
+    module _ (same : (state : State) (given : List ℕ) → StandsAt remaining old.stage state given
+        → StandsAt remaining new.stage state given) (fault : new.fault ≡ old.fault) where
+      -- the same records are to come
+      pub same-to-come : (rows : List (List (List ℕ))) → ToCome remaining old rows
+          → ToCome remaining new rows
+      same-to-come rows h = record {
+        text = h.text;
+        given = h.given;
+        state = h.state;
+        going = fault ∙ h.going;
+        between = h.between;
+        stands = same h.state h.given h.stands;
+        gives = h.gives;
+        all = h.all;
+      }
+
+      -- and the text goes on past the limit as before
+      pub same-over : IsOverLimit remaining old → IsOverLimit remaining new
+      same-over h = record {
+        before = h.before;
+        after = h.after;
+        state = h.state;
+        going = fault ∙ h.going;
+        between = h.between;
+        stands = same h.state (h.before ++ mark ∷ h.after) h.stands;
+      }
+
+  -- a reader of lines that took none stands where it stood
+  pub lines-stand : (old : Stage R) (before after : Lines R) (state : State) (given : List ℕ)
+      → old ≡ stage.Lines before
+      → Keeps (lines_given remaining before) (lines_given remaining after)
+      → StandsAt remaining old state given → StandsAt remaining (stage.Lines after) state given
+  lines-stand old before after state given first kept h =
+      let stands : StandsAt remaining (stage.Lines before) state given = rw first at h in
+      (stands.0, kept-known _ _ given kept stands.1)
+
+-- whoever reads but a reader of lines has csv's fields
+pub fields-by-csv : {R : Type 0} (value : Stage R) (ends : List ℕ) (row : Row)
+    → ((lines : Lines R) → value ≡ stage.Lines lines → ⊥)
+    → csv.fields_of row ≡ fields_at value ends row
+fields-by-csv (stage.Lines lines) ends row h = absurd (h lines refl)
+fields-by-csv value ends row h = refl
 
 -- what a fact of an answer yields
 pub IfOk-map : {T E : Type 0} (result : Result T E) (P Q : T → Type 0) → ((x : T) → P x → Q x)
@@ -380,8 +351,8 @@ no-headers (Some headers) e = cc
 
 -- the next read of a reader that is set up is of one record
 pub set-up-ready : {R : Type 0} (reader : Reader R) → ReadsWhatStands reader → Ready reader
-set-up-ready reader h = by (took_first reader) refl
-  where
-    by : (b : Bool) → took_first reader ≡ b → Ready reader
-    by true e = inl e
-    by false e = inr (inr (h.unnamed, no-headers (reader_headers reader) (h.headless e)))
+set-up-ready reader h =
+    elim (cases_Bool (took_first reader)) [
+      | inl e ↦ inl e
+      | inr e ↦ inr (inr (h.unnamed, no-headers (reader_headers reader) (h.headless e)))
+    ]

@@ -1,7 +1,7 @@
 -- The records that are still to come, one after the other.
 use Rattle.std.proofs.Common.{◌≡◌, ◌≤◌, ◌<◌, ◌+◌, ◌⊎◌, inl, inr, ℕ, zero, suc, List, [], ◌∷◌, ◌++◌}
 use Rattle.std.proofs.Common.{length, Option, Some, None, true, false, refl, ap, subst, arith, ◌∙◌}
-use Rattle.csv.specs.Machine.{Read, ends_at_end, field_after, fields_after, is_end, next_record}
+use Rattle.csv.specs.Machine.{Read, ends_at_end, is_end, next_record}
 use Rattle.csv.specs.Machine.{step}
 use Rattle.csv.specs.Reading.{AreRecords, Reached, default_config, records, records_from}
 use Rattle.csv.specs.Reading.{records_next}
@@ -24,10 +24,7 @@ between-after s fields field [] p plain e =
 between-after s fields field (c ∷ xs) p plain e =
     elim (chosen (is_end (step default_config s c).1) _ _ p e) [
       | inl q ↦ subst (λ (r : Read). ends_at_end r.1 ≡ false) q.1 ((step-steps s c plain).2 q.0)
-      | inr q ↦
-          between-after (step default_config s c).0
-          (fields_after (step default_config s c).1 fields field)
-          (field_after (step default_config s c).1 c field) xs p (step-steps s c plain).0 q.1
+      | inr q ↦ between-after (step default_config s c).0 _ _ xs p (step-steps s c plain).0 q.1
     ]
 
 -- a read takes no bytes back
@@ -42,12 +39,7 @@ read-shorter s fields field [] p e =
 read-shorter s fields field (c ∷ xs) p e =
     elim (chosen (is_end (step default_config s c).1) _ _ p e) [
       | inl q ↦ subst (λ (r : Read). length r.2 ≤ length (c ∷ xs)) q.1 (omega arith)
-      | inr q ↦
-          let more =
-          read-shorter (step default_config s c).0
-          (fields_after (step default_config s c).1 fields field)
-          (field_after (step default_config s c).1 c field) xs p q.1 in
-          omega arith
+      | inr q ↦ omega (arith, read-shorter (step default_config s c).0 _ _ xs p q.1)
     ]
 
 -- a record takes a byte at least
@@ -58,12 +50,7 @@ record-shorter s [] p between e = cc
 record-shorter s (c ∷ xs) p between e =
     elim (chosen (is_end (step default_config s c).1) _ _ p e) [
       | inl q ↦ subst (λ (r : Read). length r.2 < length (c ∷ xs)) q.1 (omega arith)
-      | inr q ↦
-          let more =
-          read-shorter (step default_config s c).0
-          (fields_after (step default_config s c).1 [] [])
-          (field_after (step default_config s c).1 c []) xs p q.1 in
-          omega arith
+      | inr q ↦ omega (arith, read-shorter (step default_config s c).0 _ _ xs p q.1)
     ]
 
 -- the records of a text, found one after the other
@@ -80,9 +67,8 @@ are-records_from (suc n) s xs between fits =
         → AreRecords default_config s xs (records_next (records_from default_config n) o)
     by None e more = (s, xs, (refl, refl), e)
     by (Some p) e more =
-        let shorter = record-shorter s xs p between e in
-        let rest =
-        more p.1 p.2 (between-after s [] [] xs p (plain-between s between) e) (omega arith) in
+        let rest = more p.1 p.2 (between-after s [] [] xs p (plain-between s between) e)
+        (omega (arith, record-shorter s xs p between e)) in
         (rest.0, rest.1, (p, e, refl, rest.2), rest.3)
 
 -- `records` gives all the records of a text

@@ -12,80 +12,43 @@ use Rattle.csv.specs.declared.parser.Terminator.TheVariants as term
 
 -- the states that the default settings reach
 abbrev pub is_plain : State → Bool
-is_plain st.StartRecord = true
-is_plain st.StartField = true
-is_plain st.InField = true
-is_plain st.InQuoted = true
-is_plain st.AfterQuote = true
-is_plain st.InEscape = true
 is_plain st.InComment = false
-is_plain st.AfterCr = true
+is_plain _ = true
 
 -- the states in which a record has begun
 abbrev pub is_inside : State → Bool
 is_inside st.StartRecord = false
-is_inside st.StartField = true
-is_inside st.InField = true
-is_inside st.InQuoted = true
-is_inside st.AfterQuote = true
-is_inside st.InEscape = true
 is_inside st.InComment = false
 is_inside st.AfterCr = false
+is_inside _ = true
 
 -- the state after a byte that is no delimiter, no quote and no line's end
 abbrev pub after_copy : State → State
-after_copy st.StartRecord = st.InField
-after_copy st.StartField = st.InField
-after_copy st.InField = st.InField
 after_copy st.InQuoted = st.InQuoted
-after_copy st.AfterQuote = st.InField
 after_copy st.InEscape = st.InQuoted
 after_copy st.InComment = st.InComment
-after_copy st.AfterCr = st.InField
+after_copy _ = st.InField
 
 -- between records the machine is in one of these states
 pub plain-between : (s : State) → ends_at_end s ≡ false → is_plain s ≡ true
-plain-between st.StartRecord e = refl
-plain-between st.StartField e = refl
-plain-between st.InField e = refl
-plain-between st.InQuoted e = refl
-plain-between st.AfterQuote e = refl
-plain-between st.InEscape e = refl
 plain-between st.InComment e = cc
-plain-between st.AfterCr e = refl
+plain-between s e = refl
 
 -- a record that has begun is given at the end of the text
 pub inside-ends : (s : State) → is_inside s ≡ true → ends_at_end s ≡ true
 inside-ends st.StartRecord e = cc
-inside-ends st.StartField e = refl
-inside-ends st.InField e = refl
-inside-ends st.InQuoted e = refl
-inside-ends st.AfterQuote e = refl
-inside-ends st.InEscape e = refl
-inside-ends st.InComment e = refl
 inside-ends st.AfterCr e = cc
+inside-ends s e = refl
 
 -- such a byte leads to one of the settings' states
 pub plain-after_copy : (s : State) → is_plain s ≡ true → is_plain (after_copy s) ≡ true
-plain-after_copy st.StartRecord e = refl
-plain-after_copy st.StartField e = refl
-plain-after_copy st.InField e = refl
-plain-after_copy st.InQuoted e = refl
-plain-after_copy st.AfterQuote e = refl
-plain-after_copy st.InEscape e = refl
 plain-after_copy st.InComment e = e
-plain-after_copy st.AfterCr e = refl
+plain-after_copy s e = refl
 
 -- and a record has begun then
 pub inside-after_copy : (s : State) → is_plain s ≡ true → is_inside (after_copy s) ≡ true
-inside-after_copy st.StartRecord e = refl
-inside-after_copy st.StartField e = refl
-inside-after_copy st.InField e = refl
-inside-after_copy st.InQuoted e = refl
-inside-after_copy st.AfterQuote e = refl
-inside-after_copy st.InEscape e = refl
 inside-after_copy st.InComment e = e
-inside-after_copy st.AfterCr e = refl
+inside-after_copy s e = refl
 
 -- a number above another is not that one
 apart : (c n : ℕ) → n < c → (c == n) ≡ false
@@ -95,14 +58,9 @@ apart c n h = grind (arith, nat_tests)
 pub step-other : (s : State) (c : ℕ) → (c == 44) ≡ false → (c == 34) ≡ false → (c == 13) ≡ false
     → (c == 10) ≡ false
     → is_plain s ≡ true → step default_config s c ≡ (after_copy s, act.Copy)
-step-other st.StartRecord c comma quote cr lf p = rw (cr, lf, quote, comma) refl
-step-other st.StartField c comma quote cr lf p = rw (quote, comma, cr, lf) refl
-step-other st.InField c comma quote cr lf p = rw (comma, cr, lf) refl
-step-other st.InQuoted c comma quote cr lf p = rw quote refl
-step-other st.AfterQuote c comma quote cr lf p = rw (quote, comma, cr, lf) refl
-step-other st.InEscape c comma quote cr lf p = refl
 step-other st.InComment c comma quote cr lf p = cc
-step-other st.AfterCr c comma quote cr lf p = rw (lf, cr, quote, comma) refl
+step-other st.InEscape c comma quote cr lf p = refl
+step-other s c comma quote cr lf p = cc
 
 -- bytes above ASCII, and the mark, join the field at hand
 pub step-copy : (s : State) (c : ℕ) → 128 ≤ c → is_plain s ≡ true

@@ -339,6 +339,7 @@ impl ReaderList {
 
     /// The messages in order, read one after the other: no list is made of them.
     #[inline(always)]
+    #[tactic(auto, using(crate::proofs::ReaderBytes::few_messages))]
     pub fn iter(&self) -> ReaderIter<'_>
         ensures messages { result ≡ self.now.messages }
         ensures few { length result ≤ 35 }
@@ -448,6 +449,7 @@ impl<'a> Model for ReaderIter<'a> {
 
 impl<'a> ReaderIter<'a> {
     /// No message.
+    #[tactic(auto, using(crate::proofs::ReaderBytes::none_stand, crate::proofs::ReaderBytes::nothing_read))]
     pub fn none() -> Self
         ensures { result ≡ [] }
     {
@@ -527,6 +529,7 @@ fn reading_of(messages: &[ReaderMsg]) -> Reading
 }
 
 /// How identifications have to be read at least for these messages.
+#[tactic(auto, using(crate::proofs::Readings::own_next))]
 fn own_ids(messages: &[ReaderMsg]) -> Ids
     ensures { result ≡ own_ids messages.now }
 {

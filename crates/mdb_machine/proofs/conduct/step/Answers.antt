@@ -53,6 +53,6 @@ pub returns-in_default-clause-step : goal.returns-in_default-clause-step
 returns-in_default-clause-step g c =
     let known = facts_in c.args.facts.now in
     let none = c.in_default in
-    no_part g.K.Keeper.tables g.K.Conduct.conduct known c.args.act.now c.args.choice c.args.before
-    c.none-in_default.result c.none-in_default.ensures
+    no_part g.K.Keeper.tables g.K.Conduct.conduct known c.args.choice c.args.before
+    c.none-in_default.result c.none-in_default.ensures c.args.act.now
     none.not-Ask none.not-Ack none.not-Reply none.not-VmcAck none.not-Break

@@ -1,3 +1,4 @@
+-- Each message of the validator has one byte.
 use Rattle.std.proofs.Common.{◌≡◌, List, [], ◌∷◌, length, refl, arith, length-append}
 use Rattle.std.specs.List.{flat_map}
 use Rattle.mdb_msgs.specs.declared.reply.bill.BillMsg.{BillMsg}
@@ -16,8 +17,7 @@ as_many (message ∷ messages) =
       arith,
       as_many messages,
       one_byte message,
-      length-append (bill_msg_bytes message)
-          (flat_map bill_msg_bytes messages),
+      length-append (bill_msg_bytes message) (flat_map bill_msg_bytes messages),
     )
 
 pub returns : goal.returns

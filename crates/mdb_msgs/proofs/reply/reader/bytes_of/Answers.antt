@@ -1,3 +1,4 @@
+-- Where no room is left for a message, the list has too many bytes for a block.
 use Rattle.std.proofs.Common.{◌+◌, ◌<◌, arith, get_or, length, length-append, ap}
 use Rattle.mdb_msgs.specs.declared.reply.reader.ReaderMsg.TheVariants.{JustReset}
 use Rattle.mdb_msgs.specs.Reader.{head_bytes, text_of, reader_msg_bytes}
@@ -11,22 +12,14 @@ returns-then-remaining_capacity-len-clause-fits c =
     let id = c.args.id.now in
     let text = c.args.text.now in
     let message = get_or c.args.messages.now c.loop-message.message-index JustReset in
-    let head = ap length c.head-head.ensures in
-    let own = ap length c.text_of-text.ensures in
-    let parts = length-append c.text_of-text.result.now (foot_bytes message) in
-    let foot = ap length c.foot-foot.ensures in
-    let both = length-append (head_bytes message) (text_of id text message) in
     let over : 35 < length c.loop-message.bytes.items + length (reader_msg_bytes id text message) =
     omega (
       arith,
-      head,
-      own,
-      parts,
-      foot,
-      both,
-      c.if-remaining_capacity-len.true,
-      c.len.ensures.value,
-      c.remaining_capacity.ensures,
+      ap length c.head-head.ensures,
+      ap length c.text_of-text.ensures,
+      length-append c.text_of-text.result.now (foot_bytes message),
+      ap length c.foot-foot.ensures,
+      length-append (head_bytes message) (text_of id text message),
     ) in
     let long = no_room id text c.args.messages.now c.loop-message.message-index JustReset _
     c.loop-message-test.true c.loop-message.invariant.spelled over in

@@ -12,7 +12,7 @@ returns-in_err-list-clause-exactly c = (
 pub returns-else-has-clause-exactly : goal.returns-else-has-clause-exactly
 returns-else-has-clause-exactly c = (
   λ no. absurd (cc no),
-  λ h. let same = read_back _ _ c.in_ok-list.list _ c.read_messages.result c.reading_of.ensures
+  λ h. let same = read_back _ _ _ c.in_ok-list.list c.read_messages.result c.reading_of.ensures
       c.requires.bytes c.read_messages.ensures.fields c.read_messages.ensures.reading
       c.read_messages.ensures.bytes (sym c.ok.ensures.value ∙ c.in_ok-list.was) h in
       sym c.if-has.false ∙ c.has.ensures.1 same,

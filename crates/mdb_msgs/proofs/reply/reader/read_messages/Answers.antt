@@ -1,8 +1,9 @@
+-- Messages are taken one after the other, until none is left or none stands there.
 use Rattle.std.proofs.Common.{◌||◌, Bool, [], ap, ap₂, refl, subst, sym, ◌∙◌}
 use Rattle.std.proofs.lemmas.Result.{err_from_is_err_and}
 use Rattle.mdb_msgs.specs.declared.reading.Ids.{Ids}
 use Rattle.mdb_msgs.specs.declared.reading.Reading.{Reading}
-use Rattle.mdb_msgs.specs.Reader.{has_long, ids_of, wider, AreReaderMsgs}
+use Rattle.mdb_msgs.specs.Reader.{has_long, AreReaderMsgs}
 use Rattle.mdb_msgs.specs.ReaderBytes.{no_messages}
 use Rattle.mdb_msgs.specs.inner.ReaderSteps.{with_message}
 use Rattle.mdb_msgs.proofs.ReaderBytes.{are_messages, read_own}
@@ -18,18 +19,17 @@ loop-first-init c = (no_messages, nothing_taken c.args.reading c.args.bytes.now,
 pub returns-in_err-message-clause-err : goal.returns-in_err-message-clause-err
 returns-in_err-message-clause-err c =
     let p = err_from_is_err_and c.from_residual.result c.from_residual.ensures.1 in
-    rw (p.1, p.2) (stops_next _ _ _ _ _ _ _ c.loop-first.invariant.1 c.in-Some.ensures.cases.0
+    rw (p.1, p.2) (stops_next c.loop-first.invariant.1 c.in-Some.ensures.cases.0
     c.in_err-message.ensures.err)
 
 pub loop-first-preserved : goal.loop-first-preserved
 loop-first-preserved c = (
   with_message c.loop-first.invariant.0 c.in_ok-message.message c.in_ok-message.field-0-1.now,
-  takes_next _ _ _ _ _ _ _ _ _ c.requires c.loop-first.invariant.1 c.in-Some.ensures.cases.0
+  takes_next c.loop-first.invariant.1 _ _ _ c.requires c.in-Some.ensures.cases.0
       c.in_ok-message.ensures.bytes c.in_ok-message.ensures.text,
   ap (λ b. c.loop-first.is_long || b) c.has_long-is_long.ensures
-      ∙ any_more has_long c.loop-first.invariant.0 c.in_ok-message.message
-      c.in_ok-message.field-0-1.now _
-      c.loop-first.invariant.2,
+      ∙ any_more c.loop-first.invariant.0 c.in_ok-message.message
+      c.in_ok-message.field-0-1.now has_long _ c.loop-first.invariant.2,
   c.widened-ids.ensures
       ∙ ids_more c.loop-first.invariant.0 c.in_ok-message.message
       c.in_ok-message.field-0-1.now _ c.loop-first.invariant.3,
@@ -38,7 +38,7 @@ loop-first-preserved c = (
 pub invariant_of-result : goal.invariant_of-result
 invariant_of-result c =
     let taken = c.loop-first.invariant in
-    let all = all_read _ _ _ _ taken.1 c.in_default.ensures.cases in
+    let all = all_read _ taken.1 c.in_default.ensures.cases in
     are_messages _ taken.0 _ all.1 (c.list_of.ensures ∙ all.0)
     (ap₂ reading_with taken.2 taken.3)
 
@@ -48,7 +48,7 @@ returns-clause-fields c = (invariant_of-result c).is_list
 pub returns-clause-reading : goal.returns-clause-reading
 returns-clause-reading c =
     let taken = c.loop-first.invariant in
-    let all = all_read _ _ _ _ taken.1 c.in_default.ensures.cases in
+    let all = all_read _ taken.1 c.in_default.ensures.cases in
     let same = read_own _ taken.0 _ all.1 (c.list_of.ensures ∙ all.0)
     (ap₂ reading_with taken.2 taken.3) in
     subst (λ list. AreReaderMsgs c.args.reading list []) (sym same) all.2
