@@ -4,12 +4,21 @@ use Rattle.std.specs.List.{AllByRecursion}
 use Rattle.std.proofs.lemmas.List.{length-map}
 use Rattle.std.proofs.lemmas.List.Elements.{recursion_from_All, All-from_recursion}
 use Rattle.mdb_words.specs.declared.event.Event.{Event}
+use Rattle.mdb_words.specs.declared.event.Event.TheVariants.{Word, Break}
 use Rattle.mdb_words.specs.declared.word.Line.{Line}
 use Rattle.mdb_words.specs.declared.word.Line.TheVariants.{Controller}
 use Rattle.mdb_blocks.specs.Block.{controller_words, peripheral_words}
 use Rattle.mdb_bus.specs.Acts.{Say, said_by}
 use Rattle.mdb_bus.specs.declared.scope.Profile.{Profile}
-use Rattle.mdb_bus.specs.ActLists.{AreSpaced, InBlockTime, last_of}
+use Rattle.mdb_bus.specs.declared.scope.Beginning.{Beginning}
+use Rattle.mdb_bus.specs.declared.scope.Beginning.TheVariants.{PowerOn, Joined}
+use Rattle.mdb_bus.specs.ActLists.{Position, Quiet, InForeign, first_position, AreSpaced, InBlockTime, last_of}
+
+-- a recording begins in quiet or in foreign traffic
+pub at_first : (P : Position → Type 0) → P Quiet → P InForeign → (begins : Beginning)
+    → P (first_position begins)
+at_first P quiet foreign (PowerOn profile) = quiet
+at_first P quiet foreign (Joined setups profile) = foreign
 
 -- a list that isn't empty has a last element
 pub front_and_last : {X : Type 0} (xs : List X) → xs ≢ [] → (front : List X) × (last : X)
@@ -42,11 +51,26 @@ pub some_length : {X : Type 0} (xs : List X) → xs ≢ [] → 1 ≤ length xs
 some_length [] some = absurd (some refl)
 some_length (x ∷ xs) some = omega arith
 
+-- and a list that has a length isn't empty
+pub some_there : {X : Type 0} (xs : List X) → 1 ≤ length xs → xs ≢ []
+some_there [] some none = absurd (omega (arith, some))
+some_there (x ∷ xs) some none = cc none
+
 -- the last row is the one after the others
 pub last_push : (events : List Event) (event : Event) → last_of (events ++ event ∷ []) ≡ Some event
 last_push [] event = refl
 last_push (x ∷ []) event = refl
 last_push (x ∷ y ∷ ys) event = last_push (y ∷ ys) event
+
+-- an event that says a word is that word
+pub heard : (event : Event) (line : Line) (word : ℕ) → said_by event ≡ Some (line, word)
+    → (at : ℕ) × (event ≡ Word at line word)
+heard (Word at on said) line word says =
+    let one : Line × ℕ = (on, said) in
+    let other : Line × ℕ = (line, word) in
+    let same : one ≡ other = cc in
+    (at, ap (λ (p : Line × ℕ). Word at p.0 p.1) same)
+heard (Break at length) line word says = cc
 
 -- events say as many words as they are
 pub say_length : (line : Line) (words : List ℕ) (events : List Event) → Say line words events
