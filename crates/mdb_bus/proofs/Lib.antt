@@ -24,6 +24,5 @@ pub mod PlainMoney
 pub mod Polls
 pub mod Promises
 pub mod Rows
-pub mod RuleLaws
 pub mod Sound
 pub mod Stops
