@@ -436,7 +436,7 @@ module _ (scope : Scope) (one : BytesHaveOneFault) (none : ReplyHasNoFault) (com
   -- faults of its bytes are one
   apart : (fault other : MsgFault) → (fault ≢ other) → Bad fault → Bad other → ⊥
   apart fault other differ bad also = differ
-      (one_bad none one (format_for scope.begins levels command) command bytes fault other bad also)
+      (one_bad none command one (format_for scope.begins levels command) bytes fault other bad also)
 
   -- it ends a reply of a right number of bytes
   length_right : HasDataAnswer command (length bytes) → WrongLength (InReply command bytes) Told
@@ -486,7 +486,7 @@ module _ (scope : Scope) (one : BytesHaveOneFault) (none : ReplyHasNoFault) (com
 
       faultless : (h : LeavesProfile scope.begins command bytes levels) (fault : MsgFault)
           → Bad fault → ⊥
-      faultless h fault bad = none_as none (format_for scope.begins levels command) command h.0
+      faultless h fault bad = none_as none command (format_for scope.begins levels command) h.0
           fault h.1.answers h.3 (rw h.2 at bad)
 
       by : (result : Result Reply Rule) → IsRead scope.begins command bytes levels result
