@@ -50,8 +50,8 @@ as_it_is : (broken : Rule) (position : Position) (levels : Levels)
     → counted_as broken position (wide_at all_known levels) ≡ broken
 as_it_is rule.Sum (InAsk bytes) levels =
     plain _ rule.Sum (none_wide levels (asked_with_amounts bytes))
-as_it_is rule.Mode (Asked command) levels = plain _ rule.Mode (none_wide levels (amounts_to
-    command))
+as_it_is rule.Mode (Asked command) levels =
+    plain _ rule.Mode (none_wide levels (amounts_to command))
 as_it_is rule.Message (InReply command bytes) levels =
     plain _ rule.Message (none_wide levels (reader_asked command))
 as_it_is broken position levels = refl
@@ -60,8 +60,5 @@ pub counts_plainly : (scope : Scope) (pieces : List Piece) (broken : Rule) (posi
     → first_known scope.begins ≡ all_known
     → counted_as broken position (wide_of scope pieces) ≡ broken
 counts_plainly scope pieces broken position known =
-    let levels = levels_of (profile_of scope.begins) (levels_before scope) pieces in
-    ap (λ first.
-    counted_as broken position (wide_at (known_of first (acts_of pieces)) levels)) known
-    ∙ (ap (λ all. counted_as broken position (wide_at all levels)) (all_stay (acts_of pieces))
-    ∙ as_it_is broken position levels)
+    rw (known, all_stay) (as_it_is broken position
+    (levels_of (profile_of scope.begins) (levels_before scope) pieces))
