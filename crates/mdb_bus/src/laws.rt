@@ -130,6 +130,7 @@ pub fn rows_have_one_fault()
 
 /// Where the options of all readers are known, as from power-on and by the base profile, a row's
 /// fault is the first rule that it breaks.
+#[tactic(auto, using(crate::proofs::PlainMoney::counts_plainly))]
 pub fn first_broken_rules_count_where_options_are_known()
     ensures { (scope : Scope) (pieces : List Piece) (broken : Rule) (position : Position)
         → first_known scope.begins ≡ all_known
@@ -202,6 +203,7 @@ pub fn act_lists_without_further_devices_are_what_is_left()
 
 /// A device that is followed keeps its part in the same acts if further devices are left out. A
 /// device that is left out has a part in breaks only.
+#[tactic(auto, using(crate::proofs::LeftOutActs::own_acts_stay, crate::proofs::LeftOutActs::breaks_left))]
 pub fn acts_of_followed_devices_stay()
     ensures followed { (scope : Scope) (pieces : List Piece) (device : Device)
         → IsFollowed scope device
@@ -212,6 +214,7 @@ pub fn acts_of_followed_devices_stay()
 {}
 
 /// In an act list, a device that is left out has a part in breaks only.
+#[tactic(auto, using(crate::proofs::LeftOutActs::breaks_alone))]
 pub fn devices_left_out_have_a_part_in_breaks_alone()
     ensures { (scope : Scope) (pieces : List Piece) (device : Device) → ArePieces scope pieces
         → IsLeftOut scope device
