@@ -1,7 +1,7 @@
 -- Lists of events and of words, with their last element apart.
 use Rattle.std.proofs.Common.{arith, refl, ap, sym, subst, ◌∙◌, ◌≡◌, ◌≢◌, ◌+◌, ◌≤◌, ℕ, List, [], ◌∷◌, ◌++◌, Option, Some, length, All, append_assoc, length-append}
 use Rattle.std.specs.List.{AllByRecursion}
-use Rattle.std.proofs.lemmas.List.{length-map}
+use Rattle.std.proofs.lemmas.List.{get_or_append_left, get_or-append-add, length-map}
 use Rattle.std.proofs.lemmas.List.Elements.{recursion_from_All, All-from_recursion}
 use Rattle.mdb_words.specs.declared.event.Event.{Event}
 use Rattle.mdb_words.specs.declared.event.Event.TheVariants.{Word, Break}
@@ -161,29 +161,21 @@ pub inside : (profile : Profile) (before front : List Event) (event : Event) →
     → AreSpaced profile front × InBlockTime profile (last_of (before ++ front)) event
 inside profile before front event some spaced =
     let split = front_and_last front some in
-    let Longer : List Event → Type 0 = λ es. AreSpaced profile (es ++ event ∷ []) in
-    let Alone : List Event → Type 0 = λ es. AreSpaced profile es in
-    let In : Option Event → Type 0 = λ from. InBlockTime profile from event in
-    let apart = spaced_front profile split.0 split.1 event (subst Longer split.2 spaced) in
-    let joined : before ++ front ≡ (before ++ split.0) ++ split.1 ∷ [] =
-    ap (λ es. before ++ es) split.2 ∙ sym (append_assoc before split.0 (split.1 ∷ [])) in
-    let last : last_of (before ++ front) ≡ Some split.1 = ap last_of joined
-    ∙ last_push (before ++ split.0) split.1 in
-    (subst Alone (sym split.2) apart.0, subst In (sym last) apart.1)
+    let apart = spaced_front profile split.0 split.1 event
+    (subst (λ es. AreSpaced profile (es ++ event ∷ [])) split.2 spaced) in
+    let joined = ap (λ es. before ++ es) split.2
+    ∙ sym (append_assoc before split.0 (split.1 ∷ [])) in
+    let last = ap last_of joined ∙ last_push (before ++ split.0) split.1 in (
+      subst (AreSpaced profile) (sym split.2) apart.0,
+      subst (λ from. InBlockTime profile from event) (sym last) apart.1,
+    )
 
 -- what holds of each element holds of each in a front, and of the last
-front_by_recursion : (P : ℕ → Type 0) (xs ys : List ℕ) → AllByRecursion P (xs ++ ys)
-    → AllByRecursion P xs
-front_by_recursion P [] ys all = tt
-front_by_recursion P (x ∷ xs) ys all = (all.0, front_by_recursion P xs ys all.1)
-
-last_by_recursion : (P : ℕ → Type 0) (xs : List ℕ) (x : ℕ) → AllByRecursion P (xs ++ x ∷ []) → P x
-last_by_recursion P [] x all = all.0
-last_by_recursion P (y ∷ xs) x all = last_by_recursion P xs x all.1
-
 pub all_front : (P : ℕ → Type 0) (xs ys : List ℕ) → All P (xs ++ ys) → All P xs
-all_front P xs ys all =
-    All-from_recursion P xs (front_by_recursion P xs ys (recursion_from_All P (xs ++ ys) all))
+all_front P xs ys all k d lt =
+    rw (get_or_append_left xs ys d k lt) at (all k d (omega (arith, length-append xs ys)))
 
 pub all_last : (P : ℕ → Type 0) (xs : List ℕ) (x : ℕ) → All P (xs ++ x ∷ []) → P x
-all_last P xs x all = last_by_recursion P xs x (recursion_from_All P (xs ++ x ∷ []) all)
+all_last P xs x all =
+    rw (get_or-append-add xs (x ∷ []) 0 x) at
+    (all (length xs + 0) x (omega (arith, length-append xs (x ∷ []))))
