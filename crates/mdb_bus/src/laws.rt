@@ -139,6 +139,7 @@ pub fn first_broken_rules_count_where_options_are_known()
 
 /// The base profile needs nothing of the extended one (`Extended*.antt`): a reply is read in one
 /// way, and a row's fault is the first rule that it breaks, blamed on who broke it.
+#[tactic(auto, using(crate::proofs::BaseAlone::one_format, crate::proofs::BaseAlone::first_counts, crate::proofs::BaseAlone::no_haste, crate::proofs::BaseAlone::no_times))]
 pub fn the_base_profile_stands_alone()
     ensures formats { (begins : Beginning) (levels : Levels) (command : Command)
         → profile_of begins ≡ Base → format_for begins levels command ≡ As base }
