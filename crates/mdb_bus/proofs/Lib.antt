@@ -21,7 +21,6 @@ pub mod OneActList
 pub mod OneFault
 pub mod OneStep
 pub mod PlainMoney
-pub mod Polls
 pub mod Promises
 pub mod Rows
 pub mod Sound
