@@ -225,12 +225,9 @@ IsIdle next = IsQuiet next
 -- settles none
 settles_none : (at : Position) (next : Step) (known : KnownOptions) → IsIdle next
     → known_if (act_after at next) known ≡ known
-settles_none at (step.Ask command) known idle = absurd idle
-settles_none at (step.Reply reply) known idle = absurd idle
-settles_none at step.Ack known idle = absurd idle
-settles_none at (step.Break length) known idle = absurd idle
-settles_none (InAsk bytes) next known idle = refl
-settles_none at next known idle = refl
+settles_none (InAsk bytes) (step.AskByte byte) known idle = refl
+settles_none at (step.AskByte byte) known idle = refl
+settles_none at next known idle = search
 
 -- options that an act has settled are those after the step that ends it
 settled : (ended : Bool) (act told : Act) (before after : KnownOptions)

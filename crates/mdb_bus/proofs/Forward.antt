@@ -56,7 +56,7 @@ GoesOnFromPieces pieces begun rest =
     ⊎ ((tail : Piece) × IsTail tail × (piece_events tail ≡ begun) × (pieces ≡ tail ∷ rest))
 
 -- a position where no tail is open
-abbrev IsFree : Position → Type 0
+abbrev pub IsFree : Position → Type 0
 IsFree (InAsk bytes) = ⊥
 IsFree (InReply command bytes) = ⊥
 IsFree (InRepeat command reply words) = ⊥
@@ -253,10 +253,6 @@ module _ (scope : Scope) where
     begins (Asked command) free Controller next leads = opens (Asked command) tt next leads
     begins (Returned command reply) free Controller next leads =
         opens (Returned command reply) tt next leads
-    begins (Asked command) free Peripheral step.Ack leads =
-        (says Peripheral _ leads.0, (refl, leads.1), tt)
-    begins (Asked command) free Peripheral step.Nak leads =
-        (says Peripheral _ leads.0, (refl, leads.1), tt)
     begins (Asked command) free Peripheral (step.ReplyByte byte) leads =
         let below : byte < 256 = omega (arith, leads.0, leads.1) in (
           (
@@ -271,12 +267,6 @@ module _ (scope : Scope) where
           (refl, leads.3),
           tt,
         )
-    begins (Replied command reply) free Controller step.VmcAck leads =
-        (says Controller _ leads.0, (refl, leads.1), tt)
-    begins (Replied command reply) free Controller step.VmcNak leads =
-        (says Controller _ leads.0, (refl, leads.1), tt)
-    begins (Replied command reply) free Controller step.VmcRet leads =
-        (says Controller _ leads.0, (refl, leads.1), tt)
     begins (Replied command reply) free Controller (step.AskByte byte) leads =
         opens (Replied command reply) tt (step.AskByte byte) leads
     begins (Replied command reply) free Controller step.Foreign leads =
@@ -289,7 +279,7 @@ module _ (scope : Scope) where
     begins InForeign free Controller next (inr leads) = absurd leads.1
     begins InForeign free Peripheral step.Foreign leads =
         (inr (Word at Peripheral word, refl, tt), inr (tt, refl, leads), tt)
-    begins position free line next leads = search
+    begins position free line next leads = search says
 
     -- a word in a block goes on with its tail
     goes_on : (tail : Piece) → IsTail tail → IsSaid scope tail → (line : Line) (next : Step)

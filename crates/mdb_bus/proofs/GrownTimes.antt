@@ -61,32 +61,23 @@ with_more : (position : Position) (from : Option Event) (events : List Event) (r
 with_more position from [] row haste some = absurd (some refl)
 with_more position from (first ∷ others) row haste some = refl
 
+sum_more : (n some more : ℕ) → n + (some + more) ≡ n + some + more
+sum_more n some more = omega arith
+
 -- rows of a sender add up
 adds_up : (more some : ℕ) (sender : Blame) (counts : Untimely)
     → with_untimely (some + more) sender counts
     ≡ with_untimely more sender (with_untimely some sender counts)
-adds_up more some blame.Controller counts =
-    ap (λ n. record counts { controller = n }) (omega arith)
-adds_up more some blame.Changer counts = ap (λ n. record counts { changer = n }) (omega arith)
-adds_up more some blame.Bill counts = ap (λ n. record counts { bill = n }) (omega arith)
-adds_up more some blame.Cashless counts = ap (λ n. record counts { cashless = n }) (omega arith)
-adds_up more some blame.Cashless2 counts = ap (λ n. record counts { cashless2 = n }) (omega arith)
 adds_up more some blame.Other counts = refl
+adds_up more some sender counts = rw sum_more
 
 add-zero : (n : ℕ) → n + 0 ≡ n
 add-zero n = omega arith
 
 -- no row adds nothing
 adds_none : (sender : Blame) (counts : Untimely) → with_untimely 0 sender counts ≡ counts
-adds_none blame.Controller counts =
-    ap (λ n. record counts { controller = n }) (add-zero counts.controller)
-adds_none blame.Changer counts = ap (λ n. record counts { changer = n }) (add-zero counts.changer)
-adds_none blame.Bill counts = ap (λ n. record counts { bill = n }) (add-zero counts.bill)
-adds_none blame.Cashless counts = ap (λ n. record counts { cashless = n })
-    (add-zero counts.cashless)
-adds_none blame.Cashless2 counts =
-    ap (λ n. record counts { cashless2 = n }) (add-zero counts.cashless2)
 adds_none blame.Other counts = refl
+adds_none sender counts = rw add-zero
 
 -- one row more, if it is out of its time
 adds_one : (is : Bool) (sender : Blame) (counts : Untimely)

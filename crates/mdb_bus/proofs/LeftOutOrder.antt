@@ -108,25 +108,14 @@ rests_enough (Some (Break at length)) to comes = omega (arith, comes)
 pub block_waits : (profile : Profile) (position : Position) (from : Option Event) (to : Event)
     → BlockMayCome profile position from to → BlockMayCome profile InForeign from to
 block_waits profiles.Base Quiet (Some (Break at length)) to comes = omega (arith, comes)
-block_waits profiles.Base (Asked command) from to comes = rests_enough from to comes
-block_waits profiles.Base (Replied command reply) from to comes = rests_enough from to comes
-block_waits profiles.Base (Returned command reply) from to comes = rests_enough from to comes
-block_waits profile (InAsk bytes) from to comes = absurd comes
-block_waits profile (InReply command bytes) from to comes = absurd comes
-block_waits profile (InRepeat command reply words) from to comes = absurd comes
-block_waits profile position from to comes = comes
+block_waits profile Quiet from to comes = comes
+block_waits profile position from to comes = search (arith, rests_enough)
 
 -- a piece that leaves a command open is of its device
 of_its_device : (scope : Scope) (piece : Piece) (device : Device)
     → device_at (left_by piece) ≡ Some device → is_left_out scope piece ≡ has scope.without device
 of_its_device scope (Whole (acts.Ack command) events) device is = cc
-of_its_device scope (Whole (acts.Nak command) events) device is = cc
-of_its_device scope (Whole (acts.VmcAck command reply) events) device is = cc
-of_its_device scope (Whole (acts.VmcNak command reply) events) device is = cc
-of_its_device scope (Whole acts.Foreign events) device is = cc
-of_its_device scope (Whole (acts.Break length) events) device is = cc
-of_its_device scope (AskTail bytes events) device is = cc
-of_its_device scope piece device is = ap (is_one_left_out scope) is
+of_its_device scope piece device is = cc
 
 -- Where the bus is without further devices, by where it is with them.
 pub record Moves (scope : Scope) (position without : Position) : Type 0 where
