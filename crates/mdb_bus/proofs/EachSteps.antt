@@ -1,5 +1,5 @@
 -- What each step has, and some step has.
-use Rattle.std.proofs.Common.{refl, ◌≡◌, ◌%◌, ℕ, Ok}
+use Rattle.std.proofs.Common.{refl, ◌≡◌, ℕ, Ok}
 use Rattle.mdb_words.specs.declared.event.Event.{Event}
 use Rattle.mdb_words.specs.declared.event.Event.TheVariants.{Word, Break}
 use Rattle.mdb_bus.specs.LinkFaults.{Situation}

@@ -1,8 +1,7 @@
 -- The bus after a row: what it stands for, and why a row is refused.
-use Rattle.std.proofs.Common.{[], refl, ap, sym, subst, ◌∙◌, ◌≡◌, ℕ, List, Option, Result, Ok, Err, IfOk, IfErr, OnOk, inl, inr, Bool, true, false, nat_lt, if◌then◌else◌, Some, None}
+use Rattle.std.proofs.Common.{[], refl, ap, sym, subst, ◌∙◌, ◌≡◌, List, Option, Result, Ok, Err, IfOk, IfErr, OnOk, Bool, true, false, nat_lt, if◌then◌else◌, Some, None}
 use Rattle.mdb_words.specs.declared.event.Event.{Event}
 use Rattle.mdb_words.specs.declared.event.Event.TheVariants.{Word, Break}
-use Rattle.mdb_words.specs.declared.word.Line.{Line}
 use Rattle.mdb_words.specs.declared.word.Line.TheVariants.{Controller, Peripheral}
 use Rattle.mdb_msgs.specs.declared.command.Command.{Command}
 use Rattle.mdb_msgs.specs.Commands.{device_of}
@@ -16,19 +15,19 @@ use Rattle.mdb_bus.specs.declared.options.KnownOptions.{KnownOptions}
 use Rattle.mdb_bus.specs.declared.place.Place.{Place}
 use Rattle.mdb_bus.specs.shared.Step.{Step, EachStep}
 use Rattle.mdb_bus.specs.shared.Step as step
-use Rattle.mdb_bus.specs.ActLists.{ArePieces, Piece, Quiet, InAsk, Asked, InReply, Replied, Returned, InRepeat, InForeign, acts_of, events_of, last_of, levels_after, levels_of, position_of}
+use Rattle.mdb_bus.specs.ActLists.{Piece, InAsk, Asked, Returned, levels_after, position_of}
 use Rattle.mdb_bus.specs.Positions.{Position}
 use Rattle.mdb_bus.specs.Pieces.{act_in, with_act, levels_if}
-use Rattle.mdb_bus.specs.ExtendedMoney.{first_known, known_by, known_if, known_of, wide_at, wide_of}
-use Rattle.mdb_bus.specs.Bus.{GoesOn, Grown, StandsFor, ended_act, position_at}
+use Rattle.mdb_bus.specs.ExtendedMoney.{known_by, known_if, known_of, wide_at}
+use Rattle.mdb_bus.specs.Bus.{GoesOn, StandsFor, ended_act, position_at}
 use Rattle.mdb_bus.specs.inner.Gone.{HasGone, situation_at}
-use Rattle.mdb_bus.specs.LinkFaults.{IsFirstBroken, IsLinkFault, Situation, fault_at, fault_of, situation_of}
-use Rattle.mdb_bus.specs.ExtendedHaste.{haste_after, haste_by, haste_of, is_in_haste}
-use Rattle.mdb_bus.specs.ExtendedTimes.{is_untimely, untimely_of, untimely_sender, with_sender}
+use Rattle.mdb_bus.specs.LinkFaults.{IsFirstBroken, IsLinkFault, fault_at, fault_of, situation_of}
+use Rattle.mdb_bus.specs.ExtendedHaste.{haste_after, haste_by}
+use Rattle.mdb_bus.specs.ExtendedTimes.{is_untimely, untimely_sender}
 use Rattle.mdb_bus.proofs.GrownTimes.{haste_on, untimely_by_step}
 use Rattle.mdb_bus.specs.shared.RulePlaces.{IsFirstByPlace}
 use Rattle.mdb_bus.proofs.Decided.{by_place}
-use Rattle.mdb_bus.specs.shared.Steps.{HasAdvanced, IsAt, IsEnded, IsJudged, IsReadAt, IsSound, Leads, WordLeads, act_after, asked_after, pieces_after, position_after}
+use Rattle.mdb_bus.specs.shared.Steps.{HasAdvanced, IsAt, IsEnded, IsJudged, IsReadAt, IsSound, Leads, act_after, asked_after, pieces_after}
 use Rattle.mdb_bus.specs.declared.judged.Judged.{Judged}
 use Rattle.mdb_bus.specs.declared.judged.Judged.TheVariants as judged
 use Rattle.mdb_msgs.specs.declared.reply.Reply.{Reply}
@@ -36,8 +35,7 @@ use Rattle.mdb_bus.proofs.EachSteps.{each_break, leads_of, some_each}
 use Rattle.mdb_bus.proofs.Forward.{break_after, forward, leads_at}
 use Rattle.mdb_bus.proofs.Lists.{last_push}
 use Rattle.mdb_bus.proofs.Sound.{is_sound}
-use Rattle.mdb_bus.specs.declared.scope.Scope.{Scope}
-use Rattle.mdb_bus.specs.Scopes.{levels_before, profile_of}
+use Rattle.mdb_bus.specs.Scopes.{profile_of}
 use Rattle.mdb_bus.specs.declared.scope.Profile.{Profile}
 use Rattle.mdb_bus.specs.declared.scope.Profile.TheVariants.{Base, Extended}
 

@@ -1,5 +1,5 @@
 -- What is said to a device that is followed: bytes need what they need of anybody.
-use Rattle.std.proofs.Common.{ap, refl, sym, ◌∙◌, ◌≡◌, ◌≢◌, ◌++◌, ◌∷◌, [], Bool, true, false, ℕ, List, slice_index, if◌then◌else◌}
+use Rattle.std.proofs.Common.{ap, refl, sym, ◌∙◌, ◌≡◌, ◌≢◌, ◌++◌, ◌∷◌, [], Bool, false, ℕ, List, slice_index, if◌then◌else◌}
 use Rattle.mdb_msgs.specs.declared.command.Command.{Command}
 use Rattle.mdb_msgs.specs.declared.device_set.DeviceSet.{DeviceSet}
 use Rattle.mdb_msgs.specs.declared.need.Need.{Need}

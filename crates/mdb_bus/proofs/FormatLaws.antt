@@ -10,7 +10,7 @@ use Rattle.mdb_msgs.specs.declared.reading.Reading.{Reading}
 use Rattle.mdb_msgs.specs.declared.reply.Reply.{Reply}
 use Rattle.mdb_msgs.specs.declared.reply.Reply.TheVariants as replies
 use Rattle.mdb_msgs.specs.declared.reply.reader.ReaderMsg.{ReaderMsg}
-use Rattle.mdb_msgs.specs.declared.reply.reader.ReaderMsg.TheVariants.{BeginSession, BeginSessionLong, OutOfSequence, OutOfSequenceIn, PeripheralId, PeripheralIdWithOptions, TimeAsked}
+use Rattle.mdb_msgs.specs.declared.reply.reader.ReaderMsg.TheVariants.{BeginSession}
 use Rattle.mdb_msgs.specs.Bill.{IsBillMsg}
 use Rattle.mdb_msgs.specs.Lists.{Stand}
 use Rattle.mdb_msgs.specs.Reader.{IsReaderMsg, IsTextOf, ReaderMessages, reader_msg_bytes}
@@ -23,7 +23,7 @@ use Rattle.mdb_bus.specs.inner.Reading.{AreReply, IsReadingIn, joint_fault, AreA
 use Rattle.mdb_bus.specs.Formats.{HasFault, IsReadAs}
 use Rattle.mdb_bus.specs.ExtendedFormats.{AreSome, HaveFaults, IsInSome, long, short, HasOpenFault, IsFirst, IsReadOpen, readings}
 use Rattle.mdb_bus.specs.ExtendedCounts.{what_counts}
-use Rattle.mdb_bus.specs.OpenReplies.{IsExtended, OpenAgrees, OpenLeavesOut}
+use Rattle.mdb_bus.specs.OpenReplies.{IsExtended}
 
 -- for a command and a reading, data bytes have at most one reply
 abbrev pub OneReply : Type 0

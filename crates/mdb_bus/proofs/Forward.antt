@@ -6,9 +6,6 @@ use Rattle.mdb_words.specs.declared.event.Event.{Event}
 use Rattle.mdb_words.specs.declared.event.Event.TheVariants.{Word, Break}
 use Rattle.mdb_words.specs.declared.word.Line.{Line}
 use Rattle.mdb_words.specs.declared.word.Line.TheVariants.{Controller, Peripheral}
-use Rattle.mdb_blocks.specs.Block.{block_of, controller_words, peripheral_words}
-use Rattle.mdb_msgs.specs.declared.command.Command.{Command}
-use Rattle.mdb_msgs.specs.declared.reply.Reply.{Reply}
 use Rattle.mdb_msgs.specs.Commands.{IsByte}
 use Rattle.mdb_bus.specs.declared.act.Act.{Act}
 use Rattle.mdb_bus.specs.declared.act.Act.TheVariants as acts

@@ -17,7 +17,7 @@ use Rattle.mdb_bus.specs.Bus.{Grown}
 use Rattle.mdb_bus.specs.ActLists.{Piece, Whole, AskTail, ReplyTail, RepeatTail, Position, InAsk, ArePieces, IsSaid, events_of, last_of, left_by, piece_events, position_of}
 use Rattle.mdb_bus.specs.Pieces.{IsTail}
 use Rattle.mdb_bus.specs.ExtendedHaste.{came_early, haste_after, haste_with, is_in_haste}
-use Rattle.mdb_bus.specs.LinkFaults.{asked_device, blame_on, situation_of}
+use Rattle.mdb_bus.specs.LinkFaults.{asked_device, situation_of}
 use Rattle.mdb_bus.specs.Times.{block_most}
 use Rattle.mdb_bus.specs.declared.scope.Profile.TheVariants.{Base}
 use Rattle.mdb_bus.specs.ExtendedTimes.{far_apart, is_past, is_untimely, sender_by, untimely_of, untimely_sender, with_rows, with_sender, with_untimely}

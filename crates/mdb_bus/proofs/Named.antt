@@ -1,7 +1,7 @@
 -- No act names a device that is left out, and no fault of the link is blamed on one.
-use Rattle.std.proofs.Common.{refl, ap, sym, subst, ◌∙◌, ◌≡◌, ◌⊎◌, ◌&&◌, Bool, true, false, if◌then◌else◌, inl, inr, List, [], ◌∷◌, Option, Some, None}
+use Rattle.std.proofs.Common.{refl, ap, sym, ◌∙◌, ◌≡◌, ◌⊎◌, ◌&&◌, Bool, true, false, if◌then◌else◌, inl, inr, List, [], ◌∷◌, Option, Some, None}
 use Rattle.mdb_words.specs.declared.event.Event.{Event}
-use Rattle.mdb_words.specs.declared.event.Event.TheVariants.{Word, Break}
+use Rattle.mdb_words.specs.declared.event.Event.TheVariants.{Word}
 use Rattle.mdb_words.specs.declared.word.Line.TheVariants.{Controller, Peripheral}
 use Rattle.mdb_msgs.specs.declared.command.Device.{Device}
 use Rattle.mdb_msgs.specs.declared.command.Device.TheVariants as device
@@ -13,12 +13,10 @@ use Rattle.mdb_bus.specs.declared.fault.Blame.{Blame}
 use Rattle.mdb_bus.specs.declared.fault.Blame.TheVariants as blame
 use Rattle.mdb_bus.specs.declared.fault.Rule.{Rule}
 use Rattle.mdb_bus.specs.declared.fault.Rule.TheVariants as rule
-use Rattle.mdb_bus.specs.declared.scope.Beginning.{Beginning}
-use Rattle.mdb_bus.specs.declared.scope.Beginning.TheVariants.{PowerOn, Joined}
 use Rattle.mdb_bus.specs.declared.scope.Scope.{Scope}
-use Rattle.mdb_bus.specs.ActLists.{Piece, Whole, ReplyTail, RepeatTail, Position, Asked, InReply, Replied, Returned, InRepeat, ArePieces, first_position, position_of}
+use Rattle.mdb_bus.specs.ActLists.{Piece, Whole, ReplyTail, RepeatTail, Position, Asked, InReply, Replied, Returned, InRepeat, ArePieces, position_of}
 use Rattle.mdb_bus.specs.LeavingOut.{device_in}
-use Rattle.mdb_bus.specs.LinkFaults.{IsLinkFault, asked_device, blame_of, blame_on, fault_of, vmc_blame}
+use Rattle.mdb_bus.specs.LinkFaults.{IsLinkFault, asked_device, blame_of, blame_on, fault_of}
 use Rattle.mdb_bus.specs.ExtendedHaste.{haste_of, is_excused}
 use Rattle.mdb_bus.specs.Scopes.{IsFollowed}
 use Rattle.mdb_bus.specs.ExtendedMoney.{counted_as, wide_of}

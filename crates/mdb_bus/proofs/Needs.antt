@@ -4,7 +4,7 @@ use Rattle.std.proofs.lemmas.Grind.{common_steps}
 use Rattle.mdb_msgs.specs.declared.command.Device.{Device}
 use Rattle.mdb_msgs.specs.declared.command.Device.TheVariants.{Changer, Bill, Reader}
 use Rattle.mdb_msgs.specs.declared.need.Need.{Need}
-use Rattle.mdb_msgs.specs.declared.need.Need.TheVariants.{More, Exactly, Foreign}
+use Rattle.mdb_msgs.specs.declared.need.Need.TheVariants.{More, Exactly}
 use Rattle.mdb_msgs.specs.Needs.{bill_need, changer_need, device_at, need, need_for, needed, reader_need}
 
 -- How the need of a first byte goes with that of two. What the first byte tells stays, and what it

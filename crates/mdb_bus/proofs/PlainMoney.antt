@@ -13,7 +13,7 @@ use Rattle.mdb_bus.specs.declared.fault.Rule.TheVariants as rule
 use Rattle.mdb_bus.specs.declared.levels.Levels.{Levels}
 use Rattle.mdb_bus.specs.declared.options.KnownOptions.{KnownOptions}
 use Rattle.mdb_bus.specs.declared.scope.Scope.{Scope}
-use Rattle.mdb_bus.specs.ActLists.{Asked, InAsk, InReply, Piece, Position, acts_of, levels_of}
+use Rattle.mdb_bus.specs.ActLists.{Asked, InAsk, InReply, Piece, Position, levels_of}
 use Rattle.mdb_bus.specs.Scopes.{levels_before, profile_of}
 use Rattle.mdb_bus.specs.ExtendedMoney.{all_known, amounts_to, asked_with_amounts, counted_as, first_known, is_wide, known_after, known_by, known_of, reader_asked, refuses, wide_at, wide_of}
 

@@ -1,8 +1,8 @@
 -- What is made of a word, position by position.
-use Rattle.std.proofs.Common.{rules, arith, refl, ap, sym, subst, ◌∙◌, ◌≡◌, ◌≢◌, ◌+◌, ◌<◌, ◌≤◌, ◌%◌, ◌⊎◌, inl, inr, ℕ, zero, suc, List, [], ◌∷◌, ◌++◌, length, take, drop, slice_index, slice_get, sum, Option, Some, None, Result, Ok, Err, IfOk, OnOk, get_or, append_assoc, length-append, length-drop, Fits, w8, ◌&&◌, ◌↔◌, Bool, true, false, IsTrue}
+use Rattle.std.proofs.Common.{rules, arith, refl, ap, sym, ◌∙◌, ◌≡◌, ◌≢◌, ◌+◌, ◌<◌, ◌≤◌, ◌%◌, ◌⊎◌, inl, inr, ℕ, zero, suc, List, [], ◌∷◌, ◌++◌, length, take, drop, slice_index, slice_get, sum, Option, Some, None, Result, Ok, Err, IfOk, OnOk, get_or, append_assoc, length-append, length-drop, Fits, w8, ◌&&◌, ◌↔◌, Bool, true, false, IsTrue}
 use Rattle.std.proofs.lemmas.List.{nil_from_length, same_from_push}
 use Rattle.std.proofs.lemmas.List.Elements.{All-append, All-from_get_or, All-from_recursion}
-use Rattle.std.proofs.lemmas.Option.{slice_get-get_or, slice_get_past, slice_get_within}
+use Rattle.std.proofs.lemmas.Option.{slice_get-get_or, slice_get_past}
 use Rattle.std.specs.List.{All}
 use Rattle.mdb_words.specs.declared.limits.TheConstants.{WORD_GAP_MIN}
 use Rattle.mdb_words.specs.declared.event.Event.{Event}
@@ -33,14 +33,13 @@ use Rattle.mdb_bus.specs.Acts.{reply_words}
 use Rattle.mdb_bus.specs.ActLists.{Asked, InAsk, InBlockTime, InReply, IsRepeatFront, NotBefore, NotPast, Position, IsAskFront}
 use Rattle.mdb_bus.specs.declared.phase.Phase.{Phase}
 use Rattle.mdb_bus.specs.declared.phase.Phase.TheVariants as phase
-use Rattle.mdb_bus.specs.Bus.{position_at, position_in}
+use Rattle.mdb_bus.specs.Bus.{position_at}
 use Rattle.mdb_bus.specs.LinkFaults.{IsBefore, IsPast, LeavesProfile, OutOfOrder, RowBreaks, Situation, WrongLength}
 use Rattle.mdb_bus.specs.shared.RulePlaces.{IsFirstByPlace, place_of}
-use Rattle.mdb_bus.specs.shared.Steps.{Belongs, Counts, Covers, IsCommandFront, IsGoingOn, IsJudged, IsJudgedBy, IsOpened, IsRead, IsReplyEnd, IsSettled, IsSound, IsTimely, IsUnknownExpansion, MayAsk}
+use Rattle.mdb_bus.specs.shared.Steps.{Belongs, Counts, Covers, IsCommandFront, IsGoingOn, IsJudged, IsOpened, IsRead, IsReplyEnd, IsSettled, IsSound, IsTimely, IsUnknownExpansion, MayAsk}
 use Rattle.mdb_bus.specs.Times.{answer_most, block_most}
 use Rattle.mdb_bus.proofs.Needs.{at_least_two, at_most_32, not_left, stays, narrows}
 use Rattle.mdb_bus.specs.declared.scope.Scope.{Scope}
-use Rattle.mdb_bus.specs.declared.format.Format.{Format}
 use Rattle.mdb_bus.specs.Formats.{HasFault, format_for}
 use Rattle.mdb_bus.proofs.FormatLaws.{none_as, one_bad, bad_length}
 use Rattle.mdb_bus.specs.declared.scope.Profile.{Profile}

@@ -1,7 +1,6 @@
 -- A second byte is left out, makes the block foreign, or leaves a command open.
-use Rattle.std.proofs.Common.{rules, refl, inl, ap, ◌∙◌, ◌≡◌, ◌%◌, ◌∷◌, []}
-use Rattle.mdb_msgs.specs.declared.need.Need.TheVariants.{Exactly}
-use Rattle.mdb_bus.specs.Scopes.{needed_by, profile_of}
+use Rattle.std.proofs.Common.{rules, inl}
+use Rattle.mdb_bus.specs.Scopes.{profile_of}
 use Rattle.mdb_bus.proofs.Verdicts.{second_foreign, second_front, second_outside}
 use Rattle.mdb_bus.proofs.judging.asking.second_byte.Goals as goal
 
