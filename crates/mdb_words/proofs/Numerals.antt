@@ -243,32 +243,31 @@ decimal_longer n ten small =
 digit_glyph_decimal : (d : ℕ) → d < 10 → digit_glyph true d ≡ 48 + d
 digit_glyph_decimal d h = grind (arith, nat_tests)
 
-pub decimal_append_room : (old front : List ℕ) (n : ℕ) → 10 ≤ n → n < 2 ^ 64
-    → front ≡ old ++ decimal (n / 10) → length old + length (decimal n) ≤ 32 → length front < 32
-decimal_append_room old front n ten small is room =
-    omega (arith, ap length is, length-append old (decimal (n / 10)), decimal_longer n ten small)
+module _ (old front : List ℕ) (n : ℕ) where
+  module _ (ten : 10 ≤ n) (small : n < 2 ^ 64) (is : front ≡ old ++ decimal (n / 10)) where
+    pub decimal_append_room : length old + length (decimal n) ≤ 32 → length front < 32
+    decimal_append_room room =
+        omega (arith, ap length is, length-append old (decimal (n / 10)), decimal_longer n ten small)
 
-pub decimal_append_digit_room : (old front : List ℕ) (n : ℕ) → n < 10 → front ≡ old
-    → length old + length (decimal n) ≤ 32 → length front < 32
-decimal_append_digit_room old front n ten is room =
-    omega (arith, ap length is, ap length (decimal_digit n ten))
+    pub decimal_append : (new : List ℕ) → new ≡ front ++ digit_glyph true (n % 10) ∷ []
+        → new ≡ old ++ decimal n
+    decimal_append new appends =
+        let glyph = digit_glyph_decimal (n % 10) (omega arith) in
+        let step = decimal_step n ten small in
+        let regroup = append_assoc old (decimal (n / 10)) ((48 + n % 10) ∷ []) in
+        cc
 
-pub decimal_append : (old front new : List ℕ) (n : ℕ) → 10 ≤ n → n < 2 ^ 64
-    → front ≡ old ++ decimal (n / 10) → new ≡ front ++ digit_glyph true (n % 10) ∷ []
-    → new ≡ old ++ decimal n
-decimal_append old front new n ten small is appends =
-    let glyph = digit_glyph_decimal (n % 10) (omega arith) in
-    let step = decimal_step n ten small in
-    let regroup = append_assoc old (decimal (n / 10)) ((48 + n % 10) ∷ []) in
-    cc
+  module _ (ten : n < 10) (is : front ≡ old) where
+    pub decimal_append_digit_room : length old + length (decimal n) ≤ 32 → length front < 32
+    decimal_append_digit_room room = omega (arith, ap length is, ap length (decimal_digit n ten))
 
-pub decimal_append_digit : (old front new : List ℕ) (n : ℕ) → n < 10 → front ≡ old
-    → new ≡ front ++ digit_glyph true (n % 10) ∷ [] → new ≡ old ++ decimal n
-decimal_append_digit old front new n ten is appends =
-    let whole : n % 10 ≡ n = omega arith in
-    let glyph = digit_glyph_decimal n ten in
-    let digit = decimal_digit n ten in
-    cc
+    pub decimal_append_digit : (new : List ℕ) → new ≡ front ++ digit_glyph true (n % 10) ∷ []
+        → new ≡ old ++ decimal n
+    decimal_append_digit new appends =
+        let whole : n % 10 ≡ n = omega arith in
+        let glyph = digit_glyph_decimal n ten in
+        let digit = decimal_digit n ten in
+        cc
 
 -- a start alone takes 15 bytes at most
 pub length_start : (start : ℕ) (new text : List ℕ) → new ≡ [] → text ≡ new ++ decimal start
