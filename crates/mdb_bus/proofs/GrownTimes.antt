@@ -144,16 +144,10 @@ module _ (scope : Scope) where
   goes_on : (tail : Piece) (earlier : List Piece) (at : ℕ) (line : Line) (word : ℕ) (next : Step)
       → IsTail tail → Leads (situation_of scope (tail ∷ earlier)) (Word at line word) next
       → GoesOnWith tail (Word at line word)
-  goes_on (Whole act events) earlier at line word next open_end leads = absurd open_end
   goes_on (AskTail bytes events) earlier at Controller word (step.AskByte byte) open_end leads =
       leads.1
-  goes_on (AskTail bytes events) earlier at Controller word (step.Ask command) open_end leads =
-      leads.0
-  goes_on (AskTail bytes events) earlier at Controller word step.Foreign open_end leads = leads.0
-  goes_on (ReplyTail command bytes events) earlier at Peripheral word next open_end leads = tt
-  goes_on (RepeatTail command reply words events) earlier at Peripheral word next open_end leads =
-      tt
-  goes_on tail earlier at line word next open_end leads = absurd leads
+  goes_on tail earlier at Controller word next open_end leads = search
+  goes_on tail earlier at line word next open_end leads = search
 
   -- a tail in order has events
   some_events : (piece : Piece) (earlier : List Piece) → ArePieces scope (piece ∷ earlier)

@@ -42,18 +42,11 @@ none_wide levels (Some First) = refl
 none_wide levels (Some Second) = refl
 
 -- and each rule counts as it is
-plain : (wide : Bool) (broken : Rule) → wide ≡ false
-    → (if wide then rule.Profile else broken) ≡ broken
-plain wide broken is = ap (λ w. if w then rule.Profile else broken) is
-
 as_it_is : (broken : Rule) (position : Position) (levels : Levels)
     → counted_as broken position (wide_at all_known levels) ≡ broken
-as_it_is rule.Sum (InAsk bytes) levels =
-    plain _ rule.Sum (none_wide levels (asked_with_amounts bytes))
-as_it_is rule.Mode (Asked command) levels =
-    plain _ rule.Mode (none_wide levels (amounts_to command))
-as_it_is rule.Message (InReply command bytes) levels =
-    plain _ rule.Message (none_wide levels (reader_asked command))
+as_it_is rule.Sum (InAsk bytes) levels = rw (none_wide levels (asked_with_amounts bytes))
+as_it_is rule.Mode (Asked command) levels = rw (none_wide levels (amounts_to command))
+as_it_is rule.Message (InReply command bytes) levels = rw (none_wide levels (reader_asked command))
 as_it_is broken position levels = refl
 
 pub counts_plainly : (scope : Scope) (pieces : List Piece) (broken : Rule) (position : Position)
