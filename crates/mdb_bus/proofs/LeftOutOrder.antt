@@ -15,6 +15,7 @@ use Rattle.mdb_msgs.specs.declared.command.ReaderUnit.TheVariants.{First, Second
 use Rattle.mdb_msgs.specs.declared.device_set.DeviceSet.{DeviceSet}
 use Rattle.mdb_msgs.specs.Commands.{IsByte, command_bytes, device_of}
 use Rattle.mdb_msgs.specs.DeviceSets.{has}
+use Rattle.mdb_bus.specs.declared.act.Act.{Act}
 use Rattle.mdb_bus.specs.declared.act.Act.TheVariants as acts
 use Rattle.mdb_bus.specs.declared.levels.Levels.{Levels}
 use Rattle.mdb_bus.specs.declared.levels.ReaderLevels.{ReaderLevels}
@@ -27,8 +28,8 @@ use Rattle.mdb_bus.specs.Formats.{IsReadAs, format_by, levels_for}
 use Rattle.mdb_bus.specs.ExtendedFormats.{untold_format}
 use Rattle.mdb_bus.specs.declared.scope.Scope.{Scope}
 use Rattle.mdb_bus.specs.Acts.{IsForeign, reply_words}
-use Rattle.mdb_bus.specs.ActLists.{Piece, Whole, AskTail, ReplyTail, RepeatTail, Position, Quiet, InForeign, ArePieces, AreSpaced, BlockMayCome, ForeignMayCome, InAnswerTime, IsInProfile, IsSaid, MayCome, NotBefore, PieceFits, events_of, first_position, last_of, left_by, levels_after, levels_of, levels_told, piece_events, position_of}
-use Rattle.mdb_bus.specs.LeavingOut.{LeavesOutMore, begin_left_out, is_left_out, leave_out, position_without, with_foreign}
+use Rattle.mdb_bus.specs.ActLists.{Piece, Whole, AskTail, ReplyTail, RepeatTail, Position, Quiet, InForeign, ArePieces, AreSpaced, BlockMayCome, ForeignMayCome, InAnswerTime, IsInProfile, IsSaid, MayCome, NotBefore, PieceFits, events_of, first_position, last_of, left_by, levels_by, levels_of, piece_events, position_of}
+use Rattle.mdb_bus.specs.LeavingOut.{LeavesOutMore, begin_left_out, device_in, is_left_out, is_one_left_out, leave_out, position_without, with_foreign}
 use Rattle.mdb_bus.specs.Scopes.{IsFollowed, levels_before, profile_of}
 use Rattle.mdb_bus.specs.LeavingOut.{IsLeftOut}
 use Rattle.mdb_bus.specs.Times.{rest_after}
@@ -244,57 +245,49 @@ module _ (scope : Scope) where
       (word_stands first pieces are become.act become.comes) refl
       (last_push (events_of pieces) first) spaced become.words
 
--- a command tells its own reader a level, and not the other
-told_another : (set : DeviceSet) (command asked : Command) (levels : Levels)
-    → has set (device_of command) ≡ false → has set (device_of asked) ≡ true
-    → levels_for command (levels_after asked levels) ≡ levels_for command levels
-told_another set (commands.Reader First command)
-    (commands.Reader Second (readers.SetupConfig level columns rows display)) levels followed out =
-    refl
-told_another set (commands.Reader Second command)
-    (commands.Reader First (readers.SetupConfig level columns rows display)) levels followed out =
-    refl
-told_another set command asked levels followed out = search
+-- an act tells its own reader a level, and not the other
+told_another : (profile : Profile) (scope : Scope) (command : Command) (act : Act)
+    (levels : Levels) → IsFollowed scope (device_of command)
+    → is_one_left_out scope (device_in act) ≡ true
+    → levels_for command (levels_by profile act levels) ≡ levels_for command levels
+told_another profile scope (commands.Reader First command)
+    (acts.Ask (commands.Reader Second (readers.SetupConfig level columns rows display))) levels
+    followed out = refl
+told_another profile scope (commands.Reader Second command)
+    (acts.Ask (commands.Reader First (readers.SetupConfig level columns rows display))) levels
+    followed out = refl
+told_another profiles.Extended scope (commands.Reader First command)
+    (acts.Reply (commands.Reader Second asked) (replies.Reader list)) levels followed out = refl
+told_another profiles.Extended scope (commands.Reader Second command)
+    (acts.Reply (commands.Reader First asked) (replies.Reader list)) levels followed out = refl
+told_another profile scope command act levels followed out = search
 
--- nor does a reply tell the level of another reader
-told_by_another : (profile : Profile) (set : DeviceSet) (command asked : Command) (reply : Reply)
-    (levels : Levels) → has set (device_of command) ≡ false → has set (device_of asked) ≡ true
-    → levels_for command (levels_told profile asked reply levels) ≡ levels_for command levels
-told_by_another profiles.Extended set (commands.Reader First command)
-    (commands.Reader Second asked) (replies.Reader list) levels followed out = refl
-told_by_another profiles.Extended set (commands.Reader Second command)
-    (commands.Reader First asked) (replies.Reader list) levels followed out = refl
-told_by_another profile set command asked reply levels followed out = search
-
--- after a command, levels are the same for a reader if they were before it
-same_after : (command asked : Command) (one other : Levels)
+-- after an act, levels are the same for a reader if they were before it
+same_after : (profile : Profile) (command : Command) (act : Act) (one other : Levels)
     → levels_for command one ≡ levels_for command other
-    → levels_for command (levels_after asked one) ≡ levels_for command (levels_after asked other)
-same_after (commands.Reader First command)
-    (commands.Reader First (readers.SetupConfig level columns rows display)) one other same = rw same
-same_after (commands.Reader Second command)
-    (commands.Reader Second (readers.SetupConfig level columns rows display)) one other same =
-    rw same
-same_after (commands.Reader First command)
-    (commands.Reader Second (readers.SetupConfig level columns rows display)) one other same = same
-same_after (commands.Reader Second command)
-    (commands.Reader First (readers.SetupConfig level columns rows display)) one other same = same
-same_after command asked one other same = search
-
--- and after a reply
-same_telling : (profile : Profile) (command asked : Command) (reply : Reply) (one other : Levels)
-    → levels_for command one ≡ levels_for command other
-    → levels_for command (levels_told profile asked reply one)
-    ≡ levels_for command (levels_told profile asked reply other)
-same_telling profiles.Extended (commands.Reader First command) (commands.Reader First asked)
-    (replies.Reader list) one other same = rw same
-same_telling profiles.Extended (commands.Reader Second command) (commands.Reader Second asked)
-    (replies.Reader list) one other same = rw same
-same_telling profiles.Extended (commands.Reader First command) (commands.Reader Second asked)
-    (replies.Reader list) one other same = same
-same_telling profiles.Extended (commands.Reader Second command) (commands.Reader First asked)
-    (replies.Reader list) one other same = same
-same_telling profile command asked reply one other same = search
+    → levels_for command (levels_by profile act one)
+    ≡ levels_for command (levels_by profile act other)
+same_after profile (commands.Reader First command)
+    (acts.Ask (commands.Reader First (readers.SetupConfig level columns rows display))) one other
+    same = rw same
+same_after profile (commands.Reader First command)
+    (acts.Ask (commands.Reader Second (readers.SetupConfig level columns rows display))) one other
+    same = same
+same_after profile (commands.Reader Second command)
+    (acts.Ask (commands.Reader Second (readers.SetupConfig level columns rows display))) one other
+    same = rw same
+same_after profile (commands.Reader Second command)
+    (acts.Ask (commands.Reader First (readers.SetupConfig level columns rows display))) one other
+    same = same
+same_after profiles.Extended (commands.Reader First command)
+    (acts.Reply (commands.Reader First asked) (replies.Reader list)) one other same = rw same
+same_after profiles.Extended (commands.Reader First command)
+    (acts.Reply (commands.Reader Second asked) (replies.Reader list)) one other same = same
+same_after profiles.Extended (commands.Reader Second command)
+    (acts.Reply (commands.Reader Second asked) (replies.Reader list)) one other same = rw same
+same_after profiles.Extended (commands.Reader Second command)
+    (acts.Reply (commands.Reader First asked) (replies.Reader list)) one other same = same
+same_after profile command act one other same = search
 
 -- foreign acts tell no level
 pub foreign_levels : (profile : Profile) (told : Levels) (events : List Event)
@@ -312,20 +305,16 @@ module _ (scope : Scope) (command : Command) where
   -- a piece goes on from levels that are the same for a command
   levels_go_on : (piece : Piece) (one other : List Piece) → Its one ≡ Its other
       → Its (piece ∷ one) ≡ Its (piece ∷ other)
-  levels_go_on (Whole (acts.Ask asked) events) one other same = same_after command asked _ _ same
-  levels_go_on (Whole (acts.Reply asked reply) events) one other same =
-      same_telling (profile_of scope.begins) command asked reply _ _ same
-  levels_go_on (Whole act events) one other same = same
+  levels_go_on (Whole act events) one other same =
+      same_after (profile_of scope.begins) command act _ _ same
   levels_go_on piece one other same = same
 
   -- a piece of a device that is left out tells another reader nothing, and of it nothing
   levels_stay : (piece : Piece) (pieces : List Piece) → IsFollowed scope (device_of command)
       → is_left_out scope piece ≡ true → Its (piece ∷ pieces) ≡ Its pieces
-  levels_stay (Whole (acts.Ask asked) events) pieces followed out =
-      told_another scope.without command asked _ followed out
-  levels_stay (Whole (acts.Reply asked reply) events) pieces followed out =
-      told_by_another (profile_of scope.begins) scope.without command asked reply _ followed out
-  levels_stay (Whole act events) pieces followed out = refl
+  levels_stay (Whole acts.Foreign events) pieces followed out = refl
+  levels_stay (Whole act events) pieces followed out =
+      told_another (profile_of scope.begins) scope command act _ followed out
   levels_stay piece pieces followed out = refl
 
   -- so a reader that is followed was told the same

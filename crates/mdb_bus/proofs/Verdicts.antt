@@ -556,23 +556,23 @@ words_count bytes =
     ∙ length-append bytes ((256 + sum bytes % 256) ∷ [])
 
 -- the word at an index of a sealed reply
-pub word_there : (bytes content block : List ℕ) (i word : ℕ) → content ≡ bytes
-    → block ≡ block_of content → i < length block → word ≡ slice_index (peripheral_words block) i
-    → Some word ≡ slice_get (peripheral_words (block_of bytes)) i
-word_there bytes content block i word same sealed within is =
-    let whole : block ≡ block_of bytes = sealed ∙ ap block_of same in
-    let long = ap length whole ∙ length-append bytes ((sum bytes % 256) ∷ []) in
-    ap Some (rw whole at is)
-    ∙ sym (slice_get-get_or (peripheral_words (block_of bytes)) i 0
-    (omega (arith, within, words_count bytes, long)))
+module _ (bytes content block : List ℕ) (i : ℕ) (same : content ≡ bytes)
+    (sealed : block ≡ block_of content) where
+  whole : block ≡ block_of bytes
+  whole = sealed ∙ ap block_of same
 
-pub word_after : (bytes content block : List ℕ) (i : ℕ) → content ≡ bytes → block ≡ block_of content
-    → length block ≤ i → None ≡ slice_get (peripheral_words (block_of bytes)) i
-word_after bytes content block i same sealed past =
-    let whole : block ≡ block_of bytes = sealed ∙ ap block_of same in
-    let long = ap length whole ∙ length-append bytes ((sum bytes % 256) ∷ []) in
-    sym (slice_get_past (peripheral_words (block_of bytes)) i
-    (omega (arith, past, words_count bytes, long)))
+  long : length block ≡ length bytes + 1
+  long = ap length whole ∙ length-append bytes ((sum bytes % 256) ∷ [])
+
+  pub word_there : (word : ℕ) → i < length block → word ≡ slice_index (peripheral_words block) i
+      → Some word ≡ slice_get (peripheral_words (block_of bytes)) i
+  word_there word within is =
+      ap Some (rw whole at is) ∙ sym (slice_get-get_or (peripheral_words (block_of bytes)) i 0
+      (omega (arith, within, words_count bytes, long)))
+
+  pub word_after : length block ≤ i → None ≡ slice_get (peripheral_words (block_of bytes)) i
+  word_after past = sym (slice_get_past (peripheral_words (block_of bytes)) i
+      (omega (arith, past, words_count bytes, long)))
 
 -- inside a block of the controller, the bytes so far begin an ask to a device that is followed
 pub asking_followed : FirstTells → (scope : Scope) (place : Place) → place.phase ≡ phase.InAsk
