@@ -18,8 +18,7 @@ some_each found row One Two one two = search
 
 -- what is made of a row that ends no reply is where it leads
 pub leads_of : (found : Judged) (s : Situation) (row : Event) → (found ≡ judged.Reply → ⊥)
-    → IsJudged s row (Ok found)
-    → SomeStep found row (Leads s row)
+    → IsJudged s row (Ok found) → SomeStep found row (Leads s row)
 leads_of judged.Reply s row other h = absurd (other refl)
 leads_of found s row other h = h
 

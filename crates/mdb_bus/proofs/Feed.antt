@@ -52,8 +52,7 @@ module _ (old : Bus) (pieces : List Piece) (stands : StandsFor old pieces) where
   pub has_fault : (row : Event) (first : Rule) (told : LinkFault)
       → IsFirstByPlace (situation_at old) row first
       → told ≡ fault_at (position_at old.place) old.asked (wide_at old.options old.levels) old.haste
-      row first
-      → IsLinkFault old.scope pieces row told.rule told.blame
+      row first → IsLinkFault old.scope pieces row told.rule told.blame
   has_fault row first told judged is =
       let same : told ≡ fault_of old.scope pieces row first =
       rw (stands.position, stands.asked, stands.options, stands.levels, stands.haste) is in
@@ -78,8 +77,7 @@ known_more before (Some act) acts = refl
 
 -- by the base profile there is no haste, however it goes on
 haste_again : (profile : Profile) (position : Position) (from : Option Event) (row : Event)
-    (haste : Bool)
-    → haste_by profile (haste_after position from row (haste_by profile haste))
+    (haste : Bool) → haste_by profile (haste_after position from row (haste_by profile haste))
     ≡ haste_by profile (haste_after position from row haste)
 haste_again Base position from row haste = refl
 haste_again Extended position from row haste = refl
@@ -127,8 +125,7 @@ module _ (old new : Bus) (haste : Bool) (pieces : List Piece) (row : Event)
         longer = pieces_after old.scope pieces row next;
         stands = record {
           in_order = rw went.scope more.in_order;
-          position = rw (went.scope, more.position, stands.position)
-              (sym went.advanced.position);
+          position = rw (went.scope, more.position, stands.position) (sym went.advanced.position);
           last = rw (more.rows, last_push) (sym went.last);
           levels = rw (went.scope, more.levels, ended, stands.levels) (sym went.levels);
           options = rw (went.scope, more.acts, ended, known_more, stands.options)
@@ -150,11 +147,11 @@ module _ (old new : Bus) (haste : Bool) (pieces : List Piece) (row : Event)
             (untimely_by_step old.scope pieces row next _ stands.in_order there more.grown);
       }
 
+  -- the same for what was judged of a row that ends no reply
   pub stands_on : (found : Judged) (act : Option Act) → (found ≡ judged.Reply → ⊥)
       → IsJudged (situation_at old) row (Ok found)
       → EachStep found row (λ next. IsAt (position_at old.place) next
-      → HasGone old next row new act)
-      → GoesOn (record new { haste = haste }) pieces row act
+      → HasGone old next row new act) → GoesOn (record new { haste = haste }) pieces row act
   stands_on found act other judged gone =
       let both = some_each found row (Leads (situation_at old) row)
       (λ next. IsAt (position_at old.place) next → HasGone old next row new act)
@@ -175,8 +172,7 @@ module _ (old new : Bus) (haste : Bool) (pieces : List Piece) (row : Event)
 pub read_breaks : (old : Bus) (row : Event) (result : Result Bool Rule)
     → IsEnded (situation_at old) row
     → IfErr result (λ first. IsReadAt old.scope.begins (position_at old.place) old.levels
-    (Err first))
-    → IfErr result (IsFirstByPlace (situation_at old) row)
+    (Err first)) → IfErr result (IsFirstByPlace (situation_at old) row)
 read_breaks old row (Ok ends) ended read = tt
 read_breaks old row (Err first) ended read = ended (Err first) read
 
@@ -196,6 +192,7 @@ acked : (at : Position) → IsAt at step.Ack
 acked (Asked command) there = (command, refl)
 acked at there = absurd there
 
+-- an act that was ended is the one that is told
 ended_is : (ended : Bool) (act told : Act) → ended_act ended act ≡ Some told → act ≡ told
 ended_is true act told is = cc
 ended_is false act told is = absurd (cc)
@@ -295,9 +292,8 @@ module _ (old new : Bus) (row : Event) (scope : new.scope ≡ old.scope) (last :
       -- or settles those that its act does
       gone_settling : (next : Step) (ended : Bool) (act told : Act) → IsQuiet next
           → act_after At next ≡ Some told → new.options ≡ known_by act old.options
-          → new.asked ≡ asked_after old.asked next
-          → HasAdvanced At next (position_at new.place) (ended_act ended act)
-          → HasGone old next row new (ended_act ended act)
+          → new.asked ≡ asked_after old.asked next → HasAdvanced At next (position_at new.place)
+          (ended_act ended act) → HasGone old next row new (ended_act ended act)
       gone_settling next ended act told quiet ends options asked advanced =
           gone_quiet next (ended_act ended act) quiet
           (settled ended act told old.options new.options (advanced.act ∙ ends) options) asked

@@ -78,8 +78,7 @@ IsSparing hearing act = left_open act ≡ Quiet → hearing ≡ Open
 
 -- so it is with what an act tells that may come after
 sparing_told : (profile : Profile) (next : Act) (events : List Event) (act : Act)
-    (from : Option Event) (to : Event)
-    → MayCome profile (Whole next events) (left_open act) from to
+    (from : Option Event) (to : Event) → MayCome profile (Whole next events) (left_open act) from to
     → IsSparing (told_by next act) act
 sparing_told profile (acts.Ask command) events act from to comes = no_block_tells act
 sparing_told profile (acts.Nak command) events act from to comes = λ quiet. refl

@@ -32,8 +32,7 @@ needed_followed scope bytes followed =
 
 -- what needs anything that isn't foreign is to a device that is followed
 pub within : (scope : Scope) (bytes : List ℕ) (told : Need) → needed_in scope bytes ≡ told
-    → told ≢ Foreign
-    → AreFollowed scope bytes × (needed_by (profile_of scope.begins) bytes ≡ told)
+    → told ≢ Foreign → AreFollowed scope bytes × (needed_by (profile_of scope.begins) bytes ≡ told)
 within scope bytes told is other =
     otherwise (is_to_one_of scope.without (slice_index bytes 0))
     (needed_by (profile_of scope.begins) bytes) told is other

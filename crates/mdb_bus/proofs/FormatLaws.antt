@@ -48,8 +48,7 @@ module _ (command : Command) where
 
   -- what is read in a format of a reader's reply has the bytes of a reply in one of its readings
   some_read : (format : Format) (reply : Reply) → IsExtended format → IsReplyTo command reply
-      → IsReadAs format command reply
-      → (some : Reply) × AreSome command (reply_bytes reply) some
+      → IsReadAs format command reply → (some : Reply) × AreSome command (reply_bytes reply) some
   some_read (As reading) reply extended answers is = absurd extended
   some_read (Or first second) reply extended answers (told, is, may, same, which) =
       let some = some_in (first ∷ second ∷ []) (extended.0, (extended.1, tt)) told is in
@@ -139,8 +138,7 @@ module _ (none : ReplyHasNoFault) (command : Command) where
 
   -- data bytes have at most one fault in a format
   left_out_once : BytesHaveOneFault → (bytes : List ℕ) (other : MsgFault)
-      → HasOpenFault command bytes Left
-      → ((reading : Reading) → is_extended reading ≡ true
+      → HasOpenFault command bytes Left → ((reading : Reading) → is_extended reading ≡ true
       → IsReadFault reading command bytes other) → Left ≡ other
   left_out_once law bytes other (inl bad) each =
       law bad.1 command bytes Left other bad.3 (each bad.1 bad.2)
@@ -197,10 +195,8 @@ each P one two three four reading extended = by reading.is_long reading.ids exte
 
 -- of the faults in four readings: Profile, or the first where none is
 abbrev IsJoint : MsgFault → MsgFault → MsgFault → MsgFault → MsgFault → Type 0
-IsJoint one two three four Left =
-    (one ≡ Left) ⊎ ((two ≡ Left) ⊎ ((three ≡ Left) ⊎ (four ≡ Left)))
-IsJoint one two three four fault =
-    (one ≡ fault) × (two ≢ Left) × (three ≢ Left) × (four ≢ Left)
+IsJoint one two three four Left = (one ≡ Left) ⊎ ((two ≡ Left) ⊎ ((three ≡ Left) ⊎ (four ≡ Left)))
+IsJoint one two three four fault = (one ≡ fault) × (two ≢ Left) × (three ≢ Left) × (four ≢ Left)
 
 is_joint : (one two three four : MsgFault)
     → IsJoint one two three four (joint_fault one two three four)
@@ -214,8 +210,7 @@ module _ (law : BytesHaveOneFault) (command : Command) (bytes : List ℕ) where
   -- a fault that isn't Profile is that of each reading that has none of it
   same_in : (one other : Reading) → is_extended one ≡ true → is_extended other ≡ true
       → (fault also : MsgFault) → fault ≢ Left → IsReadFault one command bytes fault
-      → IsReadFault other command bytes also → also ≢ Left
-      → IsReadFault other command bytes fault
+      → IsReadFault other command bytes also → also ≢ Left → IsReadFault other command bytes fault
   same_in one other e f Length also apart bad too out = bad
   same_in one other e f Answer also apart (inl none) too out = inl none
   same_in one other e f Answer also apart (inr kept) too out =
@@ -318,9 +313,8 @@ module _ (one other : Reading) where
   plain_in extended command reply same is = absurd same
 
 -- so open bytes are it
-pub plain_open : OneReply → (reading : Reading) (command : Command) (bytes : List ℕ)
-    (reply : Reply) → IsPlainList reply → AreReply reading command bytes reply
-    → IsReadOpen command reply
+pub plain_open : OneReply → (reading : Reading) (command : Command) (bytes : List ℕ) (reply : Reply)
+    → IsPlainList reply → AreReply reading command bytes reply → IsReadOpen command reply
 plain_open law reading command bytes reply plain is =
     let only : (other : Reply) → AreSome command (reply_bytes reply) other → other ≡ reply =
     λ other also. law also.0.0 command other reply also.0.2
@@ -382,8 +376,7 @@ pub read_in : (format : Format) (command : Command) (bytes : List ℕ) (reading 
     (result : Result Reply MsgFault) → IsReadingIn format command bytes (Ok reading)
     → IfOk result (IsIn reading command) → IfOk result (λ reply. bytes ≡ reply_bytes reply)
     → ((reply : Reply) → IsReplyTo command reply → IsIn reading command reply
-    → bytes ≡ reply_bytes reply → result ≡ Ok reply)
-    → IfOk result (IsReadAs format command)
+    → bytes ≡ reply_bytes reply → result ≡ Ok reply) → IfOk result (IsReadAs format command)
 read_in format command bytes reading (Err fault) is found spelled only = tt
 read_in (As given) command bytes reading (Ok reply) is found spelled only =
     let same : reading ≡ given = cc is in

@@ -179,8 +179,7 @@ module _ (scope : Scope) where
 
   -- a tail at the head goes on, or ends
   longer : (tail : Piece) (pieces : List Piece) (row : Event) (next : Step) → IsTail tail
-      → IsAt (left_by tail) next
-      → pieces_after scope (tail ∷ pieces) row next
+      → IsAt (left_by tail) next → pieces_after scope (tail ∷ pieces) row next
       ≡ piece_after (left_by tail) next (piece_events tail ++ row ∷ []) ∷ pieces
       → ArePieces scope (tail ∷ pieces)
       → Longer tail (last_of (events_of (tail ∷ pieces))) (Told pieces) row next
@@ -225,6 +224,7 @@ module _ (scope : Scope) where
     word_at InForeign Controller next (inr leads) = search
     word_at position line next leads = search
 
+    -- a word says itself
     says : (line : Line) (said : ℕ) → word ≡ said → Say line (said ∷ []) (Word at line word ∷ [])
     says line said is = ap (λ w. Some (line, w) ∷ []) is
 
@@ -352,6 +352,7 @@ module _ (scope : Scope) where
   breaks_off position from levels at length lasted leads =
       ((at, ap (λ l. Break at l ∷ []) (sym leads.0), rw leads.0 leads.1), leads.2, tt)
 
+  -- what a break makes of a position
   pub break_after : (position : Position) (length : ℕ)
       → piece_after position (step.Break length) ≡ Whole (acts.Break length)
   break_after (InAsk bytes) length = refl

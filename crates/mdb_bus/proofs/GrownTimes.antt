@@ -61,6 +61,7 @@ with_more : (position : Position) (from : Option Event) (events : List Event) (r
 with_more position from [] row haste some = absurd (some refl)
 with_more position from (first ∷ others) row haste some = refl
 
+-- sums
 sum_more : (n some more : ℕ) → n + (some + more) ≡ n + some + more
 sum_more n some more = omega arith
 
@@ -88,16 +89,14 @@ adds_one false sender counts = adds_none sender counts
 
 -- rows with one word more, if it is out of its time
 more_words : (late : Bool) (some few many : ℕ) (sender : Blame) (counts : Untimely)
-    → many ≡ few + (if late then 1 else 0)
-    → with_untimely (some + many) sender counts
+    → many ≡ few + (if late then 1 else 0) → with_untimely (some + many) sender counts
     ≡ with_sender (if late then Some sender else None) (with_untimely (some + few) sender counts)
 more_words late some few many sender counts is =
     let sums : some + many ≡ (some + few) + (if late then 1 else 0) = omega (arith, is) in
     rw sums (adds_up (if late then 1 else 0) (some + few) sender counts ∙ adds_one late sender _)
 
 -- the words of a block with one more
-far_more : (events : List Event) (row : Event) → events ≢ []
-    → far_apart (events ++ row ∷ [])
+far_more : (events : List Event) (row : Event) → events ≢ [] → far_apart (events ++ row ∷ [])
     ≡ far_apart events + (if is_past (block_most Base) (last_of events) row then 1 else 0)
 far_more [] row some = absurd (some refl)
 far_more (event ∷ []) row some = omega arith
@@ -130,8 +129,7 @@ by_rows With After pieces longer row act g alone more = ap (With g.earlier) g.ev
   where
     by : ((g.begun ≡ []) × (pieces ≡ g.earlier))
         ⊎ ((tail : Piece) × IsTail tail × (piece_events tail ≡ g.begun)
-        × (pieces ≡ tail ∷ g.earlier))
-        → With g.earlier (g.begun ++ row ∷ []) ≡ After pieces
+        × (pieces ≡ tail ∷ g.earlier)) → With g.earlier (g.begun ++ row ∷ []) ≡ After pieces
     by (inl (none, same)) = rw (none, ← same) alone
     by (inr (tail, open_end, is, same)) =
         rw (← is) (more tail g.earlier open_end same) ∙ ap After (sym same)
@@ -198,11 +196,10 @@ module _ (scope : Scope) where
       (sender_by (asked_device pieces) row) (untimely_of scope pieces))
 
   -- a tail with a row more
-  more_rows : (tail : Piece) (earlier : List Piece) (row : Event)
-      → ArePieces scope (tail ∷ earlier) → IsTail tail → GoesOnWith tail row
-      → with_rows (position_of scope earlier) (Last earlier) (asked_device earlier)
-      (piece_events tail ++ row ∷ []) (untimely_of scope earlier)
-      ≡ with_sender (untimely_sender scope (tail ∷ earlier) row)
+  more_rows : (tail : Piece) (earlier : List Piece) (row : Event) → ArePieces scope (tail ∷ earlier)
+      → IsTail tail → GoesOnWith tail row → with_rows (position_of scope earlier) (Last earlier)
+      (asked_device earlier) (piece_events tail ++ row ∷ [])
+      (untimely_of scope earlier) ≡ with_sender (untimely_sender scope (tail ∷ earlier) row)
       (untimely_of scope (tail ∷ earlier))
   more_rows tail earlier row are open_end goes =
       let first = are.1.first in

@@ -47,6 +47,7 @@ module _ (scope : Scope) (keep other : Act → Bool) (foreign : keep acts.Foreig
     → other act ≡ false)
     (stays : (act : Act) (events : List Event) → is_left_out scope (Whole act events) ≡ false
     → keep act ≡ other act) where
+  -- none of the foreign acts is kept
   no_foreign : (events : List Event) (pieces : List Piece)
       → filter keep (acts_of (with_foreign events pieces)) ≡ filter keep (acts_of pieces)
   no_foreign [] pieces = refl
@@ -54,6 +55,7 @@ module _ (scope : Scope) (keep other : Act → Bool) (foreign : keep acts.Foreig
       no_foreign events (Whole acts.Foreign (event ∷ []) ∷ pieces)
       ∙ dropped keep acts.Foreign (acts_of pieces) foreign
 
+  -- none of what is left out, and what stays is where the other test keeps it
   its_out : (piece : Piece) (pieces : List Piece) → is_left_out scope piece ≡ true
       → filter other (acts_of (piece ∷ pieces)) ≡ filter other (acts_of pieces)
   its_out (Whole act events) pieces is = dropped other act (acts_of pieces) (out act events is)
@@ -65,6 +67,7 @@ module _ (scope : Scope) (keep other : Act → Bool) (foreign : keep acts.Foreig
   its_kept (Whole act events) one rest is same = kept keep other act _ _ (stays act events is) same
   its_kept piece one rest is same = same
 
+  -- so the acts that are kept are those
   left : (pieces : List Piece)
       → filter keep (acts_of (leave_out scope pieces)) ≡ filter other (acts_of pieces)
   left [] = refl
@@ -116,13 +119,14 @@ module _ (scope : Scope) (device : Device) where
       (breaks_alone pieces order.2 out)
   breaks_alone (piece ∷ pieces) order out = breaks_alone pieces order.2 out
 
-  -- what stays names a device that is followed, or none, and what is left out is no break
+  -- what stays names a device that is followed, or none
   kept_followed : (act : Act) (events : List Event)
       → is_left_out scope (Whole act events) ≡ false → IsOneFollowed scope (device_in act)
   kept_followed acts.Foreign events kept = tt
   kept_followed (acts.Break length) events kept = tt
   kept_followed act events kept = kept
 
+  -- and what is left out is no break
   no_break : (act : Act) (events : List Event) → is_left_out scope (Whole act events) ≡ true
       → is_break act ≡ false
   no_break (acts.Break length) events out = cc

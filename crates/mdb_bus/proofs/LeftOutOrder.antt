@@ -122,6 +122,7 @@ pub record Moves (scope : Scope) (position without : Position) : Type 0 where
       → without ≡ InForeign
   pub foreign : position ≡ InForeign → without ≡ InForeign
 
+-- a piece moves the bus where it stays, or where its rows are foreign
 piece_moves : (scope : Scope) (piece : Piece) (out : Bool) → is_left_out scope piece ≡ out
     → Moves scope (left_by piece) (if out then InForeign else left_by piece)
 piece_moves scope piece true out = record {
@@ -164,6 +165,7 @@ module _ (scope : Scope) (position without : Position) (from : Option Event)
 
   -- what is of a device that is left out becomes foreign acts
   module _ (law : FirstTells) (less : Scope) (first : Event) (others : List Event) where
+    -- its words are words of foreign traffic
     words : {events : List Event} {other : Position} {device : Device} → AreForeignWords events
         → events ≡ first ∷ others → (position ≡ other) × InAnswerTime Of from first
         → device_at other ≡ Some device → IsLeftOut scope device
@@ -200,8 +202,7 @@ module _ (scope : Scope) (position without : Position) (from : Option Event)
     becomes (Whole (acts.Break length) events) out said are comes = cc out
     becomes (AskTail bytes events) out said are comes =
         let front = said.0 in
-        as_block scope without from first others bytes out
-        (all_front IsByte bytes front.rest
+        as_block scope without from first others bytes out (all_front IsByte bytes front.rest
         (spelled_low front.command (bytes ++ front.rest) front.spelled.spells)) (rw are at said.1)
         (moved.block from first comes)
     becomes (ReplyTail command bytes events) out said are comes =
@@ -212,9 +213,8 @@ module _ (scope : Scope) (position without : Position) (from : Option Event)
 module _ (scope : Scope) where
   -- a foreign word stands as an act by itself
   word_stands : (event : Event) (pieces : List Piece) → ArePieces scope pieces
-      → IsForeign scope (event ∷ [])
-      → ForeignMayCome (profile_of scope.begins) (position_of scope pieces)
-      (last_of (events_of pieces)) event
+      → IsForeign scope (event ∷ []) → ForeignMayCome (profile_of scope.begins)
+      (position_of scope pieces) (last_of (events_of pieces)) event
       → ArePieces scope (Whole acts.Foreign (event ∷ []) ∷ pieces)
   word_stands event pieces are said comes = (
     record { said = said; spaced = tt },
@@ -223,9 +223,8 @@ module _ (scope : Scope) where
   )
 
   -- so do further words of foreign traffic
-  words_stand : (from : Event) (events : List Event) (pieces : List Piece)
-      → ArePieces scope pieces → position_of scope pieces ≡ InForeign
-      → last_of (events_of pieces) ≡ Some from
+  words_stand : (from : Event) (events : List Event) (pieces : List Piece) → ArePieces scope pieces
+      → position_of scope pieces ≡ InForeign → last_of (events_of pieces) ≡ Some from
       → AreSpaced (profile_of scope.begins) (from ∷ events) → AreForeignWords events
       → ArePieces scope (with_foreign events pieces)
   words_stand from [] pieces are here last spaced words = are
@@ -246,9 +245,8 @@ module _ (scope : Scope) where
       (last_push (events_of pieces) first) spaced become.words
 
 -- an act tells its own reader a level, and not the other
-told_another : (profile : Profile) (scope : Scope) (command : Command) (act : Act)
-    (levels : Levels) → IsFollowed scope (device_of command)
-    → is_one_left_out scope (device_in act) ≡ true
+told_another : (profile : Profile) (scope : Scope) (command : Command) (act : Act) (levels : Levels)
+    → IsFollowed scope (device_of command) → is_one_left_out scope (device_in act) ≡ true
     → levels_for command (levels_by profile act levels) ≡ levels_for command levels
 told_another profile scope (commands.Reader First command)
     (acts.Ask (commands.Reader Second (readers.SetupConfig level columns rows display))) levels
@@ -290,8 +288,7 @@ same_after profiles.Extended (commands.Reader Second command)
 same_after profile command act one other same = search
 
 -- foreign acts tell no level
-pub foreign_levels : (profile : Profile) (told : Levels) (events : List Event)
-    (pieces : List Piece)
+pub foreign_levels : (profile : Profile) (told : Levels) (events : List Event) (pieces : List Piece)
     → levels_of profile told (with_foreign events pieces) ≡ levels_of profile told pieces
 foreign_levels profile told [] pieces = refl
 foreign_levels profile told (event ∷ events) pieces =
@@ -299,8 +296,7 @@ foreign_levels profile told (event ∷ events) pieces =
 
 module _ (scope : Scope) (command : Command) where
   abbrev Its : List Piece → ReaderLevels
-  Its pieces =
-      levels_for command (levels_of (profile_of scope.begins) (levels_before scope) pieces)
+  Its pieces = levels_for command (levels_of (profile_of scope.begins) (levels_before scope) pieces)
 
   -- a piece goes on from levels that are the same for a command
   levels_go_on : (piece : Piece) (one other : List Piece) → Its one ≡ Its other
@@ -342,11 +338,9 @@ fits_so profiles.Extended untold one other (commands.Reader unit command) reply 
 fits_so profiles.Extended untold one other command reply same fits = fits
 
 -- so a piece that stays fits the levels of the pieces that stay
-levels_fit : (scope : Scope) (piece : Piece) (pieces : List Piece)
-    → is_left_out scope piece ≡ false
+levels_fit : (scope : Scope) (piece : Piece) (pieces : List Piece) → is_left_out scope piece ≡ false
     → PieceFits scope.begins (levels_of (profile_of scope.begins) (levels_before scope) pieces)
-    piece
-    → PieceFits scope.begins
+    piece → PieceFits scope.begins
     (levels_of (profile_of scope.begins) (levels_before scope) (leave_out scope pieces)) piece
 levels_fit scope (Whole (acts.Reply command reply) events) pieces kept fits =
     fits_so (profile_of scope.begins) (untold_format scope.begins) _ _ command reply
@@ -354,6 +348,7 @@ levels_fit scope (Whole (acts.Reply command reply) events) pieces kept fits =
 levels_fit scope piece pieces kept fits = fits
 
 module _ (law : FirstTells) (less more : Scope) (wider : LeavesOutMore less more) where
+  -- so do pieces in order
   moves : (pieces : List Piece) → ArePieces less pieces
       → Moves more (position_of less pieces) (position_of more (leave_out more pieces))
   moves [] order =
@@ -381,8 +376,7 @@ module _ (law : FirstTells) (less more : Scope) (wider : LeavesOutMore less more
     },
     said.1,
   )
-  said_stays (Whole acts.Foreign events) kept said =
-      foreign_stays less more wider events kept said
+  said_stays (Whole acts.Foreign events) kept said = foreign_stays less more wider events kept said
   said_stays (AskTail bytes events) kept said =
       (front_followed law more bytes (rw wider.begins at (plain_front less bytes said.0)) kept, said.1)
   said_stays (Whole (acts.Break length) events) kept said =
@@ -410,8 +404,7 @@ module _ (law : FirstTells) (less more : Scope) (wider : LeavesOutMore less more
       leaving more piece pieces (ArePieces more)
       (λ out. rw stands.begins (all_stand more stands.first stands.others rest before
       (rw (same_rows more pieces) (becomes more _ _ from moved law less stands.first stands.others
-      piece out said stands.begins came)) (rw stands.begins at spaced)))
-      (λ kept. (
+      piece out said stands.begins came)) (rw stands.begins at spaced))) (λ kept. (
         record { said = said_stays piece kept said; spaced = spaced },
         record {
           first = stands.first;

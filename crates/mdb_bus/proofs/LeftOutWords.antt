@@ -101,8 +101,7 @@ module _ (less more : Scope) (wider : LeavesOutMore less more) where
   -- so what opened a foreign block opens one
   opening_stays : (bytes : List ℕ) → AreFollowed more bytes → IsForeignOpening less bytes
       → IsForeignOpening more bytes
-  opening_stays (first ∷ []) followed opening =
-      sym (same_need (first ∷ []) followed) ∙ opening
+  opening_stays (first ∷ []) followed opening = sym (same_need (first ∷ []) followed) ∙ opening
   opening_stays (first ∷ second ∷ []) followed opening = (
     sym (same_need (first ∷ []) followed) ∙ opening.0,
     sym (same_need (first ∷ second ∷ []) followed) ∙ opening.1,

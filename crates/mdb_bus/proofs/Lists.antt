@@ -34,8 +34,7 @@ not_empty (y ∷ xs) x none = cc
 
 -- a list begins with what it begins with when an element stands after it
 pub first_stays : {X : Type 0} (xs : List X) (x to : X) (back : List X) → xs ≢ []
-    → xs ++ x ∷ [] ≡ to ∷ back
-    → (rest : List X) × (xs ≡ to ∷ rest)
+    → xs ++ x ∷ [] ≡ to ∷ back → (rest : List X) × (xs ≡ to ∷ rest)
 first_stays [] x to back some is = absurd (some refl)
 first_stays (y ∷ ys) x to back some is = (ys, cc)
 
@@ -92,9 +91,8 @@ say_last line (w ∷ words) (f ∷ events) event says =
     (w ∷ rest.0, rest.1, cc, cc, rest.4)
 
 -- one word is one event
-pub one_alone : (line : Line) (word : ℕ) (front : List Event) (event : Event)
-    → Say line (word ∷ []) (front ++ event ∷ [])
-    → front ≡ []
+pub one_alone : (line : Line) (word : ℕ) (front : List Event) (event : Event) → Say line (word ∷ [])
+    (front ++ event ∷ []) → front ≡ []
 one_alone line word [] event says = refl
 one_alone line word (f ∷ front) event says =
     absurd (omega (

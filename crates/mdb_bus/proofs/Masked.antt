@@ -116,8 +116,7 @@ block_alike (first ∷ second ∷ more) some = refl
 pub content_tells : TwoTell → (content : List ℕ) (command : Command) → content ≢ []
     → Spells command (block_of content) → begins_options content ≡ is_enable_options command
 content_tells law content command some spells =
-    sym (block_alike content some)
-    ∙ law (block_of content) [] command
+    sym (block_alike content some) ∙ law (block_of content) [] command
     (omega (arith, some_length content some, length-append content ((sum content % 256) ∷ [])))
     (rw append-nil spells)
 

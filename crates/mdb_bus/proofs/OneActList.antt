@@ -45,14 +45,14 @@ module _ (scope : Scope) (grammar : Grammar scope) where
         → Before scope pieces rows row
     back pieces list = backward scope grammar.open_front pieces rows row list.in_order list.whole
 
+    -- what was before that row is an act list
     its_list : (pieces : List Piece) (b : Before scope pieces rows row)
         → IsActList scope b.before rows
     its_list pieces b = record { in_order = b.in_order; whole = b.rows_before }
 
     -- from one act list before a row, one after it
     one_more : ((one other : List Piece) → IsActList scope one rows → IsActList scope other rows
-        → one ≡ other)
-        → (one other : List Piece) → IsActList scope one (rows ++ row ∷ [])
+        → one ≡ other) → (one other : List Piece) → IsActList scope one (rows ++ row ∷ [])
         → IsActList scope other (rows ++ row ∷ []) → one ≡ other
     one_more known one other first second =
         let a = back one first in
@@ -88,8 +88,7 @@ module _ (scope : Scope) (grammar : Grammar scope) where
   pub fronts : (rows more : List Event) → HasActList scope (rows ++ more) → HasActList scope rows
   fronts rows =
       by_last (λ more. HasActList scope (rows ++ more) → HasActList scope rows)
-      (λ list. subst (HasActList scope) (append-nil rows) list)
-      (λ more row known list.
+      (λ list. subst (HasActList scope) (append-nil rows) list) (λ more row known list.
       let longer = subst (HasActList scope) (sym (append_assoc rows more (row ∷ []))) list in
       let b = back (rows ++ more) row longer.0 longer.1 in
       known (b.before, its_list (rows ++ more) row longer.0 b))

@@ -33,8 +33,7 @@ one_broken s row one other first second =
     (recursion_from_All _ second.before second.keeps)
 
 pub one_fault : (scope : Scope) (pieces : List Piece) (row : Event) (r s : Rule) (a b : Blame)
-    → IsLinkFault scope pieces row r a
-    → IsLinkFault scope pieces row s b → (r ≡ s) × (a ≡ b)
+    → IsLinkFault scope pieces row r a → IsLinkFault scope pieces row s b → (r ≡ s) × (a ≡ b)
 one_fault scope pieces row r s a b first second =
     let one : first.first ≡ second.first =
     one_broken _ row first.first second.first first.rule second.rule in (

@@ -57,9 +57,8 @@ module _ (scope : Scope) (grammar : Grammar scope) where
         let same : q.0 ≡ byte = omega (arith, p.0, q.1) in
         front_not_foreign (byte ∷ []) p.1 (rw same at q.2)
 
-    one_opening : (position : Position) (one other : Step)
-        → Opens scope position from to word one → Opens scope position from to word other
-        → one ≡ other
+    one_opening : (position : Position) (one other : Step) → Opens scope position from to word one
+        → Opens scope position from to word other → one ≡ other
     one_opening position (step.AskByte byte) (step.AskByte other) p q =
         let same : byte ≡ other = omega (arith, p.0, q.0) in ap step.AskByte same
     one_opening position (step.AskByte byte) step.Foreign p q =
@@ -166,8 +165,7 @@ module _ (scope : Scope) (grammar : Grammar scope) where
         → WordLeads scope position from levels to line word other → one ≡ other
     one_word Quiet Controller one other p q = one_opening Quiet one other p q
     one_word (InAsk bytes) Controller one other p q = one_asking bytes one other p q
-    one_word (Asked command) Controller one other p q =
-        one_opening (Asked command) one other p q
+    one_word (Asked command) Controller one other p q = one_opening (Asked command) one other p q
     one_word (Asked command) Peripheral one other p q = one_answer command one other p q
     one_word (InReply command bytes) Peripheral one other p q =
         one_replying command bytes one other p q

@@ -19,8 +19,7 @@ use Rattle.mdb_bus.proofs.Lists.{not_empty, some_there}
 use Rattle.mdb_bus.proofs.Verdicts.{some_bytes}
 
 -- the first two bytes of a command's block tell its length
-pub needs : FirstTells → TwoTell
-    → ((block : List ℕ) (command : Command) → Spells command block
+pub needs : FirstTells → TwoTell → ((block : List ℕ) (command : Command) → Spells command block
     → needed block ≡ Exactly (length block))
     → (scope : Scope) (block : List ℕ) (command : Command) → Asks scope command block
     → needed_in scope block ≡ Exactly (length block)
@@ -33,8 +32,7 @@ needs first two law scope block command asks =
     ∙ law block command asks.spells)
 
 -- its first bytes tell it, or leave it to the second
-pub tells : FirstTells → TwoTell
-    → ((prefix rest : List ℕ) (command : Command) → 0 < length prefix
+pub tells : FirstTells → TwoTell → ((prefix rest : List ℕ) (command : Command) → 0 < length prefix
     → Spells command (prefix ++ rest) → TellsLength prefix (length (prefix ++ rest)))
     → (scope : Scope) (prefix rest : List ℕ) (command : Command) → 0 < length prefix
     → Asks scope command (prefix ++ rest)

@@ -21,8 +21,7 @@ say_push line words events word event says said =
 
 -- the same on one line, for a word as it stands in a row
 pub say_word : (line : Line) (words : List ℕ) (events : List Event) (at word : ℕ)
-    → Say line words events
-    → Say line (words ++ word ∷ []) (events ++ Word at line word ∷ [])
+    → Say line words events → Say line (words ++ word ∷ []) (events ++ Word at line word ∷ [])
 say_word line words events at word says =
     say_push line words events word (Word at line word) says refl
 
@@ -60,8 +59,7 @@ spaced_push profile (x ∷ y ∷ ys) from to spaced near =
 
 -- the same where they stand after others
 pub spaced_more : (profile : Profile) (rows : List Event) (first : Event) (others : List Event)
-    (row : Event)
-    → AreSpaced profile (first ∷ others)
+    (row : Event) → AreSpaced profile (first ∷ others)
     → InBlockTime profile (last_of (rows ++ first ∷ others)) row
     → AreSpaced profile ((first ∷ others) ++ row ∷ [])
 spaced_more profile rows first others row spaced gap =

@@ -79,8 +79,7 @@ block_covered Extended Base from to (Err broken) counts near past = cc counts
 
 -- and it is timely
 pub block_timely : (times : Profile) (position : Position) (from : Option Event) (to : Event)
-    (result : Result Judged Rule)
-    → is_untimely position from to ≡ is_past (block_most Base) from to
+    (result : Result Judged Rule) → is_untimely position from to ≡ is_past (block_most Base) from to
     → is_past (block_most times) from to ≡ false → OnOk result (IsTimely times position from to)
 block_timely Base position from to (Ok found) same near = same ∙ near
 block_timely times position from to result same near = search rules
@@ -113,8 +112,7 @@ TellsNone _ = Unit {0}
 left_by : (first word : ℕ) (told : Need) → needed (first ∷ []) ≡ told → IsShort told 1
     → TellsNone (needed (first ∷ word ∷ [])) → needed (first ∷ []) ≡ More
 left_by first word More is short none = is
-left_by first word (Exactly n) is short none =
-    absurd (rw ((narrows first).known word n is) at none)
+left_by first word (Exactly n) is short none = absurd (rw ((narrows first).known word n is) at none)
 left_by first word other is short none = absurd short
 
 -- a second byte with which a command is open still
@@ -171,8 +169,7 @@ last_is_sum bytes word command spelled =
 -- so it is the block of the bytes before it
 pub sealed : (bytes : List ℕ) (word : ℕ) (command : Command) → Spells command (bytes ++ word ∷ [])
     → Spells command (block_of bytes)
-sealed bytes word command spelled =
-    rw (last_is_sum bytes word command spelled) at spelled
+sealed bytes word command spelled = rw (last_is_sum bytes word command spelled) at spelled
 
 module _ (profile : Profile) where
   -- what is open is the front of an ask
@@ -304,8 +301,7 @@ module _ (law : WhatItNeeds) (tell : TwoTell) (bytes : List ℕ) (word : ℕ) (s
       )
 
   -- which asks for more than is followed, or doesn't
-  module _ (more : Bool)
-      (means : (command : Command) → Spells command (block_of bytes)
+  module _ (more : Bool) (means : (command : Command) → Spells command (block_of bytes)
       → IsTrue more ↔ EnablesMore command) where
     pub ask_more : more ≡ true → (profile : Profile) → AreKnown profile bytes
         → IsGoingOn profile bytes word (Err rule.Profile)
@@ -394,8 +390,7 @@ pub no_answer : (scope : Scope) (command : Command) (from : Option Event) (at wo
     (levels : Levels) → (OutOfOrder from (Word at Peripheral word) → ⊥)
     → (IsBefore WORD_GAP_MIN from (Word at Peripheral word) → ⊥)
     → (IsPast (answer_most (profile_of scope.begins)) from (Word at Peripheral word) → ⊥)
-    → 256 ≤ word → word < 512 → byte ≡ word % 256
-    → ((answer : Answer) → answer_byte answer ≢ byte)
+    → 256 ≤ word → word < 512 → byte ≡ word % 256 → ((answer : Answer) → answer_byte answer ≢ byte)
     → IsFirstByPlace
     (record { scope = scope; position = Asked command; last = from; levels = levels })
     (Word at Peripheral word) rule.Answer
@@ -408,8 +403,7 @@ no_answer scope command from at word byte levels order early late marked small l
   first = first;
 }
   where
-    first : (other : Rule)
-        → RowBreaks
+    first : (other : Rule) → RowBreaks
         (record { scope = scope; position = Asked command; last = from; levels = levels })
         (Word at Peripheral word) other → place_of rule.Answer ≤ place_of other
     first rule.Answer b = omega arith
@@ -438,8 +432,7 @@ module _ (scope : Scope) (one : BytesHaveOneFault) (none : ReplyHasNoFault) (com
       (one_bad none command one (format_for scope.begins levels command) bytes fault other bad also)
 
   -- it ends a reply of a right number of bytes
-  length_right : HasDataAnswer command (length bytes) → WrongLength (InReply command bytes) Told
-      → ⊥
+  length_right : HasDataAnswer command (length bytes) → WrongLength (InReply command bytes) Told → ⊥
   length_right count (inl wrong) = omega (arith, wrong.0)
   length_right count (inr wrong) = wrong.1 count
 
@@ -509,6 +502,7 @@ module _ (scope : Scope) (one : BytesHaveOneFault) (none : ReplyHasNoFault) (com
           (λ b. absurd (faultless h reading.Answer b)) (λ b. absurd (faultless h reading.Message b))
       by result h = absurd h
 
+  -- what is made of that word
   pub reply_ended : (result : Result Judged Rule) → IsReplyEnd command bytes word result
       → IsJudged Replying Told result
   reply_ended (Ok judged.Reply) h = λ result is. reply_read result h.0 h.1 is
@@ -590,8 +584,7 @@ asking_known law scope place asking sound =
 
 -- what was judged of a word that may begin a block
 pub opened_belongs : (scope : Scope) → FrontIsOpen → (least : ℕ) (from : Option Event) (at word : ℕ)
-    (result : Result Judged Rule)
-    → IsOpened scope least from (Word at Controller word) word result
+    (result : Result Judged Rule) → IsOpened scope least from (Word at Controller word) word result
     → (here : Phase) (bytes : List ℕ) → (here ≡ phase.InAsk → ⊥)
     → IfOk result (Belongs here bytes (Word at Controller word))
 opened_belongs scope law least from at word (Ok judged.AskByte) opened here bytes other =

@@ -19,5 +19,4 @@ returns-in-Peripheral-clause-judged c =
 
 pub returns-in-Break-clause-belongs : goal.returns-in-Break-clause-belongs
 returns-in-Break-clause-belongs c =
-    rw c.in-Break.is
-    (c.judge_break.ensures.belongs c.args.place.now.phase c.args.place.now.bytes)
+    rw c.in-Break.is (c.judge_break.ensures.belongs c.args.place.now.phase c.args.place.now.bytes)

@@ -19,8 +19,7 @@ returns-in-InRepeat-clause-judged c =
 
 pub returns-in-InForeign-clause-judged : goal.returns-in-InForeign-clause-judged
 returns-in-InForeign-clause-judged c =
-    λ scope levels. rw c.in-InForeign.is
-    (c.go_on_foreign.ensures.judged c.args.times scope levels)
+    λ scope levels. rw c.in-InForeign.is (c.go_on_foreign.ensures.judged c.args.times scope levels)
 
 pub returns-in-InReply-clause-judged : goal.returns-in-InReply-clause-judged
 returns-in-InReply-clause-judged c =

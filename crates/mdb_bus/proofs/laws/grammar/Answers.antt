@@ -1,3 +1,4 @@
+-- What mdb_msgs promises of whole blocks and replies holds of the devices that are followed.
 use Rattle.mdb_bus.proofs.FormatLaws.{none_as, one_as}
 use Rattle.mdb_bus.proofs.Promises.{needs, one_reply, open_front, tells}
 use Rattle.mdb_bus.proofs.laws.grammar.Goals as goal

@@ -1,3 +1,4 @@
+-- Open bytes are read as in any format of a reader's reply, or left out.
 use Rattle.mdb_bus.proofs.FormatLaws.{agree, leave_out}
 use Rattle.mdb_bus.proofs.Promises.{one_reply}
 use Rattle.mdb_bus.proofs.laws.open_replies_are_read_as_at_any_levels.Goals as goal

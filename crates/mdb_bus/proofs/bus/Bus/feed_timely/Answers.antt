@@ -14,5 +14,4 @@ returns-in-Ok-clause-goes_on c pieces stands =
 
 pub returns-in-Ok-clause-timely : goal.returns-in-Ok-clause-timely
 returns-in-Ok-clause-timely c pieces stands =
-    sends_none c.args.self.now pieces stands c.args.event.now
-    (c.in-Ok.ensures.timely pieces stands)
+    sends_none c.args.self.now pieces stands c.args.event.now (c.in-Ok.ensures.timely pieces stands)

@@ -39,5 +39,4 @@ returns-in_default-clause-goes_on c pieces haste stands covers hastens =
 
 pub returns-in_default-clause-timely : goal.returns-in_default-clause-timely
 returns-in_default-clause-timely c pieces stands =
-    (c.in-Ok.ensures.judged c.args.self.now.levels
-    (sound_at c.args.self.now pieces stands)).timely
+    (c.in-Ok.ensures.judged c.args.self.now.levels (sound_at c.args.self.now pieces stands)).timely
