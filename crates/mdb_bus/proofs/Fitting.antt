@@ -1,7 +1,7 @@
 -- Each act list has a loss that fits, whichever free acts are to be heard: the rows of an act are
 -- damaged where the act after it tells so, and where it tells nothing and the act is not to be
 -- heard.
-use Rattle.std.proofs.Common.{arith, refl, ap, sym, ◌∙◌, ◌≡◌, ◌+◌, ◌<◌, ◌≤◌, ◌↔◌, ℕ, Bool, true, false, List, [], ◌∷◌, ◌++◌, Option, length, length-append}
+use Rattle.std.proofs.Common.{if◌then◌else◌, not, arith, refl, ap, sym, ◌∙◌, ◌≡◌, ◌+◌, ◌<◌, ◌≤◌, ◌↔◌, ℕ, Bool, true, false, List, [], ◌∷◌, ◌++◌, Option, length, length-append}
 use Rattle.std.proofs.Math.Dec.{leb}
 use Rattle.std.proofs.lemmas.Bool.{le-leb, lt-leb}
 use Rattle.mdb_words.specs.declared.event.Event.{Event}
@@ -15,25 +15,19 @@ use Rattle.mdb_bus.specs.declared.scope.Profile.{Profile}
 use Rattle.mdb_bus.specs.declared.scope.Scope.{Scope}
 use Rattle.mdb_bus.specs.Scopes.{profile_of}
 
--- the first of two tests or the second
-abbrev pick : Bool → Bool → Bool → Bool
-pick true first second = first
-pick false first second = second
-
 -- whether the rows of an act are damaged: as it is told, and where nothing is told, as it is wished
 abbrev is_damaged : Hearing → Bool → Bool
 is_damaged Heard as_wished = false
 is_damaged Unheard as_wished = true
-is_damaged Open true = false
-is_damaged Open false = true
+is_damaged Open as_wished = not as_wished
 
 -- The loss of pieces, where what is after them tells so of their newest act. The rows of an act are
 -- all damaged, or none is.
 abbrev damage : Wish → List Piece → (Act → Hearing) → Loss
 damage wish [] tells = λ row. false
 damage wish (Whole act events ∷ pieces) tells = λ row.
-    pick (leb row (length (events_of pieces))) (damage wish pieces (told_by act) row)
-    (is_damaged (tells act) (wish (length (events_of pieces))))
+    if leb row (length (events_of pieces)) then damage wish pieces (told_by act) row
+    else is_damaged (tells act) (wish (length (events_of pieces)))
 damage wish (piece ∷ pieces) tells = damage wish pieces nothing_told
 
 -- two losses agree on so many rows
@@ -52,19 +46,19 @@ agree_before one other rows events agree row h =
     agree row (omega (arith, h, length-append rows events))
 
 module _ (first other : Loss) (second : Bool) (rows events : List Event)
-    (agree : Agree (λ row. pick (leb row (length rows)) (first row) second) other
+    (agree : Agree (λ row. if leb row (length rows) then first row else second) other
     (length (rows ++ events))) where
   -- a loss that picks one of two at a row has the first up to there
   agree_early : Agree first other (length rows)
   agree_early row h =
-      sym (ap (λ b. pick b (first row) second) (le-leb row (length rows) h))
+      sym (ap (λ b. if b then first row else second) (le-leb row (length rows) h))
       ∙ agree row (omega (arith, h, length-append rows events))
 
   -- and the second after it
   agree_late : AreAll other (length rows) (length events) second
   agree_late row low high =
       sym (agree row (omega (arith, high, length-append rows events)))
-      ∙ ap (λ b. pick b (first row) second) (lt-leb row (length rows) low)
+      ∙ ap (λ b. if b then first row else second) (lt-leb row (length rows) low)
 
 -- a block tells nothing of an act that leaves nothing open
 no_block_tells : (act : Act) → left_open act ≡ Quiet → told_by_block act ≡ Open

@@ -268,23 +268,18 @@ same_after : (profile : Profile) (command : Command) (act : Act) (one other : Le
 same_after profile (commands.Reader First command)
     (acts.Ask (commands.Reader First (readers.SetupConfig level columns rows display))) one other
     same = rw same
-same_after profile (commands.Reader First command)
-    (acts.Ask (commands.Reader Second (readers.SetupConfig level columns rows display))) one other
-    same = same
 same_after profile (commands.Reader Second command)
     (acts.Ask (commands.Reader Second (readers.SetupConfig level columns rows display))) one other
     same = rw same
-same_after profile (commands.Reader Second command)
-    (acts.Ask (commands.Reader First (readers.SetupConfig level columns rows display))) one other
+same_after profile (commands.Reader unit command)
+    (acts.Ask (commands.Reader another (readers.SetupConfig level columns rows display))) one other
     same = same
 same_after profiles.Extended (commands.Reader First command)
     (acts.Reply (commands.Reader First asked) (replies.Reader list)) one other same = rw same
-same_after profiles.Extended (commands.Reader First command)
-    (acts.Reply (commands.Reader Second asked) (replies.Reader list)) one other same = same
 same_after profiles.Extended (commands.Reader Second command)
     (acts.Reply (commands.Reader Second asked) (replies.Reader list)) one other same = rw same
-same_after profiles.Extended (commands.Reader Second command)
-    (acts.Reply (commands.Reader First asked) (replies.Reader list)) one other same = same
+same_after profiles.Extended (commands.Reader unit command)
+    (acts.Reply (commands.Reader another asked) (replies.Reader list)) one other same = same
 same_after profile command act one other same = search
 
 -- foreign acts tell no level
