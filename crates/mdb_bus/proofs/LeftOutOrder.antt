@@ -12,7 +12,6 @@ use Rattle.mdb_msgs.specs.declared.command.Command.TheVariants as commands
 use Rattle.mdb_msgs.specs.declared.command.Device.{Device}
 use Rattle.mdb_msgs.specs.declared.command.ReaderCommand.TheVariants as readers
 use Rattle.mdb_msgs.specs.declared.command.ReaderUnit.TheVariants.{First, Second}
-use Rattle.mdb_msgs.specs.declared.device_set.DeviceSet.{DeviceSet}
 use Rattle.mdb_msgs.specs.Commands.{IsByte, command_bytes, device_of}
 use Rattle.mdb_msgs.specs.DeviceSets.{has}
 use Rattle.mdb_bus.specs.declared.act.Act.{Act}
@@ -364,11 +363,7 @@ module _ (law : FirstTells) (less more : Scope) (wider : LeavesOutMore less more
   said_stays : (piece : Piece) → is_left_out more piece ≡ false → IsSaid less piece
       → IsSaid more piece
   said_stays (Whole (acts.Ask command) events) kept said = (
-    record {
-      spells = said.0.spells;
-      known = rw wider.begins at said.0.known;
-      followed = kept;
-    },
+    record { spells = said.0.spells; known = rw wider.begins at said.0.known; followed = kept },
     said.1,
   )
   said_stays (Whole acts.Foreign events) kept said = foreign_stays less more wider events kept said

@@ -6,7 +6,7 @@ use Rattle.mdb_words.specs.declared.event.Event.{Event}
 use Rattle.mdb_bus.specs.declared.fault.Blame.{Blame}
 use Rattle.mdb_bus.specs.declared.fault.Rule.{Rule}
 use Rattle.mdb_bus.specs.ActLists.{Piece}
-use Rattle.mdb_bus.specs.LinkFaults.{situation_of, IsFirstBroken, IsLinkFault, RowBreaks, Situation, fault_of}
+use Rattle.mdb_bus.specs.LinkFaults.{situation_of, IsLinkFault, RowBreaks, fault_of}
 use Rattle.mdb_bus.specs.declared.scope.Scope.{Scope}
 
 -- of rules in an order, one is the first that is broken

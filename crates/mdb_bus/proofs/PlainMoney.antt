@@ -1,5 +1,5 @@
 -- Where all options are known, the rule that counts is the first one that is broken.
-use Rattle.std.proofs.Common.{refl, ap, ◌∙◌, ◌≡◌, Bool, false, if◌then◌else◌, List, [], ◌∷◌}
+use Rattle.std.proofs.Common.{refl, ap, ◌∙◌, ◌≡◌, false, List, [], ◌∷◌}
 use Rattle.std.proofs.lemmas.Bool.{cond_both}
 use Rattle.mdb_msgs.specs.declared.command.Command.{Command}
 use Rattle.mdb_msgs.specs.declared.command.Command.TheVariants as commands
