@@ -285,8 +285,7 @@ same_plain law command bytes reading reply other extended plain some is =
 
 neither : (a b : Bool) → (a || b) ≡ false → (a ≡ false) × (b ≡ false)
 neither false false same = (refl, refl)
-neither false true same = absurd (cc same)
-neither true b same = absurd (cc same)
+neither a b same = absurd (cc same)
 
 module _ (one other : Reading) where
   text_stays : (message : ReaderMsg) (text rest : List ℕ) → varies message ≡ false

@@ -44,9 +44,8 @@ module _ (profile : Profile) where
   -- more bytes do where the first two do
   pub more_known : (bytes more : List ℕ) → 2 ≤ length bytes → AreKnown profile bytes
       → AreKnown profile (bytes ++ more)
-  more_known [] more two known = absurd (omega (arith, two))
-  more_known (first ∷ []) more two known = absurd (omega (arith, two))
   more_known (first ∷ second ∷ bytes) more two known = known
+  more_known bytes more two known = absurd (omega (arith, two))
 
   -- bytes that don't need what they need by any profile
   pub known_need : (bytes : List ℕ) → AreKnown profile bytes

@@ -86,11 +86,8 @@ blamed_device blame.Cashless2 = Some (device.Reader Second)
 blamed_device _ = None
 
 blamed_back : (asked : Option Device) → blamed_device (blame_on asked) ≡ asked
-blamed_back None = refl
-blamed_back (Some device.Changer) = refl
-blamed_back (Some device.Bill) = refl
 blamed_back (Some (device.Reader First)) = refl
-blamed_back (Some (device.Reader Second)) = refl
+blamed_back asked = refl
 
 -- a fault is blamed on the device that was asked, or on the controller
 abbrev IsItOrNone : Option Device → Blame → Type 0

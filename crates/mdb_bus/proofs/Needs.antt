@@ -85,12 +85,10 @@ at_most_32 (first ∷ second ∷ bytes) n some told = (narrows first).most_two s
 
 -- two bytes tell what they and more bytes need
 pub stays : (bytes more : List ℕ) → 2 ≤ length bytes → needed (bytes ++ more) ≡ needed bytes
-stays [] more two = absurd (omega arith)
-stays (first ∷ []) more two = absurd (omega arith)
 stays (first ∷ second ∷ bytes) more two = refl
+stays bytes more two = absurd (omega arith)
 
 -- and don't leave it to a third
 pub not_left : (bytes : List ℕ) → 2 ≤ length bytes → needed bytes ≡ More → ⊥
-not_left [] two told = absurd (omega arith)
-not_left (first ∷ []) two told = absurd (omega arith)
 not_left (first ∷ second ∷ bytes) two told = (narrows first).done second told
+not_left bytes two told = absurd (omega arith)

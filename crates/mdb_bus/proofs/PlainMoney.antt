@@ -20,7 +20,6 @@ use Rattle.mdb_bus.specs.ExtendedMoney.{all_known, amounts_to, asked_with_amount
 -- options that are all known stay so
 after_all : (command : Command) → known_after command all_known ≡ all_known
 after_all (commands.Reader First command) = refl
-after_all (commands.Reader Second command) = refl
 after_all command = refl
 
 stay_known : (act : Act) → known_by act all_known ≡ all_known
@@ -37,9 +36,8 @@ all_stay (act ∷ acts) = ap (known_by act) (all_stay acts) ∙ stay_known act
 -- so no money is wide
 none_wide : (levels : Levels) (unit : Option ReaderUnit)
     → is_wide (wide_at all_known levels) unit ≡ false
-none_wide levels None = refl
 none_wide levels (Some First) = refl
-none_wide levels (Some Second) = refl
+none_wide levels unit = refl
 
 -- and each rule counts as it is
 as_it_is : (broken : Rule) (position : Position) (levels : Levels)

@@ -610,6 +610,5 @@ asking_belongs law profile bytes at word (Ok judged.AskByte) going =
     (tt, (omega (arith, long, few), begun))
 asking_belongs law profile bytes at word (Ok judged.Ask) going =
     (refl, going.0, sealed bytes word going.0 going.1)
-asking_belongs law profile bytes at word (Ok judged.Foreign) going = tt
-asking_belongs law profile bytes at word (Ok found) going = absurd going
+asking_belongs law profile bytes at word (Ok found) going = search
 asking_belongs law profile bytes at word (Err broken) going = tt
